@@ -28,7 +28,6 @@ use Rattle.hand.specs.contracts.letters.Letters as Letters
 use Rattle.hand.specs.contracts.letters.Letters.TheInside as LettersIn
 use Rattle.hand.specs.contracts.rows.Rows as Rows
 use Rattle.hand.specs.contracts.rows.Rows.TheInside as RowsIn
-use Rattle.journal.proofs.table.Table.TheSendSync as table
 use Rattle.group_exchange.specs.declared.run_of.GroupRun.{Ghosts as RunGhosts}
 use Rattle.group_exchange.specs.contracts.groups.GroupExchange as Exchange
 use Rattle.group_exchange.specs.contracts.groups.GroupExchange.TheInside as ExchangeIn

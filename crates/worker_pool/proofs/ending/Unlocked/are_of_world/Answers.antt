@@ -1,4 +1,4 @@
-use Rattle.std.proofs.Common.{subst, arith, length}
+use Rattle.std.proofs.Common.{subst, arith}
 use Rattle.netdesc.specs.Words.{process_count}
 use Rattle.group_exchange.specs.Keeps.{AreGrouped}
 use Rattle.group_exchange.specs.Views.{Ledger}

@@ -1,4 +1,4 @@
-use Rattle.std.proofs.Common.{◌≡◌, ◌∙◌, ◌≤◌, ℕ, ◌+◌, List, length, refl, sym, ap, subst, arith, Option, IfSome}
+use Rattle.std.proofs.Common.{◌≡◌, ◌∙◌, ℕ, ◌+◌, List, length, sym, ap, subst, arith, Option, IfSome}
 use Rattle.vlink.specs.Letters.{Row}
 use Rattle.virtual_time.specs.Law.{Laws}
 use Rattle.netdesc.specs.Words.{Plan, process_count}

@@ -1,5 +1,4 @@
-use Rattle.std.proofs.Common.{◌≡◌, ◌∙◌, List, map, sym, ap, subst}
-use Rattle.vlink.specs.Letters.{Row}
+use Rattle.std.proofs.Common.{◌∙◌, map, sym, ap, subst}
 use Rattle.netdesc.specs.Words.{Plan}
 use Rattle.trace_tables.specs.SoFar.{IsSoFar}
 use Rattle.trace_tables.specs.Tables.{tables_of}

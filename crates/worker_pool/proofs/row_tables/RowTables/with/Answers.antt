@@ -1,4 +1,4 @@
-use Rattle.std.proofs.Common.{◌≡◌, ◌++◌, List, map, refl, sym, ap, subst}
+use Rattle.std.proofs.Common.{List, map, refl, sym, subst}
 use Rattle.vlink.specs.Letters.{Row}
 use Rattle.trace_tables.specs.SoFar.{IsSoFar}
 use Rattle.worker_pool.proofs.CountedRun.{known-so-far, counts-in}
