@@ -45,12 +45,19 @@ module _ {S F O E : Type 0} (outside : Outside S F O E) {w : F → Option (List 
     begins : outside.with_errors begun said ≡ outside.made (heard_host outside old asked said) path
     begins = ap (λ host. outside.with_errors host said) made ∙ made_there asked plan.until old path said there
 
-    module _ (new : S) (stays : outside.errors new ≡ said) where
-      pub heard_beside : IsHeard outside old asked plan (outside.errors new)
-      heard_beside = subst (IsHeard outside old asked plan) (sym stays) (told asked plan.until (outside.errors old) said there)
+    pub heard_beside : (new : S) → outside.errors new ≡ said → IsHeard outside old asked plan (outside.errors new)
+    heard_beside new stays = subst (IsHeard outside old asked plan) (sym stays) (told asked plan.until (outside.errors old) said there)
 
-      pub begins_beside : outside.with_errors begun said ≡ outside.made (heard_host outside old asked (outside.errors new)) path
-      begins_beside = begins ∙ ap (λ e. outside.made (heard_host outside old asked e) path) (sym stays)
+    -- the file was given back
+    module _ (file : F) (new : S) (given : new ≡ outside.closed (outside.with_errors begun said) path file) where
+      stays : outside.errors new ≡ said
+      stays = ap outside.errors given ∙ (law.errors_at_closed (outside.with_errors begun said) path file ∙ law.errors_stay begun said)
+
+      pub heard_given : IsHeard outside old asked plan (outside.errors new)
+      heard_given = heard_beside new stays
+
+      pub begins_given : outside.with_errors begun said ≡ outside.made (heard_host outside old asked (outside.errors new)) path
+      begins_given = begins ∙ ap (λ e. outside.made (heard_host outside old asked e) path) (sym stays)
 
 module _ {S F O E : Type 0} (outside : Outside S F O E) where
   -- what holds of the host once its error output had heard of a run holds at the end too, where it heard no more

@@ -15,6 +15,7 @@ ghost use Rattle.afdxsim.specs.Sequencing.{IsTablesText};
 ghost use Rattle.afdxsim.specs.Workers.{fault_of_trace, IsFaultOfPool};
 
 use crate::fault::Fault;
+use crate::keeping::fault_of_file;
 use crate::progress::{Asked, Progress};
 use command_line::Run;
 use network::Network;
@@ -22,7 +23,7 @@ use std::alloc::Global;
 use std::sync::Wait;
 use std::thread::Threads;
 use std::time::Clock;
-use trace_tables::{OutFault, SegmentFault, Sink, TraceFault};
+use trace_tables::{SegmentFault, Sink, TraceFault};
 use worker_pool::{Gate, Pace, Summary, Traced, run_summary, run_traced};
 
 /// A gate that is told of each message and does nothing.
@@ -118,8 +119,6 @@ pub fn fault_of_trace<'a>(path: &'a str, why: TraceFault) -> Fault<'a>
     match why {
         TraceFault::Segment(SegmentFault::OutOfMemory) => Fault::OutOfMemory,
         TraceFault::Segment(_) => Fault::Torn,
-        TraceFault::Out(OutFault::OutOfMemory) => Fault::OutOfMemory,
-        TraceFault::Out(OutFault::Device) => Fault::CannotWriteFile(path),
-        TraceFault::Out(OutFault::Layout) => Fault::Layout,
+        TraceFault::Out(why) => fault_of_file(path, why),
     }
 }
