@@ -1,6 +1,5 @@
 """The one command for all that a user does: what each word of it is handed to."""
 import argparse
-import contextlib
 import os
 import re
 import runpy

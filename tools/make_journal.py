@@ -17,7 +17,6 @@ import collections
 import heapq
 import sys
 
-import afdx
 import explain
 import files
 from second_opinion import BODIES, Simulation

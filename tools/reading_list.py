@@ -180,7 +180,8 @@ class Tree:
         for path, names, one in CODE_USE.findall(text):
             if name in map(str.strip, (names or one).split(",")):
                 first, *rest = path.removesuffix("::").split("::")
-                if first in self.order:
+                # a module may have the name of its crate
+                if first in self.order and first != crate:
                     return self.type_home(first, rest[0] if rest else "lib", name)
                 inside = rest[0] if first == "crate" else first
                 if os.path.exists(os.path.join(self.crates, crate, "src", inside + ".rt")):

@@ -3,7 +3,6 @@ import contextlib
 import io
 import os
 import sys
-import tempfile
 import unittest
 import xml.etree.ElementTree as xml
 

@@ -14,6 +14,7 @@ use Rattle.reverse.specs.Setting.{Setting, simulation_of, Opens, AreInStates}
 use Rattle.actor_run.specs.Running.{AreOnTheWay, HasNumbersFrom, IsExhaustedAt, StandsAt}
 use Rattle.two_lists.proofs.Counting.{times-permutation}
 use Rattle.actor_run.proofs.Counting.{taken-least}
+use Rattle.reverse.specs.declared.sends.TheConstants.{MOST_SENT}
 
 -- one actor is in a new state
 pub states-put : {S : Type 0} (processes : ℕ) (states : ℕ → S) (actors : List S) (p : ℕ) (s : S) → p < processes →
@@ -131,10 +132,10 @@ module _ {S K : Type 0} (f : Simulation Message S K Note) (L : Laws f) (n : ℕ)
     receiver_is = h.states.each (f.rules.order.receiver m) receiver_there
 
     -- where the receiver has numbers left, they are not used up
-    pub has-numbers : f.rules.counter ((one f n).states (f.rules.order.receiver m)) + 24 ≤ greatest_number → IsExhaustedAt f n → ⊥
+    pub has-numbers : f.rules.counter ((one f n).states (f.rules.order.receiver m)) + MOST_SENT ≤ greatest_number → IsExhaustedAt f n → ⊥
     has-numbers few z =
         let same : z.0 ≡ m = same_Some z.0 m (sym z.1 ∙ is_next) in
-        let used = subst (λ (y : Message). greatest_number < f.rules.counter ((one f n).states (f.rules.order.receiver y)) + 24) same z.2 in
+        let used = subst (λ (y : Message). greatest_number < f.rules.counter ((one f n).states (f.rules.order.receiver y)) + MOST_SENT) same z.2 in
         omega (arith, few, used)
 
     pub receiver_within : f.rules.order.receiver m < length actors

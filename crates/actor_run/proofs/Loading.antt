@@ -5,6 +5,7 @@ use Rattle.std.proofs.lemmas.List.Sorted.{sum_by-IsPermutation}
 use Rattle.std.proofs.lemmas.List.Sums.{sum_by-cons}
 use Rattle.vlink.specs.declared.message.Message.{Message}
 use Rattle.actor_run.specs.Load.{power, weight, load}
+use Rattle.reverse.specs.declared.sends.TheConstants.{MOST_SENT}
 
 power-least : (k : ℕ) → 0 < power k
 unfolding power
@@ -29,8 +30,8 @@ load-permutation : (limit : ℕ) (xs ys : List Message) → IsPermutation xs ys 
 load-permutation limit xs ys p =
     load-sum limit ys ∙ (sum_by-IsPermutation (λ m. weight limit m.time) xs ys p ∙ sym (load-sum limit xs))
 
--- a message later than t weighs at most a 25th of one at t
-later-weight : (limit t u : ℕ) → t < u → u ≤ limit → 25 * weight limit u ≤ weight limit t
+-- a message later than t weighs at most one part of `MOST_SENT + 1` of one at t
+later-weight : (limit t u : ℕ) → t < u → u ≤ limit → (MOST_SENT + 1) * weight limit u ≤ weight limit t
 unfolding power
 later-weight limit t u i j =
     let a : limit - t ≡ suc (limit - suc t) = omega arith in
@@ -40,7 +41,7 @@ later-weight limit t u i j =
 
 -- messages that are all later than t
 load-later : (limit t : ℕ) (ms : List Message) → All (λ m. t < m.time) ms → All (λ m. m.time ≤ limit) ms →
-    25 * load limit ms ≤ length ms * weight limit t
+    (MOST_SENT + 1) * load limit ms ≤ length ms * weight limit t
 load-later limit t [] a b = omega arith
 load-later limit t (m ∷ ms) a b =
     let i = later-weight limit t m.time (All-head (λ m. t < m.time) m ms a) (All-head (λ m. m.time ≤ limit) m ms b) in
@@ -51,14 +52,14 @@ load-later limit t (m ∷ ms) a b =
 at-most : (a b w : ℕ) → a ≤ b → a * w ≤ b * w
 at-most a b w h = grind arith
 
--- an event that sends at most 24 messages, all later, leaves less than there was
+-- an event that sends at most `MOST_SENT` messages, all later, leaves less than there was
 pub load-falls : (limit : ℕ) (m : Message) (heap rest sends more : List Message) → IsPermutation heap (m ∷ rest) → IsPermutation (rest ++ sends) more →
-    All (λ x. m.time < x.time) sends → All (λ x. x.time ≤ limit) sends → length sends ≤ 24 → load limit more < load limit heap
+    All (λ x. m.time < x.time) sends → All (λ x. x.time ≤ limit) sends → length sends ≤ MOST_SENT → load limit more < load limit heap
 load-falls limit m heap rest sends more p q a b c =
     let d = load-permutation limit heap (m ∷ rest) p in
     let e = load-permutation limit (rest ++ sends) more q in
     let g = load-append limit rest sends in
     let k = load-later limit m.time sends a b in
     let w = power-least (limit - m.time) in
-    let z : length sends * weight limit m.time ≤ 24 * weight limit m.time = at-most (length sends) 24 (weight limit m.time) c in
+    let z : length sends * weight limit m.time ≤ MOST_SENT * weight limit m.time = at-most (length sends) MOST_SENT (weight limit m.time) c in
     omega arith

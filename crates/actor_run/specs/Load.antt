@@ -1,13 +1,14 @@
 -- Why the run ends: a number that each event makes smaller, whatever it sends.
 use Rattle.std.specs.Prelude.{ℕ, zero, suc, ◌+◌, ◌-◌, ◌*◌, List, [], ◌∷◌}
 use Rattle.vlink.specs.declared.message.Message.{Message}
+use Rattle.reverse.specs.declared.sends.TheConstants.{MOST_SENT}
 
--- the power of 25 with this exponent
+-- the power of one more than an event sends, with this exponent
 unfoldable pub power : ℕ → ℕ
 power zero = 1
-power (suc k) = 25 * power k
+power (suc k) = (MOST_SENT + 1) * power k
 
--- what a message at the moment t can still bring about before a limit: one event sends at most 24 messages, all of them later
+-- what a message at the moment t can still bring about before a limit: one event sends at most `MOST_SENT` messages, all of them later
 abbrev pub weight : ℕ → ℕ → ℕ
 weight limit t = power (limit - t)
 

@@ -6,6 +6,7 @@ use Rattle.vlink.specs.Numbering.{greatest_number}
 use Rattle.vlink.specs.Letters.{Row}
 use Rattle.virtual_time.specs.Law.{Rules, least, times_in, Simulation, Laws, one}
 use Rattle.reverse.specs.Setting.{Setting, simulation_of, AreInStates, Opens}
+use Rattle.reverse.specs.declared.sends.TheConstants.{MOST_SENT}
 
 module _ {S K : Type 0} (f : Simulation Message S K Note) where
   -- the actors, the messages in the heap and the rows are those of the run after n events. Of the messages only how many times each is
@@ -18,7 +19,7 @@ module _ {S K : Type 0} (f : Simulation Message S K Note) where
   -- after n events the first waiting message is for an actor that has not enough numbers left for all that one event can send
   abbrev pub IsExhaustedAt : ℕ → Type 0
   IsExhaustedAt n =
-      (m : Message) × (least f.rules.order (one f n).waiting ≡ Some m) × (greatest_number < f.rules.counter ((one f n).states (f.rules.order.receiver m)) + 24)
+      (m : Message) × (least f.rules.order (one f n).waiting ≡ Some m) × (greatest_number < f.rules.counter ((one f n).states (f.rules.order.receiver m)) + MOST_SENT)
 
   -- from the n-th event on no actor wants numbers
   abbrev pub HasNumbersFrom : ℕ → Type 0

@@ -9,19 +9,18 @@ ghost use Rattle.reverse.specs.Rules.{rules_of};
 ghost use Rattle.actor_run.specs.declared.fault.SimFault.TheVariants.{OutOfMemory, Exhausted};
 ghost use Rattle.actor_run.specs.Running.{StandsAt, IsExhaustedAt, HasNumbersFrom, IsCutOffAt, IsRunning, AtEach, IsWholeRun, AreOnTheWay, CanRun, OfEach};
 ghost use Rattle.actor_run.specs.Load.{load};
+ghost use Rattle.reverse.specs.declared.sends.TheConstants.{MOST_SENT};
 
 use crate::fault::SimFault;
 use crate::recorder::{AllRows, Recorder, record};
 use crate::waiting::Waiting;
 use crate::watch::{Watch, show_event};
-use reverse::{Actor, Outbound, actor_rules};
+use reverse::{Actor, Outbound, actor_rules_law};
 use std::alloc::Global;
 use vlink::{GREATEST_NS, Message, Row, Time};
 
 /// What an actor sends is later than its cause, and not after the greatest moment.
-///
-/// A call does nothing: its caller learns what the clauses say.
-fn in_limits<A: Actor>(actor: &A)
+fn limits_law<A: Actor>(actor: &A)
     ensures placed { A.is_placed actor.now }
     ensures end { A.end actor.now ≤ GREATEST_NS }
 {
@@ -42,14 +41,14 @@ fn act<A: Actor>(actors: &mut [A], message: &Message, out: &mut Outbound) -> boo
     ensures later { result ≡ true → All (λ m. message.now.time < m.time) out.new.messages }
     ensures in_limits { result ≡ true → All (λ m. m.time ≤ GREATEST_NS) out.new.messages }
     ensures unchanged { result ≡ false → actors.new ≡ actors.old }
-    ensures exhausted { result ≡ false → (s : A) → slice_get actors.old message.now.receiver ≡ Some s → greatest_number < A.plain.counter s + 24 }
-    ensures numbers { result ≡ true → (s : A) → slice_get actors.old message.now.receiver ≡ Some s → A.plain.counter s + 24 ≤ greatest_number }
+    ensures exhausted { result ≡ false → (s : A) → slice_get actors.old message.now.receiver ≡ Some s → greatest_number < A.plain.counter s + MOST_SENT }
+    ensures numbers { result ≡ true → (s : A) → slice_get actors.old message.now.receiver ≡ Some s → A.plain.counter s + MOST_SENT ≤ greatest_number }
 {
     let actor = &mut actors[usize::from(message.receiver)];
     if !actor.has_numbers() {
         return false;
     }
-    in_limits(actor);
+    limits_law(actor);
     let _record = actor.handle(message, out);
     true
 }

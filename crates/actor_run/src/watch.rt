@@ -1,4 +1,5 @@
 //! Who is shown how far a run is.
+//! A look tells the events since the last one, and not all: one number that cannot overflow.
 ghost use Rattle.std.specs.Prelude.{◌<◌};
 ghost use Rattle.actor_run.specs.declared.watch.TheConstants.{EVENTS_PER_LOOK};
 

@@ -20,6 +20,7 @@ use Rattle.actor_world.specs.Faults.{fault_of}
 use Rattle.actor_world.specs.Worlds.{Holdings, StandsForWorld, AtEachWorld}
 use Rattle.actor_world.specs.Stepping.{IsStepped}
 use Rattle.actor_world.proofs.Holding.{process-within, with_part-stands, HasNumbers, when-did, when-not_enabled, when-no_memory, when-exhausted, the_same-when}
+use Rattle.reverse.specs.declared.sends.TheConstants.{MOST_SENT}
 
 -- whether the oldest done event can be committed, by its moment and its counts
 pub can-commit : {S K : Type 0} (f : Simulation Message S K Note) (g : ℕ) (part : Part Message S) {first : Option ℕ} {early seals : Bool} →
@@ -56,7 +57,7 @@ module _ {S K : Type 0} (r : Rules Message S K Note) (number end : S → ℕ) (i
     (old : Holdings S K) (p : ℕ) (q : Queues S K) (here : slice_get old.processes p ≡ Some q) where
   -- by what it has in hand the process has a next message, and too few numbers
   abbrev IsExhaustedIn : Type 0
-  IsExhaustedIn = IsSome (next_in q) × (greatest_number < r.counter q.past.state + 24)
+  IsExhaustedIn = IsSome (next_in q) × (greatest_number < r.counter q.past.state + MOST_SENT)
 
   -- the process has numbers enough where it has no next message with too few of them, by what it has in hand
   pub has-numbers : OfMessages r → (IsExhaustedIn → ⊥) → HasNumbers r number end is_placed is_value (step_by p Ran) old
@@ -66,7 +67,7 @@ module _ {S K : Type 0} (r : Rules Message S K Note) (number end : S → ℕ) (i
       let k = h.parts p q here in
       enough (
         subst IsSome (next-stands r R is_value (f.opening p) (w.parts p) q k) d.1,
-        subst (λ s. greatest_number < r.counter s + 24) k.past.state d.2,
+        subst (λ s. greatest_number < r.counter s + MOST_SENT) k.past.state d.2,
       )
 
   module _ (m : Move) where
@@ -113,6 +114,6 @@ module _ {S K : Type 0} (r : Rules Message S K Note) (number end : S → ℕ) (i
       let k = h.parts p q here in (
         process-within f is_value w old h p q here,
         subst IsSome (sym (next-stands r R is_value (f.opening p) (w.parts p) q k)) (lacks.0 refl).0,
-        subst (λ s. greatest_number < r.counter s + 24) (sym k.past.state) (lacks.0 refl).1,
+        subst (λ s. greatest_number < r.counter s + MOST_SENT) (sym k.past.state) (lacks.0 refl).1,
       ))
       (the_same-when old ps d))

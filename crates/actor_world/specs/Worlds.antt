@@ -10,6 +10,7 @@ use Rattle.reverse.specs.Setting.{Setting, simulation_of, Opens, IsLaidOut}
 use Rattle.antimessages.specs.Letters.{Store}
 use Rattle.antimessages.specs.Mailing.{letters_for}
 use Rattle.process_queues.specs.Queues.{Queues, StandsFor}
+use Rattle.reverse.specs.declared.sends.TheConstants.{MOST_SENT}
 
 -- the processes by their numbers, the mail, the floors, GVT and the end time
 pub record Holdings (S K : Type 0) : Type 0 where
@@ -50,7 +51,7 @@ pub record HoldsTheSame {S K : Type 0} (old new : Holdings S K) : Type 0 where
 
 -- the step is Run of a process that there is, which has a next message, and not enough numbers left for all that one event can send
 abbrev pub IsExhausted : {S K : Type 0} → Simulation Message S K Note → Step → World Message S → Type 0
-IsExhausted f (Run p) w = (p < f.processes) × IsSome (next_of f.rules.order (w.parts p)) × (greatest_number < f.rules.counter (w.parts p).state + 24)
+IsExhausted f (Run p) w = (p < f.processes) × IsSome (next_of f.rules.order (w.parts p)) × (greatest_number < f.rules.counter (w.parts p).state + MOST_SENT)
 IsExhausted f _ w = ⊥
 
 module _ {S K : Type 0} (r : Rules Message S K Note) (number end : S → ℕ) (is_placed : S → Type 0) (is_value : S → Message → Type 0) where

@@ -1,4 +1,5 @@
 //! The six steps of a world of any actors.
+//! What a refused step leaves is compared by letters and not by room: Take fills the tray before it empties the mail.
 ghost use Rattle.std.specs.Prelude.{◌≡◌, ◌≢◌, ◌↔◌, ◌<◌, ℕ, true, false, length, Some, Ok, Err, IsTrue, OnOk, IfOk};
 ghost use Rattle.virtual_time.specs.declared.step.Step.TheVariants.{Gvt, Take, Arrive, Run, Post, Commit};
 ghost use Rattle.virtual_time.specs.Law.{is_enabled, step as stepped};
@@ -14,7 +15,7 @@ use crate::done::Done;
 use crate::fault::StepFault;
 use fossil::is_early;
 use gvt::{gvt_law, horizon};
-use reverse::{Actor, actor_laws, actor_rules};
+use reverse::{Actor, actor_law, actor_rules_law};
 use vlink::{Letter, Note, Step, Time};
 
 impl<R: Actor> ActorWorld<R> {
@@ -44,7 +45,7 @@ impl<R: Actor> ActorWorld<R> {
             Step::Arrive { process } => self.arrive(process as u16),
             Step::Run { process } => self.run(process as u16),
             Step::Post { process } => self.post(process as u16),
-            Step::Gvt => Ok(self.set_gvt()),
+            Step::Gvt => Ok(self.publish()),
             Step::Commit { process } => self.commit(process as u16),
         }
     }
@@ -103,7 +104,7 @@ impl<R: Actor> ActorWorld<R> {
         requires there { process < length self.old.processes }
         ensures { IsStepped (rules_of R.plain) R.number R.end R.is_placed R.is_value (Run process) self.old self.new result }
     {
-        actor_rules::<R>();
+        actor_rules_law::<R>();
         let Some(_message) = self.processes[usize::from(process)].run_with(&mut self.out)? else {
             return Ok(Done::NotEnabled);
         };
@@ -116,7 +117,7 @@ impl<R: Actor> ActorWorld<R> {
         requires there { process < length self.old.processes }
         ensures { IsStepped (rules_of R.plain) R.number R.end R.is_placed R.is_value (Post process) self.old self.new result }
     {
-        actor_laws::<R>();
+        actor_law::<R>();
         self.processes[usize::from(process)].post(&mut self.mail)?;
         let floor = self.processes[usize::from(process)].floor();
         self.floors.set(process, floor);
@@ -124,7 +125,7 @@ impl<R: Actor> ActorWorld<R> {
     }
 
     /// GVT is the least of all floors and of the times of all letters in the mail. It takes no memory.
-    fn set_gvt(&mut self) -> Done
+    fn publish(&mut self) -> Done
         requires world { IsAWorld (rules_of R.plain) R.number R.end R.is_placed R.is_value self.old }
         ensures stepped { IsStepped (rules_of R.plain) R.number R.end R.is_placed R.is_value Gvt self.old self.new (Ok result) }
         ensures did { result ≡ Did }

@@ -13,7 +13,7 @@ use crate::fault::StepFault;
 use antimessages::{Mail, plus_letters};
 use gvt::Floors;
 use process_queues::Process;
-use reverse::{Actor, Outbound, actor_rules};
+use reverse::{Actor, Outbound, actor_rules_law};
 use std::alloc::Global;
 use std::marker::Model;
 use vlink::{Letter, Message, Row, Time};
@@ -62,7 +62,7 @@ impl<R: Actor + Drop> ActorWorld<R> {
             StandsForWorld (simulation_of (rules_of R.plain) x) R.is_value (start (simulation_of (rules_of R.plain) x)) world) }
         ensures memory { IfErr result (λ fault. fault ≡ OutOfMemory) }
     {
-        actor_rules::<R>();
+        actor_rules_law::<R>();
         let count = actors.len() as u16;
         let letters = plus_letters(alloc, offers)?;
         let mail = Mail::with_letters(alloc, count, &letters)?;
@@ -75,13 +75,6 @@ impl<R: Actor + Drop> ActorWorld<R> {
             gvt: Time::default(),
             out: Outbound::new(0, until, 0),
         })
-    }
-
-    /// How many processes there are.
-    pub fn processes(&self) -> usize
-        ensures { result ≡ length self.now.processes }
-    {
-        self.processes.len()
     }
 
     /// GVT.
@@ -116,21 +109,13 @@ impl<R: Actor + Drop> ActorWorld<R> {
         true
     }
 
-    /// How many events of process `process` are committed.
-    pub fn committed(&self, process: u32) -> u64
-        requires { process < length self.now.processes }
-        ensures { AtEachWorld (rules_of R.plain) R.number R.end R.is_placed R.is_value self.now (λ f w. result ≡ length (w.parts process).committed) }
-    {
-        self.processes[process as usize].committed()
-    }
-
     /// The rows of the committed events of process `process`, in their order.
-    pub fn sealed(&self, process: u32) -> &[Row]
+    pub fn sealed(&self, process: usize) -> &[Row]
         requires { process < length self.now.processes }
         ensures { AtEachWorld (rules_of R.plain) R.number R.end R.is_placed R.is_value self.now
             (λ f w. result.now ≡ rowed f.rules (f.opening process) (w.parts process).committed) }
     {
-        self.processes[process as usize].sealed()
+        self.processes[process].sealed()
     }
 
     /// Undoes all done events of process `process`, the newest first, each by its record, and gives the actor back; none where there is

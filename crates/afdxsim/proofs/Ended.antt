@@ -1,10 +1,10 @@
 -- An order that was done, or whose fault was told, has ended.
-use Rattle.std.proofs.Common.{◌≡◌, ◌∙◌, ◌⊎◌, ℕ, inl, inr, List, [], Option, Result, Ok, Err, sym, subst, ◌≢◌, OnOk, OnErr, IfOk, IfErr, IsErrAnd}
+use Rattle.std.proofs.Common.{◌≡◌, ◌∙◌, ◌⊎◌, ℕ, inl, inr, List, [], Result, Ok, Err, sym, subst, ◌≢◌, OnOk, OnErr, IfOk, IfErr, IsErrAnd}
 use Rattle.clap.specs.Words.{IsAmong, Text}
 use Rattle.clap.specs.declared.error.kind.ErrorKind.{ErrorKind}
 use Rattle.clap.specs.declared.error.kind.ErrorKind.TheVariants as kind
 use Rattle.command_line.specs.declared.orders.Order.{Order}
-use Rattle.netdesc.specs.Words.{Plan}
+use Rattle.network.specs.Words.{Plan}
 use Rattle.afdxsim.specs.declared.fault.Fault.{Fault}
 use Rattle.afdxsim.specs.declared.fault.Fault.TheVariants.{CannotWrite}
 use Rattle.afdxsim.specs.Files.{TellsAlone}
@@ -46,13 +46,6 @@ at_ok P r x is holds = subst (λ y. OnOk y P) is holds
 
 pub at_err : {T F : Type 0} (P : F → Type 0) (r : Result T F) (why : F) → r ≡ Err why → IfErr r P → P why
 at_err P r why is holds = subst (λ x. IfErr x P) is holds
-
--- what holds of three paths holds of those that are the same
-pub moved : (R : List ℕ → Option (List ℕ) → Option (List ℕ) → Type 0) (path net : List ℕ) (kept journal given trace : Option (List ℕ)) →
-    path ≡ net → kept ≡ journal → given ≡ trace → R path kept given → R net journal trace
-moved R path net kept journal given trace at same is holds =
-    subst (λ (n : List ℕ). R n journal trace) at
-    (subst (λ (j : Option (List ℕ)). R path j trace) same (subst (λ (t : Option (List ℕ)). R path kept t) is holds))
 
 module _ {S F O E : Type 0} (outside : Outside S F O E) (r : Result (Unit {0}) Fault) (order : Order) where
   -- the order was done on a network that was read before: the host was `old` before, and `begun` once it was read

@@ -1,17 +1,10 @@
 -- What error output heard of a run, as its host tells it.
 use Rattle.std.proofs.Common.{◌≡◌, ◌∙◌, ℕ, Bool, true, false, List, Option, refl, sym, ap, subst, arith, flat_map}
 use Rattle.std.specs.Io.KnownBytes.{append_known}
-use Rattle.netdesc.specs.Words.{Plan}
-use Rattle.afdxsim.specs.MoreProgress.{asked_none}
+use Rattle.network.specs.Words.{Plan}
 use Rattle.afdxsim.specs.Orders.{IsHeard, heard_host}
 use Rattle.afdxsim.specs.Outside.{IsHost, Outside}
 use Rattle.afdxsim.specs.Progress.{HearsAsked, HearsProgress}
-
--- error output heard of a run, and nothing else happened to the host
-pub record Hears {S F O E : Type 0} (outside : Outside S F O E) (asked : Bool) (plan : Plan) (old new : S) : Type 0 where
-  pub heard : IsHeard outside old asked plan (outside.errors new)
-  pub host : new ≡ heard_host outside old asked (outside.errors new)
-  pub output : outside.output new ≡ outside.output old
 
 module _ {S F O E : Type 0} (outside : Outside S F O E) {w : F → Option (List ℕ)} {x : F → ℕ} {shown : O → Option (List ℕ)} {unshown : O → ℕ}
     {taken : E → Option (List ℕ)} {failures : E → ℕ} (law : IsHost outside w x shown unshown taken failures) where
@@ -34,17 +27,6 @@ module _ {S F O E : Type 0} (outside : Outside S F O E) {w : F → Option (List 
   heard_same true until t f old said h = refl
   heard_same false until t f old said h = ap (outside.with_errors old) h ∙ law.errors_same old
 
-  -- error output was lent, heard of the run, and was put back
-  pub hears : (asked : Bool) (plan : Plan) (old : S) (lent said : E) → lent ≡ outside.errors old → HearsAsked taken failures asked plan.until lent said →
-      Hears outside asked plan old (outside.with_errors old said)
-  hears asked plan old lent said from h =
-      let there : HearsAsked taken failures asked plan.until (outside.errors old) said = subst (λ e. HearsAsked taken failures asked plan.until e said) from h in
-      let stays = law.errors_stay old said in record {
-        heard = subst (IsHeard outside old asked plan) (sym stays) (told asked plan.until (outside.errors old) said there);
-        host = heard_same asked plan.until taken failures old said there ∙ ap (heard_host outside old asked) (sym stays);
-        output = law.output_beside old said;
-      }
-
   -- a file that was made before is made on the host that heard
   pub made_there : (asked : Bool) (until : ℕ) (old : S) (path : List ℕ) (said : E) → HearsAsked taken failures asked until (outside.errors old) said →
       outside.with_errors (outside.made old path) said ≡ outside.made (heard_host outside old asked said) path
@@ -63,12 +45,19 @@ module _ {S F O E : Type 0} (outside : Outside S F O E) {w : F → Option (List 
     begins : outside.with_errors begun said ≡ outside.made (heard_host outside old asked said) path
     begins = ap (λ host. outside.with_errors host said) made ∙ made_there asked plan.until old path said there
 
-    module _ (new : S) (stays : outside.errors new ≡ said) where
-      pub heard_beside : IsHeard outside old asked plan (outside.errors new)
-      heard_beside = subst (IsHeard outside old asked plan) (sym stays) (told asked plan.until (outside.errors old) said there)
+    pub heard_beside : (new : S) → outside.errors new ≡ said → IsHeard outside old asked plan (outside.errors new)
+    heard_beside new stays = subst (IsHeard outside old asked plan) (sym stays) (told asked plan.until (outside.errors old) said there)
 
-      pub begins_beside : outside.with_errors begun said ≡ outside.made (heard_host outside old asked (outside.errors new)) path
-      begins_beside = begins ∙ ap (λ e. outside.made (heard_host outside old asked e) path) (sym stays)
+    -- the file was given back
+    module _ (file : F) (new : S) (given : new ≡ outside.closed (outside.with_errors begun said) path file) where
+      stays : outside.errors new ≡ said
+      stays = ap outside.errors given ∙ (law.errors_at_closed (outside.with_errors begun said) path file ∙ law.errors_stay begun said)
+
+      pub heard_given : IsHeard outside old asked plan (outside.errors new)
+      heard_given = heard_beside new stays
+
+      pub begins_given : outside.with_errors begun said ≡ outside.made (heard_host outside old asked (outside.errors new)) path
+      begins_given = begins ∙ ap (λ e. outside.made (heard_host outside old asked e) path) (sym stays)
 
 module _ {S F O E : Type 0} (outside : Outside S F O E) where
   -- what holds of the host once its error output had heard of a run holds at the end too, where it heard no more
@@ -83,17 +72,3 @@ module _ {S F O E : Type 0} (outside : Outside S F O E) {w : F → Option (List 
       outside.makes (heard_host outside old asked said) path is_made
   makes_there true old path said is_made makes = law.makes_beside old path said is_made makes
   makes_there false old path said is_made makes = makes
-
-  -- error output heard nothing
-  module _ (asked : Bool) (old new : S) (same : outside.errors new ≡ outside.errors old) where
-    pub same_host : heard_host outside old asked (outside.errors new) ≡ old
-    same_host = go asked
-      where
-        go : (asked : Bool) → heard_host outside old asked (outside.errors new) ≡ old
-        go true = ap (outside.with_errors old) same ∙ law.errors_same old
-        go false = refl
-
-    pub heard_none : (plan : Plan) → IsHeard outside old asked plan (outside.errors new)
-    heard_none plan =
-        subst (λ e. HearsAsked outside.said outside.unsaid asked plan.until (outside.errors old) e) (sym same)
-        (asked_none outside.said outside.unsaid plan.until asked (outside.errors old))

@@ -1,8 +1,8 @@
 -- A text that goes out in pieces: what has gone out, and what is still held.
-use Rattle.std.proofs.Common.{◌≡◌, ◌∙◌, ℕ, ◌+◌, ◌<◌, List, [], ◌∷◌, ◌++◌, length, take, drop, get_or, Option, Some, None, Result, Ok, Err, refl, sym, ap, subst, append_assoc, length-append, arith, IfErr, flat_map, append-nil, take-append-drop}
+use Rattle.std.proofs.Common.{◌≡◌, ◌∙◌, ℕ, ◌+◌, List, ◌++◌, length, take, drop, Option, Some, None, Result, Ok, Err, refl, sym, ap, subst, append_assoc, length-append, arith, IfErr, flat_map, take-append-drop}
 use Rattle.std.specs.Io.KnownBytes.{append_known}
 use Rattle.std.proofs.Math.Seq.{take-append-add}
-use Rattle.std.proofs.lemmas.List.{take-append-le, take_more}
+use Rattle.std.proofs.lemmas.List.{take-append-le}
 use Rattle.std.proofs.lemmas.Grind.{flat_map-append}
 use Rattle.trace_segments.specs.Words.{IsBeginning}
 
@@ -28,13 +28,6 @@ held-beginning old now later held text rest h (n, low, went) =
       omega (arith, low, ap length h.whole, length-append h.sent held, length-append text rest),
       went ∙ ap (λ o. append_known o (take n held)) h.took ∙ appended old h.sent (take n held) ∙ ap (append_known old) (sym front),
     )
-
--- one more of those that are made one after another
-pub one-more : {X : Type 0} (f : X → List ℕ) (xs : List X) (i : ℕ) (x : X) → i < length xs → x ≡ get_or xs i x → flat_map f (take i xs) ++ f x ≡ flat_map f (take (i + 1) xs)
-one-more f xs i x below at =
-    ap (λ (ys : List ℕ). flat_map f (take i xs) ++ ys) (sym (append-nil (f x)))
-    ∙ sym (flat_map-append f (take i xs) (x ∷ []))
-    ∙ ap (flat_map f) (ap (λ (y : _). take i xs ++ y ∷ []) at ∙ sym (take_more xs i x below))
 
 -- the first of them are at the front of all
 pub first-ones : {X : Type 0} (f : X → List ℕ) (xs : List X) (i : ℕ) → flat_map f (take i xs) ++ flat_map f (drop i xs) ≡ flat_map f xs

@@ -1,12 +1,13 @@
 -- Why a text is not where it should be, and what is left of it, told of the host.
-use Rattle.std.proofs.Common.{◌≡◌, ◌∙◌, ◌⊎◌, ◌≢◌, inl, inr, ℕ, ◌+◌, Bool, true, false, List, [], ◌++◌, length, take, Option, Some, None, Result, Ok, Err, refl, sym, ap, subst, option_map, IfErr, IfSome, is_some, Bor, append-nil, arith}
+use Rattle.std.proofs.Common.{◌≡◌, ◌∙◌, ◌⊎◌, ◌≢◌, inl, inr, ℕ, ◌+◌, Bool, true, false, List, [], take, Option, Some, None, refl, sym, ap, subst, option_map, IfSome, is_some, Bor, append-nil, arith}
 use Rattle.std.specs.Io.KnownBytes.{append_known}
 use Rattle.vlink.specs.Letters.{Row}
 use Rattle.virtual_time.specs.declared.step.Step.{Step}
-use Rattle.netdesc.specs.Words.{Plan}
+use Rattle.network.specs.Words.{Plan}
 use Rattle.journal_text.specs.Text.{steps_text}
 use Rattle.seqsim.specs.Networks.{AreRowsOf}
 use Rattle.trace_segments.specs.Words.{IsBeginning, trace_text}
+use Rattle.trace_segments.specs.declared.fault.OutFault.{OutFault}
 use Rattle.trace_segments.specs.declared.fault.OutFault.TheVariants as out
 use Rattle.trace_segments.specs.declared.segment_fault.SegmentFault.TheVariants as segment
 use Rattle.trace_segments.specs.declared.trace_fault.TraceFault.{TraceFault}
@@ -14,8 +15,8 @@ use Rattle.trace_segments.specs.declared.trace_fault.TraceFault.TheVariants.{Seg
 use Rattle.worker_pool.specs.Runs.{IsJournalAsked, IsJournalOf}
 use Rattle.afdxsim.specs.declared.fault.Fault.{Fault}
 use Rattle.afdxsim.specs.declared.fault.Fault.TheVariants.{Description, JournalLine, JournalFull, CannotRead, CannotWriteFile, CannotWrite, Layout, OutOfMemory, Exhausted, Spawn, Torn}
-use Rattle.afdxsim.specs.Ending.{IsFaultOfOutput}
-use Rattle.afdxsim.specs.Files.{BeginsFile, IsFaultOfWrite, IsFront, LacksFile, LacksOutput, LacksTrace}
+use Rattle.afdxsim.specs.Ending.{IsFaultOfOutput, fault_of_file}
+use Rattle.afdxsim.specs.Files.{BeginsFile, IsFaultOfMake, IsFront, LacksFile, LacksOutput}
 use Rattle.afdxsim.specs.Outside.{IsHost, Outside}
 use Rattle.afdxsim.specs.Sequencing.{IsTraceText}
 use Rattle.afdxsim.specs.Workers.{fault_of_trace, IsJournalText}
@@ -25,6 +26,13 @@ use Rattle.afdxsim.proofs.Leaving.{if_some, stands}
 none_taken : (text : List ℕ) (old new : Option (List ℕ)) → new ≡ old → IsBeginning old new text
 none_taken text None new same = (0, omega arith, same)
 none_taken text (Some bytes) new same = (0, omega arith, same ∙ ap Some (sym (append-nil bytes)))
+
+-- a sink that failed took a beginning, and one that is as it was too
+pub began : {F : Type 0} (taken : F → Option (List ℕ)) (text : List ℕ) (old new : F) (why : OutFault) → (why ≡ out.Device → IsBeginning (taken old) (taken new) text) →
+    (why ≢ out.Device → new ≡ old) → IsBeginning (taken old) (taken new) text
+began taken text old new out.Device device kept = device refl
+began taken text old new out.OutOfMemory device kept = none_taken text (taken old) (taken new) (ap taken (kept (λ e. cc)))
+began taken text old new out.Layout device kept = none_taken text (taken old) (taken new) (ap taken (kept (λ e. cc)))
 
 module _ {S F O E : Type 0} (outside : Outside S F O E) {taken : F → Option (List ℕ)} {failures : F → ℕ} {shown : O → Option (List ℕ)} {unshown : O → ℕ}
     {said : E → Option (List ℕ)} {unsaid : E → ℕ} (law : IsHost outside taken failures shown unshown said unsaid) where
@@ -48,69 +56,41 @@ module _ {S F O E : Type 0} (outside : Outside S F O E) {taken : F → Option (L
       of Torn met = met
 
   -- a new file with this path was made, took a beginning of a text and was given back
-  module _ (path : List ℕ) (IsText : List ℕ → Type 0) (old begun new : S) (empty file : F) (text : List ℕ) (opened : begun ≡ outside.made old path)
+  module _ (path : Bor (List ℕ)) (IsText : List ℕ → Type 0) (old begun new : S) (empty file : F) (text : List ℕ) (opened : begun ≡ outside.made old path.now)
       (none : IfSome (outside.wrote empty) (λ bytes. bytes ≡ [])) (fresh : outside.unwritten empty ≡ 0) (is : IsText text)
-      (given : new ≡ outside.closed begun path file) where
-    front : IsBeginning (taken empty) (taken file) text → IfSome (outside.wrote file) (IsFront IsText)
-    front took = subst (λ o. IfSome o (IsFront IsText))
-        (sym (law.file_took file ∙ (took.2 ∙ ap (λ o. append_known o (take took.0 text)) (sym (law.file_took empty)))))
-        (stands (IsFront IsText) (outside.wrote empty) (take took.0 text) none (text, is, (took.0, took.1, refl)))
-
+      (given : new ≡ outside.closed begun path.now file) (made : outside.makes old path.now true)
+      (took : IsBeginning (taken empty) (taken file) text) where
     -- so many writes of it failed
-    count : (n : ℕ) → failures file ≡ failures empty + n → outside.unwritten file ≡ n
-    count n failed =
-        let a = law.file_failed file in
-        let b = law.file_failed empty in omega arith
+    begins : (n : ℕ) → failures file ≡ failures empty + n → BeginsFile outside n path.now IsText old new
+    begins n failed = (
+      file,
+      subst (λ o. IfSome o (IsFront IsText)) (sym (law.file_took file ∙ (took.2 ∙ ap (λ o. append_known o (take took.0 text)) (sym (law.file_took empty)))))
+          (stands (IsFront IsText) (outside.wrote empty) (take took.0 text) none (text, is, (took.0, took.1, refl))),
+      (let a = law.file_failed file in let b = law.file_failed empty in omega arith),
+      given ∙ ap (λ host. outside.closed host path.now file) opened,
+    )
 
-    pub begins : (n : ℕ) → IsBeginning (taken empty) (taken file) text → failures file ≡ failures empty + n → BeginsFile outside n path IsText old new
-    begins n took failed = (file, front took, count n failed, given ∙ ap (λ host. outside.closed host path file) opened)
-
-    begins_none : file ≡ empty → BeginsFile outside 0 path IsText old new
-    begins_none same = begins 0 (none_taken text (taken empty) (taken file) (ap taken same)) (let a = ap failures same in omega arith)
+    part : failures file ≡ failures empty → BeginsFile outside 0 path.now IsText old new
+    part same = begins 0 (omega (arith, same))
 
     -- and it is not whole
-    pub lacks : (has_rows : Bool) (fault : Fault) → outside.makes old path true → IsFaultOfWrite has_rows taken failures empty file text path fault →
-        LacksFile outside has_rows path IsText old new fault
-    lacks has_rows (Description fault) made met = met
-    lacks has_rows (JournalLine n) made met = met
-    lacks has_rows JournalFull made met = met
-    lacks has_rows (CannotRead at) made met = met
-    lacks has_rows (CannotWriteFile at) made met = (met.0, inr (made, begins 1 met.1 met.2))
-    lacks has_rows CannotWrite made met = met
-    lacks has_rows Layout made met = (met.0, made, begins_none met.1)
-    lacks has_rows OutOfMemory made met = (made, inr (begins_none met))
-    lacks has_rows Exhausted made met = met
-    lacks has_rows Spawn made met = met
-    lacks has_rows Torn made met = met
+    pub lacks : (has_rows : Bool) (why : OutFault) → (why ≡ out.Device → failures file ≡ failures empty + 1) →
+        (why ≢ out.Device → failures file ≡ failures empty) → (why ≡ out.Layout → has_rows ≡ true) →
+        LacksFile outside has_rows path.now IsText old new (fault_of_file path why)
+    lacks has_rows out.Device failed kept rows = (refl, inr (made, begins 1 (failed refl)))
+    lacks has_rows out.OutOfMemory failed kept rows = (made, inr (part (kept (λ e. cc))))
+    lacks has_rows out.Layout failed kept rows = (rows refl, made, part (kept (λ e. cc)))
 
-  -- the file of the trace of a run by workers was made and given back, and the trace is not whole
-  module _ (path : Bor (List ℕ)) (plan : Plan) (old begun new : S) (empty file : F) (rows : List Row) (opened : begun ≡ outside.made old path.now)
-      (none : IfSome (outside.wrote empty) (λ bytes. bytes ≡ [])) (fresh : outside.unwritten empty ≡ 0) (are : AreRowsOf plan rows)
-      (given : new ≡ outside.closed begun path.now file) (made : outside.makes old path.now true)
-      (took : IsBeginning (taken empty) (taken file) (trace_text plan rows)) where
-    is : IsTraceText plan (trace_text plan rows)
-    is = (rows, are, refl)
-
-    -- no write of it failed
-    part : failures file ≡ failures empty → BeginsFile outside 0 path.now (IsTraceText plan) old new
-    part same =
-        begins path.now (IsTraceText plan) old begun new empty file (trace_text plan rows) opened none fresh is given 0 took (let a = same in omega arith)
-
-    torn : failures file ≡ failures empty → LacksTrace outside path.now plan old new Torn
-    torn same = inr (refl, made, part same)
-
+    -- nor is the trace of a run by workers
     pub lacks_trace : (why : TraceFault) → (why ≡ Out out.Device → failures file ≡ failures empty + 1) → (why ≢ Out out.Device → failures file ≡ failures empty) →
-        LacksTrace outside path.now plan old new (fault_of_trace path why)
-    lacks_trace (Segment segment.Gap) failed kept = torn (kept (λ e. cc))
-    lacks_trace (Segment segment.Double) failed kept = torn (kept (λ e. cc))
-    lacks_trace (Segment segment.Stranger) failed kept = torn (kept (λ e. cc))
+        LacksFile outside true path.now IsText old new (fault_of_trace path why)
+        ⊎ ((fault_of_trace path why ≡ Torn) × outside.makes old path.now true × BeginsFile outside 0 path.now IsText old new)
+    lacks_trace (Segment segment.Gap) failed kept = inr (refl, made, part (kept (λ e. cc)))
+    lacks_trace (Segment segment.Double) failed kept = inr (refl, made, part (kept (λ e. cc)))
+    lacks_trace (Segment segment.Stranger) failed kept = inr (refl, made, part (kept (λ e. cc)))
     lacks_trace (Segment segment.OutOfMemory) failed kept = inl (made, inr (part (kept (λ e. cc))))
-    lacks_trace (Out out.OutOfMemory) failed kept = inl (made, inr (part (kept (λ e. cc))))
-    lacks_trace (Out out.Layout) failed kept = inl (refl, made, part (kept (λ e. cc)))
-    lacks_trace (Out out.Device) failed kept = inl (
-      refl,
-      inr (made, begins path.now (IsTraceText plan) old begun new empty file (trace_text plan rows) opened none fresh is given 1 took (failed refl)),
-    )
+    lacks_trace (Out why) failed kept =
+        inl (lacks true why (λ e. failed (ap Out e)) (λ no. kept (λ e. no (let same : why ≡ out.Device = cc in same))) (λ e. refl))
 
 -- the steps that were asked for are the journal of the run
 asked : (plan : Plan) (steps : List Step) (is_some : Bool) → is_some ≡ true → IsJournalAsked plan is_some steps → IsJournalOf plan steps
@@ -118,6 +98,13 @@ asked plan steps true is h = h
 asked plan steps false is h = absurd (let bad : false ≡ true = is in cc)
 
 module _ {S F O E : Type 0} (outside : Outside S F O E) where
+  -- a file that was not made has no text
+  pub not_made : (has_rows : Bool) (path : Bor (List ℕ)) (IsText : List ℕ → Type 0) (old new : S) (fault : Fault) → IsFaultOfMake outside path old new fault →
+      LacksFile outside has_rows path.now IsText old new fault
+  not_made has_rows path IsText old new fault (inl (is, refused, missed)) =
+      subst (LacksFile outside has_rows path.now IsText old new) (sym is) (refl, inl (refused, missed))
+  not_made has_rows path IsText old new fault (inr (is, makes, same)) = subst (LacksFile outside has_rows path.now IsText old new) (sym is) (makes, inl same)
+
   -- a beginning of a text of another sort
   begins_other : (n : ℕ) (path : List ℕ) (P Q : List ℕ → Type 0) (old new : S) → ((text : List ℕ) → P text → Q text) → BeginsFile outside n path P old new →
       BeginsFile outside n path Q old new

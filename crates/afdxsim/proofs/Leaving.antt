@@ -2,7 +2,7 @@
 use Rattle.std.proofs.Common.{◌≡◌, ◌∙◌, ℕ, List, [], ◌++◌, Option, Some, None, sym, ap, subst, IfSome, is_some, option_map}
 use Rattle.std.specs.Io.KnownBytes.{append_known}
 use Rattle.virtual_time.specs.declared.step.Step.{Step}
-use Rattle.netdesc.specs.Words.{Plan}
+use Rattle.network.specs.Words.{Plan}
 use Rattle.journal_text.specs.Text.{steps_text}
 use Rattle.afdxsim.specs.Ending.{Took}
 use Rattle.afdxsim.specs.Files.{WritesAsked, WritesFile}

@@ -1,7 +1,7 @@
 -- What a run makes, and why one was given up, as a fault of the program.
 use Rattle.std.proofs.Common.{◌≡◌, ℕ, List, Result, Ok, Err, refl, sym, ap, subst, IfErr}
 use Rattle.nodes.specs.Words.{simulation_of}
-use Rattle.netdesc.specs.Words.{Plan}
+use Rattle.network.specs.Words.{Plan}
 use Rattle.actor_run.specs.Running.{IsExhaustedAt}
 use Rattle.actor_run.specs.declared.fault.SimFault.{SimFault}
 use Rattle.actor_run.specs.declared.fault.SimFault.TheVariants as sim

@@ -2,7 +2,7 @@
 use Rattle.std.proofs.Common.{◌≡◌, ◌∙◌, ℕ, List, Option, sym, ap}
 use Rattle.std.specs.Io.KnownBytes.{append_known}
 use Rattle.afdxsim.specs.Ending.{Took}
-use Rattle.afdxsim.specs.Files.{ShowsAlone, ShowsBoth, TellsAlone}
+use Rattle.afdxsim.specs.Files.{ShowsAlone, ShowsBoth}
 use Rattle.afdxsim.specs.Orders.{Says, Shows}
 use Rattle.afdxsim.specs.Outside.{IsHost, Outside}
 
@@ -24,6 +24,3 @@ module _ {S F O E : Type 0} (outside : Outside S F O E) {w : F → Option (List 
   -- what happened to one stream alone happened to both
   pub both_shown : ShowsAlone outside old new → ShowsBoth outside old new
   both_shown shown = (shown.0, outside.errors new, shown.1 ∙ (sym (law.errors_same (outside.with_output old shown.0)) ∙ ap (λ e. outside.with_errors (outside.with_output old shown.0) e) (sym (ap outside.errors shown.1))))
-
-  pub both_told : TellsAlone outside old new → ShowsBoth outside old new
-  both_told told = (outside.output old, told.0, told.1 ∙ ap (λ host. outside.with_errors host told.0) (sym (law.output_same old)))

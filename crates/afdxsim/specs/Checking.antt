@@ -1,6 +1,6 @@
 -- What the program says of a network that is accepted.
 use Rattle.std.specs.Prelude.{ℕ, List, ◌++◌, length, codes, decimal}
-use Rattle.netdesc.specs.Words.{Plan, process_count}
+use Rattle.network.specs.Words.{Plan, process_count}
 use Rattle.traffic.specs.Offers.{offers_of}
 
 -- the line that tells how many processes, virtual links and offers there are

@@ -1,6 +1,9 @@
 -- What a stream took, what of a fault is told on it, and why standard output did not take a text.
 use Rattle.std.specs.Prelude.{◌≡◌, ℕ, ◌+◌, Bool, true, List, Option}
+use Rattle.std.specs.Borrow.{Bor}
 use Rattle.std.specs.Io.KnownBytes.{append_known}
+use Rattle.trace_segments.specs.declared.fault.OutFault.{OutFault}
+use Rattle.trace_segments.specs.declared.fault.OutFault.TheVariants as out
 use Rattle.afdxsim.specs.declared.fault.Fault.{Fault}
 use Rattle.afdxsim.specs.declared.fault.Fault.TheVariants.{Description, JournalLine, JournalFull, CannotRead, CannotWriteFile, CannotWrite, Layout, OutOfMemory, Exhausted, Spawn, Torn}
 use Rattle.afdxsim.specs.Telling.{Telling}
@@ -12,6 +15,12 @@ Took taken old new text = taken new ≡ append_known (taken old) text
 -- error output took the line of what is told, unless a write to it failed; the status is the one that goes with the line
 abbrev pub Told : {A : Type 0} → (A → Option (List ℕ)) → (A → ℕ) → A → A → ℕ → Telling → Type 0
 Told taken failures old new status told = (status ≡ told.status) × (failures new ≡ failures old → Took taken old new told.line)
+
+-- why a text did not go out, as a fault of the program, where it was for the file with this path
+abbrev pub fault_of_file : Bor (List ℕ) → OutFault → Fault
+fault_of_file path out.Device = CannotWriteFile path
+fault_of_file path out.OutOfMemory = OutOfMemory
+fault_of_file path out.Layout = Layout
 
 -- why a text, which has rows or has none, is not on a stream: one more write failed than before; or a growth was refused, or its rows were
 -- not laid out, and then the stream is as it was

@@ -1,33 +1,30 @@
 -- What the program leaves behind: files, and then what it shows on standard output; and what is left where a fault ends it on the way.
-use Rattle.std.specs.Prelude.{◌≡◌, ◌⊎◌, ◌≤◌, ℕ, ◌+◌, Bool, true, false, List, Option, None, Some, IfSome, length, take}
-use Rattle.netdesc.specs.Words.{Plan}
-use Rattle.trace_segments.specs.Words.{IsBeginning}
+use Rattle.std.specs.Prelude.{◌≡◌, ◌⊎◌, ◌≤◌, ℕ, Bool, true, false, List, Option, None, Some, IfSome, length, take}
+use Rattle.std.specs.Borrow.{Bor}
+use Rattle.network.specs.Words.{Plan}
+use Rattle.journal_text.specs.Text.{steps_text}
+use Rattle.trace_segments.specs.Words.{trace_text}
 use Rattle.afdxsim.specs.declared.fault.Fault.{Fault}
 use Rattle.afdxsim.specs.declared.fault.Fault.TheVariants.{Description, JournalLine, JournalFull, CannotRead, CannotWriteFile, CannotWrite, Layout, OutOfMemory, Exhausted, Spawn, Torn}
+use Rattle.afdxsim.specs.declared.keeping.Kept.{Kept}
+use Rattle.afdxsim.specs.declared.keeping.Kept.TheVariants.{Trace, Journal}
 use Rattle.afdxsim.specs.Ending.{IsFaultOfOutput}
 use Rattle.afdxsim.specs.Outside.{Outside}
 use Rattle.afdxsim.specs.Sequencing.{IsFaultOfRun, IsTraceText}
 use Rattle.afdxsim.specs.Workers.{CanWantThreads, IsFaultOfPool, IsJournalText}
 
+-- the text of what a run leaves in a file, and whether it has rows
+abbrev pub text_of : Kept → List ℕ
+text_of (Trace network rows) = trace_text network.now rows.now
+text_of (Journal steps) = steps_text steps.now
+
+abbrev pub has_rows : Kept → Bool
+has_rows (Trace network rows) = true
+has_rows (Journal steps) = false
+
 -- a beginning of one of these texts
 abbrev pub IsFront : (List ℕ → Type 0) → List ℕ → Type 0
 IsFront IsText bytes = (text : List ℕ) × IsText text × ((n : ℕ) × (n ≤ length text) × (bytes ≡ take n text))
-
--- why a text, which has rows or has none, was not written into a file with this path: it took a beginning, and then one more write failed; or a
--- growth was refused, or its rows were not laid out, and then the file is as it was
-abbrev pub IsFaultOfWrite : {File : Type 0} → Bool → (File → Option (List ℕ)) → (File → ℕ) → File → File → List ℕ → List ℕ → Fault → Type 0
-IsFaultOfWrite has_rows taken failures old new text path (Description fault) = ⊥
-IsFaultOfWrite has_rows taken failures old new text path (JournalLine n) = ⊥
-IsFaultOfWrite has_rows taken failures old new text path JournalFull = ⊥
-IsFaultOfWrite has_rows taken failures old new text path (CannotRead at) = ⊥
-IsFaultOfWrite has_rows taken failures old new text path (CannotWriteFile at) =
-    (at.now ≡ path) × IsBeginning (taken old) (taken new) text × (failures new ≡ failures old + 1)
-IsFaultOfWrite has_rows taken failures old new text path CannotWrite = ⊥
-IsFaultOfWrite has_rows taken failures old new text path Layout = (has_rows ≡ true) × (new ≡ old)
-IsFaultOfWrite has_rows taken failures old new text path OutOfMemory = new ≡ old
-IsFaultOfWrite has_rows taken failures old new text path Exhausted = ⊥
-IsFaultOfWrite has_rows taken failures old new text path Spawn = ⊥
-IsFaultOfWrite has_rows taken failures old new text path Torn = ⊥
 
 module _ {S F O E : Type 0} (outside : Outside S F O E) where
   -- a new file with this path was made, took one of these texts and no more, and was given back; nothing else happened to the host
@@ -50,6 +47,12 @@ module _ {S F O E : Type 0} (outside : Outside S F O E) where
   abbrev pub MakesAsked : Option (List ℕ) → S → S → Type 0
   MakesAsked None old new = new ≡ old
   MakesAsked (Some path) old new = outside.makes old path true × (new ≡ outside.made old path)
+
+  -- why no file with this path was made: it could not be; or a growth was refused, and nothing happened to the host
+  abbrev pub IsFaultOfMake : Bor (List ℕ) → S → S → Fault → Type 0
+  IsFaultOfMake path old new fault =
+      ((fault ≡ CannotWriteFile path) × outside.makes old path.now false × (new ≡ outside.missed old path.now))
+      ⊎ ((fault ≡ OutOfMemory) × outside.makes old path.now true × (new ≡ old))
 
   -- nothing happened to the host but to its standard output
   abbrev pub ShowsAlone : S → S → Type 0

@@ -1,7 +1,8 @@
 -- What a read of a file gives, and what its bytes are as a description.
 use Rattle.std.specs.Prelude.{◌≡◌, ◌⊎◌, ℕ, List, Option, None, Some, IsUtf8}
 use Rattle.network_rows.specs.declared.fault.DescFault.TheVariants.{Syntax}
-use Rattle.netdesc.specs.Words.{Plan, TellsFaultOf, Describes}
+use Rattle.network.specs.Words.{Plan}
+use Rattle.netdesc.specs.Words.{TellsFaultOf, Describes}
 use Rattle.afdxsim.specs.Outside.{Outside}
 use Rattle.afdxsim.specs.declared.fault.Fault.{Fault}
 use Rattle.afdxsim.specs.declared.fault.Fault.TheVariants.{Description, JournalLine, JournalFull, CannotRead, CannotWriteFile, CannotWrite, Layout, OutOfMemory, Exhausted, Spawn, Torn}

@@ -3,7 +3,7 @@ use Rattle.std.specs.Prelude.{◌≡◌, ◌⊎◌, ◌↔◌, ◌<◌, ◌≤�
 use Rattle.vlink.specs.Letters.{Row}
 use Rattle.virtual_time.specs.declared.step.Step.{Step}
 use Rattle.virtual_time.specs.Law.{start, IsFinished}
-use Rattle.netdesc.specs.Words.{Plan}
+use Rattle.network.specs.Words.{Plan}
 use Rattle.nodes.specs.Words.{simulation_of}
 use Rattle.journal_text.specs.declared.fault.LinesFault.{LinesFault}
 use Rattle.journal_text.specs.declared.fault.LinesFault.TheVariants as journal

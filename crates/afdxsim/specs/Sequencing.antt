@@ -1,7 +1,7 @@
 -- What the program writes of a one-thread run, and why it gives one up.
 use Rattle.std.specs.Prelude.{◌≡◌, ℕ, List}
 use Rattle.vlink.specs.Letters.{Row}
-use Rattle.netdesc.specs.Words.{Plan}
+use Rattle.network.specs.Words.{Plan}
 use Rattle.nodes.specs.Words.{simulation_of}
 use Rattle.actor_run.specs.Running.{IsExhaustedAt}
 use Rattle.actor_run.specs.declared.fault.SimFault.{SimFault}

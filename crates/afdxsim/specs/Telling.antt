@@ -59,8 +59,8 @@ fault_text Spawn = codes "cannot start a worker"
 fault_text Torn = codes "torn"
 
 -- the line of a text on error output
-abbrev pub told : List ℕ → List ℕ
-told text = codes "afdxsim: " ++ text ++ 10 ∷ []
+abbrev pub told_line : List ℕ → List ℕ
+told_line text = codes "afdxsim: " ++ text ++ 10 ∷ []
 
 -- 3 for a description or a line of a journal, 4 for a file, standard output or a worker that does not start, 5 for memory, numbers, a journal that is too long or torn, and rows that are not laid out
 abbrev pub status_of : Fault → ℕ
@@ -84,15 +84,15 @@ pub record Telling : Type 0 where
 
 -- what is told of a fault
 abbrev pub telling_of : Fault → Telling
-telling_of fault = record { line = told (fault_text fault); status = status_of fault }
+telling_of fault = record { line = told_line (fault_text fault); status = status_of fault }
 
 -- what is told where the words name the file with this path twice
 abbrev pub telling_of_twice : List ℕ → Telling
-telling_of_twice path = record { line = told (codes "named twice: " ++ path); status = 2 }
+telling_of_twice path = record { line = told_line (codes "named twice: " ++ path); status = 2 }
 
 -- what is told where a word after the program's name is not UTF-8
 abbrev pub telling_of_no_text : Telling
-telling_of_no_text = record { line = told (codes "a word is not UTF-8"); status = 2 }
+telling_of_no_text = record { line = told_line (codes "a word is not UTF-8"); status = 2 }
 
 -- what is told is that of one fault: of this one, or of want of memory, which its line itself may meet
 abbrev pub TellsOne : Fault → (Telling → Type 0) → Type 0

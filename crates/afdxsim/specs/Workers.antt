@@ -2,11 +2,10 @@
 use Rattle.std.specs.Prelude.{◌≡◌, ℕ, List, Option, None, Some}
 use Rattle.std.specs.Borrow.{Bor}
 use Rattle.virtual_time.specs.declared.step.Step.{Step}
-use Rattle.netdesc.specs.Words.{Plan, process_count}
+use Rattle.network.specs.Words.{Plan, process_count}
 use Rattle.journal_text.specs.Text.{steps_text}
 use Rattle.journal.specs.declared.fault.PoolFault.{PoolFault}
 use Rattle.journal.specs.declared.fault.PoolFault.TheVariants as pool
-use Rattle.trace_segments.specs.declared.fault.OutFault.TheVariants as out
 use Rattle.trace_segments.specs.declared.segment_fault.SegmentFault.TheVariants as segment
 use Rattle.trace_segments.specs.declared.trace_fault.TraceFault.{TraceFault}
 use Rattle.trace_segments.specs.declared.trace_fault.TraceFault.TheVariants.{Segment, Out}
@@ -14,6 +13,7 @@ use Rattle.worker_pool.specs.Outcomes.{CanWantWorkers, UsesUpNumbers}
 use Rattle.worker_pool.specs.Runs.{IsJournalOf}
 use Rattle.afdxsim.specs.declared.fault.Fault.{Fault}
 use Rattle.afdxsim.specs.declared.fault.Fault.TheVariants.{Description, JournalLine, JournalFull, CannotRead, CannotWriteFile, CannotWrite, Layout, OutOfMemory, Exhausted, Spawn, Torn}
+use Rattle.afdxsim.specs.Ending.{fault_of_file}
 
 -- this is the text of the steps of a run by workers
 abbrev pub IsJournalText : Plan → List ℕ → Type 0
@@ -52,6 +52,4 @@ CanWantThreads (Some trace) workers plan = Unit
 abbrev pub fault_of_trace : Bor (List ℕ) → TraceFault → Fault
 fault_of_trace path (Segment segment.OutOfMemory) = OutOfMemory
 fault_of_trace path (Segment why) = Torn
-fault_of_trace path (Out out.OutOfMemory) = OutOfMemory
-fault_of_trace path (Out out.Device) = CannotWriteFile path
-fault_of_trace path (Out out.Layout) = Layout
+fault_of_trace path (Out why) = fault_of_file path why

@@ -8,7 +8,7 @@ ghost use Rattle.afdxsim.specs.Orders.{IsQuiet, Shows};
 
 use crate::fault::Fault;
 use crate::host::Host;
-use netdesc::Network;
+use network::Network;
 use std::alloc::{AllocError, Global};
 use trace_tables::{Sink, write_all};
 use traffic::offer_count;

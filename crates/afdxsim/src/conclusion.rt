@@ -1,9 +1,10 @@
 //! A journal, done on a network, and what is told of it.
+//! All lines are read first, so that the two functions called are those whose contracts are the promise.
 ghost use Rattle.std.specs.Prelude.{◌≡◌, ◌⊎◌, List, IfOk, IfErr, string_bytes};
 ghost use Rattle.vlink.specs.Letters.{Row};
 ghost use Rattle.virtual_time.specs.declared.step.Step.{Step};
 ghost use Rattle.virtual_time.specs.Law.{IsFinished};
-ghost use Rattle.netdesc.specs.Words.{Plan};
+ghost use Rattle.network.specs.Words.{Plan};
 ghost use Rattle.nodes.specs.Words.{simulation_of};
 ghost use Rattle.trace_tables.specs.Tables.{tables_of};
 ghost use Rattle.seqsim.specs.Networks.{AreRowsOf};
@@ -15,7 +16,7 @@ ghost use Rattle.afdxsim.specs.Replaying.{counts_text, finish_text, summary_text
 
 use crate::fault::Fault;
 use crate::journal_steps::{done, steps_of};
-use netdesc::Network;
+use network::Network;
 use std::alloc::{AllocError, Global};
 use timewarp::{Replay, World};
 use trace_tables::Tables;
@@ -105,7 +106,7 @@ fn committed_tables(alloc: Global, world: &World) -> Result<Tables, AllocError>
 }
 
 /// Tells what a replay has found.
-fn told(alloc: Global, found: Replay) -> Result<Conclusion, AllocError>
+fn conclusion_after(alloc: Global, found: Replay) -> Result<Conclusion, AllocError>
     ensures told { IfOk result (λ conclusion. (steps : List Step) → IsReplayed found steps → TellsOfSteps found.world.plan steps conclusion) }
     ensures network { IfOk result (λ conclusion. conclusion.world.plan ≡ found.world.plan) }
 {
@@ -135,5 +136,5 @@ pub fn conclusion_of(
 {
     let steps = steps_of(alloc, text)?;
     let found = done(alloc, network, &steps)?;
-    Ok(told(alloc, found)?)
+    Ok(conclusion_after(alloc, found)?)
 }

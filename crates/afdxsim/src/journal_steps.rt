@@ -1,13 +1,13 @@
 //! The journal with a text: its steps, read and then done on a network.
 ghost use Rattle.std.specs.Prelude.{◌≡◌, ◌⊎◌, IfOk, IfErr};
-ghost use Rattle.netdesc.specs.Words.{Plan};
+ghost use Rattle.network.specs.Words.{Plan};
 ghost use Rattle.timewarp.specs.Replayed.{IsReplayed};
 ghost use Rattle.afdxsim.specs.declared.fault.Fault.TheVariants.{OutOfMemory, Exhausted};
 ghost use Rattle.afdxsim.specs.Replaying.{fault_of_lines, IsJournal, IsExhaustedIn, IsFaultOfJournal};
 
 use crate::fault::Fault;
 use journal_text::{LinesFault, read_steps};
-use netdesc::Network;
+use network::Network;
 use std::alloc::Global;
 use timewarp::{Replay, StepFault, replay};
 use vlink::Step;

@@ -7,6 +7,7 @@ mod conclusion;
 mod fault;
 mod host;
 mod journal_steps;
+mod keeping;
 mod naming;
 mod obeying;
 mod pace_text;

@@ -17,7 +17,7 @@ use crate::run::run;
 use crate::seq::seq;
 use crate::telling::tell;
 use command_line::Order;
-use netdesc::Network;
+use network::Network;
 use std::alloc::Global;
 use std::sync::Wait;
 use std::thread::Threads;

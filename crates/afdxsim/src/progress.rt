@@ -1,4 +1,5 @@
 //! Progress: error output is told how far a run is.
+//! On a terminal a line ends like any other, and the next one goes up into its place: so a fault behind it has a line of its own.
 ghost use Rattle.std.specs.Prelude.{◌≡◌, ◌⊎◌, ◌++◌, [], IfOk, OnOk, string_bytes};
 ghost use Rattle.afdxsim.specs.Progress.{HearsAsked, IsProgressLine, progress_text, upwards};
 

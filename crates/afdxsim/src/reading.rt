@@ -5,7 +5,8 @@ ghost use Rattle.afdxsim.specs.Reading.{GivesNetwork, IsFaultOfFile, IsFaultOfNe
 
 use crate::fault::Fault;
 use crate::host::{FileFault, Host};
-use netdesc::{DescFault, Network, read};
+use netdesc::{DescFault, read};
+use network::Network;
 use std::alloc::Global;
 use std::str;
 

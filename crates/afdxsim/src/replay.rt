@@ -14,7 +14,7 @@ use crate::reading::bytes_of;
 use crate::seq::show_tables;
 use crate::telling::say;
 use command_line::Replay;
-use netdesc::Network;
+use network::Network;
 use std::alloc::Global;
 
 /// Does the journal in the file with this path on a network, and tells what it came to.

@@ -3,29 +3,27 @@ ghost use Rattle.std.specs.Prelude.{◌≡◌, ◌≢◌, ◌⊎◌, ℕ, false,
 ghost use Rattle.command_line.specs.declared.orders.Order.TheVariants as ordered;
 ghost use Rattle.journal_text.specs.Text.{steps_text};
 ghost use Rattle.trace_tables.specs.Text.{tables_text};
-ghost use Rattle.netdesc.specs.Words.{process_count};
+ghost use Rattle.network.specs.Words.{process_count};
 ghost use Rattle.worker_pool.specs.Outcomes.{CanWantWorkers};
 ghost use Rattle.worker_pool.specs.Runs.{IsJournalAsked};
 ghost use Rattle.afdxsim.specs.declared.fault.Fault.TheVariants.{CannotWrite};
-ghost use Rattle.afdxsim.specs.Ending.{Took};
-ghost use Rattle.afdxsim.specs.Files.{IsFaultOfWrite, LacksFile, LacksTrace, LeavesRun, MakesAsked, WritesAsked, WritesFile};
+ghost use Rattle.afdxsim.specs.Files.{LacksFile, LacksTrace, LeavesRun, MakesAsked, WritesAsked, WritesFile};
 ghost use Rattle.afdxsim.specs.Orders.{IsFaultOn, IsHeard, IsQuiet, ShowsTables, heard_host};
 ghost use Rattle.afdxsim.specs.Sequencing.{IsTablesText, IsTraceText};
 ghost use Rattle.afdxsim.specs.Workers.{CanWantThreads, IsFaultOfPool};
 
 use crate::fault::Fault;
-use crate::host::{FileFault, Host};
+use crate::host::Host;
+use crate::keeping::{Kept, keep, made};
 use crate::progress::asked_of;
 use crate::seq::show_tables;
-use crate::steps::write_steps;
 use crate::workers::{fault_of_trace, found_by_workers, pace_of, traced};
 use command_line::Run;
-use netdesc::Network;
+use network::Network;
 use std::alloc::Global;
 use std::sync::Wait;
 use std::thread::Threads;
 use std::time::Clock;
-use trace_tables::{OutFault, Sink};
 use vlink::Step;
 use worker_pool::{Pace, Summary, Traced};
 
@@ -53,22 +51,17 @@ fn simulate_with_trace<'a, H: Host, T: Threads + Wait + Clock + Sync>(
     ensures heard { IsHeard H.outside host.old is_asked network.now (H.outside.errors host.new) }
 {
     let asked = asked_of(is_asked, host);
-    match host.make(path) {
-        Ok(file) => {
-            let errors = host.errors();
-            let Traced {
-                outcome,
-                written,
-                sink,
-            } = traced(rt, alloc, network, pace, with_steps, file, asked, errors)?;
-            host.close(path, sink);
-            match written {
-                Ok(()) => Ok(outcome),
-                Err(why) => Err(fault_of_trace(path, why)),
-            }
-        }
-        Err(FileFault::Device) => Err(Fault::CannotWriteFile(path)),
-        Err(FileFault::OutOfMemory) => Err(Fault::OutOfMemory),
+    let file = made(path, host)?;
+    let errors = host.errors();
+    let Traced {
+        outcome,
+        written,
+        sink,
+    } = traced(rt, alloc, network, pace, with_steps, file, asked, errors)?;
+    host.close(path, sink);
+    match written {
+        Ok(()) => Ok(outcome),
+        Err(why) => Err(fault_of_trace(path, why)),
     }
 }
 
@@ -132,46 +125,6 @@ fn simulate<'a, H: Host, T: Threads + Wait + Clock + Sync>(
     }
 }
 
-/// Writes the steps of a run into the file with this path.
-fn write_steps_of<'a, F: Sink>(
-    alloc: Global,
-    steps: &[Step],
-    path: &'a str,
-    file: &mut F,
-) -> Result<(), Fault<'a>>
-    ensures text { OnOk result (Took F.taken file.old file.new (steps_text steps.now)) }
-    ensures fault { IfErr result (IsFaultOfWrite false F.taken F.failures file.old file.new (steps_text steps.now) path.entry.now) }
-{
-    match write_steps(alloc, steps, file) {
-        Ok(()) => Ok(()),
-        Err(OutFault::OutOfMemory) => Err(Fault::OutOfMemory),
-        Err(_) => Err(Fault::CannotWriteFile(path)),
-    }
-}
-
-/// Makes the file with this path and writes the steps of a run into it. Where that fails, the file is given back with what it took.
-fn keep_steps<'a, H: Host>(
-    alloc: Global,
-    steps: &[Step],
-    path: &'a str,
-    host: &mut H,
-) -> Result<(), Fault<'a>>
-    ensures file { OnOk result (WritesFile H.outside path.entry.now (λ text. text ≡ steps_text steps.now) host.old host.new) }
-    ensures fault { IfErr result (LacksFile H.outside false path.entry.now (λ text. text ≡ steps_text steps.now) host.old host.new) }
-    ensures output { H.outside.output host.new ≡ H.outside.output host.old }
-    ensures quiet { IsQuiet H.outside host.old host.new }
-{
-    match host.make(path) {
-        Ok(mut file) => {
-            let written = write_steps_of(alloc, steps, path, &mut file);
-            host.close(path, file);
-            written
-        }
-        Err(FileFault::Device) => Err(Fault::CannotWriteFile(path)),
-        Err(FileFault::OutOfMemory) => Err(Fault::OutOfMemory),
-    }
-}
-
 /// Writes the journal of a run into its file, where one is ordered.
 fn keep_journal<'a, H: Host>(
     alloc: Global,
@@ -186,7 +139,7 @@ fn keep_journal<'a, H: Host>(
     ensures quiet { IsQuiet H.outside host.old host.new }
 {
     match &order.journal {
-        Some(path) => keep_steps(alloc, steps, path.as_str(), host),
+        Some(path) => keep(alloc, Kept::Journal(steps), path.as_str(), host),
         None => Ok(()),
     }
 }

@@ -2,25 +2,24 @@
 ghost use Rattle.std.specs.Prelude.{◌≡◌, ◌≢◌, true, None, Some, IfErr, IfOk, OnOk, option_map, string_bytes};
 ghost use Rattle.command_line.specs.declared.orders.Order.TheVariants as ordered;
 ghost use Rattle.seqsim.specs.Networks.{AreRowsOf};
-ghost use Rattle.trace_segments.specs.Words.{trace_text};
 ghost use Rattle.trace_tables.specs.Text.{tables_text};
 ghost use Rattle.afdxsim.specs.declared.fault.Fault.TheVariants.{CannotWrite};
 ghost use Rattle.afdxsim.specs.Ending.{Took, IsFaultOfOutput};
-ghost use Rattle.afdxsim.specs.Files.{IsFaultOfWrite, LacksFile, LacksSeq, LeavesSeq, ShowsAlone, WritesFile};
-ghost use Rattle.afdxsim.specs.Orders.{IsFaultOn, IsHeard, IsQuiet, ShowsTables, heard_host};
+ghost use Rattle.afdxsim.specs.Files.{LacksSeq, LeavesSeq, ShowsAlone};
+ghost use Rattle.afdxsim.specs.Orders.{IsFaultOn, IsHeard, ShowsTables, heard_host};
 ghost use Rattle.afdxsim.specs.Progress.{HearsAsked};
 ghost use Rattle.afdxsim.specs.Sequencing.{IsTablesText, IsFaultOfRun};
 
 use crate::fault::Fault;
-use crate::host::{FileFault, Host};
+use crate::host::Host;
+use crate::keeping::{Kept, keep};
 use crate::progress::{Asked, Progress, asked_of};
 use command_line::Seq;
-use netdesc::Network;
+use network::Network;
 use seqsim::{Finished, run, run_tables};
 use std::alloc::Global;
 use std::time::Clock;
-use trace_tables::{OutFault, Sink, Tables, write_csv, write_trace};
-use vlink::Row;
+use trace_tables::{OutFault, Sink, Tables, write_csv};
 
 /// Writes the tables of a run on standard output.
 pub fn show_tables<O: Sink>(
@@ -38,49 +37,6 @@ pub fn show_tables<O: Sink>(
         Err(OutFault::Device) => Err(Fault::CannotWrite),
         Err(OutFault::Layout) => Err(Fault::Layout),
         Err(OutFault::OutOfMemory) => Err(Fault::OutOfMemory),
-    }
-}
-
-/// Writes the trace of a run into the file with this path.
-fn write_trace_of<'a, F: Sink>(
-    alloc: Global,
-    network: &Network,
-    rows: &[Row],
-    path: &'a str,
-    file: &mut F,
-) -> Result<(), Fault<'a>>
-    ensures text { OnOk result (Took F.taken file.old file.new (trace_text network.now rows.now)) }
-    ensures fault { IfErr result (IsFaultOfWrite true F.taken F.failures file.old file.new (trace_text network.now rows.now) path.entry.now) }
-{
-    match write_trace(alloc, network, rows, file) {
-        Ok(()) => Ok(()),
-        Err(OutFault::Device) => Err(Fault::CannotWriteFile(path)),
-        Err(OutFault::Layout) => Err(Fault::Layout),
-        Err(OutFault::OutOfMemory) => Err(Fault::OutOfMemory),
-    }
-}
-
-/// Makes the file with this path and writes the trace of a run into it. Where that fails, the file is given back with what it took.
-fn keep_trace<'a, H: Host>(
-    alloc: Global,
-    network: &Network,
-    rows: &[Row],
-    path: &'a str,
-    host: &mut H,
-) -> Result<(), Fault<'a>>
-    ensures file { OnOk result (WritesFile H.outside path.entry.now (λ text. text ≡ trace_text network.now rows.now) host.old host.new) }
-    ensures fault { IfErr result (LacksFile H.outside true path.entry.now (λ text. text ≡ trace_text network.now rows.now) host.old host.new) }
-    ensures output { H.outside.output host.new ≡ H.outside.output host.old }
-    ensures quiet { IsQuiet H.outside host.old host.new }
-{
-    match host.make(path) {
-        Ok(mut file) => {
-            let written = write_trace_of(alloc, network, rows, path, &mut file);
-            host.close(path, file);
-            written
-        }
-        Err(FileFault::Device) => Err(Fault::CannotWriteFile(path)),
-        Err(FileFault::OutOfMemory) => Err(Fault::OutOfMemory),
     }
 }
 
@@ -195,7 +151,8 @@ fn run_to_trace<'a, H: Host, T: Clock>(
     ensures heard { IsHeard H.outside host.old is_asked network.now (H.outside.errors host.new) }
 {
     let finished = heard_run(rt, alloc, network, is_asked, host)?;
-    keep_trace(alloc, network, finished.rows.as_slice(), path, host)?;
+    let rows = finished.rows.as_slice();
+    keep(alloc, Kept::Trace(network, rows), path, host)?;
     show_tables(alloc, network, &finished.tables, host.output())
 }
 

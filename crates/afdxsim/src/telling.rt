@@ -1,7 +1,7 @@
 //! What the program says of a fault, on one line of error output.
 ghost use Rattle.std.specs.Prelude.{◌≡◌, ◌≤◌, ◌⊎◌, ◌++◌, [], codes, decimal, OnOk, IfOk, string_bytes};
 ghost use Rattle.std.specs.Option.{option_map_or};
-ghost use Rattle.afdxsim.specs.Telling.{place_text, place_of, fault_name, description_text, fault_text, told, telling_of, telling_of_no_text, telling_of_twice, TellsOne};
+ghost use Rattle.afdxsim.specs.Telling.{place_text, place_of, fault_name, description_text, fault_text, told_line, telling_of, telling_of_no_text, telling_of_twice, TellsOne};
 ghost use Rattle.afdxsim.specs.Ending.{Took, Told};
 ghost use Rattle.afdxsim.specs.Naming.{TellsTwice};
 ghost use Rattle.afdxsim.specs.declared.fault.Fault.TheVariants.{OutOfMemory};
@@ -102,7 +102,7 @@ fn push_fault(text: &mut String, fault: &Fault<'_>) -> Result<(), AllocError>
 
 /// The line that tells a fault.
 fn line_of(alloc: Global, fault: &Fault<'_>) -> Result<String, AllocError>
-    ensures { IfOk result (λ line. string_bytes line ≡ told (fault_text fault.now)) }
+    ensures { IfOk result (λ line. string_bytes line ≡ told_line (fault_text fault.now)) }
 {
     let mut line = String::from_str(alloc, "afdxsim: ")?;
     push_fault(&mut line, fault)?;
@@ -112,7 +112,7 @@ fn line_of(alloc: Global, fault: &Fault<'_>) -> Result<String, AllocError>
 
 /// The line that tells of want of memory.
 fn want_of_memory() -> &'static str
-    ensures { result.now ≡ told (fault_text OutOfMemory) }
+    ensures { result.now ≡ told_line (fault_text OutOfMemory) }
 {
     "afdxsim: out of memory\n"
 }

@@ -1,7 +1,7 @@
 //! A run by workers: its tables, and what else is asked for.
 ghost use Rattle.std.specs.Prelude.{◌≡◌, ◌≢◌, ◌+◌, List, IfErr, IfOk, OnOk};
 ghost use Rattle.vlink.specs.Letters.{Row};
-ghost use Rattle.netdesc.specs.Words.{process_count};
+ghost use Rattle.network.specs.Words.{process_count};
 ghost use Rattle.trace_segments.specs.declared.fault.OutFault.TheVariants.{Device};
 ghost use Rattle.trace_segments.specs.declared.trace_fault.TraceFault.TheVariants.{Out};
 ghost use Rattle.trace_segments.specs.Words.{IsBeginning, trace_text};
@@ -15,14 +15,15 @@ ghost use Rattle.afdxsim.specs.Sequencing.{IsTablesText};
 ghost use Rattle.afdxsim.specs.Workers.{fault_of_trace, IsFaultOfPool};
 
 use crate::fault::Fault;
+use crate::keeping::fault_of_file;
 use crate::progress::{Asked, Progress};
 use command_line::Run;
-use netdesc::Network;
+use network::Network;
 use std::alloc::Global;
 use std::sync::Wait;
 use std::thread::Threads;
 use std::time::Clock;
-use trace_tables::{OutFault, SegmentFault, Sink, TraceFault};
+use trace_tables::{SegmentFault, Sink, TraceFault};
 use worker_pool::{Gate, Pace, Summary, Traced, run_summary, run_traced};
 
 /// A gate that is told of each message and does nothing.
@@ -118,8 +119,6 @@ pub fn fault_of_trace<'a>(path: &'a str, why: TraceFault) -> Fault<'a>
     match why {
         TraceFault::Segment(SegmentFault::OutOfMemory) => Fault::OutOfMemory,
         TraceFault::Segment(_) => Fault::Torn,
-        TraceFault::Out(OutFault::OutOfMemory) => Fault::OutOfMemory,
-        TraceFault::Out(OutFault::Device) => Fault::CannotWriteFile(path),
-        TraceFault::Out(OutFault::Layout) => Fault::Layout,
+        TraceFault::Out(why) => fault_of_file(path, why),
     }
 }

@@ -7,10 +7,10 @@ ghost use Rattle.vlink.specs.Letters.{Letter};
 ghost use Rattle.antimessages.specs.Counting.{change_by, is_after, present_after, HaveSameCounts};
 ghost use Rattle.antimessages.specs.declared.tally.Change.TheVariants.{Same};
 
-use crate::occurrence::occurrence_order;
+use crate::occurrence::occurrence_order_law;
 use crate::tally::{Change, Tally};
 use std::cmp::Ordering;
-use vlink::{Letter, Message, compare, message_order};
+use vlink::{Letter, Message, compare, message_order_law};
 
 impl Tally {
     /// What `next_after` answers once this letter is tallied, where `next` was its answer before: the counts are looked through only where
@@ -28,7 +28,7 @@ impl Tally {
             next ≡ present_after message_order (option_copied newest.entry) before →
             result ≡ present_after message_order (option_copied newest.entry) self.now }
     {
-        occurrence_order();
+        occurrence_order_law();
         match change {
             Change::Same => next,
             Change::BecamePresent => Some(lesser(&letter.message, next)),
@@ -41,7 +41,7 @@ impl Tally {
 fn lesser(message: &Message, other: Option<Message>) -> Message
     ensures { Some result ≡ lesser message_order message.now other }
 {
-    message_order();
+    message_order_law();
     match other {
         Some(first) => {
             if compare(&first, message) == Ordering::Less {

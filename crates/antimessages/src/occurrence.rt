@@ -11,7 +11,7 @@ ghost use Rattle.antimessages.specs.Ordered.{occurrences_total};
 ghost use Rattle.vlink.specs.contracts.message.MessageOrd.TheImpl.Laws as message_total;
 
 use std::cmp::Ordering;
-use vlink::{Message, compare, message_order};
+use vlink::{Message, compare, message_order_law};
 
 /// One of the letters of a message that count: its number among them, from 0.
 #[derive(Clone, Copy)]
@@ -64,21 +64,19 @@ impl Ord for Occurrence {
 }
 
 /// The order of occurrences, by message and then by ordinal, and that of messages.
-///
-/// A call does nothing: its caller learns what the clauses say.
-pub(crate) fn occurrence_order()
+pub(crate) fn occurrence_order_law()
     ensures written { ⟦<Occurrence as Ord>⟧.cmp ≡ occurrence_cmp }
     ensures occurrences { IsTotalOrder occurrence_cmp }
     ensures total { IsTotalOrder message_cmp }
     ensures exact { (a b : Message) → message_cmp a b ≡ Equal → a ≡ b }
     ensures messages { IsOrder message_order }
 {
-    message_order();
-    total_of::<Occurrence>();
+    message_order_law();
+    total_order_law::<Occurrence>();
 }
 
 /// The order of a type is total.
-fn total_of<T: Ord>()
+fn total_order_law<T: Ord>()
     ensures { IsTotalOrder T.cmp }
 {}
 
@@ -86,7 +84,7 @@ fn total_of<T: Ord>()
 pub(crate) fn is_before(first: &Message, second: &Message) -> bool
     ensures { result ≡ message_order.less first.now second.now }
 {
-    message_order();
+    message_order_law();
     compare(first, second) == Ordering::Less
 }
 

@@ -12,7 +12,7 @@ ghost use Rattle.antimessages.specs.Counting.{signed_count, HaveSameCounts, is_a
 ghost use Rattle.antimessages.specs.Occurrences.{AreTallied, letters_of, letter_at, occurrence_of, occurrence_cmp, count_with, behind, BeginsWithOne};
 
 use crate::fault::OutOfMemory;
-use crate::occurrence::{Occurrence, is_before, is_same, occurrence_order};
+use crate::occurrence::{Occurrence, is_before, is_same, occurrence_order_law};
 use std::collections::BTreeMap;
 use std::collections::btree_map::Range;
 use std::ops::Bound;
@@ -25,7 +25,7 @@ pub(crate) fn last_of(signs: &BTreeMap<Occurrence, Sign>, message: &Message) -> 
         (λ x. signed_count message_order message.now (letters_of signs.now.entries) ≡ count_with x.1 (x.0 + 1)) }
     ensures room { IfSome result (λ x. x.0 + 1 < 2 ^ 63) }
 {
-    occurrence_order();
+    occurrence_order_law();
     let _len = signs.len();
     let end = Occurrence {
         message: *message,
@@ -54,7 +54,7 @@ pub(crate) fn put_first(
     ensures stays { IfOk result (λ first. first ≡ false → signs.new.entries ≡ signs.old.entries) }
     ensures unchanged { OnErr result (signs.new.entries ≡ signs.old.entries) }
 {
-    occurrence_order();
+    occurrence_order_law();
     let first = Occurrence {
         message: *message,
         ordinal: 0,
@@ -73,7 +73,7 @@ fn put_back(signs: &mut BTreeMap<Occurrence, Sign>, message: &Message, sign: Sig
     requires { IsSome (lookup (is_at (occurrence_cmp (occurrence_of message.now 0))) signs.old.entries) }
     ensures { signs.new.entries ≡ insert_entry occurrence_cmp signs.old.entries (occurrence_of message.now 0) sign }
 {
-    occurrence_order();
+    occurrence_order_law();
     let first = Occurrence {
         message: *message,
         ordinal: 0,
@@ -94,7 +94,7 @@ pub(crate) fn put(
     ensures counts { OnOk result (HaveSameCounts message_order (letters_of signs.new.entries) (letter_at (occurrence_of message.now ordinal, sign) ∷ letters_of signs.old.entries)) }
     ensures unchanged { OnErr result (signs.new.entries ≡ signs.old.entries) }
 {
-    occurrence_order();
+    occurrence_order_law();
     let next = Occurrence {
         message: *message,
         ordinal,
@@ -115,7 +115,7 @@ pub(crate) fn take(
     ensures tallied { AreTallied signs.new.entries }
     ensures counts { HaveSameCounts message_order (letters_of signs.old.entries) (letter_at (occurrence_of message.now ordinal, sign) ∷ letters_of signs.new.entries) }
 {
-    occurrence_order();
+    occurrence_order_law();
     let last = Occurrence {
         message: *message,
         ordinal,
@@ -133,7 +133,7 @@ pub(crate) fn take_first(signs: &mut BTreeMap<Occurrence, Sign>, message: &Messa
     ensures one { IsTrue result → signed_count message_order message.now (letters_of signs.old.entries) ≡ pos 1 }
     ensures unchanged { result ≡ false → signs.new.entries ≡ signs.old.entries }
 {
-    occurrence_order();
+    occurrence_order_law();
     let _len = signs.len();
     if !begins_with_one(signs, message) {
         return false;
@@ -182,7 +182,7 @@ pub(crate) fn begins_after(signs: &BTreeMap<Occurrence, Sign>, message: &Message
     requires { AreTallied signs.now.entries }
     ensures { IsTrue result → signed_count message_order message.now (letters_of signs.now.entries) ≡ pos 0 }
 {
-    occurrence_order();
+    occurrence_order_law();
     let _len = signs.len();
     match signs.first_key_value() {
         Some((first, _)) => is_before(message, &first.message),
@@ -198,7 +198,7 @@ pub(crate) fn next_after(
     requires { AreTallied signs.now.entries }
     ensures { result ≡ present_after message_order (option_copied newest.entry) (letters_of signs.now.entries) }
 {
-    occurrence_order();
+    occurrence_order_law();
     let _len = signs.len();
     let (first, sign) = signs.first_key_value()?;
     if is_plus(*sign) && is_after(newest, &first.message) {

@@ -11,7 +11,7 @@ ghost use Rattle.antimessages.specs.Counting.{signed_count, HaveSameCounts, chan
 ghost use Rattle.antimessages.specs.Occurrences.{count_with, IsTally};
 
 use crate::fault::OutOfMemory;
-use crate::occurrence::{Occurrence, occurrence_order};
+use crate::occurrence::{Occurrence, occurrence_order_law};
 use crate::occurrences::{
     begins_after, last_of, next_after, put, put_first, take, take_first, take_last,
 };
@@ -80,7 +80,7 @@ impl Tally {
     pub fn is_zero(&self, message: &Message) -> bool
         ensures { IsTrue result ↔ (signed_count message_order message.now self.now ≡ pos 0) }
     {
-        occurrence_order();
+        occurrence_order_law();
         begins_after(&self.signs, message) || last_of(&self.signs, message).is_none()
     }
 
@@ -101,7 +101,7 @@ impl Tally {
         ensures change { IfOk result (λ change. change ≡ change_by message_order letter self.old) }
         ensures unchanged { OnErr result (self.new ≡ self.old) }
     {
-        occurrence_order();
+        occurrence_order_law();
         let (message, sign) = (&letter.message, letter.sign);
         if put_first(&mut self.signs, message, sign)? {
             return Ok(change_at(None, sign));
@@ -118,7 +118,7 @@ impl Tally {
         ensures change { IfOk result (λ change. change ≡ change_by message_order letter self.old) }
         ensures unchanged { OnErr result (self.new ≡ self.old) }
     {
-        occurrence_order();
+        occurrence_order_law();
         let (message, sign) = (&letter.message, letter.sign);
         let last = last_of(&self.signs, message);
         let change = change_at(last, sign);
@@ -140,20 +140,18 @@ impl Tally {
         ensures present { IsPresent message_order self.old message.now → HaveSameCounts message_order self.old (plus_of message.now ∷ self.new) }
         ensures absent { (IsPresent message_order self.old message.now → ⊥) → self.new ≡ self.old }
     {
-        occurrence_order();
+        occurrence_order_law();
         if !take_first(&mut self.signs, message) {
             take_last(&mut self.signs, message);
         }
     }
 
     /// Which letters a tally has is told by its signed counts alone: two with the same counts are equal.
-    ///
-    /// A call does nothing: its caller learns what the clauses say.
-    pub fn told_by_counts(&self)
+    pub fn counts_law(&self)
         ensures tally { IsTally self.now }
         ensures told { (other : List Letter) → IsTally other → HaveSameCounts message_order self.now other → self.now ≡ other }
     {
-        occurrence_order();
+        occurrence_order_law();
         let _len = self.signs.len();
     }
 }
@@ -164,7 +162,7 @@ fn change_at(last: Option<(u64, Sign)>, sign: Sign) -> Change
         (λ x. signed_count message_order m tally ≡ count_with x.1 (x.0 + 1)) →
         result ≡ change_by message_order (record { message = m; sign = sign }) tally }
 {
-    occurrence_order();
+    occurrence_order_law();
     match sign {
         Sign::Plus => match last {
             None => Change::BecamePresent,

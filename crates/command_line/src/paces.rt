@@ -1,4 +1,5 @@
 //! The numbers that set the pace of a run.
+//! The usual numbers are not clap's defaults, so that a default is a clause of our own.
 ghost use Rattle.std.specs.Prelude.{◌≡◌, codes, false};
 ghost use Rattle.clap.specs.Words.{rule_of};
 ghost use Rattle.vlink.specs.declared.time.TheConstants.{LATEST_NS};

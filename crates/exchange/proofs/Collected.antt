@@ -5,7 +5,7 @@ use Rattle.std.proofs.lemmas.Bool.{cases_eq}
 use Rattle.std.proofs.lemmas.Option.{get_or_from_slice_get}
 use Rattle.vlink.specs.declared.message.Message.{Message}
 use Rattle.vlink.specs.declared.note.Note.{Note}
-use Rattle.virtual_time.specs.Law.{Rules, Simulation, lowest, times_of, Part, opened, Act, local, after_moves, Deliver, Took, Entry, acts_of, own_in, last_place, reach, after_own}
+use Rattle.virtual_time.specs.Law.{Rules, Simulation, lowest, times_of, Part, opened, Act, local, after_moves, Deliver, Collected, Entry, acts_of, own_in, last_place, reach, after_own}
 use Rattle.virtual_time.specs.declared.moved.Move.{Move}
 use Rattle.virtual_time.proofs.Journal.{local-append}
 use Rattle.reverse.specs.Setting.{Setting}
@@ -20,7 +20,7 @@ use Rattle.journal.specs.declared.entry.Entry.{Entry as Told}
 use Rattle.exchange.specs.declared.mark.Standing.{Standing}
 use Rattle.exchange.specs.Views.{Ledger, HeldState, unplaced, standing_of}
 use Rattle.exchange.specs.Keeps.{entries_of, AreMarked, IsRecorded}
-use Rattle.exchange.specs.Effects.{told, mark_at, collects}
+use Rattle.exchange.specs.Effects.{entry_by, mark_at, collects}
 
 -- the deliveries of these letters
 delivered-local : {S K : Type 0} (r : Rules Message S K Note) (o : S) (ls : List Letter) (part : Part Message S) → delivered_all ls part ≡ local r o (map (λ l. Deliver l) ls) part
@@ -97,15 +97,15 @@ module _ {S K : Type 0} {r : Rules Message S K Note} {number end : S → ℕ} {i
       subst (λ us. IsRecorded r number end is_placed x us mail' floors gvt count standings) (sym same) (kept-as mail' boxes letters standings k.marked)
 
 -- a process without a block, after these letters were collected for it
-pub part-collected : {S K : Type 0} (f : Simulation Message S K Note) (p : ℕ) (own own' : List (Act Message)) (block : List Move) (xs : List Letter) → block ≡ [] → own' ≡ own ++ acts_of (Took xs) →
-    after_own f p own' ≡ local f.rules (f.opening p) (acts_of (Took xs)) (after_moves f.rules (f.opening p) block (after_own f p own))
+pub part-collected : {S K : Type 0} (f : Simulation Message S K Note) (p : ℕ) (own own' : List (Act Message)) (block : List Move) (xs : List Letter) → block ≡ [] → own' ≡ own ++ acts_of (Collected xs) →
+    after_own f p own' ≡ local f.rules (f.opening p) (acts_of (Collected xs)) (after_moves f.rules (f.opening p) block (after_own f p own))
 part-collected f p own own' block xs none more =
     ap (after_own f p) more ∙
-    (local-append f (f.opening p) own (acts_of (Took xs)) (opened (f.opening p)) ∙
-    ap (λ b. local f.rules (f.opening p) (acts_of (Took xs)) (after_moves f.rules (f.opening p) b (after_own f p own))) (sym none))
+    (local-append f (f.opening p) own (acts_of (Collected xs)) (opened (f.opening p)) ∙
+    ap (λ b. local f.rules (f.opening p) (acts_of (Collected xs)) (after_moves f.rules (f.opening p) b (after_own f p own))) (sym none))
 
 pub stands-collected : {S K : Type 0} (f : Simulation Message S K Note) (is_value : S → Message → Type 0) (p : ℕ) (own own' : List (Act Message)) (block : List Move) (xs : List Letter) (q q' : Queues S K) →
-    block ≡ [] → own' ≡ own ++ acts_of (Took xs) → StandsFor f.rules is_value (f.opening p) (after_moves f.rules (f.opening p) block (after_own f p own)) q →
+    block ≡ [] → own' ≡ own ++ acts_of (Collected xs) → StandsFor f.rules is_value (f.opening p) (after_moves f.rules (f.opening p) block (after_own f p own)) q →
     Does f.rules is_value (λ opening. delivered_all xs) q q' → StandsFor f.rules is_value (f.opening p) (after_own f p own') q'
 stands-collected f is_value p own own' block xs q q' none more stands does =
     let part = after_moves f.rules (f.opening p) block (after_own f p own) in
@@ -115,14 +115,14 @@ stands-collected f is_value p own own' block xs q q' none more stands does =
 module _ {S K : Type 0} (f : Simulation Message S K Note) (x : Ledger) (h : HeldState S) (y : Ledger) (k : HeldState S) where
   -- some were there
   pub collects-some : (xs ys : List Letter) → ys ≡ xs → 0 < length ys →
-      y ≡ record { entries = x.entries ++ told h.number h.mark.place (Took ys) ∷ []; marks = set x.marks h.number (mark_at (Some (length x.entries)) (reach f x.entries).gvt); limit = x.limit } →
-      k ≡ record h { part = local f.rules (f.opening h.number) (acts_of (Took ys)) h.part; block = []; own = h.own ++ acts_of (Took ys); mark = mark_at (Some (length x.entries)) (reach f x.entries).gvt } →
+      y ≡ record { entries = x.entries ++ entry_by h.number h.mark.place (Collected ys) ∷ []; marks = set x.marks h.number (mark_at (Some (length x.entries)) (reach f x.entries).gvt); limit = x.limit } →
+      k ≡ record h { part = local f.rules (f.opening h.number) (acts_of (Collected ys)) h.part; block = []; own = h.own ++ acts_of (Collected ys); mark = mark_at (Some (length x.entries)) (reach f x.entries).gvt } →
       collects f xs x h y k
   collects-some xs ys is some a b = subst (λ z. collects f z x h y k) is (go ys some a b)
     where
       go : (zs : List Letter) → 0 < length zs →
-          y ≡ record { entries = x.entries ++ told h.number h.mark.place (Took zs) ∷ []; marks = set x.marks h.number (mark_at (Some (length x.entries)) (reach f x.entries).gvt); limit = x.limit } →
-          k ≡ record h { part = local f.rules (f.opening h.number) (acts_of (Took zs)) h.part; block = []; own = h.own ++ acts_of (Took zs); mark = mark_at (Some (length x.entries)) (reach f x.entries).gvt } →
+          y ≡ record { entries = x.entries ++ entry_by h.number h.mark.place (Collected zs) ∷ []; marks = set x.marks h.number (mark_at (Some (length x.entries)) (reach f x.entries).gvt); limit = x.limit } →
+          k ≡ record h { part = local f.rules (f.opening h.number) (acts_of (Collected zs)) h.part; block = []; own = h.own ++ acts_of (Collected zs); mark = mark_at (Some (length x.entries)) (reach f x.entries).gvt } →
           collects f zs x h y k
       go [] some a b = absurd (omega arith)
       go (l ∷ ls) some a b = (a, b)

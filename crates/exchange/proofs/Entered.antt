@@ -11,14 +11,14 @@ use Rattle.journal.specs.declared.entry.Prior.{Prior}
 use Rattle.exchange.specs.declared.mark.Standing.{Standing}
 use Rattle.exchange.specs.Views.{Ledger, HeldState, mark_in, marks_in}
 use Rattle.exchange.specs.Keeps.{entries_of}
-use Rattle.exchange.specs.Effects.{told, mark_at}
+use Rattle.exchange.specs.Effects.{entry_by, mark_at}
 use Rattle.exchange.proofs.Growth.{Fresh, entries-are}
 
 -- process p, whose last entry told all of it, wrote one more, t: it stands behind the journal, and p stands there now
 pub record Entered (ts : List Told) (standings : List Standing) (p : ℕ) (last : Prior) (d : Deed Message) (ts' : List Told) (standings' : List Standing) (now : Standing) : Type 0 where
   pub entry : Told
   pub mine : prior_own last ≡ own_in p (entries_of ts)
-  pub fresh : Fresh (told p (place_of last) d) (own_in p (entries_of ts)) entry
+  pub fresh : Fresh (entry_by p (place_of last) d) (own_in p (entries_of ts)) entry
   pub journal : ts' ≡ ts ++ entry ∷ []
   pub place : place_of now.last ≡ Some (length ts)
   pub own : prior_own now.last ≡ entry_own entry
@@ -47,7 +47,7 @@ module _ {ts : List Told} {standings : List Standing} {p : ℕ} {last : Prior} {
     mark-entries = λ i. mark_at ((w.place ∙ ap (λ n. Some n) (sym (length-map ts seen_entry))) i) (same i)
 
     pub ledger-now : (limit : ℕ) → ◌≡◌ {A = Ledger} (record { entries = entries_of ts'; marks = marks_in standings'; limit = limit })
-        (record { entries = entries_of ts ++ told p (place_of last) d ∷ []; marks = set (marks_in standings) p (mark_at (Some (length (entries_of ts))) g); limit = limit })
+        (record { entries = entries_of ts ++ entry_by p (place_of last) d ∷ []; marks = set (marks_in standings) p (mark_at (Some (length (entries_of ts))) g); limit = limit })
     ledger-now limit = λ i. record {
       entries = (ap entries_of w.journal ∙ entries-are ts w.fresh) i;
       marks = (ap marks_in w.marked ∙ (map-set mark_in standings p now ∙ ap (set (marks_in standings) p) mark-entries)) i;

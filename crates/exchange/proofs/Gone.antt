@@ -1,5 +1,5 @@
 -- Rows of committed events that left a process: the first ones, so many, which are of moments before one.
-use Rattle.std.proofs.Common.{◌≡◌, ℕ, zero, suc, ◌<◌, ◌≤◌, Bool, true, false, cond, All, List, [], ◌∷◌, ◌++◌, take, length, Option, Some, None, refl, sym, ap, ◌∙◌, subst, arith, append-nil, append_assoc}
+use Rattle.std.proofs.Common.{◌≡◌, ℕ, ◌<◌, ◌≤◌, Bool, true, false, cond, All, List, [], ◌∷◌, ◌++◌, take, Option, Some, None, refl, sym, ap, ◌∙◌, subst, arith, append-nil, append_assoc}
 use Rattle.std.proofs.lemmas.List.{take-append-le}
 use Rattle.std.proofs.lemmas.List.Elements.{All-nil}
 use Rattle.vlink.specs.declared.message.Message.{Message}
@@ -19,12 +19,6 @@ module _ {S K : Type 0} (r : Rules Message S K Note) where
   -- what is earlier than a moment is earlier than a later one
   pub gone-later : (moment later : ℕ) → moment ≤ later → (n : ℕ) (rows : List Row) → AreFirstBefore r moment n rows → AreFirstBefore r later n rows
   gone-later moment later le n rows h i d lt = let a = h i d lt in omega arith
-
-  -- no row is of a moment before 0, so that none has left
-  pub gone-zero : (n : ℕ) (rows : List Row) → n ≤ length rows → AreFirstBefore r 0 n rows → n ≡ 0
-  gone-zero zero rows within h = refl
-  gone-zero (suc n) [] within h = absurd (omega arith)
-  gone-zero (suc n) (x ∷ xs) within h = let a = h 0 x (omega arith) in absurd (omega arith)
 
   module _ (o : S) where
     -- each act leaves the committed events or puts some behind them

@@ -16,7 +16,7 @@ use Rattle.journal.specs.declared.entry.Prior.{Prior}
 use Rattle.exchange.specs.declared.mark.Standing.{Standing}
 use Rattle.exchange.specs.Views.{unplaced, standing_of}
 use Rattle.exchange.specs.Keeps.{entries_of, AreMarked, IsDeedWithinMail, IsEntryWithinMail, IsRecorded}
-use Rattle.exchange.specs.Effects.{told}
+use Rattle.exchange.specs.Effects.{entry_by}
 use Rattle.exchange.proofs.Lists.{slice_get-push}
 
 entries-push : (ts : List Told) (t : Told) → entries_of (ts ++ t ∷ []) ≡ entries_of ts ++ seen_entry t ∷ []
@@ -41,9 +41,9 @@ pub record Fresh (e : Entry Message) (own : List (Act Message)) (t : Told) : Typ
 
 -- an entry that was just written
 pub entry-fresh : {p : ℕ} {prior : Option ℕ} {d : Deed Message} {own : List (Act Message)} {t : Told} →
-    t.process ≡ p → place_of t.prior ≡ prior → prior_own t.prior ≡ own → seen_deed p t.deed ≡ d → IsDeedWithinMail p t.deed → Fresh (told p prior d) own t
+    t.process ≡ p → place_of t.prior ≡ prior → prior_own t.prior ≡ own → seen_deed p t.deed ≡ d → IsDeedWithinMail p t.deed → Fresh (entry_by p prior d) own t
 entry-fresh {p = p} {d = d} {own = own} {t = t} process prior-is own-is deed within_mail = record {
-  tells = λ i. told (process i) (prior-is i) ((ap (λ q. seen_deed q t.deed) process ∙ deed) i);
+  tells = λ i. entry_by (process i) (prior-is i) ((ap (λ q. seen_deed q t.deed) process ∙ deed) i);
   own_is = λ i. own-is i ++ acts_of ((ap (λ q. seen_deed q t.deed) process ∙ deed) i);
   within_mail = subst (λ q. IsDeedWithinMail q t.deed) (sym process) within_mail;
 }

@@ -25,7 +25,7 @@ use Rattle.journal.specs.declared.entry.Prior.{Prior}
 use Rattle.exchange.specs.declared.mark.Standing.{Standing}
 use Rattle.exchange.specs.Views.{Ledger, HeldState, marks_in}
 use Rattle.exchange.specs.Keeps.{entries_of, IsRecorded, Holds}
-use Rattle.exchange.specs.Effects.{told, mark_at, posts as posts-effect}
+use Rattle.exchange.specs.Effects.{entry_by, mark_at, posts as posts-effect}
 use Rattle.exchange.proofs.Gone.{gone-stays}
 use Rattle.exchange.proofs.Growth.{marks-set, kept-more}
 use Rattle.exchange.proofs.Holding.{Joined}
@@ -115,7 +115,7 @@ module _ {S K : Type 0} {r : Rules Message S K Note} {number end : S → ℕ} {i
 
 module _ {S K : Type 0} (f : Simulation Message S K Note) (x : Ledger) (h : HeldState S) (y : Ledger) (k : HeldState S) where
   posts-some : (ms : List Move) → 0 < length ms →
-      y ≡ record { entries = x.entries ++ told h.number h.mark.place (Posted ms) ∷ []; marks = set x.marks h.number (mark_at (Some (length x.entries)) h.mark.seen); limit = x.limit } →
+      y ≡ record { entries = x.entries ++ entry_by h.number h.mark.place (Posted ms) ∷ []; marks = set x.marks h.number (mark_at (Some (length x.entries)) h.mark.seen); limit = x.limit } →
       k ≡ record h { part = emptied h.part; block = []; own = h.own ++ acts_of (Posted ms); mark = mark_at (Some (length x.entries)) h.mark.seen } →
       posts-effect f ms x h y k
   posts-some [] some a b = absurd (omega arith)

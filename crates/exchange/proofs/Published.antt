@@ -13,7 +13,7 @@ use Rattle.journal.specs.declared.entry.Entry.{Entry as Told}
 use Rattle.exchange.specs.declared.mark.Standing.{Standing}
 use Rattle.exchange.specs.Views.{Ledger}
 use Rattle.exchange.specs.Keeps.{entries_of, IsRecorded}
-use Rattle.exchange.specs.Effects.{told, publishes as publishes-effect}
+use Rattle.exchange.specs.Effects.{entry_by, publishes as publishes-effect}
 use Rattle.exchange.proofs.Growth.{Fresh, marks-stay, kept-more}
 
 module _ {S K : Type 0} {r : Rules Message S K Note} {number end : S → ℕ} {is_placed : S → Type 0} {x : Setting S} {ts : List Told} {mail : List Store} {floors : Floors}
@@ -38,7 +38,7 @@ module _ {S K : Type 0} {r : Rules Message S K Note} {number end : S → ℕ} {i
         let rise : (run f xs (start f)).gvt ≤ (run f (xs ++ steps_of {M = Message} 0 Published) (start f)).gvt = rises f L xs (steps_of {M = Message} 0 Published) in
         subst (λ g. g ≤ gvt_over f x.processes w) (sym k.gvt_is) (subst (λ (z : World Message S). w.gvt ≤ z.gvt) later rise)
 
-    pub kept-published : {own : List (Act Message)} {t : Told} → Fresh (told 0 None Published) own t →
+    pub kept-published : {own : List (Act Message)} {t : Told} → Fresh (entry_by 0 None Published) own t →
         (gvt' : ℕ) → gvt' ≡ gvt_over (simulation_of r x) x.processes (reach (simulation_of r x) (entries_of ts)) →
         (ts' : List Told) → ts' ≡ ts ++ t ∷ [] → (count' : ℕ) → count' ≡ count + 1 →
         IsRecorded r number end is_placed x ts' mail floors gvt' count' standings
@@ -51,7 +51,7 @@ module _ {S K : Type 0} {r : Rules Message S K Note} {number end : S → ℕ} {i
         (marks-stay ts new k.marked (λ q. refl) refl gvt' (subst (λ g. gvt ≤ g) (sym gvt-is) gvt-rises)))
 
 -- GVT is another one than before
-pub publishes-more : {S K : Type 0} (f : Simulation Message S K Note) (b : Bool) (x y : Ledger) → b ≡ false → y ≡ record { entries = x.entries ++ told 0 None Published ∷ []; marks = x.marks; limit = x.limit } →
+pub publishes-more : {S K : Type 0} (f : Simulation Message S K Note) (b : Bool) (x y : Ledger) → b ≡ false → y ≡ record { entries = x.entries ++ entry_by 0 None Published ∷ []; marks = x.marks; limit = x.limit } →
     publishes-effect f b x y
 publishes-more f true x y e h = absurd (cc)
 publishes-more f false x y e h = h

@@ -3,7 +3,7 @@ use Rattle.std.proofs.Common.{◌≡◌, ℕ, ◌+◌, ◌<◌, ◌≤◌, ◌^�
 use Rattle.std.proofs.lemmas.List.{length-replicate, take_min}
 use Rattle.vlink.specs.declared.message.Message.{Message}
 use Rattle.vlink.specs.declared.note.Note.{Note}
-use Rattle.virtual_time.specs.Law.{Rules, Laws, lowest, times_of, after_moves, Took, acts_of, steps_of, own_in, reach, after_own, fetched}
+use Rattle.virtual_time.specs.Law.{Rules, Laws, lowest, times_of, after_moves, Collected, acts_of, steps_of, own_in, reach, after_own, fetched}
 use Rattle.virtual_time.specs.declared.step.Step.{Step}
 use Rattle.virtual_time.specs.declared.moved.Move.{Move}
 use Rattle.virtual_time.proofs.Kept.{put_elim}
@@ -35,7 +35,7 @@ module _ {S K : Type 0} {r : Rules Message S K Note} {number end : S → ℕ} {i
     {gvt count : ℕ} {standings : List Standing} (k : IsRecorded r number end is_placed x ts mail floors gvt count standings)
     {is_value : S → Message → Type 0} {p seen gone : ℕ} {block : List Move} {last : Prior} {q : Queues S K}
     (h : Holds r number end is_placed x is_value p seen gone block last q) (n : ℕ) (within : n ≤ length (letters_for p mail)) (some : 0 < n)
-    {ts' : List Told} {standings' : List Standing} {now : Standing} (w : Entered ts standings p last (Took (take n (letters_for p mail))) ts' standings' now) (sees : now.seen ≡ gvt) where
+    {ts' : List Told} {standings' : List Standing} {now : Standing} (w : Entered ts standings p last (Collected (take n (letters_for p mail))) ts' standings' now) (sees : now.seen ≡ gvt) where
   many : length (take n (letters_for p mail)) ≡ n
   many = omega (arith, length-take n (letters_for p mail))
 
@@ -51,7 +51,7 @@ module _ {S K : Type 0} {r : Rules Message S K Note} {number end : S → ℕ} {i
       let xs = take n (letters_for p mail) in
       let rest = drop n (letters_for p mail) in
       let world = reach f (entries_of ts) in
-      let taken : length (steps_of {M = Message} p (Took xs)) ≡ n = length-replicate (length xs) (Step.Take p 0) ∙ many in
+      let taken : length (steps_of {M = Message} p (Collected xs)) ≡ n = length-replicate (length xs) (Step.Take p 0) ∙ many in
       subst (λ us. IsRecorded r number end is_placed x us mail' floors' gvt (count + n) standings') (sym w.journal)
       (subst (λ bs. IsRecorded r number end is_placed x (ts ++ w.entry ∷ []) mail' floors' gvt (count + n) bs) (sym w.marked)
       (kept-more k w.fresh (fetched f p xs rest world) (takes f p i xs rest world (sym (k.mail_is p i) ∙ sym (take-append-drop n (letters_for p mail)))) refl
@@ -76,7 +76,7 @@ module _ {S K : Type 0} {r : Rules Message S K Note} {number end : S → ℕ} {i
         (stands-collected f is_value p (prior_own last) (prior_own now.last) block xs q q' none (own-more w) h.stands
         (subst (λ z. Does r is_value (λ opening. delivered_all xs) z q') same does))
         gone
-        (gone-stays r (x.opening p) (after_moves r (x.opening p) block (after_own f p (prior_own last))) q h.stands gone h.gone_early (acts_of (Took xs)) _
+        (gone-stays r (x.opening p) (after_moves r (x.opening p) block (after_own f p (prior_own last))) q h.stands gone h.gone_early (acts_of (Collected xs)) _
         (part-collected f p (prior_own last) (prior_own now.last) block xs none (own-more w)) q' (left ∙ ap (λ (z : Queues S K). z.left) same))
         block none
 

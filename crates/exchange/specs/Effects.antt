@@ -4,17 +4,18 @@ use Rattle.vlink.specs.declared.message.Message.{Message}
 use Rattle.vlink.specs.declared.note.Note.{Note}
 use Rattle.vlink.specs.Numbering.{greatest_number}
 use Rattle.vlink.specs.Letters.{Letter}
-use Rattle.virtual_time.specs.Law.{earlier, Part, emptied, next_of, run_one, Simulation, gvt_over, local, after_moves, Deed, Took, Posted, Published, Entry, acts_of, reach}
+use Rattle.virtual_time.specs.Law.{earlier, Part, emptied, next_of, run_one, Simulation, gvt_over, local, after_moves, Deed, Collected, Posted, Published, Entry, acts_of, reach}
 use Rattle.virtual_time.specs.declared.moved.Move.{Move}
 use Rattle.virtual_time.specs.declared.moved.Move.TheVariants.{Arrived, Ran, Committed}
 use Rattle.journal.specs.declared.fault.PoolFault.{PoolFault}
 use Rattle.journal.specs.declared.fault.PoolFault.TheVariants.{OutOfMemory, Exhausted}
 use Rattle.exchange.specs.declared.mark.Mark.{Mark}
 use Rattle.exchange.specs.Views.{Ledger, HeldState}
+use Rattle.reverse.specs.declared.sends.TheConstants.{MOST_SENT}
 
 -- process p tells this, and its entry before that stands at this place
-abbrev pub told : ℕ → Option ℕ → Deed Message → Entry Message
-told p prior deed = record { process = p; prior = prior; deed = deed }
+abbrev pub entry_by : ℕ → Option ℕ → Deed Message → Entry Message
+entry_by p prior deed = record { process = p; prior = prior; deed = deed }
 
 -- the last entry stands here, and GVT was seen at this moment
 abbrev pub mark_at : Option ℕ → ℕ → Mark
@@ -36,14 +37,14 @@ module _ {S K : Type 0} (f : Simulation Message S K Note) where
       × (k ≡ record h { mark = mark_at h.mark.place (reach f x.entries).gvt })
   collects (a ∷ more) x h y k =
       (y ≡ record {
-        entries = x.entries ++ told h.number h.mark.place (Took (a ∷ more)) ∷ [];
+        entries = x.entries ++ entry_by h.number h.mark.place (Collected (a ∷ more)) ∷ [];
         marks = set x.marks h.number (mark_at (Some (length x.entries)) (reach f x.entries).gvt);
         limit = x.limit;
       })
       × (k ≡ record h {
-        part = local f.rules (f.opening h.number) (acts_of (Took (a ∷ more))) h.part;
+        part = local f.rules (f.opening h.number) (acts_of (Collected (a ∷ more))) h.part;
         block = [];
-        own = h.own ++ acts_of (Took (a ∷ more));
+        own = h.own ++ acts_of (Collected (a ∷ more));
         mark = mark_at (Some (length x.entries)) (reach f x.entries).gvt;
       })
 
@@ -58,7 +59,7 @@ module _ {S K : Type 0} (f : Simulation Message S K Note) where
   posts [] x h y k = (y ≡ x) × (k ≡ h)
   posts (m ∷ ms) x h y k =
       (y ≡ record {
-        entries = x.entries ++ told h.number h.mark.place (Posted (m ∷ ms)) ∷ [];
+        entries = x.entries ++ entry_by h.number h.mark.place (Posted (m ∷ ms)) ∷ [];
         marks = set x.marks h.number (mark_at (Some (length x.entries)) h.mark.seen);
         limit = x.limit;
       })
@@ -75,7 +76,7 @@ module _ {S K : Type 0} (f : Simulation Message S K Note) where
   -- GVT is set; where it is the one of before there is no entry
   abbrev pub publishes : Bool → Ledger → Ledger → Type 0
   publishes true x y = y ≡ x
-  publishes false x y = y ≡ record { entries = x.entries ++ told 0 None Published ∷ []; marks = x.marks; limit = x.limit }
+  publishes false x y = y ≡ record { entries = x.entries ++ entry_by 0 None Published ∷ []; marks = x.marks; limit = x.limit }
 
   -- GVT is not what floors and mail tell
   abbrev pub IsHeldBack : Ledger → Type 0
@@ -96,7 +97,7 @@ module _ {S K : Type 0} (f : Simulation Message S K Note) where
 
   -- its actor has not enough numbers left for all that one event can send
   abbrev pub WantsNumbers : Part Message S → Type 0
-  WantsNumbers part = greatest_number < f.rules.counter part.state + 24
+  WantsNumbers part = greatest_number < f.rules.counter part.state + MOST_SENT
 
   -- each of so many runs handles a message that is earlier than the limit
   abbrev pub RanEarly : ℕ → ℕ → Part Message S → Type 0

@@ -1,7 +1,7 @@
 //! A process takes letters from the mail.
 ghost use Rattle.std.specs.Prelude.{◌≡◌, ◌≢◌, ◌<◌, ◌≤◌, ◌+◌, ◌⊎◌, ℕ, [], map, min, set, take, length, slice_get, IfOk, OnErr, IfErr, Err, true};
 ghost use Rattle.std.specs.Option.{option_map};
-ghost use Rattle.virtual_time.specs.Law.{lowest, times_of, Took, reach, steps};
+ghost use Rattle.virtual_time.specs.Law.{lowest, times_of, Collected, reach, steps};
 ghost use Rattle.reverse.specs.Rules.{rules_of};
 ghost use Rattle.reverse.specs.Setting.{simulation_of};
 ghost use Rattle.vlink.specs.Order.{message_order};
@@ -18,7 +18,7 @@ use crate::run_of::ActorRun;
 use antimessages::Mail;
 use gvt::Floors;
 use journal::{Deed, Entry, PoolFault, Prior};
-use reverse::{Actor, actor_laws};
+use reverse::{Actor, actor_law};
 use std::mem;
 use std::snapshot::Snapshot;
 
@@ -41,13 +41,13 @@ pub fn collect<R: Actor, J: ActorRun<R>>(
         + min most (length ((reach (simulation_of (rules_of R.plain) J.setting) exchange.old.entries).mail held.old.number)) → result ≡ Err JournalFull }
     ensures faults { IfErr result (λ fault. (fault ≡ OutOfMemory) ⊎ ((fault ≡ JournalFull) ⊎ ((fault ≡ Torn) × (J.keeps ≡ true)))) }
 {
-    actor_laws::<R>();
+    actor_law::<R>();
     let count = exchange.mail.count(held.number).min(most as usize);
     if count == 0 {
         see(held, exchange);
         return Ok(0);
     }
-    exchange.join(held);
+    exchange.join_law(held);
     if exchange.limit - exchange.steps < count as u64 {
         return Err(PoolFault::JournalFull);
     }
@@ -90,8 +90,8 @@ fn see<R: Actor, J: ActorRun<R>>(held: &mut Held<R, J>, exchange: &mut Exchange<
       mark = mark_at held.old.mark.place (reach (simulation_of (rules_of R.plain) J.setting) exchange.old.entries).gvt;
     } }
 {
-    actor_laws::<R>();
-    exchange.join(held);
+    actor_law::<R>();
+    exchange.join_law(held);
     held.standing.seen = exchange.gvt;
     tell_both(
         &mut exchange.marks,
@@ -106,7 +106,7 @@ fn entry_of(prior: Prior, process: u16, mail: &Mail, count: u32) -> Entry
     requires enough { count ≤ length (letters_for process mail.now) }
     ensures prior { result.prior ≡ prior }
     ensures process { result.process ≡ process }
-    ensures deed { seen_deed process result.deed ≡ Took (take count (letters_for process mail.now)) }
+    ensures deed { seen_deed process result.deed ≡ Collected (take count (letters_for process mail.now)) }
     ensures within_mail { IsDeedWithinMail process result.deed }
 {
     Entry {

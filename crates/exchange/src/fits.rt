@@ -8,7 +8,7 @@ ghost use Rattle.exchange.specs.Views.{mark_of};
 use crate::exchange::Exchange;
 use crate::held::Held;
 use crate::run_of::ActorRun;
-use halves::agree;
+use halves::agree_law;
 use reverse::Actor;
 
 impl<R: Actor, J: ActorRun<R>> Exchange<R, J> {
@@ -24,12 +24,12 @@ impl<R: Actor, J: ActorRun<R>> Exchange<R, J> {
             ((reach (simulation_of (rules_of R.plain) J.setting) self.now.entries).parts held.now.number) }
         ensures own { held.now.own ≡ own_in held.now.number self.now.entries }
     {
-        self.join(held);
+        self.join_law(held);
         true
     }
 
-    /// One half of a mark tells what the other tells, so that both speak of one entry. A call does nothing: its caller learns what the clauses say.
-    pub(crate) fn join(&self, held: &Held<R, J>)
+    /// One half of a mark tells what the other tells, so that both speak of one entry.
+    pub(crate) fn join_law(&self, held: &Held<R, J>)
         ensures same { held.now.mark ≡ mark_of self.now.marks held.now.number }
         ensures part { held.now.part ≡ after_moves (rules_of R.plain) (J.setting.opening held.now.number) held.now.block
             ((reach (simulation_of (rules_of R.plain) J.setting) self.now.entries).parts held.now.number) }
@@ -40,6 +40,6 @@ impl<R: Actor, J: ActorRun<R>> Exchange<R, J> {
     {
         let _limit = self.limit;
         let half = &self.marks[usize::from(held.number)];
-        agree(half, &held.mark);
+        agree_law(half, &held.mark);
     }
 }

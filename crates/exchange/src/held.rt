@@ -1,8 +1,5 @@
 //! A process in hand.
-ghost use Rattle.std.specs.Prelude.{◌≡◌, ◌↔◌, ◌<◌, [], length, map, IsTrue};
-ghost use Rattle.vlink.specs.Order.{message_order};
-ghost use Rattle.virtual_time.specs.Law.{rowed, next_of};
-ghost use Rattle.reverse.specs.Rules.{rules_of};
+ghost use Rattle.std.specs.Prelude.{◌≡◌, ◌<◌, length};
 
 use crate::mark::{Mark, Standing};
 use crate::run_of::ActorRun;
@@ -12,7 +9,7 @@ use process_queues::Process;
 use reverse::{Actor, Outbound};
 use std::alloc::Global;
 use std::marker::{Model, PhantomData};
-use vlink::{Letter, Message, Row, Time};
+use vlink::Time;
 
 /// A process, the block of the steps that it did alone since its last post, and its mark: where the journal tells of it last, and the GVT
 /// that it saw. Rows of its committed events can leave it, the oldest ones first.
@@ -94,33 +91,5 @@ impl<R: Actor, J: ActorRun<R>> Held<R, J> {
         ensures { result ≡ self.now.gone }
     {
         self.gone
-    }
-
-    /// The rows of its committed events, in their order, where none has left.
-    pub fn sealed(&self) -> &[Row]
-        ensures { self.now.gone ≡ 0 → result.now ≡ rowed (rules_of R.plain) (J.setting.opening self.now.number) self.now.part.committed }
-    {
-        self.process.sealed()
-    }
-
-    /// The letters that wait to be posted, in order.
-    pub fn outbox(&self) -> &[Letter]
-        ensures { result.now ≡ self.now.part.outbox }
-    {
-        self.process.outbox()
-    }
-
-    /// The message that it handles next, if there is one.
-    pub fn next(&self) -> Option<Message>
-        ensures { result ≡ next_of message_order self.now.part }
-    {
-        self.process.next()
-    }
-
-    /// Whether each done event is committed.
-    pub fn all_committed(&self) -> bool
-        ensures { IsTrue result ↔ (self.now.part.done ≡ []) }
-    {
-        self.process.oldest().is_none()
     }
 }

@@ -16,7 +16,7 @@ use gvt::Floors;
 use halves::RightHalf;
 use journal::{Block, Entries, PoolFault, Prior, Table};
 use process_queues::Process;
-use reverse::{Actor, Outbound, actor_laws};
+use reverse::{Actor, Outbound, actor_law};
 use std::alloc::Global;
 use std::marker::PhantomData;
 use vlink::{Message, Time};
@@ -49,7 +49,7 @@ impl<R: Actor + Drop, J: ActorRun<R>> Exchange<R, J> {
         ensures helds { IfOk result (λ r. (p : ℕ) → p < J.setting.processes → slice_get r.1.items p ≡ Some (opened_held J.setting.opening p)) }
         ensures memory { IfErr result (λ fault. fault ≡ OutOfMemory) }
     {
-        actor_laws::<R>();
+        actor_law::<R>();
         let count = actors.len() as u16;
         let letters = plus_letters(alloc, offers)?;
         let mail = Mail::with_letters(alloc, count, &letters)?;
@@ -115,7 +115,7 @@ impl<R: Actor, J: ActorRun<R>> Held<R, J> {
         ensures opened { IfOk result (λ held. held ≡ opened_held J.setting.opening number) }
         ensures memory { IfErr result (λ fault. fault ≡ OutOfMemory) }
     {
-        actor_laws::<R>();
+        actor_law::<R>();
         match Process::new(alloc, actor) {
             Ok(process) => Ok(Held {
                 process,

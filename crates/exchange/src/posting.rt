@@ -11,7 +11,7 @@ use crate::held::Held;
 use crate::mark::tell_both;
 use crate::run_of::ActorRun;
 use journal::{Block, Deed, Entry, PoolFault, Prior};
-use reverse::{Actor, actor_laws};
+use reverse::{Actor, actor_law};
 use std::mem;
 
 /// The block of a process goes to the journal as one entry, its outbox goes to the mail, and its floor is what it has left. With
@@ -31,12 +31,12 @@ pub fn post<R: Actor, J: ActorRun<R>>(
         result ≡ Err JournalFull }
     ensures faults { IfErr result (λ fault. (fault ≡ OutOfMemory) ⊎ ((fault ≡ JournalFull) ⊎ ((fault ≡ Torn) × (J.keeps ≡ true)))) }
 {
-    actor_laws::<R>();
+    actor_law::<R>();
     let moves = held.block.len() as u64;
     if moves == 0 {
         return Ok(());
     }
-    exchange.join(held);
+    exchange.join_law(held);
     if moves >= exchange.limit - exchange.steps {
         return Err(PoolFault::JournalFull);
     }

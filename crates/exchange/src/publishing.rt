@@ -10,7 +10,7 @@ use crate::exchange::Exchange;
 use crate::run_of::ActorRun;
 use gvt::{gvt_law, horizon};
 use journal::{Deed, Entry, PoolFault, Prior};
-use reverse::{Actor, actor_laws};
+use reverse::{Actor, actor_law};
 use vlink::{Note, Time};
 
 /// Sets GVT to the least of all floors and of the times of all letters in the mail, with an entry in the journal; where that is the GVT of
@@ -25,7 +25,7 @@ pub fn publish<R: Actor, J: ActorRun<R>>(exchange: &mut Exchange<R, J>) -> Resul
     ensures limited { IsHeldBack (simulation_of (rules_of R.plain) J.setting) exchange.old → exchange.old.limit ≤ length (steps exchange.old.entries) → result ≡ Err JournalFull }
     ensures faults { IfErr result (λ fault. (fault ≡ OutOfMemory) ⊎ ((fault ≡ JournalFull) ⊎ ((fault ≡ Torn) × (J.keeps ≡ true)))) }
 {
-    actor_laws::<R>();
+    actor_law::<R>();
     gvt_law::<R, R::Record, Note>();
     let gvt = horizon(&exchange.floors, &exchange.mail);
     if gvt == exchange.gvt {

@@ -9,16 +9,16 @@ ghost use Rattle.fossil.specs.Within.{rows_within};
 use crate::held::Held;
 use crate::run_of::ActorRun;
 use fossil::{is_early, let_rows_go, rows_between};
-use reverse::{Actor, actor_laws, actor_rules};
+use reverse::{Actor, actor_law, actor_rules_law};
 use vlink::{Row, Time};
 
 impl<R: Actor, J: ActorRun<R>> Held<R, J> {
     /// Whether its events before a moment, in ns, are all committed and are for good: the moment is not later than the GVT that it saw, and no
     /// done event is earlier.
-    pub fn is_sealed_before(&self, moment: Time) -> bool
+    pub fn is_committed_before(&self, moment: Time) -> bool
         ensures { IsTrue result ↔ ((moment ≤ self.now.mark.seen) × (earlier message_order moment self.now.part.done ≡ [])) }
     {
-        actor_rules::<R>();
+        actor_rules_law::<R>();
         moment.ns() <= self.standing.seen.ns() && !is_early(self.process.oldest(), moment)
     }
 
@@ -36,7 +36,7 @@ impl<R: Actor, J: ActorRun<R>> Held<R, J> {
             ≡ rows_within (rules_of R.plain) from to (rows_at self.now.number
             (one (simulation_of (rules_of R.plain) J.setting) event_count).rows) }
     {
-        actor_laws::<R>();
+        actor_law::<R>();
         rows_between(&self.process, from, to)
     }
 
@@ -44,7 +44,7 @@ impl<R: Actor, J: ActorRun<R>> Held<R, J> {
     pub fn let_rows_go(&mut self, moment: Time)
         ensures { self.new ≡ record self.old { gone = max self.old.gone moment } }
     {
-        actor_laws::<R>();
+        actor_law::<R>();
         let_rows_go(&mut self.process, moment);
         self.gone = self.gone.max(moment);
     }

@@ -9,13 +9,14 @@ ghost use Rattle.reverse.specs.Rules.{rules_of};
 ghost use Rattle.reverse.specs.Setting.{simulation_of};
 ghost use Rattle.journal.specs.declared.fault.PoolFault.TheVariants.{OutOfMemory, Exhausted};
 ghost use Rattle.exchange.specs.Effects.{Works, WorksSome, Runs, StopsAtArrival, StopsAtRun, StopsAtCommit, IsDueBefore, IsIdleBefore, WantsNumbers, moved_by};
+ghost use Rattle.reverse.specs.declared.sends.TheConstants.{MOST_SENT};
 
 use crate::gate::Gate;
 use crate::held::Held;
 use crate::run_of::ActorRun;
 use fossil::is_early;
 use journal::PoolFault;
-use reverse::{Actor, actor_laws};
+use reverse::{Actor, actor_law};
 use virtual_time::Move;
 use vlink::Time;
 
@@ -35,7 +36,7 @@ pub fn work<R: Actor, J: ActorRun<R>, G: Gate>(
     ensures ok { IfOk result (λ count. Works (simulation_of (rules_of R.plain) J.setting) turn window held.old held.new count) }
     ensures some { IfErr result (λ fault. WorksSome (simulation_of (rules_of R.plain) J.setting) turn window held.old held.new fault) }
     ensures exhausted { result ≡ Err Exhausted → IsSome (next_of message_order held.new.part)
-        × (greatest_number < R.plain.counter held.new.part.state + 24) }
+        × (greatest_number < R.plain.counter held.new.part.state + MOST_SENT) }
     ensures faults { IfErr result (λ fault. (fault ≡ OutOfMemory) ⊎ (fault ≡ Exhausted)) }
 {
     let before = held.pending();
@@ -73,7 +74,7 @@ impl<R: Actor, J: ActorRun<R>> Held<R, J> {
         ensures unchanged { OnErr result (self.new ≡ self.old) }
         ensures memory { IfErr result (λ fault. fault ≡ OutOfMemory) }
     {
-        actor_laws::<R>();
+        actor_law::<R>();
         self.block.push(self.alloc, Move::Arrived)?;
         match self.process.arrive() {
             Ok(_undone) => Ok(()),
@@ -109,7 +110,7 @@ impl<R: Actor, J: ActorRun<R>> Held<R, J> {
         ensures numbers { IfErr result (λ fault. (fault ≡ Exhausted) ↔ WantsNumbers (simulation_of (rules_of R.plain) J.setting) self.old.part) }
         ensures faults { IfErr result (λ fault. (fault ≡ OutOfMemory) ⊎ (fault ≡ Exhausted)) }
     {
-        actor_laws::<R>();
+        actor_law::<R>();
         let Some(message) = self.process.next() else {
             return Ok(false);
         };
@@ -141,14 +142,14 @@ impl<R: Actor, J: ActorRun<R>> Held<R, J> {
         ensures some { IfErr result (λ fault. StopsAtCommit (simulation_of (rules_of R.plain) J.setting) self.old self.new fault) }
     {
         loop {
-            if !self.commit_one()? {
+            if !self.commit_oldest()? {
                 return Ok(());
             }
         }
     }
 
     /// The oldest done event is committed, if it is earlier than the GVT seen. The answer is whether it was.
-    fn commit_one(&mut self) -> Result<bool, PoolFault>
+    fn commit_oldest(&mut self) -> Result<bool, PoolFault>
         ensures committed { IfOk result (λ done. done ≡ true → self.new ≡ moved_by (simulation_of (rules_of R.plain) J.setting) (Committed ∷ []) self.old) }
         ensures fewer { IfOk result (λ done. done ≡ true → length self.new.part.done < length self.old.part.done) }
         ensures none { IfOk result (λ done. done ≡ false → earlier message_order self.old.mark.seen self.old.part.done ≡ []) }
@@ -157,7 +158,7 @@ impl<R: Actor, J: ActorRun<R>> Held<R, J> {
         ensures left { OnErr result (earlier message_order self.old.mark.seen self.old.part.done ≢ []) }
         ensures memory { IfErr result (λ fault. fault ≡ OutOfMemory) }
     {
-        actor_laws::<R>();
+        actor_law::<R>();
         if !is_early(self.process.oldest(), self.standing.seen) {
             return Ok(false);
         }

@@ -8,7 +8,7 @@ ghost use Rattle.fossil.specs.Committed.{is_moment_before, is_ready, committed_t
 
 use antimessages::OutOfMemory;
 use process_queues::Process;
-use reverse::{Actor, actor_rules};
+use reverse::{Actor, actor_rules_law};
 use vlink::Time;
 
 /// Fossil collection (Jefferson, "Virtual Time", ACM TOPLAS 7(3), 1985): done events that are earlier than `gvt`, in ns, are committed,
@@ -35,7 +35,7 @@ pub fn commit<R: Actor>(process: &mut Process<R>, gvt: Time, n: u64) -> Result<u
     ensures reserved { OnErr result ((opening : R) (part : Part Message R) →
         StandsFor (rules_of R.plain) R.is_value opening part process.old.queues → process.old.committed_room < committed_below (rules_of R.plain) gvt n part) }
 {
-    actor_rules::<R>();
+    actor_rules_law::<R>();
     let count = process.committable(gvt, n as usize);
     if process.reserve_rows(count).is_err() {
         return Err(OutOfMemory);

@@ -1,4 +1,6 @@
 //! A ring of frames that wait.
+//! The buffer is std's `VecDeque`; its room is a number of its own, since the capacity of a `VecDeque` can be greater than what was asked
+//! for.
 ghost use Rattle.std.specs.Prelude.{◌≡◌, ◌*◌, ◌<◌, ◌≤◌, ◌↔◌, [], ◌∷◌, ◌++◌, length, IsTrue, IsNone, IfOk, IfSome, IfNone};
 ghost use Rattle.frame_ring.specs.Queue.{bytes_of};
 

@@ -29,6 +29,7 @@ use Rattle.hand.proofs.Member.{all-minuses, all-pluses, done-times, messages-of,
 use Rattle.group_exchange.specs.Views.{world_after}
 use Rattle.group_exchange.specs.Keeps.{Holds}
 use Rattle.group_exchange.specs.Effects.{IsShort, WantsNumbers}
+use Rattle.reverse.specs.declared.sends.TheConstants.{MOST_SENT}
 
 -- what holds of each message in a list
 each-in : IsOrder message_order → (P : Message → Type 0) (ms : List Message) → ((y : Message) → IsIn message_order y ms → P y) → All P ms
@@ -127,7 +128,7 @@ module _ {S K : Type 0} (plain : Plain S Message Sends K) (O : IsOrder message_o
 
   -- the first message of the queue, where it is not done, is what its receiver handles next
   pub wants : (m : Message) → Contains h.flow.queue m → All (λ y. is_before y m ≡ false) h.flow.queue → (IsAscending message_order (messages_of h.done) → All (λ y. y ≢ m) (messages_of h.done)) →
-      ((s : S) → slice_get h.members m.receiver ≡ Some (Some s) → greatest_number < plain.counter s + 24) →
+      ((s : S) → slice_get h.members m.receiver ≡ Some (Some s) → greatest_number < plain.counter s + MOST_SENT) →
       (is_ours h.members m.receiver ≡ true) × WantsNumbers (simulation_of (rules_of plain) x) [] (v.parts m.receiver)
   wants m c before new few =
       let i = contains-in O h.flow.queue m c in
@@ -137,14 +138,14 @@ module _ {S K : Type 0} (plain : Plain S Message Sends K) (O : IsOrder message_o
       let k = its m t in
       let next = next-here (rules_of plain) O V (x.opening m.receiver) m.receiver (v.parts m.receiver) (at m t).0 h stands.beside k m refl i none low in (
         stands.home m t,
-        (ap is_some next, subst (λ s. greatest_number < plain.counter s + 24) (sym k.state) (few (at m t).0 (at m t).1)),
+        (ap is_some next, subst (λ s. greatest_number < plain.counter s + MOST_SENT) (sym k.state) (few (at m t).0 (at m t).1)),
       )
 
 -- where the first message of a group is not handled for want of numbers, its receiver wants them
 pub is-short : {S K : Type 0} {plain : Plain S Message Sends K} {number end : S → ℕ} {is_placed : S → Type 0} {x : Setting S} {owners : List ℕ} {V : S → Message → Type 0} {groups g seen : ℕ} {last : List Step} {h : Held S K} →
     Holds (rules_of plain) number end is_placed x owners V groups g seen last h → IsOrder message_order → (new : Held S K) → IsAsBefore h new →
     ((m : Message) × Contains h.flow.queue m × All (λ y. is_before y m ≡ false) h.flow.queue × (IsAscending message_order (messages_of h.done) → All (λ y. y ≢ m) (messages_of h.done))
-    × ((s : S) → slice_get h.members m.receiver ≡ Some (Some s) → greatest_number < plain.counter s + 24)) → (gone : ℕ) →
+    × ((s : S) → slice_get h.members m.receiver ≡ Some (Some s) → greatest_number < plain.counter s + MOST_SENT)) → (gone : ℕ) →
     IsShort (simulation_of (rules_of plain) x) owners (record { number = g; held = new; last = last; seen = seen; gone = gone })
 is-short {plain = plain} {x = x} {owners = owners} {V = V} {seen = seen} {last = last} {h = h} old O new a e gone =
     let f = simulation_of (rules_of plain) x in

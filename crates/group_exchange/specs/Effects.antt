@@ -14,6 +14,7 @@ use Rattle.hand.specs.Block.{steps_told}
 use Rattle.hand.specs.Deeds.{messages_of}
 use Rattle.hand.specs.Hands.{Held}
 use Rattle.group_exchange.specs.Views.{Ledger, GroupState, is_of, mark_at, block_of, world_after, in_group}
+use Rattle.reverse.specs.declared.sends.TheConstants.{MOST_SENT}
 
 -- each letter is taken by its receiver, the first of its mail
 abbrev pub takes_of : Order Message → List Letter → List Step
@@ -120,7 +121,7 @@ module _ {S K : Type 0} (f : Simulation Message S K Note) (owners : List ℕ) wh
 
   -- its actor has not enough numbers left for all that one event can send, and a message to handle
   abbrev pub WantsNumbers : Part Message S → Type 0
-  WantsNumbers part = IsSome (next_of f.rules.order part) × (greatest_number < f.rules.counter part.state + 24)
+  WantsNumbers part = IsSome (next_of f.rules.order part) × (greatest_number < f.rules.counter part.state + MOST_SENT)
 
   -- a process of the group has a message to handle, and too few numbers left
   abbrev pub IsShort : GroupState S K → Type 0

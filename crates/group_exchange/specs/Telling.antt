@@ -7,8 +7,8 @@ use Rattle.virtual_time.specs.declared.step.Step.{Step}
 use Rattle.virtual_time.specs.declared.step.Step.TheVariants.{Take, Gvt}
 use Rattle.hand.specs.Block.{steps_told}
 use Rattle.group_exchange.specs.Boxing.{Boxes, box_of}
-use Rattle.group_exchange.specs.declared.entry.Entry.{Entry}
-use Rattle.group_exchange.specs.declared.entry.Entry.TheVariants.{Taken, Did, Set}
+use Rattle.group_exchange.specs.declared.deed.GroupDeed.{GroupDeed}
+use Rattle.group_exchange.specs.declared.deed.GroupDeed.TheVariants.{Collected, Posted, Published}
 
 -- the letters on their way to the group of this number, if there is one
 abbrev pub box_at : List (List Letter) → Option ℕ → List Letter
@@ -20,7 +20,7 @@ abbrev pub waiting_for : Boxes → ℕ → ℕ
 waiting_for b p = length (received_by message_order p (box_at b.boxes (slice_get b.owners p)))
 
 -- each letter was taken by its receiver, the first of its mail; a group did its words, each Take behind the letters on their way; or GVT was set
-abbrev pub steps_by : Entry → List Step
-steps_by (Taken group boxes) = map (λ l. Take l.message.receiver 0) (box_of boxes.value.boxes group)
-steps_by (Did words boxes) = map (behind (waiting_for boxes.value)) (steps_told words.value.words)
-steps_by Set = Gvt ∷ []
+abbrev pub steps_by : GroupDeed → List Step
+steps_by (Collected group boxes) = map (λ l. Take l.message.receiver 0) (box_of boxes.value.boxes group)
+steps_by (Posted words boxes) = map (behind (waiting_for boxes.value)) (steps_told words.value.words)
+steps_by Published = Gvt ∷ []

@@ -5,7 +5,7 @@ ghost use Rattle.vlink.specs.Order.{message_order};
 ghost use Rattle.group_exchange.specs.Boxing.{HasRoom, box_of, for_group};
 ghost use Rattle.group_exchange.specs.Telling.{waiting_for};
 
-use crate::carrying::{count_for, least_time, make_room, owner_of, push_all, put_all};
+use crate::carrying::{count_for, empty, least_time, make_room, owner_of, push_all, put_all};
 use antimessages::OutOfMemory;
 use std::alloc::Global;
 use std::marker::Model;
@@ -113,7 +113,7 @@ impl Boxes {
         put_all(&mut self.boxes, &self.owners, letters);
     }
 
-    /// All letters for a group leave. Their room stays.
+    /// All letters for a group leave. Room for many is given back.
     pub fn clear(&mut self, group: u16)
         requires { group < length self.old.boxes }
         ensures cleared { box_of self.new.boxes group ≡ [] }
@@ -121,7 +121,7 @@ impl Boxes {
         ensures count { length self.new.boxes ≡ length self.old.boxes }
         ensures owners { self.new.owners ≡ self.old.owners }
     {
-        self.boxes[usize::from(group)].clear();
+        empty(&mut self.boxes[usize::from(group)]);
     }
 
     /// The least time of all letters, or the moment where that is earlier.

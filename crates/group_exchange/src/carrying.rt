@@ -7,6 +7,9 @@ ghost use Rattle.group_exchange.specs.Boxing.{AreShort, HasRoom, box_of, for_gro
 use antimessages::OutOfMemory;
 use vlink::{Letter, Message, Sign, Time, earlier};
 
+/// For so many letters at most an emptied box keeps room.
+const MOST_KEPT: usize = 4096;
+
 /// The group of this process. None: there is no such process.
 pub(crate) fn owner_of(owners: &[u16], process: u16) -> Option<u16>
     ensures { result ≡ slice_get owners.now process }
@@ -85,6 +88,16 @@ fn push<T: Copy>(items: &mut Vec<T>, item: T) -> Result<(), OutOfMemory>
     grow(items, 1)?;
     items.push_reserved(item);
     Ok(())
+}
+
+/// All items leave a box. Room for many is given back: the offers of a run lie there at the start, and so many letters do not come again.
+pub(crate) fn empty<T: Drop>(items: &mut Vec<T>)
+    ensures items { items.new.items ≡ [] }
+{
+    items.clear();
+    if items.capacity() > MOST_KEPT {
+        items.shrink_to_fit();
+    }
 }
 
 /// The least time of all letters in the boxes, or the moment where that is earlier.

@@ -17,10 +17,13 @@ use crate::groups::GroupExchange;
 use crate::mark::{standing_now, tell_both};
 use crate::run_of::GroupRun;
 use gvt::Floors;
-use hand::{Hand, hand_laws};
+use hand::{Hand, hand_law};
 use journal::PoolFault;
-use reverse::{Actor, actor_laws};
+use reverse::{Actor, actor_law};
 use vlink::Letter;
+
+/// The tray gets room for so many letters more than are taken, so that it is not copied to a larger place while the first of them arrive.
+const SPARE: usize = 64;
 
 /// All letters on their way to a group go to the tray of its hand, with a step in the journal for each. Both marks note how long the journal is then, and
 /// the GVT of the exchange. The answer is how many letters were taken.
@@ -40,9 +43,9 @@ pub fn collect<R: Actor, J: GroupRun<R>>(
         × AreWaiting (simulation_of (rules_of R.plain) J.setting) J.owners exchange.old group.old letters × (length exchange.old.steps + length letters ≤ exchange.old.limit) }
     ensures faults { IfErr result (λ fault. (fault ≡ OutOfMemory) ⊎ ((fault ≡ JournalFull) ⊎ ((fault ≡ Torn) × (J.keeps ≡ true)))) }
 {
-    actor_laws::<R>();
-    hand_laws::<R>();
-    exchange.join(group);
+    actor_law::<R>();
+    hand_law::<R>();
+    exchange.join_law(group);
     let count = exchange.boxes.letters(group.number).len();
     if count == 0 {
         group.standing = standing_now(&exchange.journal, exchange.gvt);
@@ -57,14 +60,18 @@ pub fn collect<R: Actor, J: GroupRun<R>>(
     if exchange.limit - exchange.journal.len() < count as u64 {
         return Err(PoolFault::JournalFull);
     }
-    if group.hand.reserve_letters(count).is_err() {
+    if group
+        .hand
+        .reserve_letters(count.saturating_add(SPARE))
+        .is_err()
+    {
         return Err(PoolFault::OutOfMemory);
     }
     if let Err(fault) = exchange.journal.reserve(count) {
         return Err(fault);
     }
     let letters = exchange.boxes.letters(group.number);
-    exchange.journal.take_all(&exchange.boxes, group.number);
+    exchange.journal.collect(&exchange.boxes, group.number);
     deliver_all(&mut group.hand, letters);
     lower_floor(&mut exchange.floors, group.number, letters);
     exchange.boxes.clear(group.number);

@@ -10,7 +10,7 @@ ghost use Rattle.group_exchange.specs.Effects.{block_in};
 use crate::group::Group;
 use crate::groups::GroupExchange;
 use crate::run_of::GroupRun;
-use halves::agree;
+use halves::agree_law;
 use reverse::Actor;
 
 impl<R: Actor, J: GroupRun<R>> GroupExchange<R, J> {
@@ -27,13 +27,12 @@ impl<R: Actor, J: GroupRun<R>> GroupExchange<R, J> {
             (world_after (simulation_of (rules_of R.plain) J.setting) (self.now.steps ++ block_in (simulation_of (rules_of R.plain) J.setting) J.owners self.now group.now)).parts p
             ≡ (in_group (simulation_of (rules_of R.plain) J.setting) group.now).parts p }
     {
-        self.join(group);
+        self.join_law(group);
         true
     }
 
-    /// One half of a mark tells what the other tells, so that both speak of one moment of the journal. A call does nothing: its caller learns what the
-    /// clauses say.
-    pub(crate) fn join(&self, group: &Group<R, J>)
+    /// One half of a mark tells what the other tells, so that both speak of one moment of the journal.
+    pub(crate) fn join_law(&self, group: &Group<R, J>)
         ensures same { mark_at group.now ≡ mark_of self.now.marks group.now.number }
         ensures within { group.now.number < length J.names }
         ensures seen { group.now.seen ≤ (world_after (simulation_of (rules_of R.plain) J.setting) self.now.steps).gvt }
@@ -47,6 +46,6 @@ impl<R: Actor, J: GroupRun<R>> GroupExchange<R, J> {
     {
         let _limit = self.limit;
         let half = &self.marks[usize::from(group.number)];
-        agree(half, &group.mark);
+        agree_law(half, &group.mark);
     }
 }

@@ -5,7 +5,7 @@
 mod boxes;
 mod carrying;
 mod collecting;
-mod entry;
+mod deed;
 mod fits;
 mod group;
 mod groups;
@@ -24,7 +24,7 @@ mod working;
 
 pub use boxes::Boxes;
 pub use collecting::collect;
-pub use entry::Entry;
+pub use deed::GroupDeed;
 pub use group::Group;
 pub use groups::GroupExchange;
 pub use mark::{Mark, Standing};

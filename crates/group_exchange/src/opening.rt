@@ -18,9 +18,9 @@ use crate::splitting::{members_of, some_of};
 use crate::steps::Steps;
 use gvt::Floors;
 use halves::{LeftHalf, RightHalf};
-use hand::{Hand, hand_laws};
+use hand::{Hand, hand_law};
 use journal::{PoolFault, Table};
-use reverse::{Actor, actor_laws};
+use reverse::{Actor, actor_law};
 use std::alloc::Global;
 use std::marker::PhantomData;
 use std::snapshot::Snapshot;
@@ -56,7 +56,7 @@ impl<R: Actor + Drop, J: GroupRun<R>> GroupExchange<R, J> {
         ensures groups { IfOk result (λ r. (g : ℕ) → g < length J.names → (k : GroupState R R.Record) × (slice_get r.1.items g ≡ Some k) × HasOpened J.setting J.owners g k) }
         ensures memory { IfErr result (λ fault. fault ≡ OutOfMemory) }
     {
-        actor_laws::<R>();
+        actor_law::<R>();
         let keeps = table.is_some();
         let end = Time::known(until.ns() + 1);
         let Pairs { lefts, rights } = pairs;
@@ -149,8 +149,8 @@ impl<R: Actor + Drop, J: GroupRun<R>> Group<R, J> {
         ensures opened { IfOk result (HasOpened J.setting J.owners number) }
         ensures memory { IfErr result (λ fault. fault ≡ OutOfMemory) }
     {
-        actor_laws::<R>();
-        hand_laws::<R>();
+        actor_law::<R>();
+        hand_law::<R>();
         let mut runs = Vec::new(alloc);
         runs.resize(members.len(), 0)?;
         match Hand::new(alloc, members, Vec::new(alloc), keeps) {

@@ -20,9 +20,9 @@ use crate::groups::GroupExchange;
 use crate::mark::{standing_now, tell_both};
 use crate::run_of::GroupRun;
 use crate::steps::Steps;
-use hand::{Hand, hand_laws};
+use hand::{Hand, hand_law};
 use journal::PoolFault;
-use reverse::{Actor, actor_laws};
+use reverse::{Actor, actor_law};
 use std::alloc::Global;
 
 /// The block of a group goes to the journal, its letters for others are on their way, and its floor is what it has left. With an empty block nothing
@@ -40,13 +40,13 @@ pub fn post<R: Actor, J: GroupRun<R>>(
     ensures limited { exchange.old.limit < length exchange.old.steps + length (block_of group.old) → 0 < length (block_of group.old) → result ≡ Err JournalFull }
     ensures faults { IfErr result (λ fault. (fault ≡ OutOfMemory) ⊎ ((fault ≡ JournalFull) ⊎ ((fault ≡ Torn) × (J.keeps ≡ true)))) }
 {
-    actor_laws::<R>();
-    hand_laws::<R>();
+    actor_law::<R>();
+    hand_law::<R>();
     let count = group.hand.block().steps();
     if count == 0 {
         return Ok(());
     }
-    exchange.join(group);
+    exchange.join_law(group);
     if exchange.limit - exchange.journal.len() < count {
         return Err(PoolFault::JournalFull);
     }
@@ -126,7 +126,7 @@ fn post_reserved<R: Actor>(
     ensures keeps { journal.new.keeps ≡ journal.old.keeps }
 {
     let words = hand.next_block(alloc);
-    journal.tell(&words, boxes, words.steps());
+    journal.post(&words, boxes, words.steps());
     boxes.post_reserved(hand.abroad());
     hand.clear_abroad();
 }

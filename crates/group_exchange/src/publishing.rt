@@ -10,7 +10,7 @@ use crate::groups::GroupExchange;
 use crate::run_of::GroupRun;
 use gvt::Floors;
 use journal::PoolFault;
-use reverse::{Actor, actor_laws};
+use reverse::{Actor, actor_law};
 use vlink::{Time, earlier};
 
 /// Sets GVT to the least of all floors and of the times of all letters on their way, with a step in the journal; where that is the GVT of before, there
@@ -27,7 +27,7 @@ pub fn publish<R: Actor, J: GroupRun<R>>(
     ensures limited { IsHeldBack (simulation_of (rules_of R.plain) J.setting) J.owners exchange.old → exchange.old.limit ≤ length exchange.old.steps → result ≡ Err JournalFull }
     ensures faults { IfErr result (λ fault. (fault ≡ OutOfMemory) ⊎ ((fault ≡ JournalFull) ⊎ ((fault ≡ Torn) × (J.keeps ≡ true)))) }
 {
-    actor_laws::<R>();
+    actor_law::<R>();
     let gvt = exchange
         .boxes
         .earliest(earliest_floor(&exchange.floors, exchange.end));
@@ -40,7 +40,7 @@ pub fn publish<R: Actor, J: GroupRun<R>>(
     if let Err(fault) = exchange.journal.reserve(1) {
         return Err(fault);
     }
-    exchange.journal.set_gvt();
+    exchange.journal.publish();
     exchange.gvt = gvt;
     Ok(gvt)
 }

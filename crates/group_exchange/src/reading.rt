@@ -6,7 +6,7 @@ ghost use Rattle.hand.specs.Hands.{IsAsBefore};
 use crate::group::Group;
 use crate::groups::GroupExchange;
 use crate::run_of::GroupRun;
-use hand::hand_laws;
+use hand::hand_law;
 use reverse::Actor;
 use vlink::{Letter, Step, Time};
 
@@ -49,7 +49,7 @@ impl<R: Actor, J: GroupRun<R>> Group<R, J> {
         ensures least { IfSome result (λ time. All (λ m. time ≤ m.time) self.old.held.flow.queue) }
         ensures none { IfNone result (self.old.held.flow.queue ≡ []) }
     {
-        hand_laws::<R>();
+        hand_law::<R>();
         self.hand.next_time()
     }
 }

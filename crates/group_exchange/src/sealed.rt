@@ -12,7 +12,7 @@ ghost use Rattle.group_exchange.specs.Views.{in_group, is_of};
 use crate::group::Group;
 use crate::run_of::GroupRun;
 use fossil::rows_in_time;
-use reverse::{Actor, actor_laws};
+use reverse::{Actor, actor_law};
 use vlink::{Row, Time};
 
 impl<R: Actor, J: GroupRun<R>> Group<R, J> {
@@ -22,18 +22,18 @@ impl<R: Actor, J: GroupRun<R>> Group<R, J> {
         ensures each { result ≡ true → (p : ℕ) → is_of J.owners self.now.number p ≡ true →
             ((in_group (simulation_of (rules_of R.plain) J.setting) self.now).parts p).done ≡ [] }
     {
-        actor_laws::<R>();
+        actor_law::<R>();
         self.hand.all_committed()
     }
 
     /// Whether its events before a moment, in ns, are all committed and are for good: the moment is not later than the GVT that it saw, and no done
     /// event is earlier.
-    pub fn is_sealed_before(&self, moment: Time) -> bool
+    pub fn is_committed_before(&self, moment: Time) -> bool
         ensures all { IsTrue result ↔ ((moment ≤ self.now.seen) × All (λ m. moment ≤ m.time) (messages_of self.now.held.done)) }
         ensures each { result ≡ true → (p : ℕ) → is_of J.owners self.now.number p ≡ true →
             earlier message_order moment ((in_group (simulation_of (rules_of R.plain) J.setting) self.now).parts p).done ≡ [] }
     {
-        actor_laws::<R>();
+        actor_law::<R>();
         moment.ns() <= self.standing.seen.ns() && !self.hand.is_done_before(moment)
     }
 
@@ -46,7 +46,7 @@ impl<R: Actor, J: GroupRun<R>> Group<R, J> {
             ≡ rowed (rules_of R.plain) (J.setting.opening p) ((in_group (simulation_of (rules_of R.plain) J.setting) self.now).parts p).committed }
         ensures others { (p : ℕ) → is_of J.owners self.now.number p ≡ false → rows_at p result.now ≡ [] }
     {
-        actor_laws::<R>();
+        actor_law::<R>();
         self.hand.rows()
     }
 
@@ -65,7 +65,7 @@ impl<R: Actor, J: GroupRun<R>> Group<R, J> {
             ≡ rows_within (rules_of R.plain) from to (rows_of_group J.owners self.now.number
             (one (simulation_of (rules_of R.plain) J.setting) event_count).rows) }
     {
-        actor_laws::<R>();
+        actor_law::<R>();
         rows_in_time(self.hand.rows(), from, to)
     }
 
@@ -75,7 +75,7 @@ impl<R: Actor, J: GroupRun<R>> Group<R, J> {
         ensures others { self.new ≡ record self.old { held = self.new.held; gone = self.new.gone } }
         ensures rows { self.new.held ≡ record self.old.held { rows = record self.old.held.rows { left = self.new.held.rows.left } } }
     {
-        actor_laws::<R>();
+        actor_law::<R>();
         let _refused = self.hand.let_rows_go(moment);
         self.gone = later(self.gone, moment);
     }

@@ -8,7 +8,7 @@ ghost use Rattle.group_exchange.specs.Boxing.{box_of};
 ghost use Rattle.group_exchange.specs.Telling.{waiting_for};
 
 use crate::boxes::Boxes;
-use crate::entry::Entry;
+use crate::deed::GroupDeed;
 use crate::listing::{list_block, list_takes};
 use hand::Words;
 use journal::{PoolFault, Table};
@@ -28,7 +28,7 @@ pub(crate) struct Kept {
 /// they are kept, once more as they are.
 #[derive(Drop)]
 pub struct Steps {
-    told: Vec<Snapshot<Entry>>,
+    told: Vec<Snapshot<GroupDeed>>,
     /// How many steps there are.
     count: u64,
     kept: Option<Kept>,
@@ -109,7 +109,7 @@ impl Steps {
     }
 
     /// All letters for a group were taken, each the first of the mail of its receiver. There is room for these steps, and for one at the least.
-    pub fn take_all(&mut self, boxes: &Boxes, group: u16)
+    pub fn collect(&mut self, boxes: &Boxes, group: u16)
         requires within { group < length boxes.now.boxes }
         requires some { 0 < self.old.room }
         requires room { length (box_of boxes.now.boxes group) ≤ self.old.room }
@@ -119,8 +119,7 @@ impl Steps {
     {
         let letters = boxes.letters(group);
         self.count += letters.len() as u64;
-        self.told
-            .push_reserved(Snapshot::of(&Entry::Taken(group, Snapshot::of(boxes))));
+        self.told.push_reserved(Snapshot::of(&GroupDeed::Collected(group, Snapshot::of(boxes))));
         if let Some(kept) = &mut self.kept {
             list_takes(&mut kept.steps, letters);
         }
@@ -128,7 +127,7 @@ impl Steps {
 
     /// A group did what these words tell, so many steps, each Take behind the letters that are on their way. There is room for these steps, and for
     /// one at the least.
-    pub fn tell(&mut self, words: &Words, boxes: &Boxes, count: u64)
+    pub fn post(&mut self, words: &Words, boxes: &Boxes, count: u64)
         requires count { count ≡ length (steps_told words.now.words) }
         requires kept { self.old.keeps ≡ true → words.now.keeps ≡ true }
         requires some { 0 < self.old.room }
@@ -138,7 +137,7 @@ impl Steps {
         ensures keeps { self.new.keeps ≡ self.old.keeps }
     {
         self.count += count;
-        self.told.push_reserved(Snapshot::of(&Entry::Did(
+        self.told.push_reserved(Snapshot::of(&GroupDeed::Posted(
             Snapshot::of(words),
             Snapshot::of(boxes),
         )));
@@ -148,14 +147,14 @@ impl Steps {
     }
 
     /// GVT was set. There is room for this step.
-    pub fn set_gvt(&mut self)
+    pub fn publish(&mut self)
         requires room { 0 < self.old.room }
         requires few { length self.old.steps < 2 ^ 63 }
         ensures steps { self.new.steps ≡ self.old.steps ++ Gvt ∷ [] }
         ensures keeps { self.new.keeps ≡ self.old.keeps }
     {
         self.count += 1;
-        self.told.push_reserved(Snapshot::of(&Entry::Set));
+        self.told.push_reserved(Snapshot::of(&GroupDeed::Published));
         if let Some(kept) = &mut self.kept {
             kept.steps.push_reserved(Step::Gvt);
         }

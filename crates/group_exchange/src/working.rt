@@ -10,9 +10,9 @@ ghost use Rattle.group_exchange.specs.Effects.{Goes, IsGroupAsBefore, IsIdleBefo
 use crate::group::Group;
 use crate::run_of::GroupRun;
 use exchange::Gate;
-use hand::{Early, HandFault, hand_laws};
+use hand::{Early, HandFault, hand_law};
 use journal::PoolFault;
-use reverse::{Actor, actor_laws};
+use reverse::{Actor, actor_law};
 use vlink::{Message, Time};
 
 /// All letters of the tray arrive; then messages that are earlier than the GVT seen and `window`, in ns, are handled, `turn` at most, as long
@@ -84,7 +84,7 @@ impl<R: Actor, J: GroupRun<R>> Group<R, J> {
         ensures arrived { OnOk result (self.new.held.flow.tray ≡ []) }
         ensures memory { IfErr result (λ fault. fault ≡ OutOfMemory) }
     {
-        actor_laws::<R>();
+        actor_law::<R>();
         match self.hand.arrive_all() {
             Ok(()) => Ok(()),
             Err(_fault) => Err(PoolFault::OutOfMemory),
@@ -153,7 +153,7 @@ impl<R: Actor, J: GroupRun<R>> Group<R, J> {
         ensures short { result ≡ Err Exhausted → IsShort (simulation_of (rules_of R.plain) J.setting) J.owners self.new }
         ensures faults { IfErr result (λ fault. (fault ≡ OutOfMemory) ⊎ (fault ≡ Exhausted)) }
     {
-        actor_laws::<R>();
+        actor_law::<R>();
         match self.hand.run_early(limit) {
             Ok(early) => Ok(early),
             Err(HandFault::Exhausted) => Err(PoolFault::Exhausted),
@@ -170,7 +170,7 @@ impl<R: Actor, J: GroupRun<R>> Group<R, J> {
         ensures short { result ≡ Err Exhausted → IsShort (simulation_of (rules_of R.plain) J.setting) J.owners self.new }
         ensures faults { IfErr result (λ fault. (fault ≡ OutOfMemory) ⊎ (fault ≡ Exhausted)) }
     {
-        actor_laws::<R>();
+        actor_law::<R>();
         self.count_done()?;
         match self.hand.run_next(limit) {
             Ok(has_run) => Ok(has_run),
@@ -195,8 +195,8 @@ impl<R: Actor, J: GroupRun<R>> Group<R, J> {
         ensures stood { IsGroupAsBefore self.old self.new }
         ensures idle { IfNone result (IsIdleBefore (simulation_of (rules_of R.plain) J.setting) J.owners limit self.new) }
     {
-        actor_laws::<R>();
-        hand_laws::<R>();
+        actor_law::<R>();
+        hand_law::<R>();
         match self.hand.next() {
             Some(message) => receiver_before(&message, limit),
             None => None,
@@ -213,7 +213,7 @@ impl<R: Actor, J: GroupRun<R>> Group<R, J> {
         ensures tray { self.new.held.flow.tray ≡ self.old.held.flow.tray }
         ensures memory { IfErr result (λ fault. fault ≡ OutOfMemory) }
     {
-        actor_laws::<R>();
+        actor_law::<R>();
         match self.hand.commit(self.standing.seen) {
             Ok(()) => Ok(()),
             Err(_fault) => Err(PoolFault::OutOfMemory),

@@ -52,7 +52,7 @@ pub fn pair<T>(value: &T) -> (LeftHalf<T>, RightHalf<T>)
 }
 
 /// Two halves of one name tell one value.
-pub fn agree<T>(left: &LeftHalf<T>, right: &RightHalf<T>)
+pub fn agree_law<T>(left: &LeftHalf<T>, right: &RightHalf<T>)
     requires { left.now.name ≡ right.now.name }
     ensures { left.now.value ≡ right.now.value }
 {}

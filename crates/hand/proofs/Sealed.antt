@@ -20,7 +20,7 @@ use Rattle.hand.specs.Block.{steps_told}
 use Rattle.hand.specs.Deeds.{Deed}
 use Rattle.hand.specs.Flow.{IsFirst}
 use Rattle.hand.specs.Hands.{Held, CommitsTold, StandsForSent, IsAsBefore, is_ours}
-use Rattle.hand.specs.Sealing.{CanSeal, rows_in, words_of}
+use Rattle.hand.specs.Sealing.{CanCommit, rows_in, words_of}
 use Rattle.hand.proofs.Telling.{done-append, are_done-append, of_members-none, of_members-both, told-append}
 use Rattle.hand.proofs.Sealing.{is-ours, sealed-steps, sealed}
 use Rattle.hand.proofs.Still.{stands-still}
@@ -97,7 +97,7 @@ module _ {S K : Type 0} (plain : Plain S Message Sends K) (V : S → Message →
 
   -- the events at the front of the list, one after another
   pub commits-many : (ds : List (Deed K)) (h new : Held S K) (rest : List (Deed K)) → new.members ≡ h.members → h.done ≡ ds ++ rest → new.done ≡ rest → new.rows ≡ record h.rows { all = h.rows.all ++ rows_in ds } →
-      new.flow ≡ record h.flow { words = h.flow.words ++ words_of ds; room = new.flow.room } → All (λ d. CanSeal moment h.flow d.message) ds →
+      new.flow ≡ record h.flow { words = h.flow.words ++ words_of ds; room = new.flow.room } → All (λ d. CanCommit moment h.flow d.message) ds →
       CommitsTold (rules_of plain) V moment h new
   commits-many [] h new rest members done left rows flow can = commits-nothing h new (record {
     members = members;
@@ -107,7 +107,7 @@ module _ {S K : Type 0} (plain : Plain S Message Sends K) (V : S → Message →
     flow = flow ∙ (λ j. record h.flow { queue = (ap (λ z. z.queue) (sym flow)) j; words = append-nil h.flow.words j; room = new.flow.room });
   })
   commits-many (d ∷ ds) h new rest members done left rows flow can =
-      let one : CanSeal moment h.flow d.message = All-head (λ (d : Deed K). CanSeal moment h.flow d.message) d ds can in
+      let one : CanCommit moment h.flow d.message = All-head (λ (d : Deed K). CanCommit moment h.flow d.message) d ds can in
       let mid : Held S K = record {
         members = h.members;
         done = ds ++ rest;
@@ -118,5 +118,5 @@ module _ {S K : Type 0} (plain : Plain S Message Sends K) (V : S → Message →
       (commits-oldest h mid d (ds ++ rest) refl done refl refl refl refl refl refl refl refl one.none one.zero one.early)
       (commits-many ds mid new rest members refl left (rows ∙ (λ j. record h.rows { all = sym (append_assoc h.rows.all d.rows (rows_in ds)) j }))
       (flow ∙ (λ j. record h.flow { words = sym (append_assoc h.flow.words (Committed d.message.receiver ∷ []) (words_of ds)) j; room = new.flow.room }))
-      (All-weaker (λ (d : Deed K). CanSeal moment h.flow d.message) (λ (d : Deed K). CanSeal moment mid.flow d.message)
-      (λ d c. record { early = c.early; zero = c.zero; none = c.none }) ds (All-tail (λ (d : Deed K). CanSeal moment h.flow d.message) d ds can)))
+      (All-weaker (λ (d : Deed K). CanCommit moment h.flow d.message) (λ (d : Deed K). CanCommit moment mid.flow d.message)
+      (λ d c. record { early = c.early; zero = c.zero; none = c.none }) ds (All-tail (λ (d : Deed K). CanCommit moment h.flow d.message) d ds can)))

@@ -9,3 +9,4 @@ pub mod Rows
 pub mod Counted
 pub mod Undoing
 pub mod Sealing
+pub mod Trail

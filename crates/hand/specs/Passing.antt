@@ -1,4 +1,6 @@
 -- What an event sent goes on, one message after another.
+-- So each word of a block is one step of a proof; the law of a whole event at once fits neither a message that counts beside nor a
+-- rollback.
 use Rattle.std.specs.Prelude.{◌≡◌, ◌≤◌, true, Option, List, ◌++◌, map}
 use Rattle.vlink.specs.declared.message.Message.{Message}
 use Rattle.vlink.specs.declared.note.Note.{Note}

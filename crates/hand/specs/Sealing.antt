@@ -11,7 +11,7 @@ use Rattle.hand.specs.Deeds.{Deed}
 use Rattle.hand.specs.Flow.{Flow}
 
 -- a done message is earlier than the moment, and counts just once
-pub record CanSeal (moment : ℕ) (flow : Flow) (m : Message) : Type 0 where
+pub record CanCommit (moment : ℕ) (flow : Flow) (m : Message) : Type 0 where
   pub early : m.time < moment
   pub zero : signed_count message_order m flow.extra ≡ pos 0
   pub none : times_in message_order m flow.queue ≡ 0

@@ -16,7 +16,7 @@ use crate::members::is_ours;
 use crate::tray::Way;
 use crate::undoing::{Undoing, roll_back};
 use antimessages::OutOfMemory;
-use reverse::{Actor, actor_rules};
+use reverse::{Actor, actor_rules_law};
 use vlink::{Letter, Message};
 
 /// The front of the tray, which is this letter, arrives. Where it comes late, its receiver rolls back to it, and what the undone events sent is taken
@@ -45,7 +45,7 @@ pub(crate) fn arrive<R: Actor>(
     ensures done { OnErr result (done.new.deeds ≡ done.old.deeds) }
     ensures letters { OnErr result (letters.new ≡ record letters.old { room = letters.new.room }) }
 {
-    actor_rules::<R>();
+    actor_rules_law::<R>();
     let way = letters.count(letter, done.has(&letter.message))?;
     letters.take_front(letter);
     settle(members, done, undoing, letters, &letter.message, way);

@@ -9,7 +9,12 @@ use crate::arrive::arrive;
 use crate::fault::HandFault;
 use crate::hand::Hand;
 use crate::letters::Letters;
-use reverse::{Actor, actor_rules};
+use reverse::{Actor, actor_rules_law};
+use std::collections::VecDeque;
+use vlink::Letter;
+
+/// For so many letters at most an empty tray keeps room.
+const MOST_KEPT: usize = 4096;
 
 impl<R: Actor> Hand<R> {
     /// Whether no letter waits to arrive.
@@ -27,7 +32,7 @@ impl<R: Actor> Hand<R> {
         ensures quiet { OnOk result (IsQuiet self.new) }
         ensures memory { IfErr result (λ fault. fault ≡ OutOfMemory) }
     {
-        actor_rules::<R>();
+        actor_rules_law::<R>();
         if self.is_quiet() {
             return Ok(());
         }
@@ -61,11 +66,11 @@ impl<R: Actor> Hand<R> {
         ensures unchanged { OnErr result (IsAsBefore self.old self.new) }
         ensures memory { IfErr result (λ fault. fault ≡ OutOfMemory) }
     {
-        actor_rules::<R>();
+        actor_rules_law::<R>();
         let Some(letter) = self.letters.front() else {
             return Ok(false);
         };
-        let Some(room) = room_for(self.done.len(), self.done.sent()) else {
+        let Some(room) = room_for(self.done.len(), self.done.sent_count()) else {
             return Err(HandFault::OutOfMemory);
         };
         self.letters.reserve(room)?;
@@ -82,12 +87,24 @@ impl<R: Actor> Hand<R> {
 }
 
 impl Letters {
-    /// Where many messages wait in no order, they are put in order.
+    /// Where many messages wait in no order, they are put in order. The room of a tray that was emptied of many letters is given back.
     fn sort_many(&mut self)
         ensures queue { IsPermutation self.old.queue self.new.queue }
         ensures others { self.new ≡ record self.old { queue = self.new.queue; room = self.new.room } }
     {
+        self.room = 0;
         self.queue.sort_many();
+        give_back(&mut self.tray);
+    }
+}
+
+/// Room that the tray does not need is given back, where there is much of it: the offers of a run come by it at the start, and so many letters do
+/// not come again.
+fn give_back(tray: &mut VecDeque<Letter>)
+    ensures { tray.new.items ≡ tray.old.items }
+{
+    if tray.capacity() > MOST_KEPT {
+        tray.shrink_to_fit();
     }
 }
 

@@ -1,30 +1,29 @@
 //! The oldest done events of a group are committed.
 ghost use Rattle.std.specs.Prelude.{◌≡◌, ℕ, ◌+◌, ◌<◌, ◌≤◌, ◌++◌, ◌∷◌, [], true, false, All, IfSome, Some, OnOk, OnErr, length, take, drop, slice_get, vec_len, vec_capacity};
-ghost use Rattle.std.specs.VecDeque.{deque_len};
 ghost use Rattle.vlink.specs.Order.{message_order};
 ghost use Rattle.vlink.specs.declared.message.Message.{Message};
 ghost use Rattle.hand.specs.declared.block.Did.TheVariants.{Committed};
 ghost use Rattle.hand.specs.Deeds.{Deed, messages_of};
 ghost use Rattle.hand.specs.Flow.{IsFirst};
-ghost use Rattle.hand.specs.Sealing.{CanSeal, Stays, rows_in, words_of};
+ghost use Rattle.hand.specs.Sealing.{CanCommit, Stays, rows_in, words_of};
 
 use crate::block::{Did, Words};
 use crate::deeds::{Deeds, precedes};
 use crate::letters::Letters;
 use crate::rows::Rows;
+use crate::trail::Trail;
 use std::alloc::AllocError;
-use std::collections::VecDeque;
-use vlink::{Message, Row, Time, lawful_order};
+use vlink::{Message, Row, Time, order_law};
 
 impl Letters {
     /// Whether a done event with this message can be committed below the moment; `first` is the first message of the queue, if there is one.
     #[inline(always)]
-    fn can_seal(&self, message: &Message, moment: Time, first: &Option<Message>) -> bool
+    fn can_commit(&self, message: &Message, moment: Time, first: &Option<Message>) -> bool
         requires { IsFirst first.now self.now.queue }
-        ensures yes { result ≡ true → CanSeal moment self.now message.now }
+        ensures yes { result ≡ true → CanCommit moment self.now message.now }
         ensures no { result ≡ false → Stays moment self.now message.now }
     {
-        lawful_order();
+        order_law();
         if message.time >= moment {
             return false;
         }
@@ -43,11 +42,11 @@ impl Letters {
     ) -> usize
         requires { IsFirst first.now self.now.queue }
         ensures within { result ≤ length done.now.deeds }
-        ensures early { All (CanSeal moment self.now) (take result (messages_of done.now.deeds)) }
+        ensures early { All (CanCommit moment self.now) (take result (messages_of done.now.deeds)) }
         ensures left { IfSome (slice_get (messages_of done.now.deeds) result) (Stays moment self.now) }
     {
         for place in 0..done.events.len() {
-            if !self.can_seal(&done.events[place].message, moment, first) {
+            if !self.can_commit(&done.events.item(place).message, moment, first) {
                 return place;
             }
         }
@@ -55,7 +54,7 @@ impl Letters {
     }
 
     /// The oldest done events, so many, are committed: they are forgotten, and their rows go to the end of `sealed`. A refusal changes nothing.
-    pub(crate) fn seal<K: Copy>(
+    pub(crate) fn commit<K: Copy>(
         &mut self,
         done: &mut Deeds<K>,
         sealed: &mut Rows,
@@ -69,9 +68,11 @@ impl Letters {
         ensures rows_stay { OnErr result (sealed.new ≡ sealed.old) }
         ensures letters_stay { OnErr result (self.new ≡ record self.old { room = self.new.room }) }
     {
+        self.room = 0;
         self.block.reserve(count)?;
         sealed.there.reserve(done.rows.len())?;
         forget_early(done, &mut self.block, &mut sealed.there, count);
+        done.close_up();
         Ok(())
     }
 }
@@ -123,37 +124,24 @@ fn forget_oldest<K: Copy>(done: &mut Deeds<K>, block: &mut Words, sealed: &mut V
     let Some(event) = done.events.pop_front() else {
         return;
     };
-    forget_first(&mut done.sends, usize::from(event.sent));
+    done.sends.forget(usize::from(event.sent));
     move_first(&mut done.rows, usize::from(event.noted), sealed);
     block.push_reserved(Did::Committed {
         process: event.message.receiver,
     });
 }
 
-/// The first messages that were sent, so many, are forgotten.
-#[inline(always)]
-fn forget_first(sends: &mut VecDeque<Message>, count: usize)
-    requires { count ≤ deque_len sends.old }
-    ensures { sends.new.items ≡ drop count sends.old.items }
-{
-    for forgotten in 0..count {
-        let _message = sends.pop_front();
-    }
-}
-
 /// The first items, so many, go to the end of `taken`, which has room for them. It has a type parameter so that the borrow checker follows it.
 #[inline(always)]
-fn move_first<T: Copy + Drop>(items: &mut VecDeque<T>, count: usize, taken: &mut Vec<T>)
-    requires enough { count ≤ deque_len items.old }
+fn move_first<T: Copy + Drop>(items: &mut Trail<T>, count: usize, taken: &mut Vec<T>)
+    requires enough { count ≤ length items.old.items }
     requires room { vec_len taken.old + count ≤ vec_capacity taken.old }
     ensures items { items.new.items ≡ drop count items.old.items }
     ensures taken { taken.new.items ≡ taken.old.items ++ take count items.old.items }
     ensures room { (more : ℕ) → vec_len taken.old + (count + more) ≤ vec_capacity taken.old → vec_len taken.new + more ≤ vec_capacity taken.new }
 {
-    for moved in 0..count {
-        match items.pop_front() {
-            Some(item) => taken.push_reserved(item),
-            None => {}
-        }
+    for place in 0..count {
+        taken.push_reserved(*items.item(place));
     }
+    items.forget(count);
 }

@@ -1,17 +1,18 @@
 //! The done events of a group.
 ghost use Rattle.std.specs.Prelude.{◌≡◌, true, List, ◌+◌, ◌<◌, ◌≤◌, [], ◌∷◌, ◌++◌, length, OnOk};
-ghost use Rattle.std.specs.VecDeque.{deque_len, deque_capacity};
 ghost use Rattle.vlink.specs.Order.{message_order};
 ghost use Rattle.virtual_time.specs.Law.{rows_of};
 ghost use Rattle.process_queues.specs.Past.{newest_of};
 ghost use Rattle.antimessages.specs.Counting.{is_after};
 ghost use Rattle.hand.specs.Deeds.{Deed, messages_of};
 ghost use Rattle.hand.specs.Undoing.{HasRoomFor};
+ghost use Rattle.reverse.specs.declared.sends.TheConstants.{MOST_SENT};
 
+use crate::trail::Trail;
+use reverse::MOST_SENT;
 use std::alloc::{AllocError, Global};
-use std::collections::VecDeque;
 use std::marker::Model;
-use vlink::{Message, Note, Row, compare, lawful_order, message_order};
+use vlink::{Message, Note, Row, compare, message_order_law, order_law};
 
 /// What is kept of a done event: its message, how many messages it sent, how many rows it gave, and the record by which it is undone.
 #[derive(Clone, Copy)]
@@ -27,23 +28,22 @@ pub(crate) struct Event<K: Copy> {
 /// Clauses see each event with what it sent and its rows, and for how many more events, messages and rows there is room.
 #[derive(Drop)]
 pub(crate) struct Deeds<K: Copy> {
-    pub(crate) events: VecDeque<Event<K>>,
-    pub(crate) sends: VecDeque<Message>,
-    pub(crate) rows: VecDeque<Row>,
+    pub(crate) events: Trail<Event<K>>,
+    pub(crate) sends: Trail<Message>,
+    pub(crate) rows: Trail<Row>,
 }
 
 impl<K: Copy> Model for Deeds<K> {
-    ghost use Rattle.std.specs.Prelude.{◌≡◌, ◌-◌, length};
-    ghost use Rattle.std.specs.VecDeque.{deque_len, deque_capacity};
+    ghost use Rattle.std.specs.Prelude.{◌≡◌, length};
     ghost use Rattle.hand.specs.Deeds.{Done, deeds_in, all_sent, all_noted};
 
     ghost Value = { Done K };
 
     ghost view = { λ d. record {
       deeds = deeds_in d.events.items d.sends.items d.rows.items;
-      events_room = deque_capacity d.events - deque_len d.events;
-      sends_room = deque_capacity d.sends - deque_len d.sends;
-      rows_room = deque_capacity d.rows - deque_len d.rows;
+      events_room = d.events.room;
+      sends_room = d.sends.room;
+      rows_room = d.rows.room;
     } };
 
     ghost invariant = { λ d. (length d.sends.items ≡ all_sent d.events.items) × (length d.rows.items ≡ all_noted d.events.items) };
@@ -55,9 +55,9 @@ impl<K: Copy> Deeds<K> {
         ensures { result.deeds ≡ [] }
     {
         Deeds {
-            events: VecDeque::new(alloc),
-            sends: VecDeque::new(alloc),
-            rows: VecDeque::new(alloc),
+            events: Trail::new(alloc),
+            sends: Trail::new(alloc),
+            rows: Trail::new(alloc),
         }
     }
 
@@ -65,7 +65,7 @@ impl<K: Copy> Deeds<K> {
     #[inline(always)]
     pub(crate) fn reserve(&mut self) -> Result<(), AllocError>
         ensures events { OnOk result (1 ≤ self.new.events_room) }
-        ensures sends { OnOk result (24 ≤ self.new.sends_room) }
+        ensures sends { OnOk result (MOST_SENT ≤ self.new.sends_room) }
         ensures rows { OnOk result (2 ≤ self.new.rows_room) }
         ensures same { self.new.deeds ≡ self.old.deeds }
     {
@@ -79,24 +79,22 @@ impl<K: Copy> Deeds<K> {
     #[inline(always)]
     fn has_room(&self) -> bool
         ensures events { result ≡ true → 1 ≤ self.now.events_room }
-        ensures sends { result ≡ true → 24 ≤ self.now.sends_room }
+        ensures sends { result ≡ true → MOST_SENT ≤ self.now.sends_room }
         ensures rows { result ≡ true → 2 ≤ self.now.rows_room }
     {
-        1 <= self.events.capacity() - self.events.len()
-            && 24 <= self.sends.capacity() - self.sends.len()
-            && 2 <= self.rows.capacity() - self.rows.len()
+        1 <= self.events.room() && MOST_SENT <= self.sends.room() && 2 <= self.rows.room()
     }
 
     /// Makes room for one event more, whatever it sends and notes, where some of it is missing.
     #[inline(never)]
     fn grow(&mut self) -> Result<(), AllocError>
         ensures events { OnOk result (1 ≤ self.new.events_room) }
-        ensures sends { OnOk result (24 ≤ self.new.sends_room) }
+        ensures sends { OnOk result (MOST_SENT ≤ self.new.sends_room) }
         ensures rows { OnOk result (2 ≤ self.new.rows_room) }
         ensures same { self.new.deeds ≡ self.old.deeds }
     {
         self.events.reserve(1)?;
-        self.sends.reserve(24)?;
+        self.sends.reserve(MOST_SENT)?;
         self.rows.reserve(2)?;
         Ok(())
     }
@@ -111,7 +109,7 @@ impl<K: Copy> Deeds<K> {
         notes: &[Note],
     )
         requires events { 1 ≤ self.old.events_room }
-        requires sends { (length sends.now ≤ 24) × (length sends.now ≤ self.old.sends_room) }
+        requires sends { (length sends.now ≤ MOST_SENT) × (length sends.now ≤ self.old.sends_room) }
         requires rows { (length notes.now ≤ 2) × (length notes.now ≤ self.old.rows_room) }
         ensures deeds { self.new.deeds ≡ self.old.deeds ++ record { message = message.now; kept = kept; sent = sends.now; rows = rows_of message_order message.now notes.now } ∷ [] }
         ensures left { (ds : List (Deed K)) → HasRoomFor (record { message = message.now; kept = kept; sent = sends.now; rows = rows_of message_order message.now notes.now } ∷ ds) self.old → HasRoomFor ds self.new }
@@ -124,6 +122,15 @@ impl<K: Copy> Deeds<K> {
         });
         send_all(&mut self.sends, sends);
         note_all(&mut self.rows, message, notes);
+    }
+
+    /// Where no more are there than have left, they take the place of those.
+    pub(crate) fn close_up(&mut self)
+        ensures { self.new.deeds ≡ self.old.deeds }
+    {
+        self.events.close_up();
+        self.sends.close_up();
+        self.rows.close_up();
     }
 
     /// Whether the message comes after the newest event, if there is one.
@@ -143,8 +150,8 @@ impl<K: Copy> Deeds<K> {
 pub(crate) fn precedes(first: &Message, second: &Message) -> bool
     ensures { result ≡ message_order.less first.now second.now }
 {
-    message_order();
-    lawful_order();
+    message_order_law();
+    order_law();
     if first.time < second.time {
         return true;
     }
@@ -153,10 +160,10 @@ pub(crate) fn precedes(first: &Message, second: &Message) -> bool
 
 /// The messages go behind those that were sent. There is room for them.
 #[inline(always)]
-fn send_all(sends: &mut VecDeque<Message>, messages: &[Message])
-    requires room { deque_len sends.old + length messages.now ≤ deque_capacity sends.old }
+fn send_all(sends: &mut Trail<Message>, messages: &[Message])
+    requires room { length messages.now ≤ sends.old.room }
     ensures sends { sends.new.items ≡ sends.old.items ++ messages.now }
-    ensures capacity { deque_capacity sends.new ≡ deque_capacity sends.old }
+    ensures capacity { sends.new.room + length messages.now ≡ sends.old.room }
 {
     for message in messages {
         sends.push_back_reserved(*message);
@@ -165,10 +172,10 @@ fn send_all(sends: &mut VecDeque<Message>, messages: &[Message])
 
 /// The notes that the message's event gave go behind the rows, which have room for them.
 #[inline(always)]
-fn note_all(rows: &mut VecDeque<Row>, message: &Message, notes: &[Note])
-    requires { deque_len rows.old + length notes.now ≤ deque_capacity rows.old }
+fn note_all(rows: &mut Trail<Row>, message: &Message, notes: &[Note])
+    requires { length notes.now ≤ rows.old.room }
     ensures rows { rows.new.items ≡ rows.old.items ++ rows_of message_order message.now notes.now }
-    ensures capacity { deque_capacity rows.new ≡ deque_capacity rows.old }
+    ensures capacity { rows.new.room + length notes.now ≡ rows.old.room }
 {
     for note in notes {
         rows.push_back_reserved(Row {

@@ -12,7 +12,7 @@ ghost use Rattle.hand.specs.declared.fault.HandFault.TheVariants.{OutOfMemory};
 use crate::fault::HandFault;
 use crate::hand::Hand;
 use crate::letters::Letters;
-use reverse::{Actor, actor_rules};
+use reverse::{Actor, actor_rules_law};
 use std::collections::VecDeque;
 use vlink::Letter;
 
@@ -27,7 +27,7 @@ impl<R: Actor> Hand<R> {
         ensures unchanged { OnErr result (IsAsBefore self.old self.new) }
         ensures memory { IfErr result (λ fault. fault ≡ OutOfMemory) }
     {
-        actor_rules::<R>();
+        actor_rules_law::<R>();
         self.reserve_letters(1)?;
         self.deliver_reserved(letter);
         Ok(())
@@ -53,7 +53,7 @@ impl<R: Actor> Hand<R> {
         ensures delivered { (x : Setting R) (v : World Message R) → letter.message.time ≤ x.until →
             StandsForGroup (rules_of R.plain) R.is_value x v self.old → StandsForGroup (rules_of R.plain) R.is_value x (with_letter message_order letter v) self.new }
     {
-        actor_rules::<R>();
+        actor_rules_law::<R>();
         self.letters.deliver_reserved(&letter);
     }
 }
@@ -66,6 +66,7 @@ impl Letters {
         ensures room { self.old.room ≤ self.new.room + 1 }
     {
         push_back(&mut self.tray, letter);
+        self.room -= 1;
     }
 }
 

@@ -13,13 +13,14 @@ ghost use Rattle.hand.specs.Rows.{Sealed};
 ghost use Rattle.hand.specs.Undoing.{CameTo};
 ghost use Rattle.hand.specs.declared.fault.HandFault.TheVariants.{Exhausted};
 ghost use Rattle.hand.specs.declared.early.Early.TheVariants.{Ran, Idle, Late};
+ghost use Rattle.reverse.specs.declared.sends.TheConstants.{MOST_SENT};
 
 use crate::block::Did;
 use crate::deeds::Deeds;
 use crate::fault::HandFault;
 use crate::letters::Letters;
 use crate::members::{act, has_numbers, send_all};
-use reverse::{Actor, Outbound, actor_rules};
+use reverse::{Actor, Outbound, actor_rules_law};
 use vlink::{Message, Time};
 
 /// What became of the first message of a group.
@@ -44,10 +45,10 @@ pub(crate) fn handle_first<R: Actor>(
     message: &Message,
 )
     requires early { is_after message_order (newest_of (messages_of done.old.deeds)) message.now ≡ true }
-    requires able { (s : R) × (slice_get members.old message.now.receiver ≡ Some (Some s)) × (R.plain.counter s + 24 ≤ greatest_number) }
-    requires room { 25 ≤ letters.old.room }
+    requires able { (s : R) × (slice_get members.old message.now.receiver ≡ Some (Some s)) × (R.plain.counter s + MOST_SENT ≤ greatest_number) }
+    requires room { MOST_SENT + 1 ≤ letters.old.room }
     requires events { 1 ≤ done.old.events_room }
-    requires sends { 24 ≤ done.old.sends_room }
+    requires sends { MOST_SENT ≤ done.old.sends_room }
     requires rows { 2 ≤ done.old.rows_room }
     ensures len { length members.new ≡ length members.old }
     ensures did { (rows : Sealed) (before : Flow) → TookFirst message.now before letters.old →
@@ -55,7 +56,7 @@ pub(crate) fn handle_first<R: Actor>(
     ensures done { (d : Deed R.Record) × (done.new.deeds ≡ done.old.deeds ++ d ∷ []) × (d.message ≡ message.now) }
     ensures came { ((p : ℕ) → CameTo (rules_of R.plain) R.is_value members.old done.old.deeds p) → (p : ℕ) → CameTo (rules_of R.plain) R.is_value members.new done.new.deeds p }
 {
-    actor_rules::<R>();
+    actor_rules_law::<R>();
     let kept = act(members, message, out);
     done.push_reserved(message, kept, out.messages(), out.notes());
     letters.tell(Did::Ran {
@@ -74,14 +75,14 @@ pub(crate) fn standing<R: Actor>(
     limit: Time,
 ) -> Result<Early, HandFault>
     ensures early { result ≡ Ok Ran → is_after message_order (newest_of (messages_of done.now.deeds)) message.now ≡ true }
-    ensures able { result ≡ Ok Ran → (s : R) × (slice_get members.now message.now.receiver ≡ Some (Some s)) × (R.plain.counter s + 24 ≤ greatest_number) }
+    ensures able { result ≡ Ok Ran → (s : R) × (slice_get members.now message.now.receiver ≡ Some (Some s)) × (R.plain.counter s + MOST_SENT ≤ greatest_number) }
     ensures idle { result ≡ Ok Idle → limit ≤ message.now.time }
     ensures soon { result ≡ Ok Ran → message.now.time < limit }
     ensures late_soon { result ≡ Ok Late → message.now.time < limit }
     ensures late { result ≡ Ok Late → is_after message_order (newest_of (messages_of done.now.deeds)) message.now ≡ false }
     ensures exhausted { IfErr result (λ fault. fault ≡ Exhausted) }
     ensures after { OnErr result (is_after message_order (newest_of (messages_of done.now.deeds)) message.now ≡ true) }
-    ensures numbers { OnErr result ((s : R) → slice_get members.now message.now.receiver ≡ Some (Some s) → greatest_number < R.plain.counter s + 24) }
+    ensures numbers { OnErr result ((s : R) → slice_get members.now message.now.receiver ≡ Some (Some s) → greatest_number < R.plain.counter s + MOST_SENT) }
 {
     if message.time >= limit {
         return Ok(Early::Idle);

@@ -11,7 +11,7 @@ ghost use Rattle.hand.specs.declared.fault.HandFault.TheVariants.{OutOfMemory};
 
 use crate::fault::HandFault;
 use crate::hand::Hand;
-use reverse::{Actor, actor_rules};
+use reverse::{Actor, actor_rules_law};
 
 impl<R: Actor> Hand<R> {
     /// Messages at the front of the queue that are done already leave it and count beside, until the first one is not done: then `floor` is exact.
@@ -34,7 +34,7 @@ impl<R: Actor> Hand<R> {
         ensures fewer { result ≡ Ok true → length self.new.flow.queue < length self.old.flow.queue }
         ensures memory { IfErr result (λ fault. fault ≡ OutOfMemory) }
     {
-        actor_rules::<R>();
+        actor_rules_law::<R>();
         let Some(message) = self.letters.first() else {
             return Ok(false);
         };

@@ -14,7 +14,7 @@ use crate::fault::HandFault;
 use crate::letters::Letters;
 use crate::rows::Rows;
 use crate::undoing::Undoing;
-use reverse::{Actor, Outbound, actor_rules};
+use reverse::{Actor, Outbound, actor_rules_law};
 use std::alloc::Global;
 use std::marker::Model;
 use vlink::{Message, Row, Time};
@@ -94,6 +94,7 @@ impl<R: Actor> Hand<R> {
 
     /// The done events that are earlier than the moment, in ns, are committed, the oldest first, up to one that counts other than once, or after which
     /// the first message of the queue does not come. Their rows are sealed. A refusal leaves all as it was.
+    /// The list is in message order, so each look is at its front.
     pub fn commit(&mut self, moment: Time) -> Result<(), HandFault>
         ensures did { CommitsTold (rules_of R.plain) R.is_value moment self.old self.new }
         ensures sealed { OnOk result ((ds : List (Deed R.Record)) × (self.old.done ≡ ds ++ self.new.done)
@@ -104,10 +105,10 @@ impl<R: Actor> Hand<R> {
         ensures memory { IfErr result (λ fault. fault ≡ OutOfMemory) }
         ensures unchanged { OnErr result (IsAsBefore self.old self.new) }
     {
-        actor_rules::<R>();
+        actor_rules_law::<R>();
         let first = self.letters.first();
         let count = self.letters.count_early(&self.done, moment, &first);
-        self.letters.seal(&mut self.done, &mut self.rows, count)?;
+        self.letters.commit(&mut self.done, &mut self.rows, count)?;
         Ok(())
     }
 
@@ -128,7 +129,7 @@ impl<R: Actor> Hand<R> {
         ensures stands { (x : Setting R) (v : World Message R) → StandsForGroup (rules_of R.plain) R.is_value x v self.old → StandsForGroup (rules_of R.plain) R.is_value x v self.new }
         ensures memory { IfErr result (λ fault. fault ≡ OutOfMemory) }
     {
-        actor_rules::<R>();
+        actor_rules_law::<R>();
         self.rows.let_go(moment)?;
         Ok(())
     }

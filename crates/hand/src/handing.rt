@@ -12,11 +12,11 @@ use crate::block::Words;
 use crate::hand::Hand;
 use crate::letters::Letters;
 use crate::members::is_ours;
-use reverse::{Actor, actor_rules};
+use reverse::{Actor, actor_rules_law};
 use std::alloc::Global;
 use std::collections::VecDeque;
 use std::mem;
-use vlink::{Letter, Message, Time, earlier, lawful_order};
+use vlink::{Letter, Message, Time, earlier, order_law};
 
 impl<R: Actor> Hand<R> {
     /// Whether the process is of the group.
@@ -48,7 +48,7 @@ impl<R: Actor> Hand<R> {
         ensures anew { self.new ≡ record self.old { flow = record self.old.flow { words = []; room = self.new.flow.room } } }
         ensures stands { (x : Setting R) (v : World Message R) → StandsForGroup (rules_of R.plain) R.is_value x v self.old → StandsForGroup (rules_of R.plain) R.is_value x v self.new }
     {
-        actor_rules::<R>();
+        actor_rules_law::<R>();
         self.letters.next_block(alloc)
     }
 
@@ -66,7 +66,7 @@ impl<R: Actor> Hand<R> {
         ensures stands { (x : Setting R) (v : World Message R) → StandsForGroup (rules_of R.plain) R.is_value x v self.old →
             StandsForGroup (rules_of R.plain) R.is_value x (in_hand (simulation_of (rules_of R.plain) x) v.gvt v) self.new }
     {
-        actor_rules::<R>();
+        actor_rules_law::<R>();
         self.letters.clear_abroad();
     }
 
@@ -82,7 +82,7 @@ impl<R: Actor> Hand<R> {
             FirstWaits message_order self.old →
             (result ≡ end) ⊎ ((p : ℕ) × (is_ours self.old.members p ≡ true) × (v.floors p ≡ result)) }
     {
-        actor_rules::<R>();
+        actor_rules_law::<R>();
         self.letters.floor(end)
     }
 
@@ -93,7 +93,7 @@ impl<R: Actor> Hand<R> {
         ensures least { IfSome result (λ t. All (λ m. t ≤ m.time) self.old.flow.queue) }
         ensures none { IfNone result (self.old.flow.queue ≡ []) }
     {
-        lawful_order();
+        order_law();
         let Some(message) = self.next() else {
             return None;
         };
@@ -108,6 +108,7 @@ impl Letters {
         ensures keeps { result.keeps ≡ self.old.keeps }
         ensures anew { self.new ≡ record self.old { words = []; room = self.new.room } }
     {
+        self.room = 0;
         let next = Words::new(alloc, self.block.keeps());
         mem::replace(&mut self.block, next)
     }
@@ -125,7 +126,7 @@ impl Letters {
         ensures others { self.new ≡ record self.old { queue = self.new.queue; room = self.new.room } }
         ensures least { result ≡ floor_in message_order end self.old }
     {
-        lawful_order();
+        order_law();
         let first = self.queue.first();
         earliest_in(&self.tray, time_or(&first, end))
     }

@@ -13,14 +13,15 @@ ghost use Rattle.hand.specs.Hands.{DoesSent};
 ghost use Rattle.hand.specs.Passing.{held};
 ghost use Rattle.hand.specs.Rows.{Sealed};
 ghost use Rattle.hand.specs.Undoing.{CameTo, HasRoomFor};
+ghost use Rattle.reverse.specs.declared.sends.TheConstants.{MOST_SENT};
 
 use crate::block::Did;
 use crate::deeds::Deeds;
 use crate::letters::Letters;
 use crate::members::{act, is_ours};
 use crate::undoing::bring_back;
-use reverse::{Actor, Outbound, actor_rules};
-use vlink::{Letter, Message, Sign, lawful_order, message_order};
+use reverse::{Actor, Outbound, actor_rules_law};
+use vlink::{Message, Sign, message_order_law, order_law};
 
 impl Letters {
     /// A message that was just sent goes on: to others; or its letter is taken, and waits in the tray.
@@ -30,17 +31,10 @@ impl Letters {
         ensures home { is_home ≡ true → WasTaken message.now self.old self.new }
         ensures room { self.old.room ≤ self.new.room + 1 }
     {
-        let letter = Letter {
-            message: *message,
-            sign: Sign::Plus,
-        };
         if is_home {
-            self.tray.push_back_reserved(letter);
-            self.block.push_reserved(Did::Taken {
-                process: message.receiver,
-            });
+            self.hold(message, Sign::Plus);
         } else {
-            self.abroad.push_reserved(letter);
+            self.post(message, Sign::Plus);
         }
     }
 }
@@ -98,13 +92,13 @@ pub(crate) fn handle_late<R: Actor>(
     requires among { Contains letters.old.queue message.now }
     requires first { All (λ x. is_before x message.now ≡ false) letters.old.queue }
     requires not_done { IsAscending message_order (messages_of done.old.deeds) → All (λ x. x ≢ message.now) (messages_of done.old.deeds) }
-    requires able { (s : R) × (slice_get members.old message.now.receiver ≡ Some (Some s)) × (R.plain.counter s + 24 ≤ greatest_number) }
+    requires able { (s : R) × (slice_get members.old message.now.receiver ≡ Some (Some s)) × (R.plain.counter s + MOST_SENT ≤ greatest_number) }
     requires came { (p : ℕ) → CameTo (rules_of R.plain) R.is_value members.old done.old.deeds p }
     requires empty { aside.old.deeds ≡ [] }
     requires space { HasRoomFor done.old.deeds aside.old }
-    requires room { 25 ≤ letters.old.room }
+    requires room { MOST_SENT + 1 ≤ letters.old.room }
     requires events { 1 ≤ done.old.events_room }
-    requires sends { 24 ≤ done.old.sends_room }
+    requires sends { MOST_SENT ≤ done.old.sends_room }
     requires rows { 2 ≤ done.old.rows_room }
     ensures len { length members.new ≡ length members.old }
     ensures did { (rows : Sealed) → DoesSent (rules_of R.plain) R.is_value (held members.old done.old.deeds rows letters.old) [] (held members.new done.new.deeds rows letters.new) [] }
@@ -112,7 +106,7 @@ pub(crate) fn handle_late<R: Actor>(
     ensures empty { aside.new.deeds ≡ [] }
     ensures handled { (length done.new.deeds ≡ length done.old.deeds + 1) ⊎ HasLater message_order message.now done.old.deeds }
 {
-    actor_rules::<R>();
+    actor_rules_law::<R>();
     set_aside(done, aside, message);
     if !done.is_before(message) {
         bring_back(done, aside);

@@ -5,18 +5,16 @@ ghost use Rattle.reverse.specs.Rules.{rules_of};
 ghost use Rattle.reverse.specs.Setting.{Setting};
 ghost use Rattle.hand.specs.Hands.{HasDoneNothing, Held, IsAsBefore, IsOpened, StandsForGroup};
 
-use reverse::{Actor, actor_rules};
+use reverse::{Actor, actor_rules_law};
 
 /// What holds of each group, whatever calls do.
 ///
 /// - `as_before`: one that is as before, but for the order of its queue and its room, stands for what it stood for.
 /// - `opens`: one that has done nothing stands for its members in their opening states.
-///
-/// A call does nothing: its caller learns what the clauses say.
-pub fn hand_laws<R: Actor>()
+pub fn hand_law<R: Actor>()
     ensures as_before { (old new : Held R R.Record) → IsAsBefore old new → (x : Setting R) (v : World Message R) →
         StandsForGroup (rules_of R.plain) R.is_value x v old → StandsForGroup (rules_of R.plain) R.is_value x v new }
     ensures opens { (hand : Held R R.Record) → HasDoneNothing hand → (x : Setting R) (v : World Message R) → IsOpened x v hand → StandsForGroup (rules_of R.plain) R.is_value x v hand }
 {
-    actor_rules::<R>();
+    actor_rules_law::<R>();
 }

@@ -1,9 +1,9 @@
 //! What waits for a group, and what it sent to others.
-ghost use Rattle.std.specs.Prelude.{◌≡◌, ◌+◌, ◌<◌, ◌≤◌, ◌⊎◌, [], ◌∷◌, ◌++◌, true, false, All, Contains, OnOk, OnErr, IfOk, IfSome, IfNone, IsPermutation, vec_len, vec_capacity};
-ghost use Rattle.std.specs.VecDeque.{deque_len, deque_capacity};
+ghost use Rattle.std.specs.Prelude.{◌≡◌, ◌+◌, ◌<◌, ◌≤◌, ◌⊎◌, [], ◌∷◌, ◌++◌, true, false, All, Contains, OnOk, OnErr, IfOk, IfSome, IfNone, IsPermutation};
 ghost use Rattle.vlink.specs.declared.message.Message.{Message};
 ghost use Rattle.vlink.specs.Letters.{Letter};
 ghost use Rattle.reverse.specs.Rules.{is_before};
+ghost use Rattle.hand.specs.declared.block.Did.TheVariants.{Home, Taken};
 ghost use Rattle.hand.specs.Flow.{WentAbroad, CameHome, WasTaken, TookFirst};
 
 use crate::block::{Did, Words};
@@ -12,7 +12,10 @@ use antimessages::Tally;
 use std::alloc::{AllocError, Global};
 use std::collections::VecDeque;
 use std::marker::Model;
-use vlink::{Letter, Message, Sign, compare, lawful_order, message_order};
+use vlink::{Letter, Message, Sign, compare, message_order_law, order_law};
+
+/// For so many letters and words more than are asked for there is made room at one go.
+const AHEAD: usize = 256;
 
 /// What waits for the members of a group, what they sent to others, and what was done.
 #[derive(Drop)]
@@ -27,10 +30,12 @@ pub(crate) struct Letters {
     pub(crate) abroad: Vec<Letter>,
     /// What was done since the last entry.
     pub(crate) block: Words,
+    /// For how many letters and words more there is room in each of these, at the least: so one look tells it.
+    pub(crate) room: usize,
 }
 
 impl Model for Letters {
-    ghost use Rattle.std.specs.Prelude.{◌-◌, min, vec_len, vec_capacity};
+    ghost use Rattle.std.specs.Prelude.{◌+◌, ◌≤◌, vec_len, vec_capacity};
     ghost use Rattle.std.specs.VecDeque.{deque_len, deque_capacity};
     ghost use Rattle.reverse.specs.Rules.{is_before};
     ghost use Rattle.hand.specs.Flow.{Flow};
@@ -44,8 +49,10 @@ impl Model for Letters {
       abroad = l.abroad.items;
       words = l.block.words;
       keeps = l.block.keeps;
-      room = min l.queue.room (min (deque_capacity l.tray - deque_len l.tray) (min (vec_capacity l.abroad - vec_len l.abroad) l.block.room));
+      room = l.room;
     } };
+
+    ghost invariant = { λ l. (l.room ≤ l.queue.room) × (l.room + deque_len l.tray ≤ deque_capacity l.tray) × (l.room + vec_len l.abroad ≤ vec_capacity l.abroad) × (l.room ≤ l.block.room) };
 }
 
 impl Letters {
@@ -68,17 +75,35 @@ impl Letters {
             tray: VecDeque::new(alloc),
             abroad: Vec::new(alloc),
             block: Words::new(alloc, keeps),
+            room: 0,
         })
     }
 
-    /// Makes room for so many letters and words more, wherever they go.
+    /// Makes room for so many letters and words more, wherever they go. Mostly there is.
     #[inline(always)]
     pub(crate) fn reserve(&mut self, more: usize) -> Result<(), AllocError>
         ensures room { OnOk result (more ≤ self.new.room) }
         ensures same { self.new ≡ record self.old { room = self.new.room } }
     {
+        if more <= self.room {
+            return Ok(());
+        }
+        self.grow(more.saturating_add(AHEAD))
+    }
+
+    /// Makes room for so many letters and words more in each of the lists.
+    #[inline(never)]
+    fn grow(&mut self, more: usize) -> Result<(), AllocError>
+        ensures room { OnOk result (more ≤ self.new.room) }
+        ensures same { self.new ≡ record self.old { room = self.new.room } }
+    {
+        self.room = 0;
         self.queue.reserve(more)?;
-        make_room(&mut self.tray, &mut self.abroad, &mut self.block, more)
+        self.tray.reserve(more)?;
+        self.abroad.reserve(more)?;
+        self.block.reserve(more)?;
+        self.room = more;
+        Ok(())
     }
 
     /// The first message, if there is one.
@@ -126,6 +151,7 @@ impl Letters {
         ensures room { self.old.room ≤ self.new.room + 1 }
     {
         self.queue.push_reserved(message);
+        self.room -= 1;
     }
 
     /// One word more, for which there is room.
@@ -136,6 +162,7 @@ impl Letters {
         ensures room { self.old.room ≤ self.new.room + 1 }
     {
         self.block.push_reserved(did);
+        self.room -= 1;
     }
 
     /// A message that was just sent goes on: to others; or to a member, whose letter is taken and joins the queue at once, where no letter is to
@@ -147,68 +174,63 @@ impl Letters {
         ensures home { is_home ≡ true → CameHome message.now self.old self.new ⊎ WasTaken message.now self.old self.new }
         ensures room { self.old.room ≤ self.new.room + 1 }
     {
-        let letter = Letter {
-            message: *message,
-            sign: Sign::Plus,
-        };
         if !is_home {
-            self.abroad.push_reserved(letter);
+            self.post(message, Sign::Plus);
         } else if self.tray.is_empty() && self.extra.is_zero(message) {
-            self.queue.push_reserved(message);
-            self.block.push_reserved(Did::Home {
-                process: message.receiver,
-            });
+            self.join(message);
         } else {
-            self.tray.push_back_reserved(letter);
-            self.block.push_reserved(Did::Taken {
-                process: message.receiver,
-            });
+            self.hold(message, Sign::Plus);
         }
     }
-}
 
-/// Makes room for so many letters and words more. Mostly there is.
-#[inline(always)]
-fn make_room(
-    tray: &mut VecDeque<Letter>,
-    abroad: &mut Vec<Letter>,
-    block: &mut Words,
-    more: usize,
-) -> Result<(), AllocError>
-    ensures tray_room { OnOk result (deque_len tray.new + more ≤ deque_capacity tray.new) }
-    ensures abroad_room { OnOk result (vec_len abroad.new + more ≤ vec_capacity abroad.new) }
-    ensures block_room { OnOk result (more ≤ block.new.room) }
-    ensures tray { tray.new.items ≡ tray.old.items }
-    ensures abroad { abroad.new.items ≡ abroad.old.items }
-    ensures words { block.new.words ≡ block.old.words }
-    ensures keeps { block.new.keeps ≡ block.old.keeps }
-{
-    if more <= tray.capacity() - tray.len()
-        && more <= abroad.capacity() - abroad.len()
-        && block.has_room(more)
+    /// A letter of this message joins those for others, for which there is room.
+    #[inline(always)]
+    pub(crate) fn post(&mut self, message: &Message, sign: Sign)
+        requires { 0 < self.old.room }
+        ensures posted { self.new ≡ record self.old { abroad = self.old.abroad ++ record { message = message.now; sign = sign } ∷ []; room = self.new.room } }
+        ensures room { self.old.room ≤ self.new.room + 1 }
     {
-        return Ok(());
+        let letter = Letter {
+            message: *message,
+            sign,
+        };
+        self.abroad.push_reserved(letter);
+        self.room -= 1;
     }
-    grow(tray, abroad, block, more)
-}
 
-/// Makes room for so many letters and words more, where some of it is missing.
-#[inline(never)]
-fn grow(
-    tray: &mut VecDeque<Letter>,
-    abroad: &mut Vec<Letter>,
-    block: &mut Words,
-    more: usize,
-) -> Result<(), AllocError>
-    ensures tray_room { OnOk result (deque_len tray.new + more ≤ deque_capacity tray.new) }
-    ensures abroad_room { OnOk result (vec_len abroad.new + more ≤ vec_capacity abroad.new) }
-    ensures block_room { OnOk result (more ≤ block.new.room) }
-    ensures tray { tray.new.items ≡ tray.old.items }
-    ensures abroad { abroad.new.items ≡ abroad.old.items }
-    ensures words { block.new.words ≡ block.old.words }
-    ensures keeps { block.new.keeps ≡ block.old.keeps }
-{
-    tray.reserve(more)?;
-    abroad.reserve(more)?;
-    block.reserve(more)
+    /// A letter of this message to a member is taken, and waits in the tray, for which there is room.
+    pub(crate) fn hold(&mut self, message: &Message, sign: Sign)
+        requires { 0 < self.old.room }
+        ensures held { self.new ≡ record self.old { tray = self.old.tray ++ record { message = message.now; sign = sign } ∷ []; words = self.old.words ++ Taken message.now.receiver ∷ []; room = self.new.room } }
+        ensures room { self.old.room ≤ self.new.room + 1 }
+    {
+        let letter = Letter {
+            message: *message,
+            sign,
+        };
+        self.tray.push_back_reserved(letter);
+        self.block.push_reserved(Did::Taken {
+            process: message.receiver,
+        });
+        self.room -= 1;
+    }
+
+    /// A letter of this message to a member is taken, and arrives at once: the message joins the queue, for which there is room.
+    #[inline(always)]
+    fn join(&mut self, message: &Message)
+        requires { 0 < self.old.room }
+        ensures queue { IsPermutation (message.now ∷ self.old.queue) self.new.queue }
+        ensures words { self.new.words ≡ self.old.words ++ Home message.now.receiver ∷ [] }
+        ensures extra { self.new.extra ≡ self.old.extra }
+        ensures tray { self.new.tray ≡ self.old.tray }
+        ensures abroad { self.new.abroad ≡ self.old.abroad }
+        ensures keeps { self.new.keeps ≡ self.old.keeps }
+        ensures room { self.old.room ≤ self.new.room + 1 }
+    {
+        self.queue.push_reserved(message);
+        self.block.push_reserved(Did::Home {
+            process: message.receiver,
+        });
+        self.room -= 1;
+    }
 }

@@ -26,6 +26,7 @@ mod oldest;
 mod queue;
 mod rows;
 mod run;
+mod trail;
 mod tray;
 mod undoing;
 
@@ -33,4 +34,4 @@ pub use block::{Did, Words};
 pub use early::Early;
 pub use fault::HandFault;
 pub use hand::Hand;
-pub use laws::hand_laws;
+pub use laws::hand_law;

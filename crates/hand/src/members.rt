@@ -6,9 +6,10 @@ ghost use Rattle.reverse.specs.Plain.{CameFrom};
 ghost use Rattle.reverse.specs.Rules.{rules_of};
 ghost use Rattle.hand.specs.Hands.{is_ours};
 ghost use Rattle.hand.specs.Passing.{GoesOn};
+ghost use Rattle.reverse.specs.declared.sends.TheConstants.{MOST_SENT};
 
 use crate::letters::Letters;
-use reverse::{Actor, Outbound, actor_rules};
+use reverse::{Actor, Outbound, actor_rules_law};
 use vlink::Message;
 
 /// Whether the process is of the group.
@@ -26,8 +27,8 @@ pub(crate) fn is_ours<R: Actor>(members: &[Option<R>], process: u16) -> bool
 /// Whether the process is of the group, and has numbers left for all that one event can send.
 #[inline(always)]
 pub(crate) fn has_numbers<R: Actor>(members: &[Option<R>], process: u16) -> bool
-    ensures yes { result ≡ true → (s : R) × (slice_get members.now process ≡ Some (Some s)) × (R.plain.counter s + 24 ≤ greatest_number) }
-    ensures no { result ≡ false → (s : R) → slice_get members.now process ≡ Some (Some s) → greatest_number < R.plain.counter s + 24 }
+    ensures yes { result ≡ true → (s : R) × (slice_get members.now process ≡ Some (Some s)) × (R.plain.counter s + MOST_SENT ≤ greatest_number) }
+    ensures no { result ≡ false → (s : R) → slice_get members.now process ≡ Some (Some s) → greatest_number < R.plain.counter s + MOST_SENT }
 {
     match members.get(usize::from(process)) {
         Some(Some(actor)) => actor.has_numbers(),
@@ -44,7 +45,7 @@ pub(crate) fn act<R: Actor>(
     out: &mut Outbound,
 ) -> R::Record
     requires within { message.now.receiver < length members.old }
-    requires able { (s : R) × (slice_get members.old message.now.receiver ≡ Some (Some s)) × (R.plain.counter s + 24 ≤ greatest_number) }
+    requires able { (s : R) × (slice_get members.old message.now.receiver ≡ Some (Some s)) × (R.plain.counter s + MOST_SENT ≤ greatest_number) }
     ensures len { length members.new ≡ length members.old }
     ensures members { (s : R) → slice_get members.old message.now.receiver ≡ Some (Some s) → members.new ≡ set members.old message.now.receiver (Some (R.plain.after s message.now)) }
     ensures messages { (s : R) → slice_get members.old message.now.receiver ≡ Some (Some s) → out.new.messages ≡ (R.plain.out s message.now).messages.items }
@@ -82,7 +83,7 @@ pub(crate) fn send_all<R: Actor>(members: &[Option<R>], letters: &mut Letters, m
     requires room { length messages.now ≤ letters.old.room }
     ensures went { GoesOn (rules_of R.plain) R.is_value members.now messages.now letters.old messages.now letters.new [] }
 {
-    actor_rules::<R>();
+    actor_rules_law::<R>();
     for place in 0..messages.len() {
         let message = &messages[place];
         letters.pass(message, is_ours(members, message.receiver));

@@ -1,7 +1,6 @@
 //! The newest of the done events of a group: which it is, and how it is taken off, or moved.
 ghost use Rattle.std.specs.Prelude.{◌≡◌, ◌==◌, ◌≢◌, ◌+◌, ◌-◌, ◌<◌, ◌≤◌, List, [], ◌∷◌, ◌++◌, true, false, Some, All, Contains, length, take, drop, reverse, vec_len, vec_capacity, map, OnOk};
 ghost use Rattle.std.specs.Option.{option_copied};
-ghost use Rattle.std.specs.VecDeque.{deque_len, deque_capacity};
 ghost use Rattle.vlink.specs.Order.{message_order};
 ghost use Rattle.vlink.specs.declared.message.Message.{Message};
 ghost use Rattle.virtual_time.specs.Law.{IsAscending};
@@ -10,9 +9,9 @@ ghost use Rattle.hand.specs.Deeds.{Deed, messages_of};
 ghost use Rattle.hand.specs.Undoing.{HasRoomFor, sent_in};
 
 use crate::deeds::{Deeds, Event};
+use crate::trail::Trail;
 use std::alloc::AllocError;
-use std::collections::VecDeque;
-use vlink::{Message, lawful_order};
+use vlink::{Message, order_law};
 
 impl<K: Copy> Deeds<K> {
     /// The message of the newest event, if there is one.
@@ -44,7 +43,7 @@ impl<K: Copy> Deeds<K> {
     }
 
     /// How many messages they sent in all.
-    pub(crate) fn sent(&self) -> usize
+    pub(crate) fn sent_count(&self) -> usize
         ensures { result ≡ sent_in self.now.deeds }
     {
         self.sends.len()
@@ -55,7 +54,7 @@ impl<K: Copy> Deeds<K> {
         ensures yes { result ≡ true → Contains (messages_of self.now.deeds) message.now }
         ensures no { result ≡ false → IsAscending message_order (messages_of self.now.deeds) → All (λ x. x ≢ message.now) (messages_of self.now.deeds) }
     {
-        lawful_order();
+        order_law();
         !self.is_before(message) && is_among(&self.events, message)
     }
 
@@ -111,12 +110,12 @@ impl<K: Copy> Deeds<K> {
 }
 
 /// Whether the message is that of one of these events.
-fn is_among<K: Copy>(events: &VecDeque<Event<K>>, message: &Message) -> bool
+fn is_among<K: Copy>(events: &Trail<Event<K>>, message: &Message) -> bool
     ensures yes { result ≡ true → Contains (map (λ e. e.message) events.now.items) message.now }
     ensures no { result ≡ false → All (λ x. x ≢ message.now) (map (λ e. e.message) events.now.items) }
 {
     for place in 0..events.len() {
-        if is_same(&events[place].message, message) {
+        if is_same(&events.item(place).message, message) {
             return true;
         }
     }
@@ -132,35 +131,35 @@ fn is_same(first: &Message, second: &Message) -> bool
 }
 
 /// The last items, so many, go to the end of `taken`, which has room for them. It has a type parameter so that the borrow checker follows it.
-fn move_last<T: Copy + Drop>(items: &mut VecDeque<T>, count: usize, taken: &mut VecDeque<T>)
-    requires enough { count ≤ deque_len items.old }
-    requires room { deque_len taken.old + count ≤ deque_capacity taken.old }
-    ensures items { items.new.items ≡ take (deque_len items.old - count) items.old.items }
-    ensures taken { taken.new.items ≡ taken.old.items ++ drop (deque_len items.old - count) items.old.items }
-    ensures items_capacity { deque_capacity items.new ≡ deque_capacity items.old }
-    ensures taken_capacity { deque_capacity taken.new ≡ deque_capacity taken.old }
+fn move_last<T: Copy + Drop>(items: &mut Trail<T>, count: usize, taken: &mut Trail<T>)
+    requires enough { count ≤ length items.old.items }
+    requires room { count ≤ taken.old.room }
+    ensures items { items.new.items ≡ take (length items.old.items - count) items.old.items }
+    ensures taken { taken.new.items ≡ taken.old.items ++ drop (length items.old.items - count) items.old.items }
+    ensures items_capacity { items.new.room ≡ items.old.room + count }
+    ensures taken_capacity { taken.new.room + count ≡ taken.old.room }
 {
     let all = items.len();
     let first = all - count;
     for place in first..all {
-        taken.push_back_reserved(items[place]);
+        taken.push_back_reserved(*items.item(place));
     }
     items.truncate(first);
 }
 
 /// The last items, so many, go to the end of `back`, the last first, which has room for them. It has a type parameter so that the borrow checker
 /// follows it.
-fn take_back<T: Copy + Drop>(sends: &mut VecDeque<T>, count: usize, back: &mut Vec<T>)
-    requires enough { count ≤ deque_len sends.old }
+fn take_back<T: Copy + Drop>(sends: &mut Trail<T>, count: usize, back: &mut Vec<T>)
+    requires enough { count ≤ length sends.old.items }
     requires room { vec_len back.old + count ≤ vec_capacity back.old }
-    ensures sends { sends.new.items ≡ take (deque_len sends.old - count) sends.old.items }
-    ensures back { back.new.items ≡ back.old.items ++ reverse (drop (deque_len sends.old - count) sends.old.items) }
-    ensures sends_capacity { deque_capacity sends.new ≡ deque_capacity sends.old }
+    ensures sends { sends.new.items ≡ take (length sends.old.items - count) sends.old.items }
+    ensures back { back.new.items ≡ back.old.items ++ reverse (drop (length sends.old.items - count) sends.old.items) }
+    ensures sends_capacity { sends.new.room ≡ sends.old.room + count }
     ensures capacity { vec_capacity back.new ≡ vec_capacity back.old }
 {
     let all = sends.len();
     for taken in 0..count {
-        back.push_reserved(sends[all - 1 - taken]);
+        back.push_reserved(*sends.item(all - 1 - taken));
     }
     sends.truncate(all - count);
 }

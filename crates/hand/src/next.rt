@@ -8,7 +8,7 @@ ghost use Rattle.antimessages.specs.Counting.{HaveSameCounts};
 
 use crate::letters::Letters;
 use antimessages::OutOfMemory;
-use vlink::{Letter, Message, Sign, lawful_order, message_order};
+use vlink::{Letter, Message, Sign, message_order_law, order_law};
 
 impl Letters {
     /// The first message of the queue, which is this one, is done already: it leaves the queue, and counts beside. A refusal changes nothing.
@@ -20,7 +20,7 @@ impl Letters {
         ensures others { OnOk result (self.new ≡ record self.old { queue = self.new.queue; extra = self.new.extra; room = self.new.room }) }
         ensures unchanged { OnErr result (self.new ≡ self.old) }
     {
-        lawful_order();
+        order_law();
         self.extra.add(Letter {
             message: *message,
             sign: Sign::Plus,

@@ -10,7 +10,7 @@ ghost use Rattle.hand.specs.Hands.{StandsForGroup, is_ours};
 
 use crate::deeds::Deeds;
 use crate::hand::Hand;
-use reverse::{Actor, actor_rules};
+use reverse::{Actor, actor_rules_law};
 use vlink::Time;
 
 impl<R: Actor> Hand<R> {
@@ -37,7 +37,7 @@ impl<R: Actor> Hand<R> {
         ensures members { result ≡ false → (x : Setting R) (v : World Message R) → StandsForGroup (rules_of R.plain) R.is_value x v self.now →
             (p : ℕ) → is_ours self.now.members p ≡ true → earlier message_order moment (v.parts p).done ≡ [] }
     {
-        actor_rules::<R>();
+        actor_rules_law::<R>();
         is_early(self.done.oldest(), moment)
     }
 }

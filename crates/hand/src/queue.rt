@@ -9,7 +9,7 @@ ghost use Rattle.reverse.specs.Rules.{is_before};
 use std::alloc::{AllocError, Global};
 use std::marker::Model;
 use two_lists::{TwoLists, sort, take_out};
-use vlink::{Message, lawful_order, message_order};
+use vlink::{Message, message_order_law, order_law};
 
 /// So many messages that wait in no order are put in order at one go.
 const MANY: usize = 1024;
@@ -56,7 +56,7 @@ impl Queue {
         ensures first { IfSome result (λ m. All (λ x. is_before x m ≡ false) self.old.messages) }
         ensures none { IfNone result (self.old.messages ≡ []) }
     {
-        message_order();
+        message_order_law();
         let last = self.offers.last();
         let Some(message) = self.lists.first_before(last) else {
             return last.copied();
@@ -73,7 +73,7 @@ impl Queue {
         ensures empty { IfNone result (self.new.messages ≡ []) }
         ensures room { self.old.room ≤ self.new.room }
     {
-        message_order();
+        message_order_law();
         let Some(message) = self.lists.pop_before(self.offers.last()) else {
             return self.offers.pop();
         };
@@ -88,7 +88,7 @@ impl Queue {
         ensures taken { IsPermutation self.old.messages (message.now ∷ self.new.messages) }
         ensures room { self.old.room ≤ self.new.room }
     {
-        lawful_order();
+        order_law();
         let _first = self.pop();
     }
 

@@ -13,17 +13,18 @@ ghost use Rattle.hand.specs.Handling.{IsHandled};
 ghost use Rattle.hand.specs.Hands.{DoesTold, IsAsBefore, StandsForGroup};
 ghost use Rattle.hand.specs.declared.fault.HandFault.TheVariants.{Exhausted};
 ghost use Rattle.hand.specs.declared.early.Early.TheVariants.{Ran, Idle, Late};
+ghost use Rattle.reverse.specs.declared.sends.TheConstants.{MOST_SENT};
 
 use crate::early::{Early, handle_first, standing};
 use crate::fault::HandFault;
 use crate::hand::Hand;
 use crate::late::handle_late;
 use crate::members::has_numbers;
-use reverse::{Actor, actor_rules};
+use reverse::{Actor, MOST_SENT, actor_rules_law};
 use vlink::Time;
 
 /// The most letters, and words beside the first, that one event gives.
-const MOST_SENT: usize = 25;
+const MOST_LETTERS: usize = MOST_SENT + 1;
 
 impl<R: Actor> Hand<R> {
     /// The first message of all members is handled, where it is earlier than the limit and comes after all that the group has done. What it sends to
@@ -44,11 +45,11 @@ impl<R: Actor> Hand<R> {
         ensures soon { result ≡ Ok Late → (m : Message) × Contains self.old.flow.queue m × (m.time < limit) }
         ensures exhausted { result ≡ Err Exhausted → (m : Message) × Contains self.old.flow.queue m × All (λ x. is_before x m ≡ false) self.old.flow.queue
             × (IsAscending message_order (messages_of self.old.done) → All (λ x. x ≢ m) (messages_of self.old.done))
-            × ((s : R) → slice_get self.old.members m.receiver ≡ Some (Some s) → greatest_number < R.plain.counter s + 24) }
+            × ((s : R) → slice_get self.old.members m.receiver ≡ Some (Some s) → greatest_number < R.plain.counter s + MOST_SENT) }
         ensures unchanged { OnErr result (IsAsBefore self.old self.new) }
     {
-        actor_rules::<R>();
-        self.letters.reserve(MOST_SENT)?;
+        actor_rules_law::<R>();
+        self.letters.reserve(MOST_LETTERS)?;
         self.done.reserve()?;
         let Some(message) = self.letters.pop() else {
             return Ok(Early::Idle);
@@ -86,10 +87,10 @@ impl<R: Actor> Hand<R> {
             (m : Message) × Contains self.old.flow.queue m × (m.time < limit) × IsHandled m self.old self.new }
         ensures exhausted { result ≡ Err Exhausted → (m : Message) × Contains self.old.flow.queue m × All (λ x. is_before x m ≡ false) self.old.flow.queue
             × (IsAscending message_order (messages_of self.old.done) → All (λ x. x ≢ m) (messages_of self.old.done))
-            × ((s : R) → slice_get self.old.members m.receiver ≡ Some (Some s) → greatest_number < R.plain.counter s + 24) }
+            × ((s : R) → slice_get self.old.members m.receiver ≡ Some (Some s) → greatest_number < R.plain.counter s + MOST_SENT) }
         ensures unchanged { OnErr result (IsAsBefore self.old self.new) }
     {
-        actor_rules::<R>();
+        actor_rules_law::<R>();
         match self.run_early(limit)? {
             Early::Ran => Ok(true),
             Early::Idle => Ok(false),
@@ -112,10 +113,10 @@ impl<R: Actor> Hand<R> {
             (m : Message) × Contains self.old.flow.queue m × All (λ y. is_before y m ≡ false) self.old.flow.queue × IsHandled m self.old self.new) }
         ensures exhausted { result ≡ Err Exhausted → (m : Message) × Contains self.old.flow.queue m × All (λ x. is_before x m ≡ false) self.old.flow.queue
             × (IsAscending message_order (messages_of self.old.done) → All (λ x. x ≢ m) (messages_of self.old.done))
-            × ((s : R) → slice_get self.old.members m.receiver ≡ Some (Some s) → greatest_number < R.plain.counter s + 24) }
+            × ((s : R) → slice_get self.old.members m.receiver ≡ Some (Some s) → greatest_number < R.plain.counter s + MOST_SENT) }
         ensures unchanged { OnErr result (IsAsBefore self.old self.new) }
     {
-        actor_rules::<R>();
+        actor_rules_law::<R>();
         let Some(message) = self.letters.first() else {
             unreachable!()
         };
@@ -126,7 +127,7 @@ impl<R: Actor> Hand<R> {
         if !has_numbers(&self.members, message.receiver) {
             return Err(HandFault::Exhausted);
         }
-        self.letters.reserve(MOST_SENT)?;
+        self.letters.reserve(MOST_LETTERS)?;
         self.done.reserve()?;
         self.undoing.aside.reserve_for(&self.done)?;
         handle_late(

@@ -15,7 +15,7 @@ use crate::block::Did;
 use crate::letters::Letters;
 use crate::members::is_ours;
 use antimessages::OutOfMemory;
-use vlink::{Letter, Message, Sign, lawful_order};
+use vlink::{Letter, Message, Sign, order_law};
 
 /// What becomes of the message of a letter that arrives.
 #[derive(Clone, Copy)]
@@ -107,7 +107,7 @@ impl Letters {
         ensures room { self.new.room ≡ self.old.room }
         ensures unchanged { OnErr result (self.new.extra ≡ self.old.extra) }
     {
-        lawful_order();
+        order_law();
         self.extra.add(*letter)?;
         Ok(())
     }
@@ -124,6 +124,7 @@ impl Letters {
         self.block.push_reserved(Did::Arrived {
             process: letter.message.receiver,
         });
+        self.room -= 1;
     }
 
     /// The message leaves the queue, if it is there.
@@ -142,17 +143,10 @@ impl Letters {
         ensures abroad { is_home ≡ false → self.new ≡ record self.old { abroad = self.old.abroad ++ minus_of message.now ∷ []; room = self.new.room } }
         ensures room { self.old.room ≤ self.new.room + 1 }
     {
-        let letter = Letter {
-            message: *message,
-            sign: Sign::Minus,
-        };
         if is_home {
-            self.tray.push_back_reserved(letter);
-            self.block.push_reserved(Did::Taken {
-                process: message.receiver,
-            });
+            self.hold(message, Sign::Minus);
         } else {
-            self.abroad.push_reserved(letter);
+            self.post(message, Sign::Minus);
         }
     }
 }

@@ -11,7 +11,7 @@ ghost use Rattle.hand.specs.Undoing.{CameTo, HasRoomFor, Retreat, RollsBack, Rol
 use crate::deeds::Deeds;
 use crate::letters::Letters;
 use crate::members::undo;
-use reverse::{Actor, actor_rules};
+use reverse::{Actor, actor_rules_law};
 use std::alloc::{AllocError, Global};
 use vlink::Message;
 
@@ -44,7 +44,7 @@ impl<K: Copy> Undoing<K> {
         ensures back { self.new.back.items ≡ self.old.back.items }
     {
         self.aside.reserve_for(done)?;
-        self.back.reserve(done.sent())?;
+        self.back.reserve(done.sent_count())?;
         Ok(())
     }
 }
@@ -72,7 +72,7 @@ pub(crate) fn roll_back<R: Actor>(
     ensures room { letters.old.room ≤ letters.new.room + length done.old.deeds }
     ensures empty { undoing.new.aside.deeds ≡ [] }
 {
-    actor_rules::<R>();
+    actor_rules_law::<R>();
     set_back(members, done, undoing, letters, message);
     bring_back(done, &mut undoing.aside);
 }
@@ -130,7 +130,7 @@ fn step_back<R: Actor>(
     ensures sends { vec_len undoing.new.back + sent_in done.new.deeds ≤ vec_capacity undoing.new.back }
     ensures again { HasRoomFor undoing.old.aside.deeds done.old → HasRoomFor undoing.new.aside.deeds done.new }
 {
-    actor_rules::<R>();
+    actor_rules_law::<R>();
     if done.newest_is_for(message.receiver) {
         let event = done.pop_newest(&mut undoing.back);
         undo(members, &event.message, event.kept);

@@ -1,7 +1,7 @@
 -- What an entry tells, as plain data.
 use Rattle.std.specs.Prelude.{ℕ, List, [], ◌++◌, Option, Some, None, take}
 use Rattle.vlink.specs.declared.message.Message.{Message}
-use Rattle.virtual_time.specs.Law.{Deed as SeenDeed, Took, Posted, Published, Entry as SeenEntry, acts_of, Act}
+use Rattle.virtual_time.specs.Law.{Deed as SeenDeed, Collected, Posted, Published, Entry as SeenEntry, acts_of, Act}
 use Rattle.antimessages.specs.Mailing.{letters_for}
 use Rattle.journal.specs.declared.entry.Deed.{Deed}
 use Rattle.journal.specs.declared.entry.Deed.TheVariants.{Collect, Post, Publish}
@@ -10,7 +10,7 @@ use Rattle.journal.specs.declared.entry.Entry.{Entry}
 
 -- what process p did, as the laws of virtual time see it
 abbrev pub seen_deed : ℕ → Deed → SeenDeed Message
-seen_deed p (Collect count mail) = Took (take count (letters_for p mail.value))
+seen_deed p (Collect count mail) = Collected (take count (letters_for p mail.value))
 seen_deed p (Post block) = Posted block
 seen_deed p Publish = Published
 

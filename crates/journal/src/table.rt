@@ -1,4 +1,5 @@
 //! The table that journals write their entries to.
+//! One number says what cells that are set once would, since a journal writes its places in order.
 use std::alloc::{AllocError, Global};
 use std::sync::Arc;
 use std::sync::atomic::{AtomicU64, Ordering};

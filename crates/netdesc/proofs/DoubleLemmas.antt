@@ -5,7 +5,7 @@ use Rattle.std.specs.BTreeSet.{contains, Updates}
 use Rattle.std.specs.HashSet as hash
 use Rattle.std.proofs.lemmas.List.{take_more}
 use Rattle.std.proofs.lemmas.List.Folds.{list_any-append}
-use Rattle.netdesc.specs.Words.{has_double}
+use Rattle.network.specs.Words.{has_double}
 use Rattle.netdesc.proofs.JoinLemmas.{==-flip, is_eq-nat_cmp}
 
 regroup : (a e h b f : Bool) → e ≡ f → ((a || (e || false)) || (h || b)) ≡ ((a || h) || (f || b))

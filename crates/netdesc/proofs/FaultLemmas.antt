@@ -6,7 +6,8 @@ use Rattle.network_rows.specs.declared.fault.DescFault.TheVariants.{Syntax, Miss
 use Rattle.network_rows.specs.declared.rows.Rows.{Rows}
 use Rattle.network_rows.specs.Faults.{faults_of_document, faults_of_text, first, IsFirstFault}
 use Rattle.network_rows.specs.Rows.{Means}
-use Rattle.netdesc.specs.Words.{faults_of, HasNoFault, TellsFaultOf}
+use Rattle.network.specs.Words.{faults_of}
+use Rattle.netdesc.specs.Words.{HasNoFault, TellsFaultOf}
 
 first_there : (xs : List DescFault) (fault : DescFault) → first xs ≡ Some fault → slice_get xs 0 ≡ Some fault
 first_there [] fault e = cc

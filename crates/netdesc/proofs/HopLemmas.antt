@@ -5,9 +5,10 @@ use Rattle.std.proofs.lemmas.Bool.{false≢true}
 use Rattle.std.proofs.lemmas.Bool.Decides.{nat_tests}
 use Rattle.vlink.specs.declared.frame.Net.{Net}
 use Rattle.vlink.specs.declared.frame.Net.TheVariants.{A, B}
-use Rattle.netdesc.specs.declared.wiring.Hop.{Hop}
-use Rattle.netdesc.specs.Words.{NodePlan, VlPlan, passes, is_end_system, is_switch_of, first_of, last_of, inner_of, is_bad_path, has_other_way, is_other_way, hops_after, hops_of, all_hops, paths_on, IsPredecessor, Precedes}
-use Rattle.netdesc.proofs.BuildLemmas.{not-false}
+use Rattle.network.specs.declared.wiring.Hop.{Hop}
+use Rattle.network.specs.Words.{NodePlan, VlPlan, passes, is_end_system, is_switch_of, first_of, last_of, inner_of, is_bad_path, has_other_way, is_other_way, hops_after, hops_of, all_hops}
+use Rattle.netdesc.specs.Words.{paths_on, IsPredecessor, Precedes}
+use Rattle.network.proofs.BuildLemmas.{not-false}
 use Rattle.netdesc.proofs.MemberLemmas.{Has, has-from_contains, contains-from_has, has-left, has-right, has-either, has-flat_map, flat_map-has}
 
 -- ---- the hops of a path are its neighbours

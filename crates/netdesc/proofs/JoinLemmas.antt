@@ -3,9 +3,10 @@ use Rattle.std.proofs.Common.{◌≡◌, ℕ, Bool, true, false, cond, ◌==◌,
 use Rattle.std.specs.HashMap.{get, UpdatesBy}
 use Rattle.std.proofs.lemmas.Bool.{false≢true}
 use Rattle.std.proofs.lemmas.Bool.Decides.{nat_tests}
-use Rattle.netdesc.specs.declared.wiring.Link.{Link}
-use Rattle.netdesc.specs.Words.{goes, joins, link_between, is_same_pair, AreJoined}
-use Rattle.netdesc.proofs.PlaceLemmas.{or_else, or_else-none, place_by-push, place_by-same, none_of}
+use Rattle.network.specs.declared.wiring.Link.{Link}
+use Rattle.network.specs.Words.{goes, joins, link_between}
+use Rattle.netdesc.specs.Words.{is_same_pair, AreJoined}
+use Rattle.network.proofs.PlaceLemmas.{or_else, or_else-none, place_by-push, place_by-same, none_of}
 
 pub is_eq-nat_cmp : (a b : ℕ) → is_eq (nat_cmp a b) ≡ (a == b)
 is_eq-nat_cmp a b = grind (arith, nat_tests)

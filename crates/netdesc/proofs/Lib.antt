@@ -1,15 +1,8 @@
-pub mod PlaceLemmas
 pub mod FaultLemmas
 pub mod NameLemmas
-pub mod EachLemmas
 pub mod JoinLemmas
 pub mod WayLemmas
 pub mod DoubleLemmas
-pub mod BuildLemmas
-pub mod LimitLemmas
-pub mod PortLemmas
-pub mod RisingLemmas
-pub mod SourceLemmas
 pub mod OrderLemmas
 pub mod MemberLemmas
 pub mod RisingLaw

@@ -3,10 +3,11 @@ use Rattle.std.proofs.Common.{◌≡◌, ℕ, suc, ◌+◌, ◌*◌, Bool, true,
 use Rattle.std.specs.List.{list_any}
 use Rattle.std.proofs.lemmas.Bool.{false≢true}
 use Rattle.std.proofs.lemmas.Bool.Decides.{nat_tests}
-use Rattle.netdesc.specs.declared.wiring.Link.{Link}
-use Rattle.netdesc.specs.declared.wiring.Direction.{Direction}
-use Rattle.netdesc.specs.Words.{each_after, place_by, Plan, NodePlan, goes, joins, is_linked, is_no_link, link_between, port_at, directions, lines_of, line_at, line_between, Faces}
-use Rattle.netdesc.proofs.PlaceLemmas.{is_some-place_by}
+use Rattle.network.specs.declared.wiring.Link.{Link}
+use Rattle.network.specs.declared.wiring.LinePlan.{LinePlan}
+use Rattle.network.specs.Words.{each_after, place_by, Plan, NodePlan, goes, joins, is_linked, is_no_link, link_between, port_at, directions, lines_of, line_at, line_between}
+use Rattle.netdesc.specs.Words.{Faces}
+use Rattle.network.proofs.PlaceLemmas.{is_some-place_by}
 use Rattle.netdesc.proofs.JoinLemmas.{goes-true, ||-flip, link_between-flip}
 use Rattle.netdesc.proofs.HopLemmas.{or-left, or-right}
 
@@ -18,7 +19,7 @@ record IsLine (nodes : List NodePlan) (earlier links : List Link) (x y place : �
   split : links ≡ before ++ link ∷ behind
   there : slice_get links place ≡ Some link
   joined : joins x y link ≡ true
-  line : Direction
+  line : LinePlan
   read : slice_get (each_after (directions nodes) earlier links) (line_at place x link) ≡ Some line
   from : line.from ≡ x
   to : line.to ≡ y
@@ -26,15 +27,15 @@ record IsLine (nodes : List NodePlan) (earlier links : List Link) (x y place : �
   in' : line.to_port ≡ port_at nodes (earlier ++ before) y x
 
 -- one of the two directions of a link that joins the nodes
-record IsDirection (nodes : List NodePlan) (earlier : List Link) (link : Link) (later : List Direction) (x y : ℕ) : Type 0 where
-  line : Direction
+record IsDirection (nodes : List NodePlan) (earlier : List Link) (link : Link) (later : List LinePlan) (x y : ℕ) : Type 0 where
+  line : LinePlan
   read : slice_get (directions nodes earlier link ++ later) (cond (link.a == x) 0 1) ≡ Some line
   from : line.from ≡ x
   to : line.to ≡ y
   out : line.from_port ≡ port_at nodes earlier x y
   in' : line.to_port ≡ port_at nodes earlier y x
 
-direction : (nodes : List NodePlan) (earlier : List Link) (link : Link) (later : List Direction) (x y : ℕ) → joins x y link ≡ true → IsDirection nodes earlier link later x y
+direction : (nodes : List NodePlan) (earlier : List Link) (link : Link) (later : List LinePlan) (x y : ℕ) → joins x y link ≡ true → IsDirection nodes earlier link later x y
 direction nodes earlier link later x y joined = go (link.a == x) refl (goes x y link) refl (goes y x link) refl joined
   where
     forth : link.a ≡ x → link.b ≡ y → (link.a == x) ≡ true → IsDirection nodes earlier link later x y
@@ -119,7 +120,7 @@ line-there nodes earlier (link ∷ links) x y place found = go (joins x y link) 
 
 -- line k leads from the one node to the other, and its ports face them
 pub record IsLineOf (plan : Plan) (x y k : ℕ) : Type 0 where
-  pub line : Direction
+  pub line : LinePlan
   pub read : slice_get (lines_of plan) k ≡ Some line
   pub from : line.from ≡ x
   pub to : line.to ≡ y

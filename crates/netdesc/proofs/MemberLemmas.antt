@@ -4,7 +4,7 @@ use Rattle.std.specs.Ordering.{match_ordering}
 use Rattle.std.specs.BTreeSet.{insert_key}
 use Rattle.std.specs.Cmp.{nat_cmp_is}
 use Rattle.std.proofs.lemmas.Bool.{cases_order}
-use Rattle.netdesc.specs.Words.{rising_from, rising}
+use Rattle.network.specs.Words.{rising_from, rising}
 
 -- the list has the element
 abbrev pub Has : {X : Type 0} → List X → X → Type 0

@@ -8,8 +8,9 @@ use Rattle.std.proofs.lemmas.Slice.Eq.{bytes_eq-Decides}
 use Rattle.std.proofs.lemmas.List.{take_more, map-append, length-map}
 use Rattle.std.proofs.lemmas.Map.Text.{hash_map_updates_str}
 use Rattle.network_rows.specs.declared.rows.NodeRow.{NodeRow}
-use Rattle.netdesc.specs.Words.{node_plan, names_of, place_among, number_of, AreNumbers}
-use Rattle.netdesc.proofs.PlaceLemmas.{or_else, or_else-none, place_by-push}
+use Rattle.network.specs.Words.{node_plan, names_of, place_among, number_of}
+use Rattle.netdesc.specs.Words.{AreNumbers}
+use Rattle.network.proofs.PlaceLemmas.{or_else, or_else-none, place_by-push}
 
 -- equal texts, tested from either side
 pub bytes_eq-flip : (x y : List ℕ) → bytes_eq x y ≡ bytes_eq y x

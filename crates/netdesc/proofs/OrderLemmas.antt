@@ -2,7 +2,7 @@
 use Rattle.std.proofs.Common.{ℕ, ◌+◌, ◌≤◌, List, [], ◌∷◌, ◌++◌, length, arith, Option, None, Some, nat_cmp, Ordering, Less, Equal, Greater, length-append, option_to_list}
 use Rattle.std.specs.Ordering.{match_ordering}
 use Rattle.std.specs.BTreeSet.{insert_key}
-use Rattle.netdesc.specs.Words.{VlPlan, last_of, end_of, ends_of, rising_from, destinations_of}
+use Rattle.network.specs.Words.{VlPlan, last_of, end_of, ends_of, rising_from, destinations_of}
 
 -- a number more is at most one number more
 one-of : (o : Ordering) (n x : ℕ) (xs more : List ℕ) → length more ≤ length xs + 1 → length (match_ordering o (n ∷ x ∷ xs) (x ∷ xs) (x ∷ more)) ≤ length (x ∷ xs) + 1

@@ -12,7 +12,7 @@ use Rattle.std.proofs.lemmas.List.Filters.{dedup_is}
 use Rattle.std.proofs.lemmas.List.Kept.{Contains-from_dedup, Contains-dedup_nat}
 use Rattle.std.proofs.lemmas.List.Sorted.{Contains-permutation, IsPermutation-sym}
 use Rattle.std.proofs.lemmas.Map.Keys.{IsStrictlyIncreasing-from_sorted, IsStrictlyIncreasing-dedup, sorted_from_strictly_increasing}
-use Rattle.netdesc.specs.Words.{IsRisingOf, rising_from, rising}
+use Rattle.network.specs.Words.{IsRisingOf, rising_from, rising}
 use Rattle.netdesc.proofs.MemberLemmas.{Has, has-from_contains, contains-from_has, has-rising, rising-has}
 
 -- all are above a number

@@ -4,28 +4,29 @@ use Rattle.std.proofs.lemmas.Option.{none-some, same_Some}
 use Rattle.std.proofs.lemmas.Bool.Decides.{nat_tests}
 use Rattle.vlink.specs.declared.frame.Net.{Net}
 use Rattle.vlink.specs.declared.frame.VlId.{VlId}
-use Rattle.netdesc.specs.declared.wiring.Direction.{Direction}
-use Rattle.netdesc.specs.declared.wiring.Way.{Way}
-use Rattle.netdesc.specs.Words.{Plan, VlPlan, all_hops, lines_of, line_between, lines_over, route_over, out_at, in_at, ways_over, leaves, comes_in, arrivals_of, departures_of, IsInput, IsOutput, Precedes, Faces, FacesPredecessor, FacesSuccessor, IsArrival, IsDeparture}
+use Rattle.network.specs.declared.wiring.LinePlan.{LinePlan}
+use Rattle.network.specs.declared.wiring.Way.{Way}
+use Rattle.network.specs.Words.{Plan, VlPlan, all_hops, lines_of, line_between, lines_over, route_over, out_at, in_at, ways_over, leaves, comes_in, arrivals_of, departures_of}
+use Rattle.netdesc.specs.Words.{IsInput, IsOutput, Precedes, Faces, FacesPredecessor, FacesSuccessor, IsArrival, IsDeparture}
 use Rattle.netdesc.proofs.MemberLemmas.{Has, has-from_contains, contains-from_has, has-option, option-has, has-flat_map, flat_map-has, has-rising, rising-has}
 use Rattle.netdesc.proofs.HopLemmas.{hop, hop-of-both, both-of-hop}
 use Rattle.netdesc.proofs.JoinLemmas.{link_between-flip}
 use Rattle.netdesc.proofs.LineLemmas.{AreLinks, line-of, has-line, faced-place, one-port}
 
 -- the virtual link goes over this line, whose ports face its nodes
-record IsOver (plan : Plan) (vl : VlPlan) (line : Direction) : Type 0 where
+record IsOver (plan : Plan) (vl : VlPlan) (line : LinePlan) : Type 0 where
   net : Net
   precedes : Precedes net vl line.from line.to
   out : Faces plan line.from line.from_port line.to
   in' : Faces plan line.to line.to_port line.from
 
 -- a way is made of such a line
-record IsWayOver (plan : Plan) (vl : VlPlan) (at : Direction → Option Way) (way : Way) : Type 0 where
-  line : Direction
+record IsWayOver (plan : Plan) (vl : VlPlan) (at : LinePlan → Option Way) (way : Way) : Type 0 where
+  line : LinePlan
   over : IsOver plan vl line
   made : at line ≡ Some way
 
-module _ (plan : Plan) (vl : VlPlan) (at : Direction → Option Way) where
+module _ (plan : Plan) (vl : VlPlan) (at : LinePlan → Option Way) where
   way-over : (way : Way) → Has (ways_over at (lines_of plan) (route_over plan.links vl)) way → IsWayOver plan vl at way
   way-over way there =
       let (k, on_route, made) = flat_map-has (λ k. option_to_list (option_and_then at (slice_get (lines_of plan) k))) (route_over plan.links vl) way there in

@@ -5,11 +5,12 @@ use Rattle.std.proofs.lemmas.List.Elements.{All-from_recursion, All-contains}
 use Rattle.std.proofs.lemmas.List.Sorted.{All-permutation}
 use Rattle.vlink.specs.declared.frame.Net.{Net}
 use Rattle.vlink.specs.declared.frame.Net.TheVariants.{A, B}
-use Rattle.netdesc.specs.declared.wiring.Link.{Link}
+use Rattle.network.specs.declared.wiring.Link.{Link}
 use Rattle.network_rows.specs.declared.fault.DescFault.{DescFault}
-use Rattle.netdesc.specs.Words.{each, each_after, Plan, NodePlan, VlPlan, plan_of, is_no_link, is_no_tree, unknown_names, double_names, not_links, not_trees, too_many, double_at_node, double_at_link, double_at_vl, no_link_at_link, no_link_at_outage, no_link_at_vl, no_tree_at_vl, has_gap, IsAccepted, paths_on}
-use Rattle.netdesc.proofs.EachLemmas.{each_after-append}
-use Rattle.netdesc.proofs.BuildLemmas.{front-none, behind-none, when-none}
+use Rattle.network.specs.Words.{each, each_after, Plan, NodePlan, VlPlan, plan_of, is_no_link, is_no_tree, unknown_names, double_names, not_links, not_trees, too_many, double_at_node, double_at_link, double_at_vl, no_link_at_link, no_link_at_outage, no_link_at_vl, no_tree_at_vl, has_gap, IsAccepted}
+use Rattle.netdesc.specs.Words.{paths_on}
+use Rattle.network.proofs.EachLemmas.{each_after-append}
+use Rattle.network.proofs.BuildLemmas.{front-none, behind-none, when-none}
 use Rattle.netdesc.proofs.HopLemmas.{or-left, or-right}
 use Rattle.netdesc.proofs.LineLemmas.{AreLinks}
 use Rattle.netdesc.proofs.SwitchLemmas.{IsRouted}

@@ -5,10 +5,11 @@ use Rattle.vlink.specs.declared.frame.Net.{Net}
 use Rattle.vlink.specs.declared.frame.Net.TheVariants.{A, B}
 use Rattle.network_rows.specs.declared.rows.NodeKind.{NodeKind}
 use Rattle.network_rows.specs.declared.rows.NodeKind.TheVariants.{EndSystem, Switch}
-use Rattle.netdesc.specs.declared.wiring.Link.{Link}
-use Rattle.netdesc.specs.Words.{Plan, NodePlan, VlPlan, passes, is_same_net, is_switch_kind, is_end_system, is_switch_of, is_linked, is_no_link, goes, is_bad_path, is_no_tree, has_other_way, all_hops, is_gap, has_gap, paths_on, IsInput, Precedes, Faces, GoesThrough, ExactlyOne, port_for}
+use Rattle.network.specs.declared.wiring.Link.{Link}
+use Rattle.network.specs.Words.{Plan, NodePlan, VlPlan, passes, is_same_net, is_switch_kind, is_end_system, is_switch_of, is_linked, is_no_link, goes, is_bad_path, is_no_tree, has_other_way, all_hops, is_gap, has_gap}
+use Rattle.netdesc.specs.Words.{paths_on, IsInput, Precedes, Faces, GoesThrough, ExactlyOne, port_for}
 use Rattle.netdesc.proofs.MemberLemmas.{Has, has-from_contains}
-use Rattle.netdesc.proofs.BuildLemmas.{not-false}
+use Rattle.network.proofs.BuildLemmas.{not-false}
 use Rattle.netdesc.proofs.JoinLemmas.{goes-true}
 use Rattle.netdesc.proofs.HopLemmas.{hop, hop-on, or-left, or-right, none-has, is-switch, has-predecessor, from-there, to-there, one-way}
 use Rattle.netdesc.proofs.LineLemmas.{AreLinks, IsLineOf, line-of, has-line, linked-place, one-port}

@@ -5,13 +5,11 @@ use Rattle.std.specs.HashMap.{get, UpdatesBy}
 use Rattle.std.proofs.lemmas.Bool.{cases_Bool}
 use Rattle.std.proofs.lemmas.Bool.Decides.{nat_tests}
 use Rattle.std.proofs.lemmas.List.Elements.{Contains-append_left, Contains-push, Contains-push_cases, Contains-get_or}
-use Rattle.std.proofs.lemmas.List.Folds.{list_any_none, list_any-from_Any}
-use Rattle.netdesc.specs.declared.wiring.Hop.{Hop}
-use Rattle.netdesc.specs.Words.{is_other_way, has_other_way, AreWaysBy, AreWays}
-
--- a test that one element passes
-pub list_any-contains : {X : Type 0} (p : X → Bool) (xs : List X) (x : X) → Contains xs x → p x ≡ true → list_any p xs ≡ true
-list_any-contains p xs x there h = list_any-from_Any p xs (there.0, x, there.1, there.2, h)
+use Rattle.std.proofs.lemmas.List.Folds.{list_any_none}
+use Rattle.network.specs.declared.wiring.Hop.{Hop}
+use Rattle.network.specs.Words.{is_other_way, has_other_way}
+use Rattle.network.proofs.EachLemmas.{list_any-contains}
+use Rattle.netdesc.specs.Words.{AreWaysBy, AreWays}
 
 pub none-contains : {X : Type 0} (p : X → Bool) (xs : List X) → ((x : X) → Contains xs x → p x ≡ false) → list_any p xs ≡ false
 none-contains p xs h = list_any_none p xs (λ k d lt. h (get_or xs k d) (Contains-get_or xs k d lt))

@@ -5,9 +5,9 @@ use Rattle.network_rows.specs.declared.fault.DescFault.TheVariants.{OutOfMemory}
 use Rattle.network_rows.specs.declared.rows.Rows.{Rows}
 use Rattle.network_rows.specs.Faults.{faults_of_text}
 use Rattle.network_rows.specs.Rows.{Means}
-use Rattle.netdesc.specs.Plan.{Plan}
-use Rattle.netdesc.specs.Faults.{faults_of}
-use Rattle.netdesc.specs.Accepted.{IsPlanOf}
+use Rattle.network.specs.Plan.{Plan}
+use Rattle.network.specs.Faults.{faults_of}
+use Rattle.network.specs.Accepted.{IsPlanOf}
 
 -- the first fault of a text is the first that each key alone tells (1 to 4); where there is none, the text means rows, and it is the first that these tell
 -- of each other (5 to 9)

@@ -1,13 +1,4 @@
-pub mod Rows
-pub mod Names
-pub mod Plan
-pub mod Wiring
-pub mod Trees
-pub mod Faults
-pub mod Lines
-pub mod Accepted
 pub mod Description
-pub mod Limits
 pub mod PortLaws
 pub mod Code
 pub mod Words

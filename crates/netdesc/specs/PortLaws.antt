@@ -2,11 +2,11 @@
 use Rattle.std.specs.Prelude.{ℕ, ◌≡◌, false, true, List, ◌∷◌, ◌++◌, Contains}
 use Rattle.vlink.specs.declared.frame.Net.{Net}
 use Rattle.vlink.specs.declared.frame.Net.TheVariants.{A, B}
-use Rattle.netdesc.specs.declared.wiring.Link.{Link}
-use Rattle.netdesc.specs.declared.wiring.Way.{Way}
-use Rattle.netdesc.specs.Plan.{Plan, VlPlan}
-use Rattle.netdesc.specs.Wiring.{is_end_system, joins}
-use Rattle.netdesc.specs.Lines.{port_at, lines_of, leaves, comes_in}
+use Rattle.network.specs.declared.wiring.Link.{Link}
+use Rattle.network.specs.declared.wiring.Way.{Way}
+use Rattle.network.specs.Plan.{Plan, VlPlan}
+use Rattle.network.specs.Wiring.{is_end_system, joins}
+use Rattle.network.specs.Lines.{port_at, lines_of, leaves, comes_in}
 
 -- ---- where it is configured
 

@@ -1,16 +1,6 @@
--- What a description means and what a network is, for proofs and for the crates above: each word from the file that defines it.
-pub use Rattle.netdesc.specs.Accepted.{IsAccepted, IsPlanOf, id_of, ids_of}
+-- What a description means and what its checks keep, for proofs and for the crates above: each word from the file that defines it.
 pub use Rattle.netdesc.specs.Code.Finding.{AreJoined, AreNumbers, AreWays, AreWaysBy, is_same_pair}
 pub use Rattle.netdesc.specs.Code.RowLists.{plan_in}
-pub use Rattle.netdesc.specs.Code.Tables.{AreTables, plan_with}
-pub use Rattle.netdesc.specs.Code.Views.{items_of, lists_of, outages_at, way_at, ways_at}
+pub use Rattle.netdesc.specs.Code.Views.{way_at}
 pub use Rattle.netdesc.specs.Description.{Describes, HasNoFault, TellsFaultOf}
-pub use Rattle.netdesc.specs.Faults.{Tells, double_at_link, double_at_node, double_at_vl, double_names, faults_of, has_gap, is_gap, is_unknown, no_link_at_link, no_link_at_outage, no_link_at_vl, no_tree_at_vl, not_links, not_trees, process_count, too_many, too_many_at_node, touches, unknown_at_link, unknown_names}
-pub use Rattle.netdesc.specs.Limits.{IsKindInLimits, IsLinkInLimits, greatest_destinations, greatest_ports, greatest_processes}
-pub use Rattle.netdesc.specs.Lines.{arrivals_of, both, comes_in, departures_of, directions, in_at, is_outage_of, leaves, line_at, line_between, line_name, lines_of, lines_over, node_name, out_at, outages_of, place_of_vl, port_at, route_over, ways_over}
-pub use Rattle.netdesc.specs.Names.{is_among, names_of, number_of, place_among}
-pub use Rattle.netdesc.specs.Plan.{NodePlan, Plan, VlPlan, byte_ns_of, link_plan, node_plan, outage_plan, path_numbers, plan_of, vl_plan}
 pub use Rattle.netdesc.specs.PortLaws.{ExactlyOne, Faces, FacesPredecessor, FacesSuccessor, GoesThrough, IsArrival, IsDeparture, IsInput, IsOutput, IsPredecessor, Precedes, paths_on, port_for}
-pub use Rattle.netdesc.specs.Rows.{each, each_after, place_by, row_at, top, when}
-pub use Rattle.netdesc.specs.Trees.{IsRisingOf, all_hops, destinations_of, differ, end_of, ends_of, first_of, has_double, has_other_way, hops_after, hops_of, inner_of, is_bad_path, is_no_tree, is_none, is_other_way, last_of, rising, rising_from, source_among, source_of}
-pub use Rattle.netdesc.specs.Wiring.{goes, is_end_kind, is_end_system, is_linked, is_no_link, is_same_net, is_switch_kind, is_switch_of, joins, leads, link_between, passes}

@@ -1,8 +1,8 @@
 //! Rows that are checked one after another, and the places of their faults.
 ghost use Rattle.std.specs.Prelude.{◌≡◌, ℕ, ◌+◌, ◌^◌, ◌<◌, [], ◌∷◌, ◌++◌, List, length, MatchResult};
 ghost use Rattle.network_rows.specs.declared.fault.DescFault.{DescFault as Fault};
-ghost use Rattle.netdesc.specs.Rows.{each};
-ghost use Rattle.netdesc.specs.Faults.{Tells};
+ghost use Rattle.network.specs.Rows.{each};
+ghost use Rattle.network.specs.Faults.{Tells};
 
 use network_rows::{DescFault, Key, Place, Section};
 

@@ -1,22 +1,20 @@
 //! Where the virtual links of a network are configured, and which list is a rising one.
 ghost use Rattle.std.specs.Prelude.{ℕ, ◌≡◌, ◌↔◌, true, List, Contains};
 ghost use Rattle.vlink.specs.declared.frame.Net.{Net};
-ghost use Rattle.netdesc.specs.declared.wiring.Way.{Way};
-ghost use Rattle.netdesc.specs.Plan.{VlPlan};
-ghost use Rattle.netdesc.specs.Wiring.{is_end_system};
-ghost use Rattle.netdesc.specs.Trees.{IsRisingOf, rising};
-ghost use Rattle.netdesc.specs.Lines.{arrivals_of, departures_of};
+ghost use Rattle.network.specs.declared.wiring.Way.{Way};
+ghost use Rattle.network.specs.Plan.{VlPlan};
+ghost use Rattle.network.specs.Wiring.{is_end_system};
+ghost use Rattle.network.specs.Trees.{IsRisingOf, rising};
+ghost use Rattle.network.specs.Lines.{arrivals_of, departures_of};
 ghost use Rattle.netdesc.specs.PortLaws.{IsInput, IsOutput, FacesPredecessor, FacesSuccessor, IsArrival, IsDeparture, GoesThrough, ExactlyOne, Precedes, Faces, port_for};
 
-use crate::network::Network;
+use network::Network;
 
 /// The ports at which a virtual link is configured at a node are those that its paths say: it comes in just at the ports that face the
 /// node's predecessor on a path, and leaves just by those that face a successor; what `arrivals` and `departures` tell of a node is just
 /// that. A switch on its way has exactly one input port for it. The port of an end system that faces its neighbour on a path is 0 on
 /// network A, and 1 on network B.
-///
-/// A call does nothing: its caller learns what the clauses say.
-pub fn port_laws(network: &Network)
+pub fn port_law(network: &Network)
     ensures inputs { (vl : VlPlan) (node port : ℕ) → IsInput network.now vl node port ↔ FacesPredecessor network.now vl node port }
     ensures outputs { (vl : VlPlan) (node port : ℕ) → IsOutput network.now vl node port ↔ FacesSuccessor network.now vl node port }
     ensures arrivals { (node : ℕ) (way : Way) → Contains (arrivals_of network.now node) way ↔ IsArrival network.now node way }
@@ -27,14 +25,12 @@ pub fn port_laws(network: &Network)
     ensures to_network { (vl : VlPlan) (net : Net) (node port successor : ℕ) → Contains network.now.vls vl → is_end_system network.now.nodes node ≡ true
         → Precedes net vl node successor → Faces network.now node port successor → port ≡ port_for net }
 {
-    network.accepted();
+    network.accepted_law();
 }
 
 /// The destinations of a virtual link, and the lines that it goes over, are told by `rising`: of some numbers it is the one strictly
 /// increasing list with the same members.
-///
-/// A call does nothing: its caller learns what the clauses say.
-pub fn rising_is()
+pub fn rising_law()
     ensures rising { (numbers : List ℕ) → IsRisingOf numbers (rising numbers) }
     ensures only { (numbers list : List ℕ) → IsRisingOf numbers list → list ≡ rising numbers }
 {}

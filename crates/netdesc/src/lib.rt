@@ -3,24 +3,24 @@
 
 mod double;
 mod each;
+mod kinds;
 mod laws;
 mod lines;
 mod links;
+mod making;
 mod names;
-mod network;
 mod no_link;
 mod no_tree;
-mod plan;
 mod reading;
 mod routes;
 mod tables;
 mod too_many;
 mod unknown;
-mod wiring;
 
-pub use laws::{port_laws, rising_is};
-pub use network::Network;
+pub use laws::{port_law, rising_law};
+pub use network::{
+    GREATEST_DESTINATIONS, GREATEST_OUTAGES, GREATEST_PORTS, GREATEST_PROCESSES, LinePlan, Network,
+    Outage, Way,
+};
 pub use network_rows::{DescFault, Key, NodeKind, Place, Policing, Priority, Section, VirtualLink};
 pub use reading::read;
-pub use too_many::{GREATEST_DESTINATIONS, GREATEST_OUTAGES, GREATEST_PORTS, GREATEST_PROCESSES};
-pub use wiring::{Direction, Outage, Way};

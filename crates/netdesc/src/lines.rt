@@ -2,15 +2,16 @@
 ghost use Rattle.std.specs.Prelude.{◌≡◌, ℕ, ◌+◌, ◌*◌, ◌^◌, ◌<◌, ◌≤◌, [], ◌∷◌, ◌++◌, length, map, filter, cond, All, vec_len, string_bytes, IfOk, OnOk, IfErr};
 ghost use Rattle.network_rows.specs.declared.fault.DescFault.TheVariants.{OutOfMemory};
 ghost use Rattle.vlink.specs.declared.frame.Net.TheVariants.{A};
-ghost use Rattle.netdesc.specs.Rows.{each};
-ghost use Rattle.netdesc.specs.Plan.{node_plan};
-ghost use Rattle.netdesc.specs.Wiring.{is_end_system, is_switch_of};
-ghost use Rattle.netdesc.specs.Lines.{both, directions, line_between, node_name, line_name, is_outage_of};
-ghost use Rattle.netdesc.specs.Code.Views.{outages_at};
+ghost use Rattle.network.specs.Rows.{each};
+ghost use Rattle.network.specs.Plan.{node_plan};
+ghost use Rattle.network.specs.Wiring.{is_end_system, is_switch_of};
+ghost use Rattle.network.specs.Lines.{both, directions, line_between, node_name, line_name, is_outage_of};
+ghost use Rattle.network.specs.Code.Views.{outages_at};
 
+use crate::kinds::{is_end_system, is_switch_of};
 use crate::links::{Joined, count_link, no_counts};
 use crate::tables::{no_lists, put};
-use crate::wiring::{Direction, Link, Outage, is_end_system, is_switch_of};
+use network::{LinePlan, Link, Outage};
 use network_rows::{DescFault, NodeRow};
 use std::alloc::{AllocError, Global};
 use vlink::Net;
@@ -33,7 +34,7 @@ fn port_at(nodes: &[NodeRow], count: usize, node: usize, other: usize) -> u16
 
 /// Puts the two directions of a link at the end, which has these ports at its two nodes.
 fn push_both(
-    lines: &mut Vec<Direction>,
+    lines: &mut Vec<LinePlan>,
     link: Link,
     a_port: u16,
     b_port: u16,
@@ -43,7 +44,7 @@ fn push_both(
     ensures lines { OnOk result (lines.new.items ≡ lines.old.items ++ both link a_port b_port) }
     ensures memory { IfErr result (λ fault. fault ≡ OutOfMemory) }
 {
-    let there = Direction {
+    let there = LinePlan {
         from: link.a as u16,
         from_port: a_port,
         to: link.b as u16,
@@ -51,7 +52,7 @@ fn push_both(
         byte_ns: link.byte_ns,
         propagation_ns: link.propagation_ns,
     };
-    let back = Direction {
+    let back = LinePlan {
         from: link.b as u16,
         from_port: b_port,
         to: link.a as u16,
@@ -69,7 +70,7 @@ pub fn lines_of(
     alloc: Global,
     nodes: &[NodeRow],
     links: &[Link],
-) -> Result<Vec<Direction>, DescFault>
+) -> Result<Vec<LinePlan>, DescFault>
     requires ends { All (λ link. (link.a ≤ length nodes.now) × (link.b ≤ length nodes.now)) links.now }
     requires few { length nodes.now + 2 * length links.now ≤ 4096 }
     ensures ends { IfOk result (λ lines. All (λ line. (line.from ≤ length nodes.now) × (line.to ≤ length nodes.now)) lines.items) }
@@ -110,7 +111,7 @@ fn name_between(alloc: Global, from: &str, to: &str) -> Result<String, AllocErro
 }
 
 /// The name of a line.
-fn line_name(alloc: Global, nodes: &[NodeRow], line: Direction) -> Result<String, DescFault>
+fn line_name(alloc: Global, nodes: &[NodeRow], line: LinePlan) -> Result<String, DescFault>
     ensures name { IfOk result (λ name. string_bytes name ≡ line_name (map node_plan nodes.now) line) }
     ensures memory { IfErr result (λ fault. fault ≡ OutOfMemory) }
 {
@@ -123,7 +124,7 @@ fn line_name(alloc: Global, nodes: &[NodeRow], line: Direction) -> Result<String
 pub fn line_names(
     alloc: Global,
     nodes: &[NodeRow],
-    lines: &[Direction],
+    lines: &[LinePlan],
 ) -> Result<Vec<String>, DescFault>
     ensures names { IfOk result (λ names. map string_bytes names.items ≡ map (line_name (map node_plan nodes.now)) lines.now) }
     ensures memory { IfErr result (λ fault. fault ≡ OutOfMemory) }
@@ -165,7 +166,7 @@ fn put_outage(
 }
 
 /// For each of `count` lines its outages, in their order.
-pub fn losses_of(
+pub fn outage_table(
     alloc: Global,
     count: usize,
     joined: &Joined,

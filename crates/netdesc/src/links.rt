@@ -2,11 +2,11 @@
 ghost use Rattle.std.specs.Prelude.{◌≡◌, ℕ, ◌+◌, ◌^◌, ◌<◌, ◌==◌, if◌then◌else◌, Some, is_some, slice_index, vec_len, count_by, OnOk, IfOk, IfErr};
 ghost use Rattle.network_rows.specs.declared.fault.DescFault.TheVariants.{OutOfMemory};
 ghost use Rattle.std.specs.HashMap.{Updates};
-ghost use Rattle.netdesc.specs.Wiring.{link_between, is_linked};
-ghost use Rattle.netdesc.specs.Faults.{touches};
+ghost use Rattle.network.specs.Wiring.{link_between, is_linked};
+ghost use Rattle.network.specs.Faults.{touches};
 ghost use Rattle.netdesc.specs.Code.Finding.{AreJoined, is_same_pair};
 
-use crate::wiring::Link;
+use network::Link;
 use network_rows::DescFault;
 use std::alloc::Global;
 use std::collections::HashMap;

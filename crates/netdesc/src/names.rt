@@ -1,6 +1,7 @@
 //! The names of nodes, and their numbers.
+//! The kit's hasher has a fixed seed, so names can be chosen that collide: such a description is read slowly, and as any other.
 ghost use Rattle.std.specs.Prelude.{◌≡◌, IfOk, IfSome, is_some};
-ghost use Rattle.netdesc.specs.Names.{names_of, is_among, place_among, number_of};
+ghost use Rattle.network.specs.Names.{names_of, is_among, place_among, number_of};
 ghost use Rattle.netdesc.specs.Code.Finding.{AreNumbers};
 
 use network_rows::NodeRow;

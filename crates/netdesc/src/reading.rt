@@ -3,24 +3,24 @@ ghost use Rattle.std.specs.Prelude.{◌≡◌, ◌++◌, map, IsPermutation, Mat
 ghost use Rattle.network_rows.specs.declared.fault.DescFault.TheVariants.{OutOfMemory};
 ghost use Rattle.std.specs.List.Sorted.{IsNonDecreasing};
 ghost use Rattle.network_rows.specs.Within.{AreWithin};
-ghost use Rattle.netdesc.specs.Rows.{each};
-ghost use Rattle.netdesc.specs.Plan.{node_plan};
-ghost use Rattle.netdesc.specs.Faults.{faults_of, double_names, not_links, not_trees, too_many, double_at_node, double_at_link, double_at_vl, Tells};
+ghost use Rattle.network.specs.Rows.{each};
+ghost use Rattle.network.specs.Plan.{node_plan};
+ghost use Rattle.network.specs.Faults.{faults_of, double_names, not_links, not_trees, too_many, double_at_node, double_at_link, double_at_vl, Tells};
 ghost use Rattle.netdesc.specs.Code.Finding.{Finds};
-ghost use Rattle.netdesc.specs.Accepted.{ids_of, IsPlanOf};
+ghost use Rattle.network.specs.Accepted.{ids_of, IsPlanOf};
 ghost use Rattle.netdesc.specs.Description.{HasNoFault, TellsFaultOf, Describes};
 ghost use Rattle.netdesc.specs.Code.RowLists.{row_lists_of, row_lists_in, plan_in};
 ghost use Rattle.netdesc.specs.Code.Views.{Gives};
 
 use crate::double;
 use crate::links::Joined;
+use crate::making::network_with;
 use crate::names::Names;
-use crate::network::Network;
 use crate::no_link::check_no_link;
 use crate::no_tree::check_no_tree;
-use crate::plan::{Numbered, Routed};
 use crate::too_many::check_too_many;
 use crate::unknown::number_rows;
+use network::{Network, Numbered, Routed};
 use network_rows::{DescFault, Rows, read_rows};
 use std::alloc::Global;
 
@@ -43,9 +43,9 @@ fn network_of(alloc: Global, rows: Rows) -> Result<Network, DescFault>
     requires { AreWithin rows }
     ensures { MatchResult result (IsPlanOf rows) (λ fault. Tells fault (faults_of rows)) }
 {
-    let mut numbered = checked(alloc, &rows)?;
+    let mut numbered = numbered_of(alloc, &rows)?;
     sort_vls(&mut numbered.vls)?;
-    Network::new(
+    network_with(
         alloc,
         rows.until,
         rows.seed,
@@ -65,7 +65,7 @@ fn sort_vls(vls: &mut Vec<Routed>) -> Result<(), DescFault>
 }
 
 /// The rows with numbers in place of names, where they make a network.
-fn checked(alloc: Global, rows: &Rows) -> Result<Numbered, DescFault>
+fn numbered_of(alloc: Global, rows: &Rows) -> Result<Numbered, DescFault>
     ensures { Gives row_lists_of result (faults_of rows.now) (row_lists_in rows.now) }
 {
     let names = Names::new(alloc, rows.nodes.as_slice())?;

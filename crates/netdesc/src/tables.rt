@@ -1,34 +1,18 @@
-//! What is looked up in a network by number.
+//! The tables of a network, from its rows with numbers in place of names.
 ghost use Rattle.std.specs.Prelude.{◌≡◌, [], ◌∷◌, ◌++◌, slice_set, ℕ, ◌+◌, ◌*◌, ◌<◌, ◌≤◌, None, Some, is_none, ◌==◌, ◌&&◌, if◌then◌else◌, All, length, vec_len, slice_index_or, IfOk, OnOk, IfErr};
 ghost use Rattle.network_rows.specs.declared.fault.DescFault.TheVariants.{OutOfMemory};
-ghost use Rattle.netdesc.specs.Limits.{greatest_processes};
-ghost use Rattle.netdesc.specs.Lines.{place_of_vl};
-ghost use Rattle.netdesc.specs.Code.Tables.{plan_with, AreTables};
-ghost use Rattle.netdesc.specs.Code.Views.{lists_of};
+ghost use Rattle.network.specs.Limits.{greatest_processes};
+ghost use Rattle.network.specs.Lines.{place_of_vl};
+ghost use Rattle.network.specs.Code.Tables.{plan_with, AreTables};
+ghost use Rattle.network.specs.Code.Views.{lists_of};
 
-use crate::lines::{line_names, lines_of, losses_of};
+use crate::lines::{line_names, lines_of, outage_table};
 use crate::links::Joined;
-use crate::plan::{Numbered, Routed};
-use crate::routes::{Meetings, all_destinations, meetings_of};
-use crate::wiring::{Direction, Outage};
+use crate::routes::{all_destinations, meetings_of};
+use network::{Numbered, Routed, Tables};
 use network_rows::{DescFault, NodeRow};
 use std::alloc::Global;
 use vlink::VlId;
-
-/// What is looked up in a network by number.
-#[derive(Debug, Drop)]
-pub struct Tables {
-    pub lines: Vec<Direction>,
-    pub line_names: Vec<String>,
-    /// The outages of each line.
-    pub losses: Vec<Vec<Outage>>,
-    /// For each node the ports by which virtual links leave it and come in.
-    pub meetings: Meetings,
-    /// The destinations of each virtual link.
-    pub destinations: Vec<Vec<usize>>,
-    /// For each number the place of the virtual link that has it.
-    pub places: Vec<Option<usize>>,
-}
 
 /// Puts a value at the end of the list at a place.
 pub fn put<T: Drop>(table: &mut Vec<Vec<T>>, place: usize, value: T) -> Result<(), DescFault>
@@ -104,7 +88,7 @@ pub fn tables_of(alloc: Global, nodes: &[NodeRow], numbered: &Numbered) -> Resul
     let joined = Joined::new(alloc, numbered.links.as_slice())?;
     let lines = lines_of(alloc, nodes, joined.links)?;
     let line_names = line_names(alloc, nodes, lines.as_slice())?;
-    let losses = losses_of(alloc, lines.len(), &joined, numbered.outages.as_slice())?;
+    let outages = outage_table(alloc, lines.len(), &joined, numbered.outages.as_slice())?;
     let meetings = meetings_of(
         alloc,
         nodes.len() + 1,
@@ -117,7 +101,7 @@ pub fn tables_of(alloc: Global, nodes: &[NodeRow], numbered: &Numbered) -> Resul
     Ok(Tables {
         lines,
         line_names,
-        losses,
+        outages,
         meetings,
         destinations,
         places,

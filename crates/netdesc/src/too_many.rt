@@ -1,33 +1,23 @@
 //! More processes, ports, outages or destinations than a network may have.
 ghost use Rattle.std.specs.Prelude.{◌≡◌, ◌+◌, ◌*◌, ◌≤◌, ⊤, true, length, map, nat_lt, not, ◌&&◌, ◌++◌};
-ghost use Rattle.netdesc.specs.Limits.{greatest_processes, greatest_ports, greatest_outages, greatest_destinations};
+ghost use Rattle.network.specs.Limits.{greatest_processes, greatest_ports, greatest_outages, greatest_destinations};
 ghost use Rattle.network_rows.specs.declared.key.Section.TheVariants.{Outage};
 ghost use Rattle.network_rows.specs.declared.fault.DescFault.TheVariants.{TooMany};
-ghost use Rattle.netdesc.specs.Wiring.{is_end_system};
-ghost use Rattle.netdesc.specs.Rows.{each, when, top};
-ghost use Rattle.netdesc.specs.Plan.{node_plan};
-ghost use Rattle.netdesc.specs.Faults.{too_many_at_node, too_many_at_vl};
+ghost use Rattle.network.specs.Wiring.{is_end_system};
+ghost use Rattle.network.specs.Rows.{each, when, top};
+ghost use Rattle.network.specs.Plan.{node_plan};
+ghost use Rattle.network.specs.Faults.{too_many_at_node, too_many_at_vl};
 ghost use Rattle.netdesc.specs.Code.Finding.{Finds};
 
 use crate::each::{Review, check_each, row_at};
+use crate::kinds::is_end_system;
 use crate::links::link_counts;
-use crate::plan::Routed;
 use crate::routes::destinations_of;
-use crate::wiring::{Link, is_end_system};
+use network::{
+    GREATEST_DESTINATIONS, GREATEST_OUTAGES, GREATEST_PORTS, GREATEST_PROCESSES, Link, Routed,
+};
 use network_rows::{DescFault, NodeRow, Place, Section};
 use std::alloc::Global;
-
-/// The greatest number of processes: the nodes, and two for each link.
-pub const GREATEST_PROCESSES: usize = 4096;
-
-/// The greatest number of ports of a switch.
-pub const GREATEST_PORTS: usize = 24;
-
-/// The greatest number of outages.
-pub const GREATEST_OUTAGES: usize = 1024;
-
-/// The greatest number of destinations of a virtual link.
-pub const GREATEST_DESTINATIONS: usize = 64;
 
 /// There are more processes than a network may have: so many nodes, and two for each link.
 pub fn has_many_processes(nodes: usize, links: usize) -> bool

@@ -5,18 +5,18 @@ ghost use Rattle.network_rows.specs.declared.fault.DescFault.TheVariants.{Unknow
 ghost use Rattle.network_rows.specs.declared.rows.LinkRow.{LinkRow};
 ghost use Rattle.network_rows.specs.declared.rows.OutageRow.{OutageRow};
 ghost use Rattle.network_rows.specs.declared.rows.VlRow.{VlRow};
-ghost use Rattle.netdesc.specs.Rows.{when};
-ghost use Rattle.netdesc.specs.Names.{names_of, number_of};
-ghost use Rattle.netdesc.specs.Plan.{byte_ns_of, path_numbers, paths_numbers, link_plan, outage_plan, vl_plan};
-ghost use Rattle.netdesc.specs.Faults.{is_unknown, has_unknown, unknown_at_node, unknown_at_link, unknown_at_outage, unknown_at_vl, unknown_names};
+ghost use Rattle.network.specs.Rows.{when};
+ghost use Rattle.network.specs.Names.{names_of, number_of};
+ghost use Rattle.network.specs.Plan.{byte_ns_of, path_numbers, paths_numbers, link_plan, outage_plan, vl_plan};
+ghost use Rattle.network.specs.Faults.{is_unknown, has_unknown, unknown_at_node, unknown_at_link, unknown_at_outage, unknown_at_vl, unknown_names};
 ghost use Rattle.netdesc.specs.Code.Finding.{Finds};
-ghost use Rattle.netdesc.specs.Code.Views.{Gives, items_of, lists_of};
+ghost use Rattle.network.specs.Code.Views.{items_of, lists_of};
+ghost use Rattle.netdesc.specs.Code.Views.{Gives};
 ghost use Rattle.netdesc.specs.Code.RowLists.{row_lists_of, row_lists_in};
 
 use crate::each::{Review, check_each, key_at, row_at};
 use crate::names::Names;
-use crate::plan::{Numbered, Routed};
-use crate::wiring::{Link, Outage};
+use network::{Link, Numbered, Outage, Routed};
 use network_rows::{
     DescFault, Key, LinkRow, NodeRow, OutageRow, Path, Paths, Place, Rate, Rows, Section, VlRow,
 };

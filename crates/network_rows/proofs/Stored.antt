@@ -7,7 +7,7 @@ use Rattle.network_rows.specs.declared.fault.KeyFault.TheVariants as sort
 use Rattle.network_rows.specs.declared.fault.DescFault.TheVariants.{Missing, WrongKind, OutOfLimit}
 use Rattle.network_rows.specs.declared.first_places.FirstPlaces.{FirstPlaces}
 use Rattle.network_rows.specs.Faults.{faults_in_document, faults_of_document, is_sort, places_of, first}
-use Rattle.network_rows.specs.Firsts.{nowhere, stored, all_stored, told}
+use Rattle.network_rows.specs.Firsts.{nowhere, stored, all_stored, told_fault}
 
 -- ---- one list behind another
 
@@ -57,17 +57,17 @@ place_stored fault firsts (f ∷ fs) = place_stored fault (stored firsts f.0 f.1
 
 -- ---- the first of all
 
-first_told : (xs ys zs : List Place) → told (first xs) (first ys) (first zs) ≡ first (map Missing xs ++ (map WrongKind ys ++ map OutOfLimit zs))
+first_told : (xs ys zs : List Place) → told_fault (first xs) (first ys) (first zs) ≡ first (map Missing xs ++ (map WrongKind ys ++ map OutOfLimit zs))
 first_told (x ∷ xs) ys zs = refl
 first_told [] (y ∷ ys) zs = refl
 first_told [] [] (z ∷ zs) = refl
 first_told [] [] [] = refl
 
-told_alike : (a a' b b' c c' : Option Place) → a ≡ a' → b ≡ b' → c ≡ c' → told a b c ≡ told a' b' c'
+told_alike : (a a' b b' c c' : Option Place) → a ≡ a' → b ≡ b' → c ≡ c' → told_fault a b c ≡ told_fault a' b' c'
 told_alike a a' b b' c c' e f g = rw (e, f, g) refl
 
 first_places : (fs : List (KeyFault × Place)) (firsts : FirstPlaces) → firsts ≡ all_stored nowhere fs
-    → told firsts.missing firsts.wrong_kind firsts.out_of_limit ≡ told (first (places_of sort.Missing fs)) (first (places_of sort.WrongKind fs)) (first (places_of sort.OutOfLimit fs))
+    → told_fault firsts.missing firsts.wrong_kind firsts.out_of_limit ≡ told_fault (first (places_of sort.Missing fs)) (first (places_of sort.WrongKind fs)) (first (places_of sort.OutOfLimit fs))
 unfolding place_in or_first
 first_places fs firsts is =
     told_alike _ _ _ _ _ _
@@ -77,7 +77,7 @@ first_places fs firsts is =
 
 -- what is told once all faults of a document are stored
 pub told_of_document : (document : Members) (firsts : FirstPlaces) → firsts ≡ all_stored nowhere (faults_in_document document)
-    → told firsts.missing firsts.wrong_kind firsts.out_of_limit ≡ first (faults_of_document document)
+    → told_fault firsts.missing firsts.wrong_kind firsts.out_of_limit ≡ first (faults_of_document document)
 told_of_document document firsts is =
     first_places (faults_in_document document) firsts is
     ∙ first_told (places_of sort.Missing (faults_in_document document)) (places_of sort.WrongKind (faults_in_document document)) (places_of sort.OutOfLimit (faults_in_document document))

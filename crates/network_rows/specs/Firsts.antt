@@ -22,7 +22,7 @@ all_stored firsts [] = firsts
 all_stored firsts (f ∷ fs) = all_stored (stored firsts f.0 f.1) fs
 
 -- the fault that is told, from the first place of each sort
-abbrev pub told : Option Place → Option Place → Option Place → Option DescFault
-told (Some place) wrong_kind out_of_limit = Some (Missing place)
-told None (Some place) out_of_limit = Some (WrongKind place)
-told None None out_of_limit = option_map OutOfLimit out_of_limit
+abbrev pub told_fault : Option Place → Option Place → Option Place → Option DescFault
+told_fault (Some place) wrong_kind out_of_limit = Some (Missing place)
+told_fault None (Some place) out_of_limit = Some (WrongKind place)
+told_fault None None out_of_limit = option_map OutOfLimit out_of_limit

@@ -20,7 +20,7 @@ pub fn first_fault(document: &Table) -> Option<DescFault>
 {
     let mut firsts = FirstPlaces::none();
     note_document(&mut firsts, document);
-    firsts.told()
+    firsts.told_fault()
 }
 
 // Notes the faults of a document.

@@ -1,6 +1,6 @@
 //! The first fault of a document, sort by sort.
 ghost use Rattle.std.specs.Prelude.{◌≡◌};
-ghost use Rattle.network_rows.specs.Firsts.{nowhere, stored, told};
+ghost use Rattle.network_rows.specs.Firsts.{nowhere, stored, told_fault};
 
 use crate::fault::{DescFault, KeyFault, Place};
 
@@ -36,8 +36,8 @@ impl FirstPlaces {
     }
 
     /// The fault that is told, if there is one: what is missing before what is of a wrong type, and this before what is out of its limit.
-    pub fn told(&self) -> Option<DescFault>
-        ensures { result ≡ told self.now.missing self.now.wrong_kind self.now.out_of_limit }
+    pub fn told_fault(&self) -> Option<DescFault>
+        ensures { result ≡ told_fault self.now.missing self.now.wrong_kind self.now.out_of_limit }
     {
         if let Some(place) = self.missing {
             return Some(DescFault::Missing(place));

@@ -67,6 +67,7 @@ pub struct OutageRow {
 }
 
 /// What is agreed of the frames of a virtual link.
+/// `netdesc` passes it on as it is, so a key of a virtual link is one field, one line of the table and one reader.
 #[derive(Clone, Copy, Debug, PartialEq, Eq)]
 pub struct VirtualLink {
     pub id: VlId,

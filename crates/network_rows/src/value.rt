@@ -29,7 +29,7 @@ pub fn number_of(value: &Value) -> Option<u64>
     ensures { result ≡ as_number (view value.now) }
 {
     match value {
-        Value::Integer(n) if *n >= 0 => Some(*n as u64),
+        Value::Integer(n) => u64::try_from(*n).ok(),
         _ => None,
     }
 }

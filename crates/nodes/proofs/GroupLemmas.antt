@@ -6,8 +6,8 @@ use Rattle.std.proofs.lemmas.Bool.{false≢true}
 use Rattle.std.proofs.lemmas.Bool.Decides.{nat_tests}
 use Rattle.std.proofs.lemmas.List.Elements.{recursion_from_All}
 use Rattle.std.proofs.lemmas.Map.Keys.{sorted_head, sorted_tail}
-use Rattle.netdesc.specs.declared.wiring.Way.{Way}
-use Rattle.netdesc.specs.Words.{VlPlan, ids_of}
+use Rattle.network.specs.declared.wiring.Way.{Way}
+use Rattle.network.specs.Words.{VlPlan, ids_of}
 use Rattle.nodes.specs.Words.{with_ways, groups, grouped}
 
 -- the ways are all of the virtual link with this number; the first of them, if there is one, is not

@@ -4,11 +4,11 @@ use Rattle.std.specs.List.{AllByRecursion}
 use Rattle.std.specs.List.Sorted.{IsStrictlySortedBy}
 use Rattle.std.proofs.lemmas.Bool.Decides.{nat_tests}
 use Rattle.std.proofs.lemmas.Map.Keys.{sorted_head, sorted_tail, sorted_from_strictly_increasing}
-use Rattle.netdesc.specs.declared.too_many.TheConstants.{GREATEST_PORTS}
+use Rattle.network.specs.declared.limits.TheConstants.{GREATEST_PORTS}
 use Rattle.nodes.specs.declared.opening.meeting.Meeting.{Meeting}
-use Rattle.netdesc.specs.declared.wiring.Way.{Way}
-use Rattle.netdesc.specs.Words.{Plan, VlPlan, IsAccepted, ids_of, is_none}
-use Rattle.netdesc.proofs.RisingLemmas.{ids-rise}
+use Rattle.network.specs.declared.wiring.Way.{Way}
+use Rattle.network.specs.Words.{Plan, VlPlan, IsAccepted, ids_of, is_none}
+use Rattle.network.proofs.RisingLemmas.{ids-rise}
 use Rattle.nodes.specs.declared.opening.meeting.Side.TheVariants.{Out, In}
 use Rattle.nodes.specs.Words.{ways_at, with_ways, ports_by, meeting, meetings, source_number, reception_number, transit_number, source_of, reception_of, transit_of, place_of, found_at, number_met, ports_among, ports_found, source_met, reception_met, transit_met}
 use Rattle.nodes.proofs.GroupLemmas.{below}

@@ -1,8 +1,8 @@
 -- Each process of an accepted network begins as the law of virtual time asks: its delays are at least 1 ns, and it sends to processes.
 use Rattle.std.proofs.Common.{◌≡◌, ℕ, zero, suc, ◌+◌, ◌-◌, ◌<◌, ◌≤◌, Bool, true, false, cond, List, [], ◌∷◌, map, length, Option, Some, None, All, refl, ap, sym, ◌∙◌, subst, arith, slice_get, IfSome, filter, not, option_map}
 use Rattle.nodes.specs.declared.source.Source.{Source}
-use Rattle.netdesc.specs.declared.wiring.Way.{Way}
-use Rattle.netdesc.specs.Words.{is_none, Plan, NodePlan, VlPlan, IsAccepted, lines_of, process_count}
+use Rattle.network.specs.declared.wiring.Way.{Way}
+use Rattle.network.specs.Words.{is_none, Plan, NodePlan, VlPlan, IsAccepted, lines_of, process_count}
 use Rattle.nodes.specs.declared.opening.meeting.Side.TheVariants.{Out}
 use Rattle.nodes.specs.Words.{ways_at, with_ways, leaves_by, wire_among, wires_of, outlet_of, ports_of, source_of, node_opening, equipment_opening, line_opening, opening, AllWires, IsPlacedEquipment, IsPlaced, IsWiredEquipment, IsWired}
 use Rattle.std.specs.List.{AllByRecursion, range_with_len}
@@ -10,17 +10,17 @@ use Rattle.std.proofs.lemmas.List.Elements.{All-from_recursion}
 use Rattle.std.proofs.lemmas.Option.{slice_get_within, none-some}
 use Rattle.network_rows.specs.declared.rows.NodeKind.{NodeKind}
 use Rattle.network_rows.specs.declared.rows.NodeKind.TheVariants as kind
-use Rattle.netdesc.specs.declared.wiring.Direction.{Direction}
-use Rattle.netdesc.specs.declared.too_many.TheConstants.{GREATEST_PORTS}
-use Rattle.netdesc.proofs.BuildLemmas.{line-read, length-lines}
-use Rattle.netdesc.proofs.PortLemmas.{line-within}
-use Rattle.netdesc.proofs.LimitLemmas.{kind-read, link-read}
+use Rattle.network.specs.declared.wiring.LinePlan.{LinePlan}
+use Rattle.network.specs.declared.limits.TheConstants.{GREATEST_PORTS}
+use Rattle.network.proofs.BuildLemmas.{line-read, length-lines}
+use Rattle.network.proofs.PortLemmas.{line-within}
+use Rattle.network.proofs.LimitLemmas.{kind-read, link-read}
 use Rattle.nodes.specs.declared.ports.Wire.{Wire}
 use Rattle.nodes.specs.declared.equipment.Equipment.TheVariants as equipment
 
 -- what holds of each line, as the wire of a process behind these, holds of the wire that is found
-wire-holds : (P : Wire → Type 0) (n q process : ℕ) (lines : List Direction) →
-    ((k : ℕ) (line : Direction) → slice_get lines k ≡ Some line → P (record { line = process + k; byte_ns = line.byte_ns })) → IfSome (wire_among n q process lines) P
+wire-holds : (P : Wire → Type 0) (n q process : ℕ) (lines : List LinePlan) →
+    ((k : ℕ) (line : LinePlan) → slice_get lines k ≡ Some line → P (record { line = process + k; byte_ns = line.byte_ns })) → IfSome (wire_among n q process lines) P
 wire-holds P n q process [] h = tt
 wire-holds P n q process (line ∷ lines) h =
     go (leaves_by n q line) (wire-holds P n q (process + 1) lines (λ k other there. subst (λ j. P (record { line = j; byte_ns = other.byte_ns })) (omega arith) (h (suc k) other there)))
@@ -60,7 +60,7 @@ none-beyond (x ∷ xs) zero e = absurd (none-some x (sym e))
 none-beyond (x ∷ xs) (suc k) e = let rest = none-beyond xs k e in omega arith
 
 module _ (plan : Plan) (accepted : IsAccepted plan) where
-  wires-hold : (P : Wire → Type 0) → ((k : ℕ) (line : Direction) → slice_get (lines_of plan) k ≡ Some line → P (record { line = length plan.nodes + k; byte_ns = line.byte_ns })) →
+  wires-hold : (P : Wire → Type 0) → ((k : ℕ) (line : LinePlan) → slice_get (lines_of plan) k ≡ Some line → P (record { line = length plan.nodes + k; byte_ns = line.byte_ns })) →
       (n count bytes : ℕ) → AllWires P (ports_of plan n count bytes)
   unfolding wires_of
   wires-hold P h n count bytes =
@@ -71,7 +71,7 @@ module _ (plan : Plan) (accepted : IsAccepted plan) where
   slow-wires : (n count bytes : ℕ) → AllWires (λ wire. 1 ≤ wire.byte_ns) (ports_of plan n count bytes)
   slow-wires = wires-hold (λ wire. 1 ≤ wire.byte_ns) (λ k line there. (line-within plan k line accepted there).times.byte)
 
-  line-process : (k : ℕ) (line : Direction) → slice_get (lines_of plan) k ≡ Some line → length plan.nodes + k < process_count plan
+  line-process : (k : ℕ) (line : LinePlan) → slice_get (lines_of plan) k ≡ Some line → length plan.nodes + k < process_count plan
   line-process k line there = omega (arith, slice_get_within (lines_of plan) k line there, length-lines plan.nodes [] plan.links)
 
   near-wires : (n count bytes : ℕ) → AllWires (λ wire. wire.line < process_count plan) (ports_of plan n count bytes)
@@ -99,7 +99,7 @@ module _ (plan : Plan) (accepted : IsAccepted plan) where
   behind : (p : ℕ) → p < process_count plan → slice_get plan.nodes p ≡ None → p - length plan.nodes < length (lines_of plan)
   behind p lt none = omega (arith, none-beyond plan.nodes p none, length-lines plan.nodes [] plan.links)
 
-  line-there : (k : ℕ) → k < length (lines_of plan) → (o : Option Direction) → slice_get (lines_of plan) k ≡ o →
+  line-there : (k : ℕ) → k < length (lines_of plan) → (o : Option LinePlan) → slice_get (lines_of plan) k ≡ o →
       IsPlacedEquipment (equipment.Line (line_opening plan k o)) × IsWiredEquipment (process_count plan) (equipment.Line (line_opening plan k o))
   line-there k lt (Some line) there =
       ((line-within plan k line accepted there).times.propagation, omega (arith, (line-read plan k line accepted there).1))

@@ -1,8 +1,8 @@
 -- End systems and switches made of their parts.
 use Rattle.std.proofs.Common.{◌≡◌, ℕ, ◌-◌, ◌≤◌, length, map, ap, sym, ◌∙◌, slice_get}
 use Rattle.std.proofs.lemmas.Option.{slice_get_past}
-use Rattle.netdesc.specs.declared.too_many.TheConstants.{GREATEST_PORTS}
-use Rattle.netdesc.specs.Words.{Plan, IsAccepted, lines_of}
+use Rattle.network.specs.declared.limits.TheConstants.{GREATEST_PORTS}
+use Rattle.network.specs.Words.{Plan, IsAccepted, lines_of}
 use Rattle.nodes.specs.declared.opening.meeting.Side.TheVariants.{Out, In}
 use Rattle.nodes.specs.declared.equipment.Equipment.TheVariants as equipment
 use Rattle.nodes.specs.Words.{ways_at, with_ways, meetings, EndSystemState, SwitchState, LineState, line_opening, equipment_opening, ports_of, end_system_opening, switch_opening, source_met, reception_met, transit_met}

@@ -5,12 +5,12 @@ use Rattle.std.specs.List.Sorted.{IsStrictlySortedBy}
 use Rattle.std.proofs.lemmas.Bool.Decides.{nat_tests}
 use Rattle.std.proofs.lemmas.List.Elements.{All-from_recursion}
 use Rattle.std.proofs.lemmas.Map.Keys.{sorted_head, sorted_tail, sorted_from_strictly_increasing}
-use Rattle.netdesc.specs.declared.too_many.TheConstants.{GREATEST_PORTS}
-use Rattle.netdesc.specs.declared.wiring.Direction.{Direction}
-use Rattle.netdesc.specs.declared.wiring.Way.{Way}
-use Rattle.netdesc.specs.Words.{Plan, VlPlan, IsAccepted, ids_of, is_none, lines_of, out_at, in_at, ways_over, route_over, place_of_vl}
-use Rattle.netdesc.proofs.PortLemmas.{line-within}
-use Rattle.netdesc.proofs.RisingLemmas.{ids-rise}
+use Rattle.network.specs.declared.limits.TheConstants.{GREATEST_PORTS}
+use Rattle.network.specs.declared.wiring.LinePlan.{LinePlan}
+use Rattle.network.specs.declared.wiring.Way.{Way}
+use Rattle.network.specs.Words.{Plan, VlPlan, IsAccepted, ids_of, is_none, lines_of, out_at, in_at, ways_over, route_over, place_of_vl}
+use Rattle.network.proofs.PortLemmas.{line-within}
+use Rattle.network.proofs.RisingLemmas.{ids-rise}
 use Rattle.nodes.specs.declared.opening.meeting.Side.{Side}
 use Rattle.nodes.specs.declared.opening.meeting.Side.TheVariants.{Out, In}
 use Rattle.nodes.specs.Words.{ways_at, with_ways, first_port, ports_by, meeting, meetings, IsRising, number_met, met, met_by, vl_with, all_met}
@@ -29,13 +29,13 @@ all-of-each {Y = Y} P f each (x ∷ xs) = joined (f x) (each x) (all-of-each P f
     joined (y ∷ ys) all later = (all.0, joined ys all.1 later)
 
 -- a way is made of a line that there is
-all-ways : (P : Way → Type 0) (way : Direction → Option Way) (lines : List Direction) → ((k : ℕ) (line : Direction) → slice_get lines k ≡ Some line → AllByRecursion P (option_to_list (way line))) → (route : List ℕ) → AllByRecursion P (ways_over way lines route)
+all-ways : (P : Way → Type 0) (way : LinePlan → Option Way) (lines : List LinePlan) → ((k : ℕ) (line : LinePlan) → slice_get lines k ≡ Some line → AllByRecursion P (option_to_list (way line))) → (route : List ℕ) → AllByRecursion P (ways_over way lines route)
 all-ways P way lines each route = all-of-each P (λ k. option_to_list (option_and_then way (slice_get lines k))) at route
   where
     at : (k : ℕ) → AllByRecursion P (option_to_list (option_and_then way (slice_get lines k)))
     at k = go (slice_get lines k) refl
       where
-        go : (o : Option Direction) → slice_get lines k ≡ o → AllByRecursion P (option_to_list (option_and_then way o))
+        go : (o : Option LinePlan) → slice_get lines k ≡ o → AllByRecursion P (option_to_list (option_and_then way o))
         go None e = tt
         go (Some line) e = each k line e
 

@@ -1,16 +1,16 @@
 -- The wires of a node's ports, one line more.
 use Rattle.std.proofs.Common.{◌≡◌, ℕ, ◌+◌, ◌<◌, ◌&&◌, Bool, true, false, cond, is_none, List, [], ◌∷◌, ◌++◌, length, take, Option, Some, None, refl, ap, sym, ◌∙◌, arith, slice_get, length-take-le}
 use Rattle.std.proofs.lemmas.Option.{slice_get_within, get_or_from_slice_get}
-use Rattle.netdesc.specs.declared.wiring.Direction.{Direction}
-use Rattle.netdesc.proofs.PlaceLemmas.{or_else, or_else-stored}
-use Rattle.netdesc.proofs.EachLemmas.{take-read}
+use Rattle.network.specs.declared.wiring.LinePlan.{LinePlan}
+use Rattle.network.proofs.PlaceLemmas.{or_else, or_else-stored}
+use Rattle.network.proofs.EachLemmas.{take-read}
 use Rattle.nodes.specs.declared.ports.Wire.{Wire}
 use Rattle.nodes.specs.Words.{leaves_by, wire_among}
 
-abbrev wire_of : ℕ → Direction → Option Wire
+abbrev wire_of : ℕ → LinePlan → Option Wire
 wire_of process line = Some (record { line = process; byte_ns = line.byte_ns })
 
-wire_among-push : (n q process : ℕ) (lines : List Direction) (line : Direction) → wire_among n q process (lines ++ line ∷ []) ≡ or_else (wire_among n q process lines) (cond (leaves_by n q line) (wire_of (process + length lines) line) None)
+wire_among-push : (n q process : ℕ) (lines : List LinePlan) (line : LinePlan) → wire_among n q process (lines ++ line ∷ []) ≡ or_else (wire_among n q process lines) (cond (leaves_by n q line) (wire_of (process + length lines) line) None)
 wire_among-push n q process [] line = ap (λ p. cond (leaves_by n q line) (wire_of p line) None) (let e : process ≡ process + 0 = omega arith in e)
 wire_among-push n q process (first ∷ lines) line =
     let count : (process + 1) + length lines ≡ process + length (first ∷ lines) = omega arith in
@@ -22,7 +22,7 @@ wire_among-push n q process (first ∷ lines) line =
     go false later = later
 
 -- the line with the place k is stored where there was none yet
-pub wire_among-more : (n q process k number : ℕ) (lines : List Direction) (line : Direction) (old new : Option Wire) → slice_get lines k ≡ Some line → number ≡ process + k → old ≡ wire_among n q process (take k lines)
+pub wire_among-more : (n q process k number : ℕ) (lines : List LinePlan) (line : LinePlan) (old new : Option Wire) → slice_get lines k ≡ Some line → number ≡ process + k → old ≡ wire_among n q process (take k lines)
     → new ≡ cond (leaves_by n q line && is_none old) (wire_of number line) old → new ≡ wire_among n q process (take (k + 1) lines)
 wire_among-more n q process k number lines line old new read numbered before stored =
     let out = leaves_by n q line in

@@ -1,4 +1,5 @@
 //! What an event changed in a node, and where.
+//! A change is returned from inlined functions, and not written behind `&mut`: one that is dropped is then never made.
 ghost use Rattle.std.specs.Prelude.{◌≡◌, option_map};
 ghost use Rattle.output_port.specs.declared.event.PortRecord.TheVariants as saved;
 ghost use Rattle.output_port.specs.declared.event.PutRecord.{PutRecord};

@@ -6,6 +6,7 @@ ghost use Rattle.bag_regulator.specs.declared.event.RegAnswer.TheVariants.{Relea
 ghost use Rattle.reverse.specs.Sending.{replied};
 ghost use Rattle.nodes.specs.rules.EndSystem.{copied, copied_kept, copied_reply, port_of, released_kept, released_out, released_reply};
 ghost use Rattle.nodes.specs.undoing.Ports.{uncopied};
+ghost use Rattle.reverse.specs.declared.sends.TheConstants.{MOST_SENT};
 
 use crate::ports::Ports;
 use crate::vl_end::VlEnd;
@@ -39,7 +40,7 @@ pub fn release(
     ports: &mut Ports,
     out: &mut Outbound,
 ) -> CopiesRecord
-    requires room { length out.old.messages + 4 ≤ 24 }
+    requires room { length out.old.messages + 4 ≤ MOST_SENT }
     requires notes { (frame : Frame) → answer ≡ Released frame → out.old.notes ≡ [] }
     requires numbers { out.old.sender.counter + 4 ≤ greatest_number }
     ensures ports { ports.new ≡ released_out end.now answer ports.old }
@@ -66,7 +67,7 @@ fn copy_out(
     ports: &mut Ports,
     out: &mut Outbound,
 ) -> PutRecord
-    requires room { length out.old.messages + 2 ≤ 24 }
+    requires room { length out.old.messages + 2 ≤ MOST_SENT }
     requires notes { length out.old.notes < 2 }
     requires numbers { out.old.sender.counter + 2 ≤ greatest_number }
     ensures ports { ports.new ≡ copied end.now net frame.now ports.old }

@@ -9,8 +9,9 @@ ghost use Rattle.nodes.specs.rules.Finding.{Found, IsRising};
 ghost use Rattle.nodes.specs.declared.source.Source.{Source};
 ghost use Rattle.nodes.specs.declared.reception.Reception.{Reception};
 ghost use Rattle.nodes.specs.rules.Ports.{port_at};
-ghost use Rattle.nodes.specs.rules.EndSystem.{end_system, lost, offered_frame, regulated, taken, reception_at, reception_number, source_at, source_number};
+ghost use Rattle.nodes.specs.rules.EndSystem.{end_system, lost, offered_frame, regulated, taken_in, reception_at, reception_number, source_at, source_number};
 ghost use Rattle.nodes.specs.undoing.Changes.{end_system_undone, modified, source_undone, reception_undone, IsLastOfSource, IsLastOfEndSystem};
+ghost use Rattle.reverse.specs.declared.sends.TheConstants.{MOST_SENT};
 
 use crate::change::Change;
 use crate::finding::place_of;
@@ -66,7 +67,7 @@ impl EndSystem {
     pub fn handle(&mut self, message: &Message, out: &mut Outbound) -> Change
         requires messages { out.old.messages ≡ [] }
         requires notes { out.old.notes ≡ [] }
-        requires numbers { out.old.sender.counter + 24 ≤ greatest_number }
+        requires numbers { out.old.sender.counter + MOST_SENT ≤ greatest_number }
         ensures state { self.new ≡ (end_system out.old.sender.number message.now.time message.now.body self.old).state }
         ensures reply { out.new ≡ replied out.old (end_system out.old.sender.number message.now.time message.now.body self.old).reply }
         ensures change { result ≡ (end_system out.old.sender.number message.now.time message.now.body self.old).change }
@@ -133,7 +134,7 @@ impl EndSystem {
     fn regulate(&mut self, at: Time, vl: VlId, event: &RegEvent, out: &mut Outbound) -> Change
         requires messages { out.old.messages ≡ [] }
         requires notes { out.old.notes ≡ [] }
-        requires numbers { out.old.sender.counter + 24 ≤ greatest_number }
+        requires numbers { out.old.sender.counter + MOST_SENT ≤ greatest_number }
         ensures state { self.new ≡ (regulated out.old.sender.number at event.now (lost Unknown event.now) self.old (source_at self.old vl)).state }
         ensures reply { out.new ≡ replied out.old (regulated out.old.sender.number at event.now (lost Unknown event.now) self.old (source_at self.old vl)).reply }
         ensures change { result ≡ (regulated out.old.sender.number at event.now (lost Unknown event.now) self.old (source_at self.old vl)).change }
@@ -152,9 +153,9 @@ impl EndSystem {
     #[inline(always)]
     fn take(&mut self, at: Time, frame: &Frame, out: &mut Outbound) -> Change
         requires { length out.old.notes < 2 }
-        ensures state { self.new ≡ (taken at frame.now self.old (reception_at self.old frame.now.vl frame.now.net)).state }
-        ensures reply { out.new ≡ replied out.old (taken at frame.now self.old (reception_at self.old frame.now.vl frame.now.net)).reply }
-        ensures change { result ≡ (taken at frame.now self.old (reception_at self.old frame.now.vl frame.now.net)).change }
+        ensures state { self.new ≡ (taken_in at frame.now self.old (reception_at self.old frame.now.vl frame.now.net)).state }
+        ensures reply { out.new ≡ replied out.old (taken_in at frame.now self.old (reception_at self.old frame.now.vl frame.now.net)).reply }
+        ensures change { result ≡ (taken_in at frame.now self.old (reception_at self.old frame.now.vl frame.now.net)).change }
         ensures last { IsLastOfEndSystem result self.new }
     {
         let Some(place) = self.reception(frame.vl, frame.net) else {

@@ -5,6 +5,7 @@ ghost use Rattle.std.specs.Option.{option_copied};
 ghost use Rattle.reverse.specs.Sending.{replied};
 ghost use Rattle.nodes.specs.rules.Node.{handled, port_in, regulator_in};
 ghost use Rattle.nodes.specs.undoing.Changes.{undone, IsLastChange};
+ghost use Rattle.reverse.specs.declared.sends.TheConstants.{MOST_SENT};
 
 use crate::change::Change;
 use crate::end_system::EndSystem;
@@ -29,7 +30,7 @@ impl Equipment {
     pub(crate) fn handle(&mut self, message: &Message, out: &mut Outbound) -> Change
         requires messages { out.old.messages ≡ [] }
         requires notes { out.old.notes ≡ [] }
-        requires numbers { out.old.sender.counter + 24 ≤ greatest_number }
+        requires numbers { out.old.sender.counter + MOST_SENT ≤ greatest_number }
         ensures state { self.new ≡ (handled out.old.sender.number message.now self.old).equipment }
         ensures reply { out.new ≡ replied out.old (handled out.old.sender.number message.now self.old).reply }
         ensures change { result ≡ (handled out.old.sender.number message.now self.old).change }

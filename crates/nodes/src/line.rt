@@ -4,8 +4,9 @@ ghost use Rattle.std.specs.List.{list_any};
 ghost use Rattle.vlink.specs.Numbering.{greatest_number};
 ghost use Rattle.reverse.specs.Sending.{replied};
 ghost use Rattle.nodes.specs.rules.Line.{carried, is_within, line};
+ghost use Rattle.reverse.specs.declared.sends.TheConstants.{MOST_SENT};
 
-use netdesc::Outage;
+use network::Outage;
 use reverse::Outbound;
 use std::marker::Model;
 use vlink::{Body, Cause, Frame, Message, Time};
@@ -52,7 +53,7 @@ impl Line {
 
     /// The last bit of a frame leaves into the line.
     fn carry(&self, at: Time, frame: &Frame, out: &mut Outbound)
-        requires room { length out.old.messages < 24 }
+        requires room { length out.old.messages < MOST_SENT }
         requires notes { length out.old.notes < 2 }
         requires numbers { out.old.sender.counter < greatest_number }
         ensures { out.new ≡ replied out.old (carried at frame.now self.now) }
@@ -76,7 +77,7 @@ impl Line {
     /// Handles a message: a frame that it carries arrives after the propagation time, or is lost in an outage.
     #[inline(always)]
     pub fn handle(&self, message: &Message, out: &mut Outbound)
-        requires room { length out.old.messages < 24 }
+        requires room { length out.old.messages < MOST_SENT }
         requires notes { length out.old.notes < 2 }
         requires numbers { out.old.sender.counter < greatest_number }
         ensures { out.new ≡ replied out.old (line message.now.time message.now.body self.now) }

@@ -6,12 +6,13 @@ ghost use Rattle.vlink.specs.Numbering.{greatest_number};
 ghost use Rattle.nodes.specs.rules.Node.{after, sends, notes, port_in, regulator_in};
 ghost use Rattle.nodes.specs.undoing.Node.{node, IsNodeValue};
 ghost use Rattle.nodes.specs.rules.Placed.{IsPlacedEquipment};
+ghost use Rattle.reverse.specs.declared.sends.TheConstants.{MOST_SENT};
 
 use crate::change::Change;
 use crate::equipment::Equipment;
 use bag_regulator::BagRegulator;
 use output_port::Port;
-use reverse::{Actor, Outbound, Reversible, Sends};
+use reverse::{Actor, MOST_SENT, Outbound, Reversible, Sends};
 use std::marker::Model;
 use vlink::{Message, Time, VlId};
 
@@ -65,7 +66,7 @@ impl Node {
     /// the message is taken back.
     #[inline(always)]
     fn step(&mut self, event: &Message, out: &mut Outbound) -> NodeRecord
-        requires { self.old.sender.counter + 24 ≤ greatest_number }
+        requires { self.old.sender.counter + MOST_SENT ≤ greatest_number }
         ensures state { self.new ≡ after self.old event.now }
         ensures messages { out.new.messages ≡ sends self.old event.now }
         ensures notes { out.new.notes ≡ notes self.old event.now }
@@ -105,6 +106,7 @@ impl Node {
 
 impl Reversible for Node {
     ghost use Rattle.std.specs.Prelude.{◌+◌, ◌≤◌};
+    ghost use Rattle.reverse.specs.declared.sends.TheConstants.{MOST_SENT};
     ghost use Rattle.vlink.specs.Numbering.{greatest_number};
     ghost use Rattle.nodes.specs.undoing.Node.{node, IsNodeValue};
     ghost use Rattle.nodes.specs.laws.Node.{node-undoes};
@@ -119,7 +121,7 @@ impl Reversible for Node {
 
     ghost is_value = { IsNodeValue };
 
-    ghost can_apply = { λ s. s.sender.counter + 24 ≤ greatest_number };
+    ghost can_apply = { λ s. s.sender.counter + MOST_SENT ≤ greatest_number };
 
     ghost undoes = { node-undoes };
 
@@ -173,7 +175,7 @@ impl Actor for Node {
     }
 
     fn has_numbers(&self) -> bool {
-        self.counter <= (1 << 62) - 24
+        self.counter <= (1 << 62) - MOST_SENT as u64
     }
 
     #[inline(always)]

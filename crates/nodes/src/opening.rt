@@ -1,7 +1,7 @@
 //! All processes of a network in their opening states.
 ghost use Rattle.std.specs.Prelude.{◌≡◌, ◌<◌, length, slice_get, IfOk};
-ghost use Rattle.netdesc.specs.declared.too_many.TheConstants.{GREATEST_PORTS};
-ghost use Rattle.netdesc.specs.Words.{process_count, lines_of};
+ghost use Rattle.network.specs.declared.limits.TheConstants.{GREATEST_PORTS};
+ghost use Rattle.network.specs.Words.{process_count, lines_of};
 ghost use Rattle.nodes.specs.rules.Opening.{end_system_opening, switch_opening, line_opening, equipment_opening, opening};
 
 mod making;
@@ -15,7 +15,7 @@ use crate::node::Node;
 use crate::switch::Switch;
 use making::{receptions_of, sources_of, transits_of};
 use meeting::{Side, meetings};
-use netdesc::{GREATEST_PORTS, Network, NodeKind};
+use network::{GREATEST_PORTS, Network, NodeKind};
 use std::alloc::{AllocError, Global};
 use wiring::ports_of;
 
@@ -49,7 +49,7 @@ fn switch(
     requires { node < length network.now.nodes }
     ensures { IfOk result (λ s. s ≡ switch_opening network.now node latency_ns bytes) }
 {
-    network.accepted();
+    network.accepted_law();
     let arriving = meetings(alloc, network, node, Side::In)?;
     let departing = meetings(alloc, network, node, Side::Out)?;
     Ok(Switch::new(
@@ -107,7 +107,7 @@ impl Node {
         requires { process < process_count network.now }
         ensures { IfOk result (λ node. node ≡ opening network.now process) }
     {
-        network.accepted();
+        network.accepted_law();
         let equipment = equipment(alloc, network, process)?;
         Ok(Node::of_equipment(process, network.until(), equipment))
     }

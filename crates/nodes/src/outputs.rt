@@ -1,8 +1,10 @@
 //! The output ports of a virtual link at a switch.
 ghost use Rattle.std.specs.Prelude.{◌≡◌, ◌≤◌, length};
 ghost use Rattle.nodes.specs.rules.Outputs.{marked_from};
+ghost use Rattle.network.specs.declared.limits.TheConstants.{GREATEST_PORTS};
 
 use arrayvec::ArrayVec;
+use network::GREATEST_PORTS;
 use std::marker::Model;
 
 /// The output ports of a virtual link at a switch. They stand also in a list, so that a frame goes to each without a look at the others.
@@ -10,8 +12,8 @@ use std::marker::Model;
 /// Clauses see them as a mark for each port.
 #[derive(Debug, Drop)]
 pub struct Outputs {
-    ports: ArrayVec<u8, 24>,
-    marks: [bool; 24],
+    ports: ArrayVec<u8, GREATEST_PORTS>,
+    marks: [bool; GREATEST_PORTS],
 }
 
 impl Model for Outputs {
@@ -27,11 +29,11 @@ impl Model for Outputs {
 
 impl Outputs {
     /// The ports with these marks.
-    pub(crate) fn new(marks: [bool; 24]) -> Self
+    pub(crate) fn new(marks: [bool; GREATEST_PORTS]) -> Self
         ensures { result ≡ marks }
     {
         let mut ports = ArrayVec::new();
-        for port in 0..24 {
+        for port in 0..GREATEST_PORTS as u8 {
             if marks[usize::from(port)] {
                 ports.push(port);
             }
@@ -42,7 +44,7 @@ impl Outputs {
     /// The ports that are marked, rising.
     pub(crate) fn ports(&self) -> &[u8]
         ensures ports { result.now ≡ marked_from 0 self.now }
-        ensures few { length result.now ≤ 24 }
+        ensures few { length result.now ≤ GREATEST_PORTS }
     {
         self.ports.as_slice()
     }

@@ -9,6 +9,7 @@ ghost use Rattle.output_port.specs.declared.event.Priority.{Priority};
 ghost use Rattle.output_port.specs.declared.event.PortEvent.TheVariants.{Put, Free};
 ghost use Rattle.output_port.specs.declared.event.PortRecord.TheVariants as saved;
 ghost use Rattle.nodes.specs.undoing.Ports.{restored, IsLastAtPort, IsPortValue};
+ghost use Rattle.reverse.specs.declared.sends.TheConstants.{MOST_SENT};
 
 use output_port::{FreeRecord, Port, PortRecord, Priority, PutRecord};
 use reverse::Outbound;
@@ -90,7 +91,7 @@ impl Ports {
         priority: Priority,
         out: &mut Outbound,
     ) -> Option<PutRecord>
-        requires room { length out.old.messages + 2 ≤ 24 }
+        requires room { length out.old.messages + 2 ≤ MOST_SENT }
         requires notes { length out.old.notes < 2 }
         requires numbers { out.old.sender.counter + 2 ≤ greatest_number }
         ensures state { self.new ≡ changed port (Put frame.now priority) self.old }
@@ -112,7 +113,7 @@ impl Ports {
     #[tactic(auto, using(std::proofs::lemmas::Grind::common_steps, crate::proofs::PortLemmas::reads))]
     #[inline(always)]
     pub fn free(&mut self, at: Time, port: u8, out: &mut Outbound) -> Option<PortRecord>
-        requires room { length out.old.messages + 2 ≤ 24 }
+        requires room { length out.old.messages + 2 ≤ MOST_SENT }
         requires notes { length out.old.notes < 2 }
         requires numbers { out.old.sender.counter + 2 ≤ greatest_number }
         ensures state { self.new ≡ changed port Free self.old }
@@ -160,7 +161,7 @@ impl Ports {
 
 /// Sends and notes what follows from a port's answer to a frame put.
 fn answer_put(out: &mut Outbound, at: Time, port: u8, wire: Wire, frame: &Frame, kept: PutRecord)
-    requires room { length out.old.messages + 2 ≤ 24 }
+    requires room { length out.old.messages + 2 ≤ MOST_SENT }
     requires notes { length out.old.notes < 2 }
     requires numbers { out.old.sender.counter + 2 ≤ greatest_number }
     ensures { (priority : Priority) → out.new ≡ replied out.old (answered out.old.sender.number at port wire (Put frame.now priority) (put_answer frame.now kept)) }
@@ -175,7 +176,7 @@ fn answer_put(out: &mut Outbound, at: Time, port: u8, wire: Wire, frame: &Frame,
 /// Sends what follows from a port's answer to a Free.
 #[inline(always)]
 fn answer_free(out: &mut Outbound, at: Time, port: u8, wire: Wire, kept: &FreeRecord)
-    requires room { length out.old.messages + 2 ≤ 24 }
+    requires room { length out.old.messages + 2 ≤ MOST_SENT }
     requires numbers { out.old.sender.counter + 2 ≤ greatest_number }
     ensures { out.new ≡ replied out.old (answered out.old.sender.number at port wire Free (free_answer kept.now)) }
 {
@@ -186,7 +187,7 @@ fn answer_free(out: &mut Outbound, at: Time, port: u8, wire: Wire, kept: &FreeRe
 
 /// The frame starts: its last bit is carried into the line, and then the port is free.
 fn start(out: &mut Outbound, at: Time, port: u8, wire: Wire, frame: &Frame)
-    requires room { length out.old.messages + 2 ≤ 24 }
+    requires room { length out.old.messages + 2 ≤ MOST_SENT }
     requires numbers { out.old.sender.counter + 2 ≤ greatest_number }
     ensures { out.new ≡ replied out.old (start out.old.sender.number at port wire frame.now) }
 {

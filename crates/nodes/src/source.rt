@@ -4,6 +4,7 @@ ghost use Rattle.vlink.specs.Numbering.{greatest_number};
 ghost use Rattle.bag_regulator.specs.Regulator.{regulator as plain, IsRegulator};
 ghost use Rattle.reverse.specs.Sending.{joined, replied};
 ghost use Rattle.nodes.specs.rules.EndSystem.{asked, full, lost, released_kept, released_out, released_reply, source_number};
+ghost use Rattle.reverse.specs.declared.sends.TheConstants.{MOST_SENT};
 
 use crate::change::Change;
 use crate::copies::release;
@@ -42,7 +43,7 @@ impl Source {
     ) -> Change
         requires messages { out.old.messages ≡ [] }
         requires notes { out.old.notes ≡ [] }
-        requires numbers { out.old.sender.counter + 24 ≤ greatest_number }
+        requires numbers { out.old.sender.counter + MOST_SENT ≤ greatest_number }
         ensures state { self.new ≡ record self.old { regulator = plain.after self.old.regulator event.now } }
         ensures ports { ports.new ≡ released_out self.old.end (plain.out self.old.regulator event.now).answer ports.old }
         ensures reply { let told = plain.out self.old.regulator event.now in
@@ -84,7 +85,7 @@ fn lose_if_full(event: &RegEvent, answer: RegAnswer, out: &mut Outbound)
 
 /// Sends the Release that a regulator asks for at the moment `release_at` in ns, if it asks for one.
 fn ask(vl: VlId, release_at: Option<u64>, out: &mut Outbound)
-    requires room { length out.old.messages < 24 }
+    requires room { length out.old.messages < MOST_SENT }
     requires numbers { out.old.sender.counter < greatest_number }
     ensures { out.new ≡ replied out.old (asked out.old.sender.number vl release_at) }
 {

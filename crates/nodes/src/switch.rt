@@ -6,8 +6,9 @@ ghost use Rattle.reverse.specs.Sending.{replied};
 ghost use Rattle.nodes.specs.rules.Finding.{Found, IsRising};
 ghost use Rattle.nodes.specs.declared.transit.Transit.{Transit};
 ghost use Rattle.nodes.specs.rules.Ports.{port_at};
-ghost use Rattle.nodes.specs.rules.Switch.{entered, entered_kept, entered_reply, forwarded, judged, outputs_of, switch, taken, put, transit_at, transit_number};
+ghost use Rattle.nodes.specs.rules.Switch.{entered, entered_kept, entered_reply, forwarded, judged, outputs_of, switch, taken_in, put, transit_at, transit_number};
 ghost use Rattle.nodes.specs.undoing.Changes.{modified, switch_undone, transit_undone, IsLastOfTransit, IsLastOfSwitch};
+ghost use Rattle.reverse.specs.declared.sends.TheConstants.{MOST_SENT};
 
 use crate::change::Change;
 use crate::finding::place_of;
@@ -60,7 +61,7 @@ impl Switch {
     pub fn handle(&mut self, message: &Message, out: &mut Outbound) -> Change
         requires messages { out.old.messages ≡ [] }
         requires notes { out.old.notes ≡ [] }
-        requires numbers { out.old.sender.counter + 24 ≤ greatest_number }
+        requires numbers { out.old.sender.counter + MOST_SENT ≤ greatest_number }
         ensures state { self.new ≡ (switch out.old.sender.number message.now.time message.now.body self.old).state }
         ensures reply { out.new ≡ replied out.old (switch out.old.sender.number message.now.time message.now.body self.old).reply }
         ensures change { result ≡ (switch out.old.sender.number message.now.time message.now.body self.old).change }
@@ -116,10 +117,10 @@ impl Switch {
     fn take(&mut self, at: Time, port: u8, frame: &Frame, out: &mut Outbound) -> Change
         requires messages { out.old.messages ≡ [] }
         requires notes { out.old.notes ≡ [] }
-        requires numbers { out.old.sender.counter + 24 ≤ greatest_number }
-        ensures state { self.new ≡ (taken out.old.sender.number at port frame.now self.old (transit_at self.old frame.now.vl)).state }
-        ensures reply { out.new ≡ replied out.old (taken out.old.sender.number at port frame.now self.old (transit_at self.old frame.now.vl)).reply }
-        ensures change { result ≡ (taken out.old.sender.number at port frame.now self.old (transit_at self.old frame.now.vl)).change }
+        requires numbers { out.old.sender.counter + MOST_SENT ≤ greatest_number }
+        ensures state { self.new ≡ (taken_in out.old.sender.number at port frame.now self.old (transit_at self.old frame.now.vl)).state }
+        ensures reply { out.new ≡ replied out.old (taken_in out.old.sender.number at port frame.now self.old (transit_at self.old frame.now.vl)).reply }
+        ensures change { result ≡ (taken_in out.old.sender.number at port frame.now self.old (transit_at self.old frame.now.vl)).change }
         ensures last { IsLastOfSwitch result self.new }
     {
         let Some(place) = place_of(self.transits.as_slice(), frame.vl) else {
@@ -138,7 +139,7 @@ impl Switch {
     fn put(&mut self, at: Time, port: u8, frame: &Frame, out: &mut Outbound) -> Change
         requires messages { out.old.messages ≡ [] }
         requires notes { out.old.notes ≡ [] }
-        requires numbers { out.old.sender.counter + 24 ≤ greatest_number }
+        requires numbers { out.old.sender.counter + MOST_SENT ≤ greatest_number }
         ensures state { self.new ≡ (put out.old.sender.number at port frame.now self.old (transit_at self.old frame.now.vl)).state }
         ensures reply { out.new ≡ replied out.old (put out.old.sender.number at port frame.now self.old (transit_at self.old frame.now.vl)).reply }
         ensures change { result ≡ (put out.old.sender.number at port frame.now self.old (transit_at self.old frame.now.vl)).change }
@@ -174,7 +175,7 @@ fn enter(
 ) -> Option<AccountRecord>
     requires messages { out.old.messages ≡ [] }
     requires notes { out.old.notes ≡ [] }
-    requires numbers { out.old.sender.counter + 24 ≤ greatest_number }
+    requires numbers { out.old.sender.counter + MOST_SENT ≤ greatest_number }
     ensures transit { transit.new ≡ entered at port frame.now transit.old }
     ensures number { transit_number transit.new ≡ transit_number transit.old }
     ensures reply { out.new ≡ replied out.old (entered_reply out.old.sender.number at latency_ns port frame.now transit.old) }
@@ -204,7 +205,7 @@ fn enter(
 fn answer_verdict(ns: u64, frame: &Frame, transit: &Transit, verdict: Verdict, out: &mut Outbound)
     requires messages { out.old.messages ≡ [] }
     requires notes { out.old.notes ≡ [] }
-    requires numbers { out.old.sender.counter + 24 ≤ greatest_number }
+    requires numbers { out.old.sender.counter + MOST_SENT ≤ greatest_number }
     ensures { out.new ≡ replied out.old (judged out.old.sender.number ns frame.now (outputs_of transit.now) verdict) }
 {
     match verdict {
@@ -217,7 +218,7 @@ fn answer_verdict(ns: u64, frame: &Frame, transit: &Transit, verdict: Verdict, o
 #[inline(always)]
 fn forward(ns: u64, frame: &Frame, transit: &Transit, out: &mut Outbound)
     requires messages { out.old.messages ≡ [] }
-    requires numbers { out.old.sender.counter + 24 ≤ greatest_number }
+    requires numbers { out.old.sender.counter + MOST_SENT ≤ greatest_number }
     ensures { out.new ≡ replied out.old (forwarded out.old.sender.number ns frame.now (outputs_of transit.now)) }
 {
     let number = out.number();

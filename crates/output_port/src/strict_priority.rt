@@ -12,9 +12,7 @@ ghost use Rattle.output_port.specs.StrictPriority.{StartsNothing, kept_frames, s
 /// becomes free the first high frame starts while one waits (strict priority, as ARINC 664 Part 7 has it). Of one
 /// priority the frames start in the order in which they were kept, and each that was kept has started or waits. No
 /// event makes more bytes wait than may, and none leaves a frame waiting at an idle port.
-///
-/// A call does nothing: its caller learns what the clauses say.
-pub fn order()
+pub fn strict_priority_law()
     ensures uninterrupted { (p : PortState) (frame : Frame) (priority : Priority) →
         p.busy ≡ true → StartsNothing p (Put frame priority) }
     ensures high_first { (p : PortState) (frame : Frame) (rest : List Frame) →

@@ -1,6 +1,6 @@
 //! Nodes that stay together: each switch with the end systems that have most traffic with it.
 use crate::flows::{Flow, add, is_switch, sum_at};
-use netdesc::Network;
+use network::Network;
 use std::alloc::{AllocError, Global};
 
 /// The clusters of a network, one for each switch at first, by the place of the switch among the switches.

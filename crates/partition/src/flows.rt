@@ -1,5 +1,5 @@
 //! What the lines of a network carry, and what its nodes have to do.
-use netdesc::{Network, Way};
+use network::{Network, Way};
 use network_rows::{NodeKind, VirtualLink};
 use std::alloc::{AllocError, Global};
 use vlink::VlId;

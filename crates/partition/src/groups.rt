@@ -1,6 +1,6 @@
 //! The group of each process.
 ghost use Rattle.std.specs.Prelude.{◌≡◌, ◌<◌, ◌≤◌, All, length, IfOk};
-ghost use Rattle.netdesc.specs.Faults.{process_count};
+ghost use Rattle.network.specs.Faults.{process_count};
 
 use crate::clusters::Clusters;
 use crate::dealing::deal;
@@ -8,7 +8,7 @@ use crate::flows::{Flow, add, flows_of, least, loads_of, sum_at};
 use crate::joining::join_all;
 use crate::moving::Owners;
 use crate::packing::{group_of, pack};
-use netdesc::Network;
+use network::Network;
 use std::alloc::{AllocError, Global};
 
 /// How many events a group is to have within a lead, at the least.

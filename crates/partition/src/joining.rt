@@ -21,7 +21,7 @@ pub(crate) fn join_all(
     groups: usize,
     most: u64,
 ) -> Result<Matrix, AllocError> {
-    let mut between = between(alloc, clusters, flows)?;
+    let mut between = flow_between(alloc, clusters, flows)?;
     for joined in groups..clusters.sums.len() {
         if let Some(pair) = closest(clusters, &between, most) {
             join(clusters, &mut between, pair);
@@ -31,7 +31,7 @@ pub(crate) fn join_all(
 }
 
 /// What goes between each two clusters.
-fn between(alloc: Global, clusters: &Clusters, flows: &[Flow]) -> Result<Matrix, AllocError> {
+fn flow_between(alloc: Global, clusters: &Clusters, flows: &[Flow]) -> Result<Matrix, AllocError> {
     let mut between = Matrix::new(alloc, clusters.sums.len())?;
     for flow in flows {
         if let (Some(one), Some(other)) = (clusters.at(flow.from), clusters.at(flow.to)) {

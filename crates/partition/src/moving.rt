@@ -1,6 +1,6 @@
 //! Nodes move to other groups where less then goes between groups.
 use crate::flows::{Flow, add, is_switch, sum_at, take};
-use netdesc::Network;
+use network::Network;
 use std::alloc::{AllocError, Global};
 
 /// How often all nodes are looked at.

@@ -16,7 +16,7 @@ firsts n es = map (λ e. e.message) (take n es)
 module _ {S K : Type 0} (r : Rules Message S K Note) (O : IsOrder r.order) (m : Message) (es : List (Event K)) (n k : ℕ) (e : Event K) (next : n ≡ suc k) (h : k < length es)
     (at : e ≡ slice_index_or es k e) where
   one-more : firsts n es ≡ firsts k es ++ e.message ∷ []
-  one-more = ap (λ i. firsts i es) next ∙ (ap (map (λ (x : Event K). x.message)) (take-more es k e h at) ∙ map-append (λ (x : Event K). x.message) (take k es) (e ∷ []))
+  one-more = ap (map (λ (x : Event K). x.message)) (take-more es n k e next h at) ∙ map-append (λ (x : Event K). x.message) (take k es) (e ∷ [])
 
   -- the last of them comes before it
   pub before-all : IsAscending r.order (map (λ e. e.message) es) → r.order.less e.message m ≡ true → length (before r.order m (firsts n es)) ≡ n

@@ -1,4 +1,4 @@
-pub mod Arriving
+pub mod Arrivals
 pub mod Beside
 pub mod Commits
 pub mod Counting

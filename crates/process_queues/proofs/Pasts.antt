@@ -1,5 +1,6 @@
 -- One event more at the end of several, or one less: what is kept of them, what they sent, and their rows.
 use Rattle.std.proofs.Common.{◌≡◌, ℕ, ◌+◌, ◌-◌, ◌<◌, List, [], ◌∷◌, ◌++◌, length, map, take, drop, refl, sym, ap, ◌∙◌, subst, arith, append_assoc, append-nil, length-append}
+use Rattle.std.proofs.Math.Seq.{take-append_seam, drop-append_seam}
 use Rattle.std.proofs.lemmas.List.{length-map}
 use Rattle.vlink.specs.declared.message.Message.{Message}
 use Rattle.vlink.specs.declared.note.Note.{Note}
@@ -12,23 +13,10 @@ use Rattle.process_queues.proofs.Taking.{snoc-equal, split-last}
 
 -- the front part of a list, and what is behind it
 pub front-of : {A : Type 0} (xs ys : List A) (k : ℕ) → k ≡ length xs → take k (xs ++ ys) ≡ xs
-front-of xs ys k e = ap (λ n. take n (xs ++ ys)) e ∙ go xs
-  where
-    go : (zs : List _) → take (length zs) (zs ++ ys) ≡ zs
-    go [] = refl
-    go (z ∷ zs) = ap (λ w. z ∷ w) (go zs)
+front-of xs ys k e = ap (λ n. take n (xs ++ ys)) e ∙ take-append_seam xs ys
 
 pub back-of : {A : Type 0} (xs ys : List A) (k : ℕ) → k ≡ length xs → drop k (xs ++ ys) ≡ ys
-back-of xs ys k e = ap (λ n. drop n (xs ++ ys)) e ∙ go xs
-  where
-    go : (zs : List _) → drop (length zs) (zs ++ ys) ≡ ys
-    go [] = refl
-    go (z ∷ zs) = go zs
-
--- an event gives a row a note
-pub length-rows : (m : Message) (notes : List Note) → length (rows_of message_order m notes) ≡ length notes
-length-rows m [] = refl
-length-rows m (n ∷ ns) = let e = length-rows m ns in omega arith
+back-of xs ys k e = ap (λ n. drop n (xs ++ ys)) e ∙ drop-append_seam xs ys
 
 module _ {S K : Type 0} (r : Rules Message S K Note) where
   events-append : (s : S) (ms ns : List Message) → events_of r s (ms ++ ns) ≡ events_of r s ms ++ events_of r (reached r s ms) ns

@@ -2,8 +2,7 @@
 use Rattle.std.proofs.Common.{◌≡◌, ℕ, suc, ◌+◌, ◌≤◌, min, List, [], ◌∷◌, ◌++◌, length, map, take, Some, None, slice_get, refl, sym, ap, ◌∙◌, subst, arith, option_map, length-append, length-drop}
 use Rattle.vlink.specs.declared.message.Message.{Message}
 use Rattle.vlink.specs.declared.note.Note.{Note}
-use Rattle.vlink.specs.Letters.{Letter}
-use Rattle.virtual_time.specs.Law.{Rules, IsOrder, reached, rowed, lowest, times_of, Part, unhandled, next_of, floor_of}
+use Rattle.virtual_time.specs.Law.{Rules, IsOrder, reached, rowed, lowest, Part, unhandled, next_of, floor_of}
 use Rattle.virtual_time.proofs.Least.{least-some, least-none}
 use Rattle.virtual_time.proofs.Lowest.{lowest-top, lowest-message, lowest-messages}
 use Rattle.virtual_time.proofs.Order.{not_less-time}
@@ -71,9 +70,3 @@ module _ {S K : Type 0} (r : Rules Message S K Note) (O : IsOrder r.order) (unti
 pub lowest-push : (d x : ℕ) (xs : List ℕ) → lowest d (xs ++ x ∷ []) ≡ min x (lowest d xs)
 lowest-push d x [] = refl
 lowest-push d x (y ∷ ys) = let a = lowest-push d x ys in omega arith
-
--- the times of letters are those that the law of virtual time sees
-pub times-signed : {S K : Type 0} (r : Rules Message S K Note) → ((m : Message) → r.order.time m ≡ m.time) → (ls : List Letter) →
-    map (λ l. l.message.time) ls ≡ times_of r.order ls
-times-signed r t [] = refl
-times-signed r t (l ∷ ls) = ap (λ z. z ∷ map (λ x. x.message.time) ls) (sym (t l.message)) ∙ ap (λ zs. r.order.time l.message ∷ zs) (times-signed r t ls)

@@ -1,6 +1,6 @@
 -- What the newest events sent, up to one that comes before a message.
-use Rattle.std.proofs.Common.{◌≡◌, ℕ, zero, suc, ◌+◌, ◌≤◌, ◌<◌, false, cond, List, [], ◌∷◌, ◌++◌, length, map, take, reverse, slice_index_or, Some, refl, sym, ap, ◌∙◌, arith, length-append}
-use Rattle.std.proofs.lemmas.List.{map-append, reverse-append}
+use Rattle.std.proofs.Common.{◌≡◌, ℕ, suc, ◌+◌, ◌≤◌, ◌<◌, false, cond, List, [], ◌∷◌, ◌++◌, length, map, take, reverse, slice_index_or, Some, refl, sym, ap, ◌∙◌, arith, length-append}
+use Rattle.std.proofs.lemmas.List.{map-append, reverse-append, take_more}
 use Rattle.vlink.specs.Order.{message_order}
 use Rattle.vlink.specs.declared.message.Message.{Message}
 use Rattle.vlink.specs.declared.note.Note.{Note}
@@ -49,18 +49,15 @@ since-all {r = r} {start = start} {ms} {past = past} h m =
     omega arith
 
 -- the newest of these, and those before it
-pub take-more : {A : Type 0} (xs : List A) (k : ℕ) (x : A) → k < length xs → x ≡ slice_index_or xs k x → take (suc k) xs ≡ take k xs ++ x ∷ []
-take-more [] k x h e = absurd (omega arith)
-take-more (y ∷ ys) zero x h e = ap (λ z. z ∷ []) (sym e)
-take-more (y ∷ ys) (suc k) x h e = ap (λ z. y ∷ z) (take-more ys k x (omega arith) e)
+pub take-more : {A : Type 0} (xs : List A) (n k : ℕ) (x : A) → n ≡ suc k → k < length xs → x ≡ slice_index_or xs k x → take n xs ≡ take k xs ++ x ∷ []
+take-more xs n k x next h e = ap (λ i. take i xs) (let more : n ≡ k + 1 = omega arith in more) ∙ (take_more xs k x h ∙ ap (λ z. take k xs ++ z ∷ []) (sym e))
 
 since-snoc : {K : Type 0} (m : Message) (xs : List (Event K)) (e : Event K) → sent_since m (reverse (xs ++ e ∷ [])) ≡ cond (is_before e.message m) 0 (e.sent + sent_since m (reverse xs))
 since-snoc m xs e = ap (sent_since m) (reverse-append xs (e ∷ []))
 
 pub since-next : {K : Type 0} (m : Message) (xs : List (Event K)) (n k : ℕ) (e : Event K) → n ≡ suc k → k < length xs → e ≡ slice_index_or xs k e →
     sent_since m (reverse (take n xs)) ≡ cond (is_before e.message m) 0 (e.sent + sent_since m (reverse (take k xs)))
-since-next m xs n k e next h at =
-    ap (λ i. sent_since m (reverse (take i xs))) next ∙ (ap (λ z. sent_since m (reverse z)) (take-more xs k e h at) ∙ since-snoc m (take k xs) e)
+since-next m xs n k e next h at = ap (λ z. sent_since m (reverse z)) (take-more xs n k e next h at) ∙ since-snoc m (take k xs) e
 
 newest-snoc : {M : Type 0} (ds : List M) (d : M) → newest_of (ds ++ d ∷ []) ≡ Some d
 newest-snoc [] d = refl

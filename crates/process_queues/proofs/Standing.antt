@@ -1,7 +1,7 @@
 -- What each act of a process makes of the part that its queues stand for.
-use Rattle.std.proofs.Common.{◌≡◌, ℕ, ◌+◌, ◌-◌, ◌≤◌, true, false, cond, List, [], ◌∷◌, ◌++◌, length, map, drop, Some, refl, sym, ap, ◌∙◌, subst, arith, append_assoc, append-nil, length-append, length-drop, drop-drop}
+use Rattle.std.proofs.Common.{◌≡◌, ℕ, ◌+◌, ◌-◌, ◌≤◌, true, false, cond, List, [], ◌∷◌, ◌++◌, length, map, drop, Option, Some, refl, sym, ap, ◌∙◌, subst, arith, append_assoc, append-nil, length-append, length-drop, drop-drop}
 use Rattle.std.specs.Prelude.{⊤}
-use Rattle.std.proofs.lemmas.List.{drop-append-le}
+use Rattle.std.proofs.lemmas.List.{drop-append-le, length-map}
 use Rattle.vlink.specs.declared.message.Message.{Message}
 use Rattle.vlink.specs.declared.note.Note.{Note}
 use Rattle.virtual_time.specs.Law.{Rules, reached, rowed, rows_of, plus_of, Part, opened, delivered, emptied, next_of, handled, run_one, can_commit, oldest_committed, commit_oldest, IsWell}
@@ -13,10 +13,10 @@ use Rattle.vlink.specs.Order.{message_order}
 use Rattle.vlink.specs.Letters.{Letter}
 use Rattle.antimessages.specs.Counting.{HaveSameCounts, signed_count}
 use Rattle.process_queues.specs.Past.{Past, Rows, IsPastOf, handled_past}
-use Rattle.process_queues.specs.Queues.{Queues, StandsFor, rows_there, delivered_all, with_done}
+use Rattle.process_queues.specs.Queues.{Queues, InHand, StandsFor, Does, IsStanding, rows_there, delivered_all, next_in, with_done}
 use Rattle.process_queues.proofs.Beside.{with_done-committed}
 use Rattle.process_queues.proofs.Counting.{OfMessages, counts-less}
-use Rattle.process_queues.proofs.Pasts.{past-more, length-rows, messages-of}
+use Rattle.process_queues.proofs.Pasts.{past-more, messages-of}
 use Rattle.process_queues.proofs.Rolls.{done-messages}
 
 module _ {S K : Type 0} (r : Rules Message S K Note) (is_value : S → Message → Type 0) where
@@ -35,39 +35,29 @@ module _ {S K : Type 0} (r : Rules Message S K Note) (is_value : S → Message �
 
 module _ {S K : Type 0} {r : Rules Message S K Note} {is_value : S → Message → Type 0} where
   module _ {opening : S} {part : Part Message S} {q q' : Queues S K} (h : StandsFor r is_value opening part q) where
-    pub delivered-stands : (l : Letter) → q' ≡ record q { tray = q.tray ++ l ∷ [] } → StandsFor r is_value opening (delivered l part) q'
-    delivered-stands l e = subst (StandsFor r is_value opening (delivered l part)) (sym e) (record {
+    -- with other letters, in the part as well, where these agree and the part is well
+    lettered : {tally tray outbox tally' tray' outbox' : List Letter} → HaveSameCounts message_order tally tally' → tray' ≡ tray → outbox' ≡ outbox →
+        IsWell r (λ s. ⊤) opening (record part { tally = tally; tray = tray; outbox = outbox }) → q' ≡ record q { tally = tally'; tray = tray'; outbox = outbox' } →
+        StandsFor r is_value opening (record part { tally = tally; tray = tray; outbox = outbox }) q'
+    lettered counts came goes well e = subst (StandsFor r is_value opening _) (sym e) (record {
       past = record { past_of = h.past.past_of; state = h.past.state; ascending = h.past.ascending };
       sealed = h.sealed;
       committed = h.committed;
-      counts = h.counts;
-      tray = ap (λ ls. ls ++ l ∷ []) h.tray;
-      outbox = h.outbox;
-      well = delivered-well r (λ s. ⊤) opening l part h.well;
+      counts = counts;
+      tray = came;
+      outbox = goes;
+      well = well;
     })
+
+    pub delivered-stands : (l : Letter) → q' ≡ record q { tray = q.tray ++ l ∷ [] } → StandsFor r is_value opening (delivered l part) q'
+    delivered-stands l e = lettered h.counts (ap (λ ls. ls ++ l ∷ []) h.tray) h.outbox (delivered-well r (λ s. ⊤) opening l part h.well) e
 
     -- the letters that count are others, with the same signed counts
     pub retallied-stands : (tally : List Letter) → HaveSameCounts message_order q.tally tally → q' ≡ record q { tally = tally } → StandsFor r is_value opening part q'
-    retallied-stands tally same e = subst (StandsFor r is_value opening part) (sym e) (record {
-      past = record { past_of = h.past.past_of; state = h.past.state; ascending = h.past.ascending };
-      sealed = h.sealed;
-      committed = h.committed;
-      counts = λ m. h.counts m ∙ same m;
-      tray = h.tray;
-      outbox = h.outbox;
-      well = h.well;
-    })
+    retallied-stands tally same e = lettered (λ m. h.counts m ∙ same m) h.tray h.outbox h.well e
 
     pub emptied-stands : q' ≡ record q { outbox = [] } → StandsFor r is_value opening (emptied part) q'
-    emptied-stands e = subst (StandsFor r is_value opening (emptied part)) (sym e) (record {
-      past = record { past_of = h.past.past_of; state = h.past.state; ascending = h.past.ascending };
-      sealed = h.sealed;
-      committed = h.committed;
-      counts = h.counts;
-      tray = h.tray;
-      outbox = refl;
-      well = emptied-well r (λ s. ⊤) opening part h.well;
-    })
+    emptied-stands e = lettered h.counts h.tray refl (emptied-well r (λ s. ⊤) opening part h.well) e
 
   module _ (R : OfMessages r) {opening : S} {part : Part Message S} {q q' : Queues S K} (h : StandsFor r is_value opening part q) where
     -- the message that is next is handled
@@ -112,7 +102,7 @@ module _ {S K : Type 0} {r : Rules Message S K Note} {is_value : S → Message �
           sealed =
               let a = ap length rows in
               let b = length-append (rowed r opening part.committed) (rows_of message_order m (r.notes (reached r opening part.committed) m)) in
-              let n = length-rows m (r.notes (reached r opening part.committed) m) in
+              let n : length (rows_of message_order m (r.notes (reached r opening part.committed) m)) ≡ length (r.notes (reached r opening part.committed) m) = length-map (r.notes (reached r opening part.committed) m) _ in
               let g = h.sealed in
               omega arith;
           committed = let a = length-append part.committed (m ∷ []) in let b = h.committed in omega arith;
@@ -178,3 +168,12 @@ module _ {S K : Type 0} {r : Rules Message S K Note} {is_value : S → Message �
   delivered_all-stands [] {opening} {part} {q} h e = subst (StandsFor r is_value opening part) (sym (e ∙ ap (λ ts. record q { tray = ts }) (append-nil q.tray))) h
   delivered_all-stands (l ∷ ls) {q = q} h e =
       delivered_all-stands ls (delivered-stands h l refl) (e ∙ ap (λ ts. record q { tray = ts }) (sym (append_assoc q.tray (l ∷ []) ls)))
+
+  -- what an act does keeps what always holds of a process: the old one, as it is told, and the queues afterwards, where the message that is kept is the next one then
+  pub keeps : {act : S → Part Message S → Part Message S} {old told : InHand S K} {new : Queues S K} {next next' : Option Message} → old ≡ told →
+      IsStanding r is_value next old.queues → Does r is_value act told.queues new →
+      ((opening : S) (part : Part Message S) → StandsFor r is_value opening part old.queues → StandsFor r is_value opening (act opening part) new → next' ≡ next_in new) →
+      IsStanding r is_value next' new
+  keeps {act} e i does found =
+      let stands = does i.0 i.1 (subst (λ p. StandsFor r is_value i.0 i.1 p.queues) e i.2) in
+      (i.0, act i.0 i.1, stands, found i.0 i.1 i.2 stands)

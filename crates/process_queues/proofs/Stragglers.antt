@@ -1,13 +1,15 @@
 -- A letter of a message that does not come after all done events: whether that is done, and whether the letter makes it present or absent.
-use Rattle.std.proofs.Common.{◌≡◌, ℕ, ◌≤◌, ℤ, inl, inr, Bool, true, false, not, List, map, pos, ◌+ℤ◌, Some, slice_get, refl, sym, ap, ◌∙◌, subst, arith, ◌≢◌, IsTrue}
+use Rattle.std.proofs.Common.{◌≡◌, ℕ, ◌≤◌, ℤ, inl, inr, Bool, true, false, not, ◌&&◌, List, [], ◌∷◌, map, filter, pos, ◌+ℤ◌, Option, Some, slice_get, refl, sym, ap, ◌∙◌, subst, arith, ◌≢◌, IsTrue}
 use Rattle.std.proofs.lemmas.Int.{ints}
 use Rattle.std.proofs.lemmas.Bool.{both_ways, cases_lt}
 use Rattle.vlink.specs.declared.message.Message.{Message}
 use Rattle.vlink.specs.declared.note.Note.{Note}
 use Rattle.virtual_time.specs.declared.letter.Sign.{Sign}
 use Rattle.virtual_time.specs.declared.letter.Sign.TheVariants.{Plus, Minus}
-use Rattle.virtual_time.specs.Law.{Rules, one_if, same, times_in, IsIn, IsPresent, pluses, minuses, is_plus, Part, can_commit}
+use Rattle.virtual_time.specs.Law.{Rules, one_if, least, same, times_in, IsIn, IsPresent, is_present, pluses, minuses, is_plus, Part, can_commit}
 use Rattle.virtual_time.proofs.Lists.{in-head}
+use Rattle.virtual_time.proofs.Order.{same_cases}
+use Rattle.virtual_time.proofs.Presence.{present-true}
 use Rattle.virtual_time.proofs.Ascending.{ascending-once}
 use Rattle.vlink.specs.Order.{message_order}
 use Rattle.vlink.specs.Letters.{Letter}
@@ -20,6 +22,7 @@ use Rattle.process_queues.specs.Past.{newest_of}
 use Rattle.process_queues.specs.Queues.{Queues, StandsFor, with_done, next_in}
 use Rattle.process_queues.proofs.Beside.{times, with_done-count, with_done-next, times-messages}
 use Rattle.process_queues.proofs.Counting.{OfMessages, one-left, not-one-left}
+use Rattle.process_queues.proofs.Newest.{newest-more}
 use Rattle.process_queues.proofs.Next.{here, there, after-not_done, not_done-after, after-here}
 use Rattle.process_queues.proofs.Reading.{first-done}
 use Rattle.process_queues.proofs.Rolls.{done-messages}
@@ -115,6 +118,39 @@ module _ {S K : Type 0} {r : Rules Message S K Note} (R : OfMessages r) {is_valu
   next-beside =
       let newest = newest_of (map (λ e. e.message) q.past.done) in
       ap (present_after message_order newest) e ∙ with_done-next R.messages newest t q.past.done (after-none R h)
+
+  -- so it is looked for behind the newest done event
+  pub found-beside : {next newest : Option Message} → next ≡ present_after message_order newest t → newest ≡ newest_of (map (λ e. e.message) q.past.done) → next ≡ next_in q
+  found-beside n w = n ∙ (ap (λ o. present_after message_order o t) w ∙ sym next-beside)
+
+  -- the oldest done event is committed, of whose message nothing else counts: the same message is next, behind the events that are left
+  pub next-left : (m : Message) (rest ds : List Message) → part.done ≡ m ∷ rest → signed_count message_order m t ≡ pos 0 → ds ≡ rest →
+      next_in q ≡ present_after message_order (newest_of ds) t
+  next-left m rest ds d z left = next-beside ∙ (ap by (done-messages h.past ∙ d) ∙ (go rest d ∙ ap by (sym left)))
+    where
+      by : List Message → Option Message
+      by es = present_after message_order (newest_of es) t
+
+      not-done : part.done ≡ m ∷ [] → (x : Message) → IsPresent message_order t x → times_in r.order x part.done ≡ 0
+      not-done one x p = elim (same_cases r.order R.order x m) [
+        | inl s ↦ let c = ap (λ y. signed_count message_order y t) s in absurd (omega (arith, ints))
+        | inr n ↦ let a = ap (times_in r.order x) one in let b = ap one_if n in omega arith
+      ]
+
+      behind : part.done ≡ m ∷ [] → (x : Message) → IsPresent message_order t x → is_after message_order (Some m) x ≡ true
+      behind one x p =
+          let a = with_done-count R.messages x t q.past.done in
+          let f = ap (signed_count message_order x) e in
+          ap (λ es. is_after message_order (newest_of es) x) (sym (done-messages h.past ∙ one)) ∙ (after-here r R is_value opening part q h x ∙
+          not_done-after r R is_value opening part q h x (there r R is_value opening part q h x (omega (arith, ints))) (not-done one x p))
+
+      wanted : part.done ≡ m ∷ [] → (x : Message) (b : Bool) → is_present message_order t x ≡ b → (b && is_after message_order (Some m) x) ≡ (b && true)
+      wanted one x false w = refl
+      wanted one x true w = behind one x (present-true message_order R.messages t x w)
+
+      go : (rest : List Message) → part.done ≡ m ∷ rest → by (m ∷ rest) ≡ by rest
+      go [] one = ap (λ wants. least message_order (filter wants (map (λ l. l.message) t))) (λ i x. wanted one x (is_present message_order t x) refl i)
+      go (y ∷ ys) more = ap (λ o. present_after message_order o t) (newest-more m y ys)
 
   pub beside-present : (m : Message) → next_in q ≡ Some m → IsPresent message_order t m
   beside-present m next = (first_after-is message_order R.messages (newest_of (map (λ e. e.message) q.past.done)) t m (sym next-beside ∙ next)).present

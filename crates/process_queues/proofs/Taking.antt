@@ -1,5 +1,5 @@
--- The last of a list are taken, one after another.
-use Rattle.std.proofs.Common.{◌≡◌, ℕ, zero, suc, ◌+◌, ◌<◌, List, [], ◌∷◌, ◌++◌, take, drop, length, refl, ap, arith, Result, Ok, Err, OnErr}
+-- The last of a list, and what is in front of it.
+use Rattle.std.proofs.Common.{◌≡◌, ◌<◌, List, [], ◌∷◌, ◌++◌, length, refl, ap, arith, Result, Ok, Err, OnErr}
 
 -- two lists with one element more at the end are equal where both are
 pub snoc-equal : {A : Type 0} (xs ys : List A) (a b : A) → xs ++ a ∷ [] ≡ ys ++ b ∷ [] → (xs ≡ ys) × (a ≡ b)
@@ -24,16 +24,3 @@ split-last (x ∷ (y ∷ ys)) h = let k = split-last (y ∷ ys) (omega arith) in
 pub err-gives : {T E P : Type 0} (r : Result T E) → P → OnErr r P
 err-gives (Ok x) p = tt
 err-gives (Err e) p = p
-
--- one more from the front
-pub take-next : {A : Type 0} (xs : List A) (i : ℕ) → take i xs ++ take 1 (drop i xs) ≡ take (i + 1) xs
-take-next [] zero = refl
-take-next [] (suc i) = let e : suc i + 1 ≡ suc (i + 1) = omega arith in rw e refl
-take-next (x ∷ xs) zero = refl
-take-next (x ∷ xs) (suc i) = let e : suc i + 1 ≡ suc (i + 1) = omega arith in rw e (ap (λ z. x ∷ z) (take-next xs i))
-
-pub drop-next : {A : Type 0} (xs : List A) (i : ℕ) → drop 1 (drop i xs) ≡ drop (i + 1) xs
-drop-next [] zero = refl
-drop-next [] (suc i) = let e : suc i + 1 ≡ suc (i + 1) = omega arith in rw e refl
-drop-next (x ∷ xs) zero = refl
-drop-next (x ∷ xs) (suc i) = let e : suc i + 1 ≡ suc (i + 1) = omega arith in rw e (drop-next xs i)

@@ -24,7 +24,7 @@ pub record Queues (S K : Type 0) : Type 0 where
   pub tray : List Letter
   pub outbox : List Letter
 
--- the queues, for how many more letters the tray has room, and for how many more committed events there is room
+-- the queues, for how many more letters the tray has room, and how many more events can be committed
 pub record InHand (S K : Type 0) : Type 0 where
   pub queues : Queues S K
   pub room : ℕ
@@ -48,20 +48,25 @@ pub record StandsFor {S K : Type 0} (r : Rules Message S K Note) (is_value : S �
   -- the part is one that the law of a process speaks of
   pub well : IsWell r (λ s. ⊤) opening part
 
+-- what holds of each part that the queues stand for, in whatever state it opened
+abbrev pub AtEachPart : {S K : Type 0} → Rules Message S K Note → (S → Message → Type 0) → Queues S K → (S → Part Message S → Type 0) → Type 0
+AtEachPart {S} r is_value q holds = (opening : S) (part : Part Message S) → StandsFor r is_value opening part q → holds opening part
+
 -- whatever the queues stood for before, they stand for what this act makes of it afterwards
 abbrev pub Does : {S K : Type 0} → Rules Message S K Note → (S → Message → Type 0) → (S → Part Message S → Part Message S) → Queues S K → Queues S K → Type 0
-Does {S} r is_value act old new = (opening : S) (part : Part Message S) → StandsFor r is_value opening part old → StandsFor r is_value opening (act opening part) new
+Does r is_value act old new = AtEachPart r is_value old (λ opening part. StandsFor r is_value opening (act opening part) new)
 
 -- the state of the actor
 abbrev pub state_in : {S K : Type 0} → Queues S K → S
 state_in q = q.past.state
 
 -- the message that is handled next: the first present one of those that come after the newest done event
-abbrev pub next_by : {S K : Type 0} → Past S K → List Letter → Option Message
-next_by past tally = present_after message_order (newest_of (map (λ e. e.message) past.done)) tally
-
 abbrev pub next_in : {S K : Type 0} → Queues S K → Option Message
-next_in q = next_by q.past q.tally
+next_in q = present_after message_order (newest_of (map (λ e. e.message) q.past.done)) q.tally
+
+-- what always holds of a process: its queues stand for some part, and the message that it keeps is the next one
+abbrev pub IsStanding : {S K : Type 0} → Rules Message S K Note → (S → Message → Type 0) → Option Message → Queues S K → Type 0
+IsStanding {S} r is_value next q = (opening : S) × (part : Part Message S) × StandsFor r is_value opening part q × (next ≡ next_in q)
 
 -- these letters come to the back of the tray, one after another
 abbrev pub delivered_all : {S : Type 0} → List Letter → Part Message S → Part Message S

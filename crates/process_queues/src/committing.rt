@@ -1,20 +1,19 @@
-//! Before events are committed: how many can be, and room for them.
-ghost use Rattle.std.specs.Prelude.{◌≡◌, ◌<◌, ◌≤◌, ◌+ℤ◌, pos, List, map, take, OnOk, OnErr, IfErr};
-ghost use Rattle.vlink.specs.declared.message.Message.{Message};
-ghost use Rattle.virtual_time.specs.Law.{IsAscending, Part};
+//! Events are committed, the oldest first: how many can be, room for them, and one after another.
+ghost use Rattle.std.specs.Prelude.{◌≡◌, ◌+◌, ◌<◌, ◌≤◌, ◌+ℤ◌, pos, false, true, List, map, take, Ok, OnOk, OnErr, IfOk, IfErr};
+ghost use Rattle.virtual_time.specs.Law.{IsAscending, can_commit, commit_oldest};
 ghost use Rattle.reverse.specs.Rules.{rules_of};
 ghost use Rattle.vlink.specs.Order.{message_order};
 ghost use Rattle.vlink.specs.Letters.{Letter};
 ghost use Rattle.antimessages.specs.Counting.{signed_count};
 ghost use Rattle.process_queues.specs.declared.fault.ProcFault.TheVariants.{OutOfMemory};
 ghost use Rattle.process_queues.specs.Committing.{is_committable, committable};
-ghost use Rattle.process_queues.specs.Queues.{StandsFor, with_done};
+ghost use Rattle.process_queues.specs.Queues.{AtEachPart, Does, with_done};
 
 use crate::fault::ProcFault;
 use crate::past::Event;
 use crate::process::Process;
 use antimessages::Tally;
-use reverse::{Actor, actor_rules};
+use reverse::{Actor, actor_rules_law};
 use std::collections::VecDeque;
 use vlink::{Message, Time};
 
@@ -23,14 +22,15 @@ impl<R: Actor> Process<R> {
     /// in ns, or whose signed count is not 1. So many can be committed one after another. It takes no memory.
     pub fn committable(&self, moment: Time, most: usize) -> usize
         ensures within { result ≤ most }
-        ensures stands { (opening : R) (part : Part Message R) → StandsFor (rules_of R.plain) R.is_value opening part self.now.queues →
-            result ≡ committable message_order moment part.tally (take most part.done) }
+        ensures stands { AtEachPart (rules_of R.plain) R.is_value self.now.queues
+            (λ opening part. result ≡ committable message_order moment part.tally (take most part.done)) }
     {
-        actor_rules::<R>();
-        committable_of::<R>(&self.tally, moment, self.past.done(), most)
+        actor_rules_law::<R>();
+        committable_of::<R>(&self.tally, moment, self.past.done_events(), most)
     }
 
-    /// Makes room for so many committed events: as long as no other call comes between, so many calls of `commit_oldest` take no memory.
+    /// Sees that there is room for so many committed events, which are counted to 2^64 - 1: as long as no other call comes between, so many
+    /// calls of `seal_oldest` succeed. It takes no memory.
     pub fn reserve_rows(&mut self, events: usize) -> Result<(), ProcFault>
         ensures room { OnOk result (events ≤ self.new.committed_room) }
         ensures same { self.new.queues ≡ self.old.queues }
@@ -38,8 +38,44 @@ impl<R: Actor> Process<R> {
         ensures reserved { OnErr result (self.old.committed_room < events) }
         ensures memory { IfErr result (λ fault. fault ≡ OutOfMemory) }
     {
-        self.committed.reserve(events)?;
+        if u64::MAX - self.committed < events as u64 {
+            return Err(ProcFault::OutOfMemory);
+        }
         Ok(())
+    }
+
+    /// The oldest done event is committed, where its signed count is just 1: it leaves the done events and the counts, and its rows are
+    /// sealed. The answer is whether there was one. Where there is room for a committed event this succeeds. It takes no memory.
+    pub fn seal_oldest(&mut self) -> Result<bool, ProcFault>
+        ensures sealed { OnOk result (Does (rules_of R.plain) R.is_value (λ opening. commit_oldest (rules_of R.plain)) self.old.queues self.new.queues) }
+        ensures answer { IfOk result (λ done. AtEachPart (rules_of R.plain) R.is_value self.old.queues
+            (λ opening part. done ≡ can_commit message_order part part.done)) }
+        ensures tray { self.new.queues.tray ≡ self.old.queues.tray }
+        ensures left { self.new.queues.left ≡ self.old.queues.left }
+        ensures outbox { self.new.queues.outbox ≡ self.old.queues.outbox }
+        ensures room { self.old.committed_room ≤ self.new.committed_room + 1 }
+        ensures unchanged { OnErr result (self.new.queues ≡ self.old.queues) }
+        ensures idle { result ≡ Ok false → self.new.queues ≡ self.old.queues }
+        ensures refused { OnErr result (AtEachPart (rules_of R.plain) R.is_value self.old.queues (λ opening part. can_commit message_order part part.done ≡ true)) }
+        ensures reserved { OnErr result (self.old.committed_room ≡ 0) }
+        ensures memory { IfErr result (λ fault. fault ≡ OutOfMemory) }
+    {
+        actor_rules_law::<R>();
+        let Some(event) = self.past.oldest() else {
+            return Ok(false);
+        };
+        let message = event.message;
+        if !self.tally.is_zero(&message) {
+            return Ok(false);
+        }
+        if self.committed == u64::MAX {
+            return Err(ProcFault::OutOfMemory);
+        }
+        let _rows = self.past.rows().len();
+        let noted = self.past.forget_oldest();
+        self.sealed += usize::from(noted);
+        self.committed += 1;
+        Ok(true)
     }
 }
 
@@ -53,7 +89,7 @@ fn committable_of<R: Actor>(
     requires { IsAscending message_order (map (λ e. e.message) events.now.items) }
     ensures { result ≡ committable message_order moment (with_done tally.now events.now.items) (take most (map (λ e. e.message) events.now.items)) }
 {
-    actor_rules::<R>();
+    actor_rules_law::<R>();
     let limit = most.min(events.len());
     for place in 0..limit {
         if !is_committable(tally, moment, &events[place].message) {

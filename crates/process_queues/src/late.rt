@@ -6,7 +6,7 @@ ghost use Rattle.reverse.specs.Rules.{rules_of};
 
 use crate::order::is_before;
 use crate::past::Past;
-use reverse::{Actor, actor_rules};
+use reverse::{Actor, actor_rules_law};
 use vlink::Message;
 
 impl<R: Actor> Past<R> {
@@ -16,7 +16,7 @@ impl<R: Actor> Past<R> {
         requires { IsAscending message_order (map (λ e. e.message) self.now.done) }
         ensures { result ≡ length (before message_order message.now (map (λ e. e.message) self.now.done)) }
     {
-        actor_rules::<R>();
+        actor_rules_law::<R>();
         let events = self.done.len();
         for late in 0..events {
             let place = events - 1 - late;
@@ -33,7 +33,7 @@ impl<R: Actor> Past<R> {
         ensures done { IsTrue result → times_in message_order message.now (map (λ e. e.message) self.now.done) ≡ 1 }
         ensures not_done { result ≡ false → times_in message_order message.now (map (λ e. e.message) self.now.done) ≡ 0 }
     {
-        actor_rules::<R>();
+        actor_rules_law::<R>();
         let place = self.done_before(message);
         match self.done.get(place) {
             Some(event) => !is_before(message, &event.message),

@@ -6,7 +6,7 @@ ghost use Rattle.virtual_time.specs.Law.{sent, times_in, Part, Act, acted, Empty
 ghost use Rattle.reverse.specs.Rules.{rules_of};
 ghost use Rattle.process_queues.specs.Queues.{Queues, StandsFor};
 
-use reverse::{Actor, actor_rules};
+use reverse::{Actor, actor_rules_law};
 
 /// What a process sends, whatever letters come to it, also such as no run would send, and in whatever order it acts: what an undone event
 /// sent is taken back, and nothing else. It is the law of one process of `virtual_time`, for every actor, and for every opening state and
@@ -16,12 +16,10 @@ use reverse::{Actor, actor_rules};
 ///   handled, the oldest done event is committed) changes the signed count of each message in the outbox by the change of the times that
 ///   the committed and done events sent it.
 /// - `sent_once`: these times are 1 or 0, whatever the events are: no message is sent twice.
-///
-/// A call does nothing: its caller learns what the clauses say.
-pub fn process_laws<R: Actor>()
+pub fn sending_law<R: Actor>()
     ensures sends { (opening : R) (part : Part Message R) (queues : Queues R R.Record) → StandsFor (rules_of R.plain) R.is_value opening part queues →
         (act : Act Message) → act ≢ Emptying → (m : Message) → SendsKept (rules_of R.plain) opening part (acted (rules_of R.plain) opening act part) m }
     ensures sent_once { (opening : R) (events : List Message) (m : Message) → times_in message_order m (sent (rules_of R.plain) opening events) ≤ 1 }
 {
-    actor_rules::<R>();
+    actor_rules_law::<R>();
 }

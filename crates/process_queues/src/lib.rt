@@ -2,7 +2,7 @@
 //! make it roll back (Jefferson, "Virtual Time", ACM TOPLAS 7(3), 1985), by undo records in place of saved states.
 #![tactic(auto)]
 
-mod acts;
+mod arriving;
 mod committing;
 mod fault;
 mod late;
@@ -13,7 +13,8 @@ mod posting;
 mod process;
 mod restoring;
 mod rollback;
+mod running;
 
 pub use fault::ProcFault;
-pub use laws::process_laws;
+pub use laws::sending_law;
 pub use process::Process;

@@ -1,18 +1,21 @@
 //! The done events of a process.
-ghost use Rattle.std.specs.Prelude.{◌≡◌, ◌+◌, ◌<◌, ◌≤◌, ◌-◌, List, [], ◌∷◌, ◌++◌, ◌↔◌, length, map, take, drop, reverse, vec_len, vec_capacity, IsTrue, OnOk, OnErr, IfErr, slice_get};
+//! What was sent is one queue, so a rollback takes from its back without asking the actor again; rows of done events stand behind the
+//! committed ones, so a commit copies none.
+ghost use Rattle.std.specs.Prelude.{◌≡◌, ◌+◌, ◌<◌, ◌≤◌, ◌-◌, List, [], ◌∷◌, ◌++◌, length, map, drop, reverse, vec_len, vec_capacity, OnOk, OnErr, slice_get};
 ghost use Rattle.std.specs.Option.{option_map, option_copied};
 ghost use Rattle.std.specs.VecDeque.{deque_len, deque_capacity};
 ghost use Rattle.vlink.specs.Order.{message_order};
 ghost use Rattle.vlink.specs.declared.message.Message.{Message};
 ghost use Rattle.vlink.specs.Numbering.{greatest_number};
-ghost use Rattle.virtual_time.specs.Law.{reached, rows_of, plus_of, minus_of};
+ghost use Rattle.virtual_time.specs.Law.{rows_of, plus_of};
 ghost use Rattle.reverse.specs.Rules.{rules_of};
 ghost use Rattle.antimessages.specs.Counting.{is_after};
 ghost use Rattle.process_queues.specs.Past.{Past, Rows, IsPastOf, handled_past, newest_of, FirstDone};
+ghost use Rattle.reverse.specs.declared.sends.TheConstants.{MOST_SENT};
 
 use crate::order::is_before;
 use antimessages::{OutOfMemory, Outbox, rewind};
-use reverse::{Actor, Outbound, actor_rules};
+use reverse::{Actor, MOST_SENT, Outbound, actor_rules_law};
 use std::alloc::Global;
 use std::collections::VecDeque;
 use std::marker::Model;
@@ -100,7 +103,7 @@ impl<R: Actor> Past<R> {
     }
 
     /// The done events, the oldest at the front.
-    pub(crate) fn done(&self) -> &VecDeque<Event<R::Record>>
+    pub(crate) fn done_events(&self) -> &VecDeque<Event<R::Record>>
         ensures { result.now.items ≡ self.now.done }
     {
         &self.done
@@ -140,7 +143,7 @@ impl<R: Actor> Past<R> {
         out: &mut Outbound,
         outbox: &mut Outbox,
     ) -> Result<(), OutOfMemory>
-        requires { R.plain.counter self.old.state + 24 ≤ greatest_number }
+        requires { R.plain.counter self.old.state + MOST_SENT ≤ greatest_number }
         ensures handled { OnOk result (self.new ≡ handled_past (rules_of R.plain) self.old message.now) }
         ensures sent { OnOk result (outbox.new.letters ≡ outbox.old.letters ++ map plus_of ((rules_of R.plain).sends self.old.state message.now)) }
         ensures valid { OnOk result (R.is_value self.old.state message.now) }
@@ -148,9 +151,9 @@ impl<R: Actor> Past<R> {
         ensures kept { OnErr result (outbox.new.letters ≡ outbox.old.letters) }
     {
         self.done.reserve(1)?;
-        self.sends.reserve(24)?;
+        self.sends.reserve(MOST_SENT)?;
         self.rows.reserve(2)?;
-        outbox.reserve(24)?;
+        outbox.reserve(MOST_SENT)?;
         // The fields are found in this order: what was sent and noted is told once the message is handled.
         self.done.push_back_reserved(Event {
             message: *message,

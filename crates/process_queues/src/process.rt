@@ -1,4 +1,5 @@
 //! A process that runs ahead and rolls back.
+//! A done message that is tallied once is not in the map: it leaves the map as it is handled, and a commit changes no map.
 ghost use Rattle.std.specs.Prelude.{◌≡◌, ◌≢◌, false, pos, ◌+ℤ◌, ◌+◌, ◌<◌, ◌≤◌, ◌^◌, ◌-◌, ◌↔◌, [], ◌∷◌, ◌++◌, ℕ, length, map, min, take, drop, All, IsTrue, IsOk, OnOk, OnErr, IfOk, IfErr, slice_get};
 ghost use Rattle.std.specs.Option.{option_map};
 ghost use Rattle.std.specs.VecDeque.{deque_len, deque_capacity};
@@ -10,12 +11,13 @@ ghost use Rattle.vlink.specs.Order.{message_order};
 ghost use Rattle.antimessages.specs.Counting.{signed_count};
 ghost use Rattle.antimessages.specs.Mailing.{letters_for};
 ghost use Rattle.process_queues.specs.declared.fault.ProcFault.TheVariants.{OutOfMemory};
-ghost use Rattle.process_queues.specs.Queues.{StandsFor, Does, rows_there, delivered_all, next_in, state_in};
+ghost use Rattle.process_queues.specs.Queues.{AtEachPart, StandsFor, Does, rows_there, delivered_all, next_in, state_in};
+ghost use Rattle.reverse.specs.declared.sends.TheConstants.{MOST_SENT};
 
 use crate::fault::ProcFault;
 use crate::past::Past;
 use antimessages::{Mail, Outbox, Tally};
-use reverse::{Actor, actor_rules};
+use reverse::{Actor, actor_rules_law};
 use std::alloc::Global;
 use std::collections::VecDeque;
 use std::marker::Model;
@@ -31,8 +33,8 @@ pub struct Process<R: Actor> {
     /// How many rows of committed events have left, and how many are still there.
     pub(crate) left: usize,
     pub(crate) sealed: usize,
-    /// As many as events are committed. They have no bytes.
-    pub(crate) committed: Vec<()>,
+    /// How many events are committed.
+    pub(crate) committed: u64,
     /// The signed counts of the messages, less 1 for each done event: a done message that is tallied once has none here.
     pub(crate) tally: Tally,
     /// The message that is handled next, if there is one: it is looked for once, and kept until something changes it.
@@ -42,12 +44,10 @@ pub struct Process<R: Actor> {
 }
 
 impl<R: Actor> Model for Process<R> {
-    ghost use Rattle.std.specs.Prelude.{◌≡◌, ◌-◌, length, map, vec_len, vec_capacity};
+    ghost use Rattle.std.specs.Prelude.{◌-◌, ◌^◌};
     ghost use Rattle.std.specs.VecDeque.{deque_len, deque_capacity};
-    ghost use Rattle.vlink.specs.declared.message.Message.{Message};
-    ghost use Rattle.virtual_time.specs.Law.{Part};
     ghost use Rattle.reverse.specs.Rules.{rules_of};
-    ghost use Rattle.process_queues.specs.Queues.{InHand, StandsFor, next_by, with_done};
+    ghost use Rattle.process_queues.specs.Queues.{InHand, IsStanding, with_done};
 
     ghost Value = { InHand R R.Record };
 
@@ -56,25 +56,24 @@ impl<R: Actor> Model for Process<R> {
         past = p.past;
         left = p.left;
         sealed = p.sealed;
-        committed = length p.committed.items;
+        committed = p.committed;
         tally = with_done p.tally p.past.done;
         tray = p.tray.items;
         outbox = p.outbox.letters;
       };
       room = deque_capacity p.tray - deque_len p.tray;
-      committed_room = vec_capacity p.committed - vec_len p.committed;
+      committed_room = 2 ^ 64 - 1 - p.committed;
     } };
 
-    ghost invariant = { λ p. (opening : R) × (part : Part Message R) × StandsFor (rules_of R.plain) R.is_value opening part
-        (record {
-          past = p.past;
-          left = p.left;
-          sealed = p.sealed;
-          committed = length p.committed.items;
-          tally = with_done p.tally p.past.done;
-          tray = p.tray.items;
-          outbox = p.outbox.letters;
-        }) × (p.next ≡ next_by p.past (with_done p.tally p.past.done)) };
+    ghost invariant = { λ p. IsStanding (rules_of R.plain) R.is_value p.next (record {
+      past = p.past;
+      left = p.left;
+      sealed = p.sealed;
+      committed = p.committed;
+      tally = with_done p.tally p.past.done;
+      tray = p.tray.items;
+      outbox = p.outbox.letters;
+    }) };
 }
 
 impl<R: Actor> Process<R> {
@@ -89,7 +88,7 @@ impl<R: Actor> Process<R> {
             past: Past::new(alloc, actor),
             left: 0,
             sealed: 0,
-            committed: Vec::new(alloc),
+            committed: 0,
             tally: Tally::new(alloc),
             next: None,
             tray: VecDeque::new(alloc),
@@ -98,9 +97,7 @@ impl<R: Actor> Process<R> {
     }
 
     /// A process stands for a part of a process that opened in some state: what other clauses say of such a part holds of one.
-    ///
-    /// A call does nothing: its caller learns what the clause says.
-    pub fn stands(&self)
+    pub fn stands_law(&self)
         ensures { (opening : R) × (part : Part Message R) × StandsFor (rules_of R.plain) R.is_value opening part self.now.queues }
     {
         let _tray = &self.tray;
@@ -109,33 +106,30 @@ impl<R: Actor> Process<R> {
     /// The signed count of a message: how many plus letters of it arrived, less the minus letters. A committed event's letter does not
     /// count any more.
     pub fn count(&self, message: &Message) -> i128
-        ensures { (opening : R) (part : Part Message R) → StandsFor (rules_of R.plain) R.is_value opening part self.now.queues →
-            result ≡ signed_count message_order message.now part.tally }
+        ensures { AtEachPart (rules_of R.plain) R.is_value self.now.queues (λ opening part. result ≡ signed_count message_order message.now part.tally) }
     {
-        actor_rules::<R>();
+        actor_rules_law::<R>();
         count_with(&self.tally, message, self.past.has_done(message))
     }
 
     /// The moment of the oldest done event, if there is one.
     pub fn oldest(&self) -> Option<Time>
-        ensures { (opening : R) (part : Part Message R) → StandsFor (rules_of R.plain) R.is_value opening part self.now.queues →
-            result ≡ option_map (λ m. m.time) (slice_get part.done 0) }
+        ensures { AtEachPart (rules_of R.plain) R.is_value self.now.queues (λ opening part. result ≡ option_map (λ m. m.time) (slice_get part.done 0)) }
     {
         self.past.oldest_time()
     }
 
     /// How many events are committed.
     pub fn committed(&self) -> u64
-        ensures { (opening : R) (part : Part Message R) → StandsFor (rules_of R.plain) R.is_value opening part self.now.queues →
-            result ≡ length part.committed }
+        ensures { AtEachPart (rules_of R.plain) R.is_value self.now.queues (λ opening part. result ≡ length part.committed) }
     {
-        self.committed.len() as u64
+        self.committed
     }
 
     /// The rows of the committed events but those that have left, in their order.
     pub fn sealed(&self) -> &[Row]
-        ensures { (opening : R) (part : Part Message R) → StandsFor (rules_of R.plain) R.is_value opening part self.now.queues →
-            result.now ≡ rows_there (rules_of R.plain) opening part self.now.queues }
+        ensures { AtEachPart (rules_of R.plain) R.is_value self.now.queues
+            (λ opening part. result.now ≡ rows_there (rules_of R.plain) opening part self.now.queues) }
     {
         &self.past.rows()[..self.sealed]
     }
@@ -194,16 +188,15 @@ impl<R: Actor> Process<R> {
     /// The message that is handled next: the first present one that is not done, if there is one.
     pub fn next(&self) -> Option<Message>
         ensures next { result ≡ next_in self.now.queues }
-        ensures stands { (opening : R) (part : Part Message R) → StandsFor (rules_of R.plain) R.is_value opening part self.now.queues →
-            result ≡ next_of message_order part }
+        ensures stands { AtEachPart (rules_of R.plain) R.is_value self.now.queues (λ opening part. result ≡ next_of message_order part) }
     {
-        actor_rules::<R>();
+        actor_rules_law::<R>();
         self.next
     }
 
     /// Whether its actor has enough numbers left for what one event can send. Where it has not, `run` is refused for that.
     pub fn has_numbers(&self) -> bool
-        ensures { IsTrue result ↔ (R.plain.counter (state_in self.now.queues) + 24 ≤ greatest_number) }
+        ensures { IsTrue result ↔ (R.plain.counter (state_in self.now.queues) + MOST_SENT ≤ greatest_number) }
     {
         self.past.actor().has_numbers()
     }
@@ -211,18 +204,18 @@ impl<R: Actor> Process<R> {
     /// A moment that nothing in hand is earlier than, as a post sets it: the least time of the tray's letters and of the present messages
     /// that are not done, or the moment after the end.
     pub fn floor(&self) -> Time
-        ensures { (opening : R) (part : Part Message R) → StandsFor (rules_of R.plain) R.is_value opening part self.now.queues →
-            result ≡ floor_of message_order (R.end (state_in self.now.queues)) part }
+        ensures { AtEachPart (rules_of R.plain) R.is_value self.now.queues
+            (λ opening part. result ≡ floor_of message_order (R.end (state_in self.now.queues)) part) }
     {
         floor_of_tray::<R>(&self.tray, self.floor_of_messages())
     }
 
     /// The least time of the present messages that are not done, or the moment after the end.
     fn floor_of_messages(&self) -> Time
-        ensures { (opening : R) (part : Part Message R) → StandsFor (rules_of R.plain) R.is_value opening part self.now.queues →
-            result ≡ floor_of message_order (R.end (state_in self.now.queues)) (record part { tray = [] }) }
+        ensures { AtEachPart (rules_of R.plain) R.is_value self.now.queues
+            (λ opening part. result ≡ floor_of message_order (R.end (state_in self.now.queues)) (record part { tray = [] })) }
     {
-        actor_rules::<R>();
+        actor_rules_law::<R>();
         let end = Time::new(self.past.actor().until().ns() + 1).unwrap();
         match self.next() {
             Some(message) => earlier(message.time, end),
@@ -277,14 +270,19 @@ impl<R: Actor> Process<R> {
     {
         let count = mail.count(process).min(most);
         self.tray.reserve(count)?;
-        take_letters::<R>(&mut self.tray, mail, process, count);
+        collect_letters::<R>(&mut self.tray, mail, process, count);
         Ok(count)
     }
 }
 
 /// The first `count` letters for this process go from the mail to the back of the tray, which has room for them. Where that are all and the tray
 /// has none, none is copied.
-fn take_letters<R: Actor>(tray: &mut VecDeque<Letter>, mail: &mut Mail, process: u16, count: usize)
+fn collect_letters<R: Actor>(
+    tray: &mut VecDeque<Letter>,
+    mail: &mut Mail,
+    process: u16,
+    count: usize,
+)
     requires room { deque_len tray.old + count ≤ deque_capacity tray.old }
     requires enough { count ≤ length (letters_for process mail.old) }
     ensures tray { tray.new.items ≡ tray.old.items ++ take count (letters_for process mail.old) }

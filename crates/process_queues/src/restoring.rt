@@ -8,7 +8,7 @@ ghost use Rattle.antimessages.specs.Counting.{HaveSameCounts};
 
 use crate::past::Past;
 use antimessages::{OutOfMemory, Tally};
-use reverse::{Actor, actor_rules};
+use reverse::{Actor, actor_rules_law};
 use vlink::{Letter, Sign};
 
 impl<R: Actor> Past<R> {
@@ -25,8 +25,8 @@ impl<R: Actor> Past<R> {
         ensures counts { OnOk result (HaveSameCounts message_order tally.new (letter ∷ (map (λ e. plus_of e.message) (drop place self.now.done) ++ tally.old))) }
         ensures unchanged { OnErr result (tally.new ≡ tally.old) }
     {
-        actor_rules::<R>();
-        tally.told_by_counts();
+        actor_rules_law::<R>();
+        tally.counts_law();
         let tallied = self.count_back(tally, place);
         if tallied == place {
             match tally.add(letter) {
@@ -35,7 +35,7 @@ impl<R: Actor> Past<R> {
             }
         }
         self.take_out(tally, tallied);
-        tally.told_by_counts();
+        tally.counts_law();
         Err(OutOfMemory)
     }
 
@@ -46,7 +46,7 @@ impl<R: Actor> Past<R> {
         ensures within { result ≤ length self.now.done }
         ensures counts { HaveSameCounts message_order tally.new (map (λ e. plus_of e.message) (drop result self.now.done) ++ tally.old) }
     {
-        actor_rules::<R>();
+        actor_rules_law::<R>();
         let all = self.done.len();
         for tallied in 0..all - place {
             let next = all - 1 - tallied;
@@ -69,7 +69,7 @@ impl<R: Actor> Past<R> {
             ((m : Message) → IsIn message_order m (map (λ e. e.message) self.now.done) → minuses message_order m before ≤ pluses message_order m before) →
             HaveSameCounts message_order tally.new before }
     {
-        actor_rules::<R>();
+        actor_rules_law::<R>();
         for taken in place..self.done.len() {
             tally.take_present(&self.done[taken].message);
         }

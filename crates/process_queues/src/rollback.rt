@@ -2,15 +2,17 @@
 ghost use Rattle.std.specs.Prelude.{◌≡◌, ◌+◌, ◌≤◌, ◌-◌, List, [], ◌∷◌, ◌++◌, length, map, take, drop, reverse};
 ghost use Rattle.std.specs.VecDeque.{deque_len};
 ghost use Rattle.vlink.specs.declared.message.Message.{Message};
-ghost use Rattle.virtual_time.specs.Law.{reached, minus_of, Part, rolled_back};
+ghost use Rattle.virtual_time.specs.Law.{reached, minus_of, Part, rolled_back, undo_all};
 ghost use Rattle.reverse.specs.Rules.{rules_of};
 ghost use Rattle.process_queues.specs.Past.{Rows, IsPastOf, LastDone, BelongsTo, sent_since};
+ghost use Rattle.process_queues.specs.Queues.{AtEachPart};
 ghost use Rattle.process_queues.specs.declared.past.Event.{Event};
 
 use crate::order::is_before;
 use crate::past::Past;
+use crate::process::Process;
 use antimessages::Outbox;
-use reverse::{Actor, actor_rules};
+use reverse::{Actor, actor_rules_law};
 use std::collections::VecDeque;
 use vlink::{Letter, Message, Sign};
 
@@ -44,7 +46,7 @@ impl<R: Actor> Past<R> {
             outbox.old.letters ≡ part.outbox → outbox.new.letters ≡ (rolled_back (rules_of R.plain) opening message.now part).outbox }
         ensures count { result + length self.new.done ≡ length self.old.done }
     {
-        actor_rules::<R>();
+        actor_rules_law::<R>();
         let events = self.done_len();
         while !self.is_before(message) {
             self.undo_newest(outbox);
@@ -57,7 +59,7 @@ impl<R: Actor> Past<R> {
         requires { (start : R) × (ms : List Message) × (earlier : Rows) × IsPastOf (rules_of R.plain) R.is_value start ms earlier self }
         ensures { (start : R) (ms : List Message) (earlier : Rows) → IsPastOf (rules_of R.plain) R.is_value start ms earlier self → result ≡ start }
     {
-        actor_rules::<R>();
+        actor_rules_law::<R>();
         let Past {
             mut actor,
             mut done,
@@ -84,13 +86,24 @@ impl<R: Actor> Past<R> {
             (self.new.done ≡ front) × (outbox.old.room ≤ outbox.new.room + event.sent) }
         ensures fewer { length self.new.done + 1 ≡ length self.old.done }
     {
-        actor_rules::<R>();
+        actor_rules_law::<R>();
         if let Some(event) = self.done.pop_back() {
             self.actor.undo(&event.message, event.kept);
             take_back(&mut self.sends, outbox, usize::from(event.sent));
             let rows = self.rows.len() - usize::from(event.noted);
             self.rows.truncate(rows);
         }
+    }
+}
+
+impl<R: Actor> Process<R> {
+    /// Undoes all done events, the newest first, each by its record, and gives the actor back. Nothing is sent.
+    pub fn undo_all(self) -> R
+        ensures undone { AtEachPart (rules_of R.plain) R.is_value self.queues (λ opening part. result ≡ undo_all (rules_of R.plain) opening part) }
+        ensures committed { AtEachPart (rules_of R.plain) R.is_value self.queues (λ opening part. result ≡ reached (rules_of R.plain) opening part.committed) }
+    {
+        let Process { past, .. } = self;
+        past.undo_all()
     }
 }
 

@@ -2,6 +2,7 @@
 use Rattle.std.specs.Prelude.{ℕ, ◌+◌, if◌then◌else◌, nat_le, List, [], ◌∷◌}
 use Rattle.vlink.specs.Numbering.{greatest_number}
 use Rattle.reverse.specs.Plain.{Plain}
+use Rattle.reverse.specs.declared.sends.TheConstants.{MOST_SENT}
 
 -- the answers of an element
 abbrev pub answers_of : {S E O K : Type 0} → Plain S E O K → S → List E → List O
@@ -12,4 +13,4 @@ answers_of plain s (e ∷ es) = plain.out s e ∷ answers_of plain (plain.after 
 abbrev pub answers_within : {S E O K : Type 0} → Plain S E O K → S → List E → List O
 answers_within plain s [] = []
 answers_within plain s (e ∷ es) =
-    if nat_le (plain.counter s + 24) greatest_number then plain.out s e ∷ answers_within plain (plain.after s e) es else []
+    if nat_le (plain.counter s + MOST_SENT) greatest_number then plain.out s e ∷ answers_within plain (plain.after s e) es else []

@@ -3,6 +3,7 @@ ghost use Rattle.std.specs.Prelude.{◌≡◌, ℕ, ◌+◌, ◌<◌, ◌≤◌,
 ghost use Rattle.vlink.specs.declared.message.Message.{Message};
 ghost use Rattle.vlink.specs.Numbering.{greatest_number};
 ghost use Rattle.virtual_time.specs.Law.{IsNumbered};
+ghost use Rattle.reverse.specs.declared.sends.TheConstants.{MOST_SENT};
 
 use crate::outbound::Outbound;
 use crate::reversible::Reversible;
@@ -19,6 +20,7 @@ pub trait Actor: Reversible<Event = Message, Out = Sends> {
     ghost end: { Self → ℕ };
 
     /// The fixed parts of the state are those of a process: its delays are at least 1 ns, and the like.
+    /// On plain states a delay can be 0; there the law that sends are later would be wrong, so it is asked of placed actors alone.
     ghost is_placed: { Self → Type 0 };
 
     /// The number of the process.
@@ -32,8 +34,10 @@ pub trait Actor: Reversible<Event = Message, Out = Sends> {
         ensures in_limits { result < GREATEST_NS };
 
     /// Whether the sender has numbers left for all that one event can send.
+    /// It is asked before the event is handled, when nobody knows how many messages it sends: so numbers for `MOST_SENT` messages are asked
+    /// for. The laws count without a limit.
     fn has_numbers(&self) -> bool
-        ensures { IsTrue result ↔ (Self.plain.counter self.now + 24 ≤ greatest_number) };
+        ensures { IsTrue result ↔ (Self.plain.counter self.now + MOST_SENT ≤ greatest_number) };
 
     /// Handles the event just as `apply` does, and leaves in `out` what it sends and notes, in place of what was there. So a caller that
     /// handles one event after another makes the room for what is sent once.
@@ -51,7 +55,7 @@ pub trait Actor: Reversible<Event = Message, Out = Sends> {
     }
 
     /// Nothing but numbers is asked for.
-    ghost numbers_suffice: { (s : Self) → Self.plain.counter s + 24 ≤ greatest_number → Self.can_apply s };
+    ghost numbers_suffice: { (s : Self) → Self.plain.counter s + MOST_SENT ≤ greatest_number → Self.can_apply s };
 
     /// An event keeps the number of the process, the end time and the fixed parts.
     ghost number_stays: { (s : Self) (e : Message) → number (Self.plain.after s e) ≡ number s };

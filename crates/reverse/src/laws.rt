@@ -4,15 +4,13 @@ ghost use Rattle.reverse.specs.Rules.{rules_of};
 ghost use Rattle.reverse.specs.Setting.{Setting, simulation_of, IsLaidOut};
 
 use crate::actor::Actor;
-use crate::rules::actor_rules;
+use crate::rules::actor_rules_law;
 
 /// Actors that know their places meet the laws of a simulation: each keeps to its own part of them, so that only the layout is left
 /// to be seen to.
-///
-/// A call does nothing: its caller learns what the clause says.
-pub fn actor_laws<A: Actor>()
+pub fn actor_law<A: Actor>()
     ensures { (x : Setting A) → IsLaidOut (rules_of A.plain) A.number A.end A.is_placed x →
         Laws (simulation_of (rules_of A.plain) x) }
 {
-    actor_rules::<A>();
+    actor_rules_law::<A>();
 }

@@ -12,8 +12,8 @@ mod sends;
 
 pub use actor::Actor;
 pub use events::{act_and_undo, forth_and_back};
-pub use laws::actor_laws;
+pub use laws::actor_law;
 pub use outbound::Outbound;
 pub use reversible::Reversible;
-pub use rules::actor_rules;
-pub use sends::Sends;
+pub use rules::actor_rules_law;
+pub use sends::{MOST_NOTED, MOST_SENT, Sends};

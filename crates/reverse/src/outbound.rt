@@ -2,17 +2,12 @@
 ghost use Rattle.std.specs.Prelude.{◌≡◌, ◌+◌, ◌<◌, ◌≤◌, ◌^◌, [], ◌∷◌, ◌++◌, length};
 ghost use Rattle.vlink.specs.Numbering.{greatest_number};
 ghost use Rattle.reverse.specs.Sending.{loss, replied};
+ghost use Rattle.reverse.specs.declared.sends.TheConstants.{MOST_SENT};
 
-use crate::sends::Sends;
+use crate::sends::{MOST_NOTED, MOST_SENT, Sends};
 use arrayvec::ArrayVec;
 use std::marker::Model;
 use vlink::{Body, Cause, Frame, Message, Note, Time};
-
-/// The most messages that one event sends.
-const MOST_SENT: usize = 24;
-
-/// The most notes that one event gives.
-const MOST_NOTED: usize = 2;
 
 /// What one event makes a process send and note. It can be used again for the next event, so that no event copies the room for all that
 /// one event can send, and none wipes what the last one sent.
@@ -33,6 +28,7 @@ pub struct Outbound {
 
 impl Model for Outbound {
     ghost use Rattle.std.specs.Prelude.{◌≤◌, take};
+    ghost use Rattle.reverse.specs.declared.sends.TheConstants.{MOST_SENT};
     ghost use Rattle.reverse.specs.Sending.{OutboundState};
 
     ghost Value = { OutboundState };
@@ -43,7 +39,7 @@ impl Model for Outbound {
       notes = take o.noted o.notes;
     } };
 
-    ghost invariant = { λ o. (o.sent ≤ 24) × (o.noted ≤ 2) };
+    ghost invariant = { λ o. (o.sent ≤ MOST_SENT) × (o.noted ≤ 2) };
 }
 
 impl Outbound {
@@ -108,7 +104,7 @@ impl Outbound {
     /// The messages sent, in the order of their numbers.
     pub fn messages(&self) -> &[Message]
         ensures messages { result.now ≡ self.now.messages }
-        ensures few { length result.now ≤ 24 }
+        ensures few { length result.now ≤ MOST_SENT }
     {
         &self.messages[..self.sent]
     }
@@ -123,7 +119,7 @@ impl Outbound {
 
     /// Sends a message for the moment `ns`, unless that is after the end of the run.
     pub fn send(&mut self, ns: u64, receiver: u16, body: Body)
-        requires room { length self.old.messages < 24 }
+        requires room { length self.old.messages < MOST_SENT }
         requires numbers { self.old.sender.counter < greatest_number }
         ensures { self.new ≡ replied self.old (record { wishes = record { time = ns; receiver = receiver; body = body } ∷ []; notes = [] }) }
     {
@@ -144,7 +140,7 @@ impl Outbound {
         second_receiver: u16,
         second: Body,
     )
-        requires room { length self.old.messages + 2 ≤ 24 }
+        requires room { length self.old.messages + 2 ≤ MOST_SENT }
         requires numbers { self.old.sender.counter + 2 ≤ greatest_number }
         requires order { first_ns ≤ second_ns }
         ensures { self.new ≡ replied self.old (record {
@@ -166,7 +162,7 @@ impl Outbound {
     /// Sends a message for a moment that is not after the end of the run.
     #[inline(always)]
     fn put(&mut self, time: Time, receiver: u16, body: Body)
-        requires room { length self.old.messages < 24 }
+        requires room { length self.old.messages < MOST_SENT }
         requires numbers { self.old.sender.counter < greatest_number }
         requires in_time { time ≤ self.old.sender.until }
         ensures { self.new ≡ replied self.old (record { wishes = record { time = time; receiver = receiver; body = body } ∷ []; notes = [] }) }

@@ -6,14 +6,12 @@ ghost use Rattle.virtual_time.specs.Law.{IsOrder, IsIn, IsNumbered};
 ghost use Rattle.reverse.specs.Rules.{rules_of};
 
 use crate::actor::Actor;
-use vlink::lawful_order;
+use vlink::order_law;
 
 /// The rules of an actor are what the law of virtual time asks of one actor: its order of messages is total and by
 /// time first; what an event sends has the actor as its sender, is later than the event, not later than the end
 /// time and numbered on from the counter; and undoing an event gives back the state before it.
-///
-/// A call does nothing: its caller learns what the clauses say.
-pub fn actor_rules<R: Actor>()
+pub fn actor_rules_law<R: Actor>()
     ensures order { IsOrder message_order }
     ensures sender { (s : R) (e m : Message) → IsIn message_order m ((rules_of R.plain).sends s e) → m.sender ≡ R.number s }
     ensures later { (s : R) (e m : Message) → R.is_placed s → IsIn message_order m ((rules_of R.plain).sends s e) → e.time < m.time }
@@ -22,5 +20,5 @@ pub fn actor_rules<R: Actor>()
     ensures counter_grows { (s : R) (e : Message) → R.plain.counter (R.plain.after s e) ≡ R.plain.counter s + length ((rules_of R.plain).sends s e) }
     ensures undoes { (s : R) (e : Message) → R.plain.before (R.plain.after s e) e (R.plain.saves s e) ≡ s }
 {
-    lawful_order();
+    order_law();
 }

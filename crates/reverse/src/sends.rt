@@ -4,13 +4,19 @@ ghost use Rattle.std.specs.Prelude.{◌≡◌, []};
 use arrayvec::ArrayVec;
 use vlink::{Message, Note};
 
-/// What one event makes an actor send and note: at most 24 messages and 2 notes.
+/// The most messages that one event sends: a switch sends one for each of its ports.
+pub const MOST_SENT: usize = 24;
+
+/// The most notes that one event gives.
+pub const MOST_NOTED: usize = 2;
+
+/// What one event makes an actor send and note.
 #[derive(Drop)]
 pub struct Sends {
     /// The messages in the order of their numbers.
-    pub messages: ArrayVec<Message, 24>,
+    pub messages: ArrayVec<Message, MOST_SENT>,
     /// The notes in their order.
-    pub notes: ArrayVec<Note, 2>,
+    pub notes: ArrayVec<Note, MOST_NOTED>,
 }
 
 impl Sends {

@@ -3,7 +3,7 @@ ghost use Rattle.std.specs.Prelude.{◌≡◌, ◌<◌};
 ghost use Rattle.vlink.specs.declared.time.TheConstants.{GREATEST_NS};
 
 use crate::passing_on::pass_on;
-use reverse::{Actor, Reversible, Sends};
+use reverse::{Actor, MOST_SENT, Reversible, Sends};
 use vlink::{GREATEST_NS, Message, Note, Time, VlId};
 
 /// Process `number`: a message at t adds t to a sum, notes it, and is passed on twice, for t + 5 and for t + 7, unless that is after the end. What
@@ -47,6 +47,7 @@ impl Passing {
 
 impl Reversible for Passing {
     ghost use Rattle.std.specs.Prelude.{◌≡◌, ℕ, ◌+◌, ◌≤◌, ⊤};
+    ghost use Rattle.reverse.specs.declared.sends.TheConstants.{MOST_SENT};
     ghost use Rattle.vlink.specs.Numbering.{greatest_number};
     ghost use Rattle.sample_actor.specs.Passing.{passing};
     ghost use Rattle.std.proofs.Common.{refl, rules};
@@ -61,7 +62,7 @@ impl Reversible for Passing {
 
     ghost is_value = { λ s e. ⊤ };
 
-    ghost can_apply = { λ s. s.counter + 24 ≤ greatest_number };
+    ghost can_apply = { λ s. s.counter + MOST_SENT ≤ greatest_number };
 
     ghost undoes = { λ s e. refl };
 
@@ -126,6 +127,6 @@ impl Actor for Passing {
     }
 
     fn has_numbers(&self) -> bool {
-        self.counter <= (1 << 62) - 24
+        self.counter <= (1 << 62) - MOST_SENT as u64
     }
 }

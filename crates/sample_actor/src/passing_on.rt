@@ -2,6 +2,7 @@
 ghost use Rattle.std.specs.Prelude.{◌≡◌, ◌+◌, ◌<◌, ◌++◌, length};
 ghost use Rattle.vlink.specs.Numbering.{greatest_number};
 ghost use Rattle.sample_actor.specs.Passing.{passed_on};
+ghost use Rattle.reverse.specs.declared.sends.TheConstants.{MOST_SENT};
 
 use crate::passing::Passing;
 use reverse::Sends;
@@ -12,7 +13,7 @@ const RECEIVERS: u64 = 5;
 
 /// Passes on a message for this moment, unless that is after the end.
 pub(crate) fn pass_on(actor: &mut Passing, out: &mut Sends, ns: u64)
-    requires room { length out.old.messages.items < 24 }
+    requires room { length out.old.messages.items < MOST_SENT }
     requires number { actor.old.counter < greatest_number }
     ensures messages { out.new.messages.items ≡ out.old.messages.items ++ passed_on actor.old ns }
     ensures notes { out.new.notes ≡ out.old.notes }

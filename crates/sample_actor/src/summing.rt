@@ -2,7 +2,7 @@
 ghost use Rattle.std.specs.Prelude.{◌≡◌, ◌<◌};
 ghost use Rattle.vlink.specs.declared.time.TheConstants.{GREATEST_NS};
 
-use reverse::{Actor, Reversible, Sends};
+use reverse::{Actor, MOST_SENT, Reversible, Sends};
 use vlink::{Body, GREATEST_NS, Message, Time};
 
 /// Process 0: a message at t adds t to a sum, and sends one message to process 1 at t + 5, unless that is after the end.
@@ -42,6 +42,7 @@ impl Summing {
 
 impl Reversible for Summing {
     ghost use Rattle.std.specs.Prelude.{◌≡◌, ℕ, ◌+◌, ◌≤◌, ⊤};
+    ghost use Rattle.reverse.specs.declared.sends.TheConstants.{MOST_SENT};
     ghost use Rattle.vlink.specs.Numbering.{greatest_number};
     ghost use Rattle.sample_actor.specs.Summing.{summing, sends};
     ghost use Rattle.std.proofs.Common.{refl, rules};
@@ -56,7 +57,7 @@ impl Reversible for Summing {
 
     ghost is_value = { λ s e. ⊤ };
 
-    ghost can_apply = { λ s. s.counter + 24 ≤ greatest_number };
+    ghost can_apply = { λ s. s.counter + MOST_SENT ≤ greatest_number };
 
     ghost undoes = { λ s e. refl };
 
@@ -127,6 +128,6 @@ impl Actor for Summing {
     }
 
     fn has_numbers(&self) -> bool {
-        self.counter <= (1 << 62) - 24
+        self.counter <= (1 << 62) - MOST_SENT as u64
     }
 }

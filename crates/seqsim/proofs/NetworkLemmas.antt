@@ -5,7 +5,7 @@ use Rattle.virtual_time.specs.Law.{IsOrder, IsReached}
 use Rattle.virtual_time.proofs.Reading.{reached-keeps}
 use Rattle.reverse.proofs.Members.{in-all}
 use Rattle.reverse.specs.Setting.{AreInStates, IsLaidOut, Opens}
-use Rattle.netdesc.specs.Words.{Plan, IsAccepted, process_count}
+use Rattle.network.specs.Words.{Plan, IsAccepted, process_count}
 use Rattle.traffic.specs.Offers.{offers_of}
 use Rattle.traffic.specs.Lawful.{IsOfNetwork, HasLawfulOffers}
 use Rattle.nodes.specs.Words.{NodeState, IsPlaced, IsWired, sends-near, wiring-stays, opening, simulation_of}

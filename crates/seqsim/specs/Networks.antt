@@ -3,7 +3,7 @@ use Rattle.std.specs.Prelude.{◌≡◌, ℕ, [], map, List}
 use Rattle.vlink.specs.Letters.{Row}
 use Rattle.virtual_time.specs.Law.{one}
 use Rattle.reverse.specs.Setting.{Setting}
-use Rattle.netdesc.specs.Words.{Plan, process_count}
+use Rattle.network.specs.Words.{Plan, process_count}
 use Rattle.traffic.specs.Offers.{offers_of}
 use Rattle.nodes.specs.Words.{NodeState, opening, simulation_of}
 

@@ -5,7 +5,7 @@ ghost use Rattle.trace_tables.specs.SoFar.{IsSoFar};
 ghost use Rattle.trace_tables.specs.Tables.{tables_of};
 
 use actor_run::Recorder;
-use netdesc::Network;
+use network::Network;
 use std::alloc::{AllocError, Global};
 use trace_tables::{Tables, TablesSoFar};
 use vlink::{Message, Note};

@@ -8,7 +8,7 @@ mod simulating;
 mod tables;
 
 pub use actor_run::{SimFault, Unwatched, Watch, run_actors};
-pub use networks::{network_laws, network_layout};
-pub use rows::rows_by_process;
+pub use networks::{layout_law, network_law};
+pub use rows::rows_by_process_law;
 pub use simulating::{Finished, nodes_of, run};
 pub use tables::run_tables;

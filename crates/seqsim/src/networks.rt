@@ -4,30 +4,26 @@ ghost use Rattle.reverse.specs.Setting.{IsLaidOut};
 ghost use Rattle.nodes.specs.Words.{IsPlaced, simulation_of};
 ghost use Rattle.seqsim.specs.Networks.{setting_of};
 
-use netdesc::Network;
+use network::Network;
 use nodes::{Node, NodeRecord};
-use reverse::{actor_laws, actor_rules};
-use traffic::lawful_offers;
+use reverse::{actor_law, actor_rules_law};
+use traffic::offers_law;
 use vlink::Note;
 
 /// The layout of a network is what a simulation of actors asks: its nodes and lines know their places and send to processes, and its
 /// offers are as they must be.
-///
-/// A call does nothing: its caller learns what the clause says.
-pub fn network_layout(network: &Network)
+pub fn layout_law(network: &Network)
     ensures { IsLaidOut (simulation_of network.now).rules (λ s. s.sender.number) (λ s. s.sender.until) IsPlaced (setting_of network.now) }
 {
-    network.accepted();
-    actor_rules::<Node>();
-    lawful_offers::<Node, NodeRecord, Note>(network);
+    network.accepted_law();
+    actor_rules_law::<Node>();
+    offers_law::<Node, NodeRecord, Note>(network);
 }
 
 /// Every network is simulated as the law of virtual time asks: its layout is what actors need, and they meet their own laws.
-///
-/// A call does nothing: its caller learns what the clause says.
-pub fn network_laws(network: &Network)
+pub fn network_law(network: &Network)
     ensures { Laws (simulation_of network.now) }
 {
-    network_layout(network);
-    actor_laws::<Node>();
+    layout_law(network);
+    actor_law::<Node>();
 }

@@ -4,18 +4,18 @@ ghost use Rattle.vlink.specs.Order.{message_order};
 ghost use Rattle.vlink.specs.Letters.{Row};
 ghost use Rattle.virtual_time.specs.Law.{rowed, rows_at, one, IsFinished};
 ghost use Rattle.virtual_time.specs.declared.step.Step.{Step};
-ghost use Rattle.netdesc.specs.Words.{process_count};
+ghost use Rattle.network.specs.Words.{process_count};
 ghost use Rattle.nodes.specs.Words.{opening, simulation_of};
 ghost use Rattle.trace_segments.specs.Words.{gathered, AreInMessageOrder, rows_of_event};
 ghost use Rattle.seqsim.specs.Committed.{after, AreCommittedRows};
 ghost use Rattle.seqsim.specs.Networks.{AreRowsOf};
 
-use crate::networks::network_laws;
-use netdesc::Network;
+use crate::networks::network_law;
+use network::Network;
 use nodes::{Node, NodeRecord};
-use trace_tables::rows_by_place;
-use virtual_time::headline;
-use vlink::{Message, Note, message_order};
+use trace_tables::rows_by_place_law;
+use virtual_time::headline_law;
+use vlink::{Message, Note, message_order_law};
 
 /// The rows of the one-thread run are in message order, and the rows of each process, put in this order, are all of them. So a run that
 /// gathers rows process by process has the very list of the one-thread run.
@@ -25,9 +25,7 @@ use vlink::{Message, Note, message_order};
 /// - `gathered`: the rows of the committed events of each process, put one process after another, are the committed rows.
 /// - `finished`: the committed rows of a finished world, put in message order so that those of each event stay in their order, are the
 ///   rows of the one-thread run. So `trace_tables::put_in_message_order` leaves them.
-///
-/// A call does nothing: its caller learns what the clauses say.
-pub fn rows_by_process(network: &Network)
+pub fn rows_by_process_law(network: &Network)
     ensures in_order { (rows : List Row) → AreRowsOf network.now rows → AreInMessageOrder rows }
     ensures by_process { (n : ℕ) → (one (simulation_of network.now) n).waiting ≡ [] → (rows : List Row) → AreInMessageOrder rows →
         ((p : ℕ) → rows_at p rows ≡ rows_at p (one (simulation_of network.now) n).rows) →
@@ -39,8 +37,8 @@ pub fn rows_by_process(network: &Network)
         AreCommittedRows network.now steps rows → AreInMessageOrder ordered → ((m : Message) → rows_of_event m ordered ≡ rows_of_event m rows) →
         AreRowsOf network.now ordered }
 {
-    network_laws(network);
-    message_order();
-    rows_by_place();
-    headline::<Message, Node, NodeRecord, Note>();
+    network_law(network);
+    message_order_law();
+    rows_by_place_law();
+    headline_law::<Message, Node, NodeRecord, Note>();
 }

@@ -1,16 +1,16 @@
 //! The run of a network.
 ghost use Rattle.std.specs.Prelude.{◌≡◌, ℕ, Err, OnOk, IfOk};
 ghost use Rattle.reverse.specs.Setting.{AreInStates};
-ghost use Rattle.netdesc.specs.Words.{process_count};
+ghost use Rattle.network.specs.Words.{process_count};
 ghost use Rattle.nodes.specs.Words.{opening, simulation_of};
 ghost use Rattle.trace_tables.specs.Tables.{tables_of};
 ghost use Rattle.actor_run.specs.declared.fault.SimFault.TheVariants.{Exhausted};
 ghost use Rattle.actor_run.specs.Running.{IsExhaustedAt, HasNumbersFrom};
 ghost use Rattle.seqsim.specs.Networks.{AreRowsOf};
 
-use crate::networks::network_laws;
+use crate::networks::network_law;
 use actor_run::{SimFault, Watch, run_actors};
-use netdesc::Network;
+use network::Network;
 use nodes::Node;
 use std::alloc::{AllocError, Global};
 use trace_tables::Tables;
@@ -47,7 +47,7 @@ pub fn run<W: Watch>(alloc: Global, network: &Network, watch: &mut W) -> Result<
     ensures numbers { OnOk result (HasNumbersFrom (simulation_of network.now) 0) }
     ensures watched { W.becomes watch.old watch.new }
 {
-    network_laws(network);
+    network_law(network);
     let offers = offers(alloc, network)?;
     let mut nodes = nodes_of(alloc, network)?;
     let rows = run_actors(alloc, &mut nodes, &offers, watch)?;

@@ -8,10 +8,10 @@ ghost use Rattle.actor_run.specs.Running.{StandsAt, IsExhaustedAt, HasNumbersFro
 ghost use Rattle.seqsim.specs.Networks.{AreRowsOf};
 
 use crate::counted::Counted;
-use crate::networks::network_laws;
+use crate::networks::network_law;
 use crate::simulating::nodes_of;
 use actor_run::{SimFault, Waiting, Watch, handle_all};
-use netdesc::Network;
+use network::Network;
 use nodes::Node;
 use std::alloc::Global;
 use trace_tables::Tables;
@@ -31,7 +31,7 @@ fn count_all<W: Watch>(
     ensures numbers { OnOk result (HasNumbersFrom (simulation_of network.now) 0) }
     ensures watched { W.becomes watch.old watch.new }
 {
-    network_laws(network);
+    network_law(network);
     let mut counted = Counted::none(alloc, network)?;
     handle_all(nodes, waiting, &mut counted, watch)?;
     Ok(counted.into_tables()?)
@@ -54,7 +54,7 @@ pub fn run_tables<W: Watch>(
     ensures numbers { OnOk result (HasNumbersFrom (simulation_of network.now) 0) }
     ensures watched { W.becomes watch.old watch.new }
 {
-    network_laws(network);
+    network_law(network);
     let offers = offers(alloc, network)?;
     let mut nodes = nodes_of(alloc, network)?;
     let mut waiting = Waiting::of_offers(alloc, offers, nodes.len())?;

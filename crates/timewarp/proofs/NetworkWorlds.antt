@@ -4,7 +4,7 @@ use Rattle.std.proofs.lemmas.Bool.{false≢true, cases_lt}
 use Rattle.virtual_time.specs.Law.{Simulation, IsLeft, undo_all, Safe, World, start, step, run, is_enabled}
 use Rattle.virtual_time.specs.declared.step.Step.{Step}
 use Rattle.reverse.specs.Setting.{IsLaidOut}
-use Rattle.netdesc.specs.Words.{Plan}
+use Rattle.network.specs.Words.{Plan}
 use Rattle.nodes.specs.declared.node.NodeRecord.{NodeRecord}
 use Rattle.nodes.specs.Words.{NodeState, IsNodeValue, opening, IsPlaced, simulation_of}
 use Rattle.seqsim.specs.Networks.{setting_of}

@@ -1,7 +1,7 @@
 -- The worlds of a network that a program holds.
 use Rattle.std.specs.Prelude.{List}
 use Rattle.virtual_time.specs.declared.step.Step.{Step}
-use Rattle.netdesc.specs.Words.{Plan}
+use Rattle.network.specs.Words.{Plan}
 use Rattle.nodes.specs.declared.node.NodeRecord.{NodeRecord}
 use Rattle.nodes.specs.Words.{NodeState, IsNodeValue, simulation_of}
 use Rattle.seqsim.specs.Committed.{after}

@@ -11,10 +11,10 @@ ghost use Rattle.timewarp.specs.Networks.{IsAfter};
 ghost use Rattle.timewarp.specs.Replayed.{IsReplayed, StandsBefore};
 ghost use Rattle.timewarp.specs.Replaying.{did, not_enabled, refused};
 
-use crate::laws::world_laws;
+use crate::laws::world_law;
 use crate::replaying::Replay;
 use actor_world::StepFault;
-use netdesc::Network;
+use network::Network;
 use std::alloc::Global;
 use vlink::Step;
 
@@ -73,7 +73,7 @@ pub fn replay(alloc: Global, network: Network, steps: &[Step]) -> Result<Replay,
     ensures numbered { OnOk result ((n : ℕ) (x : Step) → slice_get steps.now n ≡ Some x →
         ¬ (IsExhausted (simulation_of network) x (after network (take n steps.now)))) }
 {
-    world_laws(&network);
+    world_law(&network);
     let mut replay = Replay::new(alloc, network)?;
     do_all(&mut replay, steps)?;
     Ok(replay)

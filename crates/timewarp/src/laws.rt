@@ -3,14 +3,14 @@ ghost use Rattle.std.specs.Prelude.{ℕ, ◌≡◌, ◌<◌, ◌≤◌, List, �
 ghost use Rattle.vlink.specs.declared.message.Message.{Message};
 ghost use Rattle.virtual_time.specs.Law.{rowed, rows_at, IsAscending, IsIn, earlier, times_in, made, IsBelow, one, events, IsNamed, Safe, history, CountLaw, NothingBefore, IsFinished, IsWhole};
 ghost use Rattle.virtual_time.specs.declared.step.Step.{Step};
-ghost use Rattle.netdesc.specs.Words.{process_count};
+ghost use Rattle.network.specs.Words.{process_count};
 ghost use Rattle.nodes.specs.Words.{opening, simulation_of};
 ghost use Rattle.seqsim.specs.Committed.{after};
 
-use netdesc::Network;
+use network::Network;
 use nodes::{Node, NodeRecord};
-use seqsim::network_laws;
-use virtual_time::headline;
+use seqsim::network_law;
+use virtual_time::headline_law;
 use vlink::{Message, Note};
 
 /// The law of virtual time for a network: what holds after any steps, done in any order. It is the headline of `virtual_time`, for
@@ -28,9 +28,7 @@ use vlink::{Message, Note};
 /// - `outboxes`: each letter of an outbox, of either sign, goes to a process of the network.
 /// - `rows`: the rows of the one-thread run are, at each process, those of its events in their order, from its opening state on.
 /// - `whole`: in a finished world the committed events and their rows are those of the whole one-thread run.
-///
-/// A call does nothing: its caller learns what the clauses say.
-pub fn world_laws(network: &Network)
+pub fn world_law(network: &Network)
     ensures safe { (steps : List Step) → Safe (simulation_of network.now) (after network.now steps) }
     ensures counts { (steps : List Step) (m : Message) → CountLaw (simulation_of network.now) (after network.now steps) m }
     ensures once { (steps : List Step) (m : Message) → made (simulation_of network.now) (history (simulation_of network.now) (after network.now steps)) m ≤ 1 }
@@ -56,6 +54,6 @@ pub fn world_laws(network: &Network)
     ensures whole { (steps : List Step) → IsFinished (simulation_of network.now) (after network.now steps) →
         IsWhole (simulation_of network.now) (after network.now steps) }
 {
-    network_laws(network);
-    headline::<Message, Node, NodeRecord, Note>();
+    network_law(network);
+    headline_law::<Message, Node, NodeRecord, Note>();
 }

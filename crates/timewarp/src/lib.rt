@@ -10,7 +10,7 @@ mod world;
 
 pub use actor_world::{Done, StepFault};
 pub use journal::replay;
-pub use laws::world_laws;
+pub use laws::world_law;
 pub use replaying::Replay;
 pub use vlink::Step;
 pub use world::World;

@@ -10,10 +10,10 @@ ghost use Rattle.actor_world.specs.Worlds.{IsExhausted};
 ghost use Rattle.seqsim.specs.Committed.{after};
 ghost use Rattle.timewarp.specs.Replayed.{IsReplayed};
 
-use crate::laws::world_laws;
+use crate::laws::world_law;
 use crate::world::World;
 use actor_world::{Done, StepFault};
-use netdesc::Network;
+use network::Network;
 use std::alloc::Global;
 use vlink::Step;
 
@@ -47,7 +47,7 @@ impl Replay {
         ensures whole { (steps : List Step) → IsFinished (simulation_of network) (after network steps) → IsWhole (simulation_of network) (after network steps) }
         ensures balances { (steps : List Step) (m : Message) → CountLaw (simulation_of network) (after network steps) m }
     {
-        world_laws(&network);
+        world_law(&network);
         let world = World::new(alloc, network)?;
         Ok(Replay {
             world,

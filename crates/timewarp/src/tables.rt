@@ -10,12 +10,12 @@ ghost use Rattle.actor_world.specs.declared.fault.StepFault.TheVariants.{OutOfMe
 ghost use Rattle.seqsim.specs.Committed.{after, AreCommittedRows};
 ghost use Rattle.timewarp.specs.Networks.{IsAfter};
 
-use crate::laws::world_laws;
+use crate::laws::world_law;
 use crate::world::World;
 use actor_world::StepFault;
-use seqsim::{network_laws, network_layout};
+use seqsim::{layout_law, network_law};
 use std::alloc::{AllocError, Global};
-use trace_tables::{Tables, TablesSoFar, tables_by_place};
+use trace_tables::{Tables, TablesSoFar, tables_by_place_law};
 
 impl World {
     /// The tables of the rows of all committed events, counted process by process.
@@ -23,11 +23,11 @@ impl World {
         ensures { IfOk result (λ tables. (rows : List Row) × (tables ≡ tables_of self.now.plan rows) ×
             ((steps : List Step) → IsAfter self.now steps → AreCommittedRows self.now.plan steps rows)) }
     {
-        network_layout(&self.network);
-        network_laws(&self.network);
+        layout_law(&self.network);
+        network_law(&self.network);
         let mut tables = TablesSoFar::none(alloc, &self.network)?;
         for process in 0..self.network.process_count() {
-            tables.count(&self.network, self.actors.sealed(process as u32))?;
+            tables.count(&self.network, self.actors.sealed(process))?;
         }
         tables.tables(&self.network)
     }
@@ -43,9 +43,9 @@ impl World {
             tables ≡ tables_of self.now.plan rows) }
         ensures memory { IfErr result (λ fault. fault ≡ OutOfMemory) }
     {
-        network_laws(&self.network);
-        world_laws(&self.network);
-        tables_by_place();
+        network_law(&self.network);
+        world_law(&self.network);
+        tables_by_place_law();
         Ok(self.committed_tables(alloc)?)
     }
 }

@@ -5,7 +5,7 @@ ghost use Rattle.virtual_time.specs.declared.step.Step.TheVariants.{Gvt};
 ghost use Rattle.virtual_time.specs.Law.{IsLeft, undo_all, is_enabled, IsFinished};
 ghost use Rattle.virtual_time.specs.declared.step.Step.{Step};
 ghost use Rattle.antimessages.specs.Steps.{names_none};
-ghost use Rattle.netdesc.specs.Words.{process_count};
+ghost use Rattle.network.specs.Words.{process_count};
 ghost use Rattle.nodes.specs.Words.{opening, simulation_of};
 ghost use Rattle.actor_world.specs.declared.done.Done.TheVariants.{Did};
 ghost use Rattle.actor_world.specs.declared.fault.StepFault.TheVariants.{NoProcess, OutOfMemory, Exhausted};
@@ -13,11 +13,11 @@ ghost use Rattle.actor_world.specs.Worlds.{HoldsTheSame, IsExhausted};
 ghost use Rattle.seqsim.specs.Committed.{after};
 ghost use Rattle.timewarp.specs.Networks.{IsAfter};
 
-use crate::laws::world_laws;
+use crate::laws::world_law;
 use actor_world::{ActorWorld, Done, StepFault};
-use netdesc::Network;
+use network::Network;
 use nodes::Node;
-use seqsim::{network_layout, nodes_of};
+use seqsim::{layout_law, nodes_of};
 use std::alloc::Global;
 use std::marker::Model;
 use traffic::offers;
@@ -52,7 +52,7 @@ impl World {
         ensures network { IfOk result (λ world. world.plan ≡ network) }
         ensures memory { IfErr result (λ fault. fault ≡ OutOfMemory) }
     {
-        network_layout(&network);
+        layout_law(&network);
         let offers = offers(alloc, &network)?;
         let nodes = nodes_of(alloc, &network)?;
         let actors = ActorWorld::new(alloc, nodes, &offers, network.until())?;
@@ -78,13 +78,13 @@ impl World {
             is_enabled (simulation_of self.old.plan) step (after self.old.plan steps) ≡ true }
         ensures gvt { step ≡ Gvt → result ≡ Ok Did }
     {
-        network_layout(&self.network);
+        layout_law(&self.network);
         self.actors.step(step)
     }
 
     /// The law of a world: what is held is the world of its network after some steps, so that a caller who was handed one can use the
-    /// clauses on a world after steps. A call does nothing: its caller learns what the clause says.
-    pub fn lawful(&self)
+    /// clauses on a world after steps.
+    pub fn reached_law(&self)
         ensures { (steps : List Step) × IsAfter self.now steps }
     {
         let _ = &self.network;
@@ -108,7 +108,7 @@ impl World {
     pub fn is_finished(&self) -> bool
         ensures { (steps : List Step) → IsAfter self.now steps → IsTrue result ↔ IsFinished (simulation_of self.now.plan) (after self.now.plan steps) }
     {
-        network_layout(&self.network);
+        layout_law(&self.network);
         let is_over = self.gvt().ns() == self.network.until().ns() + 1;
         is_over && self.actors.all_committed()
     }
@@ -120,7 +120,7 @@ impl World {
             result ≡ slice_get ((after self.now.plan steps).mail process) place }
         ensures none { process_count self.now.plan ≤ process → result ≡ None }
     {
-        network_layout(&self.network);
+        layout_law(&self.network);
         self.actors.look(process, place)
     }
 
@@ -134,8 +134,8 @@ impl World {
         ensures left { IfSome result (λ node. (steps : List Step) → IsAfter self steps →
             IsLeft (simulation_of self.plan) process (length ((after self.plan steps).parts process).committed) node) }
     {
-        network_layout(&self.network);
-        world_laws(&self.network);
+        layout_law(&self.network);
+        world_law(&self.network);
         self.actors.undo_all(process)
     }
 }

@@ -4,7 +4,7 @@ use Rattle.vlink.specs.declared.frame.VlId.{VlId}
 use Rattle.vlink.specs.declared.note.Note.{Note}
 use Rattle.vlink.specs.declared.note.Note.TheVariants.{Delivered, Dropped}
 use Rattle.vlink.specs.Letters.{Row}
-use Rattle.netdesc.specs.Words.{Plan, process_count, place_of_vl}
+use Rattle.network.specs.Words.{Plan, process_count, place_of_vl}
 
 -- the virtual link of a note
 abbrev pub vl_of : Note → VlId

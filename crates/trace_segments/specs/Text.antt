@@ -7,7 +7,7 @@ use Rattle.vlink.specs.declared.note.Cause.TheVariants.{QueueFull, PortFull, Out
 use Rattle.vlink.specs.declared.note.Note.{Note}
 use Rattle.vlink.specs.declared.note.Note.TheVariants.{Delivered, Dropped}
 use Rattle.vlink.specs.Letters.{Row}
-use Rattle.netdesc.specs.Words.{Plan, lines_of, node_name, line_name}
+use Rattle.network.specs.Words.{Plan, lines_of, node_name, line_name}
 use Rattle.trace_segments.specs.Known.{is_known}
 
 -- a row of these fields

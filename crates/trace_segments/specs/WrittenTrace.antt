@@ -1,7 +1,7 @@
 -- A trace that is written batch by batch. Times are in ns.
 use Rattle.std.specs.Prelude.{ℕ, ◌+◌, ◌==◌, ◌&&◌, cond, not, nat_lt, Bool, List, Option, Some, None, flat_map}
 use Rattle.vlink.specs.Letters.{Row}
-use Rattle.netdesc.specs.Words.{Plan, process_count}
+use Rattle.network.specs.Words.{Plan, process_count}
 use Rattle.trace_segments.specs.declared.fault.OutFault.TheVariants.{Device}
 use Rattle.trace_segments.specs.declared.segment_fault.SegmentFault.TheVariants.{Gap, Double}
 use Rattle.trace_segments.specs.declared.trace_fault.TraceFault.{TraceFault}

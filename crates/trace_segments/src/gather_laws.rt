@@ -13,9 +13,7 @@ ghost use Rattle.trace_segments.specs.Segments.{SegmentRows, BatchRows};
 /// - `none`: where no segment waits, what waits are rows of each process.
 /// - `waits`, `gives`: so they are after a segment that is taken.
 /// - `batch`: a batch has the rows of all processes and of its interval, in message order.
-///
-/// A call does nothing: its caller learns what the clauses say.
-pub fn segments_of_rows()
+pub fn segments_of_rows_law()
     ensures none { (run processes until : ℕ) (rows_of : ℕ → List Row) → IsOfRows (no_segments run processes until) rows_of }
     ensures waits { (old new : Gathering) (segment : SegmentRows) (rows_of : ℕ → List Row) → IsOfRows old rows_of → segment_fault old segment ≡ None
         → segment.rows ≡ rows_within segment.from segment.to (rows_of segment.process) → Waits old segment new → IsOfRows new rows_of }

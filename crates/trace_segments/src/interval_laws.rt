@@ -8,7 +8,7 @@ ghost use Rattle.trace_segments.specs.Places.{IsOfOneGroup, gathered};
 ghost use Rattle.trace_segments.specs.Intervals.{cut, interval_count, rows_within, rows_before, rows_from};
 ghost use Rattle.trace_segments.specs.Ordered.{AreInMessageOrder, AreAtReceivers, IsInOrder};
 
-use vlink::message_order;
+use vlink::message_order_law;
 
 /// What the batches of a run are, where the segments of each process have the rows that it has in the run.
 ///
@@ -19,9 +19,7 @@ use vlink::message_order;
 /// - `by_process`: rows in message order are, in order, what the processes have, where each row is of the process that received its message, and
 ///   only these processes have rows.
 /// - `by_group`: so are, in order, what groups of these processes have, where each process is of just one group.
-///
-/// A call does nothing: its caller learns what the clauses say.
-pub fn batches_in_order()
+pub fn batches_in_order_law()
     ensures batch { (processes from to : ℕ) (rows_of : ℕ → List Row) (rows batch : List Row)
         → IsInOrder (gathered processes rows_of) rows → IsInOrder (gathered processes (λ p. rows_within from to (rows_of p))) batch → batch ≡ rows_within from to rows }
     ensures batches { (until processes count : ℕ) (rows_of : ℕ → List Row) (rows : List Row) (batches : ℕ → List Row)
@@ -36,5 +34,5 @@ pub fn batches_in_order()
         → ((p : ℕ) → processes ≤ p → rows_at p rows ≡ []) → ((p : ℕ) → p < processes → IsOfOneGroup ours groups p)
         → IsInOrder (gathered groups (λ g. filter (λ row. ours g row.place) rows)) rows }
 {
-    message_order();
+    message_order_law();
 }

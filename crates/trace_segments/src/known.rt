@@ -2,7 +2,7 @@
 ghost use Rattle.std.specs.Prelude.{◌≡◌};
 ghost use Rattle.trace_segments.specs.Known.{is_in_network};
 
-use netdesc::Network;
+use network::Network;
 use vlink::VlId;
 
 /// The network has this virtual link and this process.

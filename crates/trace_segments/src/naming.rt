@@ -2,7 +2,7 @@
 ghost use Rattle.std.specs.Prelude.{◌≡◌};
 ghost use Rattle.trace_segments.specs.Text.{place_name, cause_name};
 
-use netdesc::Network;
+use network::Network;
 use vlink::Cause;
 
 /// The name of a process: that of the node, or of the line behind the nodes. Of no process it is the empty text.

@@ -9,14 +9,14 @@ ghost use Rattle.trace_segments.specs.Ordered.{AreInMessageOrder, rows_of_event}
 
 use std::alloc::AllocError;
 use std::cmp::Ordering;
-use vlink::{Row, compare, message_order};
+use vlink::{Row, compare, message_order_law};
 
 /// Compares two rows by their messages.
 #[inline(always)]
 fn by_message(a: &Row, b: &Row) -> Ordering
     ensures { result ≡ message_cmp a.now.message b.now.message }
 {
-    message_order();
+    message_order_law();
     compare(&a.message, &b.message)
 }
 
@@ -36,6 +36,6 @@ pub fn put_in_message_order(rows: &mut Vec<Row>) -> Result<(), AllocError>
     ensures each_process { (p : ℕ) → AreInMessageOrder (rows_at p rows.old.items) → rows_at p rows.new.items ≡ rows_at p rows.old.items }
     ensures unchanged { OnErr result (rows.new.items ≡ rows.old.items) }
 {
-    message_order();
+    message_order_law();
     rows.sort_by(by_message)
 }

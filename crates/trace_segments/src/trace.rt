@@ -10,7 +10,7 @@ use crate::line::push;
 use crate::naming::{cause_name, place_name};
 use csv::{Error, Writer};
 use itoa::Buffer;
-use netdesc::Network;
+use network::Network;
 use vlink::{Note, Row, VlId};
 
 /// The first line of a trace.

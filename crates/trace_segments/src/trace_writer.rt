@@ -14,7 +14,7 @@ use crate::segment_fault::SegmentFault;
 use crate::sink::{Sink, write_all};
 use crate::trace_fault::TraceFault;
 use crate::write::{next_bytes, write_trace};
-use netdesc::Network;
+use network::Network;
 use std::alloc::Global;
 use std::marker::Model;
 use vlink::Time;

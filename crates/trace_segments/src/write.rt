@@ -12,7 +12,7 @@ use crate::line::{empty, text_of};
 use crate::sink::{Sink, write_all};
 use crate::trace;
 use csv::Error;
-use netdesc::Network;
+use network::Network;
 use std::alloc::Global;
 use vlink::Row;
 

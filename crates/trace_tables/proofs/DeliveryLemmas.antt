@@ -11,7 +11,7 @@ use Rattle.vlink.specs.declared.frame.VlId.{VlId}
 use Rattle.vlink.specs.declared.note.Note.{Note}
 use Rattle.vlink.specs.declared.note.Note.TheVariants.{Delivered, Dropped}
 use Rattle.vlink.specs.Letters.{Row}
-use Rattle.netdesc.specs.Words.{ids_of, VlPlan}
+use Rattle.network.specs.Words.{ids_of, VlPlan}
 use Rattle.trace_tables.specs.declared.destination.Destination.{Destination}
 use Rattle.trace_tables.specs.Destinations.{destination_cmp, destination, destinations_in, counts_in, with_latency_at}
 use Rattle.trace_tables.specs.Latencies.{Counts, counts_of, with_latency, latency_in, latency_at, latencies_of}

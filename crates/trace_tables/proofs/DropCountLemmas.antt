@@ -12,7 +12,7 @@ use Rattle.vlink.specs.declared.note.Cause.{Cause}
 use Rattle.vlink.specs.declared.note.Note.{Note}
 use Rattle.vlink.specs.declared.note.Note.TheVariants.{Delivered, Dropped}
 use Rattle.vlink.specs.Letters.{Row}
-use Rattle.netdesc.specs.Words.{Plan}
+use Rattle.network.specs.Words.{Plan}
 use Rattle.trace_tables.specs.declared.loss.Loss.{Loss}
 use Rattle.trace_tables.specs.Losses.{loss_cmp, loss_in, loss_of, count_in, with_loss, with_losses}
 use Rattle.trace_segments.specs.Words.{vl_of, is_in_network, is_known}

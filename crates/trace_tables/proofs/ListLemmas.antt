@@ -6,7 +6,7 @@ use Rattle.std.specs.List.Sorted.{IsStrictlySortedBy}
 use Rattle.std.specs.Ordering.{match_ordering}
 use Rattle.std.specs.BTreeSet.{insert_key}
 use Rattle.std.proofs.lemmas.Cmp.{ranked}
-use Rattle.netdesc.specs.Words.{rising, rising_from}
+use Rattle.network.specs.Words.{rising, rising_from}
 
 -- all are above a number
 abbrev pub AllAbove : ℕ → List ℕ → Type 0

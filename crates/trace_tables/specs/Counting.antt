@@ -3,7 +3,7 @@ use Rattle.std.specs.Prelude.{ℕ, ◌==◌, ◌&&◌, Bool, false, List, count_
 use Rattle.vlink.specs.declared.note.Note.{Note}
 use Rattle.vlink.specs.declared.note.Note.TheVariants.{Delivered, Dropped}
 use Rattle.vlink.specs.Letters.{Row}
-use Rattle.netdesc.specs.Words.{Plan}
+use Rattle.network.specs.Words.{Plan}
 use Rattle.trace_tables.specs.declared.loss.Loss.{Loss}
 use Rattle.trace_tables.specs.Losses.{cause_number}
 use Rattle.trace_segments.specs.Words.{is_known}

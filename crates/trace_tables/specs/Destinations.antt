@@ -6,7 +6,7 @@ use Rattle.std.specs.declared.cmp.Ordering.{Ordering}
 use Rattle.std.specs.BTreeMap.{insert_entry, is_at}
 use Rattle.std.specs.Map.{lookup}
 use Rattle.vlink.specs.declared.frame.VlId.{VlId}
-use Rattle.netdesc.specs.Words.{VlPlan, destinations_of}
+use Rattle.network.specs.Words.{VlPlan, destinations_of}
 use Rattle.trace_tables.specs.declared.destination.Destination.{Destination}
 use Rattle.trace_tables.specs.Latencies.{Counts, counts_of, with_latency}
 

@@ -1,7 +1,7 @@
 -- The tables of a run: latencies by virtual link and destination, and what was dropped.
 use Rattle.std.specs.Prelude.{ℕ, cond, List, [], map, flat_map}
 use Rattle.vlink.specs.Letters.{Row}
-use Rattle.netdesc.specs.Words.{Plan, VlPlan}
+use Rattle.network.specs.Words.{Plan, VlPlan}
 use Rattle.trace_segments.specs.Words.{is_known}
 use Rattle.trace_tables.specs.declared.destination.Destination.{Destination}
 use Rattle.trace_tables.specs.declared.loss.Loss.{Loss}

@@ -1,6 +1,6 @@
 -- The text of the tables: comma-separated rows, each with a line feed at its end. Times are in ns.
 use Rattle.std.specs.Prelude.{ℕ, ◌&&◌, cond, nat_lt, codes, decimal, List, [], ◌∷◌, ◌++◌, flat_map}
-use Rattle.netdesc.specs.Words.{Plan}
+use Rattle.network.specs.Words.{Plan}
 use Rattle.trace_segments.specs.Words.{is_in_network, line, place_name, cause_name}
 use Rattle.trace_tables.specs.declared.destination.Destination.{Destination}
 use Rattle.trace_tables.specs.declared.loss.Loss.{Loss}

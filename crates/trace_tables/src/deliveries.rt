@@ -1,13 +1,13 @@
 //! Latencies by destination.
 ghost use Rattle.std.specs.Prelude.{◌≡◌, ◌-◌, ◌^◌, ◌<◌, [], map, IfOk, OnOk};
 ghost use Rattle.std.specs.List.Sorted.{IsStrictlyIncreasing};
-ghost use Rattle.netdesc.specs.Words.{ids_of};
+ghost use Rattle.network.specs.Words.{ids_of};
 ghost use Rattle.trace_tables.specs.Destinations.{destination, counts_in, with_destinations, with_latency_at};
 ghost use Rattle.trace_tables.specs.Tables.{latency_table};
 
-use crate::destination::{Destination, destination_order};
+use crate::destination::{Destination, destination_order_law};
 use crate::latencies::Latencies;
-use netdesc::Network;
+use network::Network;
 use std::alloc::{AllocError, Global};
 use std::collections::BTreeMap;
 use vlink::VlId;
@@ -20,7 +20,7 @@ fn add_destinations(
 ) -> Result<(), AllocError>
     ensures { OnOk result (table.new.entries ≡ with_destinations table.old.entries (map (destination vl) places.now)) }
 {
-    destination_order();
+    destination_order_law();
     for place in places {
         table.insert(Destination { vl, place: *place }, Latencies::none())?;
     }
@@ -47,7 +47,7 @@ pub fn add_latency(table: &mut BTreeMap<Destination, Latencies>, at: Destination
     requires { (counts_in table.old.entries at).count < 2 ^ 64 - 1 }
     ensures { table.new.entries ≡ with_latency_at table.old.entries at latency }
 {
-    destination_order();
+    destination_order_law();
     if let Some(here) = table.get_mut(&at) {
         here.add(latency);
     }
@@ -57,7 +57,7 @@ pub fn add_latency(table: &mut BTreeMap<Destination, Latencies>, at: Destination
 pub fn latencies_at(table: &BTreeMap<Destination, Latencies>, at: Destination) -> Latencies
     ensures { result ≡ counts_in table.now.entries at }
 {
-    destination_order();
+    destination_order_law();
     match table.get(&at) {
         Some(here) => *here,
         None => Latencies::none(),

@@ -16,6 +16,6 @@ pub struct Destination {
 }
 
 /// The derived order of destinations is the written one.
-pub(crate) fn destination_order()
+pub(crate) fn destination_order_law()
     ensures { (a b : Destination) → ⟦<Destination as Ord>⟧.cmp a b ≡ destination_cmp a b }
 {}

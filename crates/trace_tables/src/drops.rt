@@ -3,8 +3,8 @@ ghost use Rattle.std.specs.Prelude.{◌≡◌, ◌∷◌, ◌-◌, ◌^◌, ◌<
 ghost use Rattle.trace_tables.specs.Losses.{count_in, with_loss, with_losses};
 ghost use Rattle.trace_segments.specs.Words.{is_in_network};
 
-use crate::loss::{Loss, loss_order};
-use netdesc::Network;
+use crate::loss::{Loss, loss_order_law};
+use network::Network;
 use std::alloc::AllocError;
 use std::collections::BTreeMap;
 use trace_segments::is_in_network;
@@ -14,7 +14,7 @@ fn add_loss(drops: &mut BTreeMap<Loss, u64>, loss: Loss) -> Result<(), AllocErro
     requires { count_in drops.old.entries loss < 2 ^ 64 - 1 }
     ensures { OnOk result (drops.new.entries ≡ with_loss drops.old.entries loss) }
 {
-    loss_order();
+    loss_order_law();
     *drops.entry(loss)?.or_insert(0) += 1;
     Ok(())
 }

@@ -5,7 +5,7 @@ ghost use Rattle.std.specs.List.Sorted.{IsStrictlySortedBy};
 ghost use Rattle.std.specs.Map.{keys_of, values_of};
 ghost use Rattle.virtual_time.specs.Law.{rows_at};
 ghost use Rattle.vlink.specs.Letters.{Row};
-ghost use Rattle.netdesc.specs.Words.{Plan};
+ghost use Rattle.network.specs.Words.{Plan};
 ghost use Rattle.trace_tables.specs.declared.loss.Loss.{Loss};
 ghost use Rattle.trace_segments.specs.Words.{gathered};
 ghost use Rattle.trace_tables.specs.Counting.{times_lost, times_delivered};
@@ -18,9 +18,7 @@ ghost use Rattle.trace_tables.specs.Tables.{drop_table, tables_of};
 /// - `counted`: the count of a loss is the number of rows of the network that tell it; 0 stands for a loss that is not there.
 /// - `ascending`: each loss is there once, in the order of virtual links, then of processes, then of causes.
 /// - `positive`: no loss is there with the count 0.
-///
-/// A call does nothing: its caller learns what the clauses say.
-pub fn drop_counts()
+pub fn drop_counts_law()
     ensures counted { (plan : Plan) (rows : List Row) (loss : Loss) → count_in (drop_table plan rows) loss ≡ times_lost plan loss rows }
     ensures ascending { (plan : Plan) (rows : List Row) → IsStrictlySortedBy loss_cmp (keys_of (drop_table plan rows)) }
     ensures positive { (plan : Plan) (rows : List Row) → All (λ n. 0 < n) (values_of (drop_table plan rows)) }
@@ -31,9 +29,7 @@ pub fn drop_counts()
 /// - `counted`: the count is the number of rows that tell a delivery of the virtual link at the process.
 /// - `least`, `greatest`: each latency is at least the one and at most the other.
 /// - `least_occurs`, `greatest_occurs`: where there is a latency, each of the two is one.
-///
-/// A call does nothing: its caller learns what the clauses say.
-pub fn latency_counts()
+pub fn latency_counts_law()
     ensures counted { (vl place : ℕ) (rows : List Row) → (counts_of (latencies_of vl place rows)).count ≡ times_delivered vl place rows }
     ensures least { (latencies : List ℕ) → All (λ l. (counts_of latencies).least ≤ l) latencies }
     ensures greatest { (latencies : List ℕ) → All (λ l. l ≤ (counts_of latencies).greatest) latencies }
@@ -47,9 +43,7 @@ pub fn latency_counts()
 ///
 /// - `by_place`: rows that are the same at each process have the same tables.
 /// - `gathered`: the rows of the first processes, put one process after another, have the tables of all rows, if no others have rows.
-///
-/// A call does nothing: its caller learns what the clauses say.
-pub fn tables_by_place()
+pub fn tables_by_place_law()
     ensures by_place { (plan : Plan) (xs ys : List Row) → ((p : ℕ) → rows_at p xs ≡ rows_at p ys) → tables_of plan xs ≡ tables_of plan ys }
     ensures gathered { (plan : Plan) (rows : List Row) (processes : ℕ) (rows_of : ℕ → List Row) → ((p : ℕ) → p < processes → rows_of p ≡ rows_at p rows)
         → ((p : ℕ) → processes ≤ p → rows_at p rows ≡ []) → tables_of plan (gathered processes rows_of) ≡ tables_of plan rows }

@@ -14,13 +14,13 @@ mod write;
 
 pub use destination::Destination;
 pub use latencies::Latencies;
-pub use laws::{drop_counts, latency_counts, tables_by_place};
+pub use laws::{drop_counts_law, latency_counts_law, tables_by_place_law};
 pub use loss::Loss;
 pub use so_far::TablesSoFar;
 pub use tables::Tables;
 pub use trace_segments::{
     Batch, Gather, OutFault, Segment, SegmentFault, Sink, SinkFault, TraceFault, TraceWriter,
-    batches_in_order, cut, put_in_message_order, rows_by_place, segments_of_rows, width, write_all,
-    write_trace,
+    batches_in_order_law, cut, put_in_message_order, rows_by_place_law, segments_of_rows_law,
+    width, write_all, write_trace,
 };
 pub use write::write_csv;

@@ -19,13 +19,13 @@ pub struct Loss {
 }
 
 /// The derived order of causes is that of their numbers.
-fn cause_order()
+fn cause_order_law()
     ensures { (a b : Cause) → ⟦<Cause as Ord>⟧.cmp a b ≡ nat_cmp (cause_number a) (cause_number b) }
 {}
 
 /// The derived order of losses is the written one.
-pub(crate) fn loss_order()
+pub(crate) fn loss_order_law()
     ensures { (a b : Loss) → ⟦<Loss as Ord>⟧.cmp a b ≡ loss_cmp a b }
 {
-    cause_order();
+    cause_order_law();
 }

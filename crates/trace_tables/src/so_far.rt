@@ -10,7 +10,7 @@ use crate::drops::add_known_loss;
 use crate::latencies::Latencies;
 use crate::loss::Loss;
 use crate::tables::Tables;
-use netdesc::Network;
+use network::Network;
 use std::alloc::{AllocError, Global};
 use std::collections::BTreeMap;
 use std::marker::Model;

@@ -6,7 +6,7 @@ use crate::destination::Destination;
 use crate::latencies::Latencies;
 use crate::loss::Loss;
 use crate::so_far::TablesSoFar;
-use netdesc::Network;
+use network::Network;
 use std::alloc::{AllocError, Global};
 use std::collections::BTreeMap;
 use std::marker::Model;

@@ -11,7 +11,7 @@ use crate::latencies::Latencies;
 use crate::loss::Loss;
 use csv::{Error, Writer};
 use itoa::Buffer;
-use netdesc::Network;
+use network::Network;
 use std::collections::BTreeMap;
 use trace_segments::line::push;
 use trace_segments::{cause_name, is_in_network, place_name};

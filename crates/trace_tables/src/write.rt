@@ -8,7 +8,7 @@ ghost use Rattle.trace_tables.specs.Text.{tables_text};
 use crate::tables::Tables;
 use crate::text;
 use csv::Error;
-use netdesc::Network;
+use network::Network;
 use std::alloc::Global;
 use trace_segments::line::{empty, text_of};
 use trace_segments::{OutFault, Sink, write_all};

@@ -8,9 +8,9 @@ use Rattle.rand_pcg.specs.Lcg.{started, increment_of, advance}
 use Rattle.rand_pcg.specs.Pcg.{multiplier_64}
 use Rattle.vlink.specs.declared.message.Message.{Message}
 use Rattle.network_rows.specs.declared.rows.VirtualLink.{VirtualLink}
-use Rattle.netdesc.specs.Words.{IsLinkInLimits, Plan, VlPlan, source_of, IsAccepted, id_of, ids_of}
-use Rattle.netdesc.proofs.BuildLemmas.{read-item}
-use Rattle.netdesc.proofs.SourceLemmas.{HasSource, all-have}
+use Rattle.network.specs.Words.{IsLinkInLimits, Plan, VlPlan, source_of, IsAccepted, id_of, ids_of}
+use Rattle.network.proofs.BuildLemmas.{read-item}
+use Rattle.network.proofs.SourceLemmas.{HasSource, all-have}
 use Rattle.traffic.specs.Offers.{generator_at, word_of, due_of, moment_of, due_count, come_until, offer_of, offers_from, offers_of_vl}
 use Rattle.traffic.proofs.DrawingLemmas.{due_count-due}
 use Rattle.traffic.proofs.OfferingLemmas.{offers_more}

@@ -8,7 +8,7 @@ use Rattle.rand_pcg.specs.Lcg.{Lcg, started, increment_of, next, next_state, sta
 use Rattle.rand_pcg.specs.Pcg.{multiplier_64, pcg32}
 use Rattle.vlink.specs.declared.message.Message.{Message}
 use Rattle.network_rows.specs.declared.rows.VirtualLink.{VirtualLink}
-use Rattle.netdesc.specs.Words.{IsLinkInLimits}
+use Rattle.network.specs.Words.{IsLinkInLimits}
 use Rattle.traffic.specs.Offers.{generator_at, word_of, due_of, due_count, come_until, offer_by, offer_of}
 
 -- a step after n steps is step n + 1

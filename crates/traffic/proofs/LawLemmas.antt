@@ -9,10 +9,10 @@ use Rattle.virtual_time.specs.Law.{Rules, IsOrder, IsNumbered, times_in, IsIn, S
 use Rattle.virtual_time.proofs.Lists.{times-append, times-none, times-filter, times-filter_out, in-append, in-cons, in-filter}
 use Rattle.virtual_time.proofs.Numbers.{numbered-once}
 use Rattle.network_rows.specs.declared.rows.VirtualLink.{VirtualLink}
-use Rattle.netdesc.specs.declared.too_many.TheConstants.{GREATEST_PROCESSES}
-use Rattle.netdesc.specs.Words.{Plan, VlPlan, source_of, process_count, IsAccepted, id_of, ids_of}
-use Rattle.netdesc.proofs.RisingLemmas.{ids-rise}
-use Rattle.netdesc.proofs.SourceLemmas.{HasSource, all-have, end-system-below}
+use Rattle.network.specs.declared.limits.TheConstants.{GREATEST_PROCESSES}
+use Rattle.network.specs.Words.{Plan, VlPlan, source_of, process_count, IsAccepted, id_of, ids_of}
+use Rattle.network.proofs.RisingLemmas.{ids-rise}
+use Rattle.network.proofs.SourceLemmas.{HasSource, all-have, end-system-below}
 use Rattle.traffic.specs.Offers.{sender_of, offer_of, due_count, offers_from, offers_of_vl}
 use Rattle.traffic.specs.Lawful.{IsOfNetwork, HasLawfulOffers}
 

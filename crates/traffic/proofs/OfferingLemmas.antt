@@ -5,7 +5,7 @@ use Rattle.std.proofs.lemmas.Grind.{flat_map-append}
 use Rattle.std.proofs.lemmas.Option.{slice_get_within, get_or_from_slice_get}
 use Rattle.vlink.specs.declared.message.Message.{Message}
 use Rattle.network_rows.specs.declared.rows.VirtualLink.{VirtualLink}
-use Rattle.netdesc.specs.Words.{Plan, VlPlan, source_of}
+use Rattle.network.specs.Words.{Plan, VlPlan, source_of}
 use Rattle.traffic.specs.Offers.{offers_from, offers_of_vl}
 
 -- the offers of a virtual link whose link and source are known

@@ -2,7 +2,7 @@
 use Rattle.std.specs.Prelude.{◌≡◌, ◌<◌, ◌≤◌}
 use Rattle.vlink.specs.declared.message.Message.{Message}
 use Rattle.virtual_time.specs.Law.{IsOrder, times_in, IsIn, Simulation}
-use Rattle.netdesc.specs.Words.{Plan, process_count}
+use Rattle.network.specs.Words.{Plan, process_count}
 use Rattle.traffic.specs.Offers.{offers_of}
 
 -- its messages are those of the simulator, its processes, its end and its offers those of the network; whatever its actors do

@@ -5,9 +5,9 @@ use Rattle.rand_pcg.specs.Lcg.{Lcg, started, increment_of, advance}
 use Rattle.rand_pcg.specs.Pcg.{multiplier_64, pcg32}
 use Rattle.vlink.specs.declared.message.Message.{Message}
 use Rattle.vlink.specs.declared.message.Body.TheVariants.{Offer}
-use Rattle.netdesc.specs.declared.too_many.TheConstants.{GREATEST_PROCESSES}
+use Rattle.network.specs.declared.limits.TheConstants.{GREATEST_PROCESSES}
 use Rattle.network_rows.specs.declared.rows.VirtualLink.{VirtualLink}
-use Rattle.netdesc.specs.Words.{Plan, VlPlan, source_of}
+use Rattle.network.specs.Words.{Plan, VlPlan, source_of}
 
 -- the generator of the virtual link with this number, k words on: it begins with the seed as its state and the number as its stream
 unfoldable pub generator_at : ℕ → ℕ → ℕ → Lcg

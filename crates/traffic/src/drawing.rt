@@ -1,10 +1,10 @@
 //! The offers of one virtual link.
 ghost use Rattle.std.specs.Prelude.{◌≡◌, ℕ, ◌+◌, ◌%◌, ◌<◌, ◌≤◌, ◌↔◌, [], ◌∷◌, ◌++◌, OnOk, OnErr, vec_len, vec_capacity};
 ghost use Rattle.vlink.specs.declared.time.TheConstants.{LATEST_NS};
-ghost use Rattle.netdesc.specs.Words.{IsLinkInLimits};
+ghost use Rattle.network.specs.Words.{IsLinkInLimits};
 ghost use Rattle.traffic.specs.Offers.{due_of, moment_of, due_count, sender_of, offer_by, come_until, offers_from};
 
-use netdesc::{GREATEST_PROCESSES, VirtualLink};
+use network::{GREATEST_PROCESSES, VirtualLink};
 use rand_core::utils::NextWord;
 use rand_pcg::Lcg64Xsh32;
 use std::alloc::AllocError;

@@ -6,6 +6,6 @@ mod law;
 mod offer_counting;
 mod offering;
 
-pub use law::lawful_offers;
+pub use law::offers_law;
 pub use offer_counting::offer_count;
 pub use offering::offers;

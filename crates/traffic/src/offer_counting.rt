@@ -1,11 +1,11 @@
 //! How many offers there are, without a list of them.
 ghost use Rattle.std.specs.Prelude.{◌≡◌, ℕ, ◌+◌, ◌*◌, ◌≤◌, ◌<◌, ◌↔◌, length, nat_le};
 ghost use Rattle.vlink.specs.declared.time.TheConstants.{LATEST_NS};
-ghost use Rattle.netdesc.specs.Words.{IsLinkInLimits};
+ghost use Rattle.network.specs.Words.{IsLinkInLimits};
 ghost use Rattle.traffic.specs.Offers.{due_of, moment_of, due_count, offers_from, offers_of};
 
 use crate::drawing::{due_count, moment};
-use netdesc::{Network, VirtualLink};
+use network::{Network, VirtualLink};
 use rand_core::utils::NextWord;
 use rand_pcg::Lcg64Xsh32;
 use vlink::Time;
@@ -58,7 +58,7 @@ fn vl_offer_count(seed: u64, until: Time, link: &VirtualLink) -> u64
 pub fn offer_count(network: &Network) -> u64
     ensures { result ≡ length (offers_of network.now) }
 {
-    network.accepted();
+    network.accepted_law();
     let mut count: u64 = 0;
     for vl in 0..network.vl_count() {
         let link = network.virtual_link(vl);

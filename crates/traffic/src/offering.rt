@@ -1,11 +1,11 @@
 //! The offers of all virtual links.
 ghost use Rattle.std.specs.Prelude.{◌≡◌, ◌++◌, ◌+◌, ◌<◌, Some, length, slice_get, take, OnOk, IfOk, option_and_then};
 ghost use Rattle.std.specs.List.{flat_map};
-ghost use Rattle.netdesc.specs.Words.{source_of};
+ghost use Rattle.network.specs.Words.{source_of};
 ghost use Rattle.traffic.specs.Offers.{offers_of_vl, offers_of};
 
 use crate::drawing::{due_count, push_offers};
-use netdesc::Network;
+use network::Network;
 use std::alloc::{AllocError, Global};
 use vlink::Message;
 

@@ -1,7 +1,8 @@
 -- What entries of groups make of the world: each group is what its own entries make of it.
 use Rattle.std.proofs.Common.{◌≡◌, ℕ, Bool, true, false, cond, List, [], ◌∷◌, ◌++◌, map, remove, Option, Some, None, refl, sym, ap, ◌∙◌, subst, slice_get}
 use Rattle.std.proofs.lemmas.Bool.{both_ways}
-use Rattle.virtual_time.specs.Law.{Simulation, received_by, Part, delivered, emptied, arrive, run_one, commit_oldest, World, taken, with_part, is_enabled, effect, step, run, local, Deliver, Told, Fetched, Did, Set, AreAlike, AreBy, AreDone, CanTell, after_told, all_steps, bare, done_by, group_after, in_hand, is_by, told_steps}
+use Rattle.virtual_time.specs.Law.{Simulation, received_by, Part, delivered, emptied, arrive, run_one, commit_oldest, World, taken, with_part, is_enabled, effect, step, run, local, Deliver, GroupDeed, AreAlike, AreBy, AreDone, CanTell, after_told, all_steps, bare, done_by, group_after, in_hand, is_by, told_steps}
+use Rattle.virtual_time.specs.Groups.{Collected, Posted, Published}
 use Rattle.virtual_time.specs.declared.letter.Letter.{Letter}
 use Rattle.virtual_time.specs.declared.step.Step.{Step}
 use Rattle.virtual_time.specs.declared.step.Step.TheVariants.{Take, Arrive, Run, Post, Gvt, Commit}
@@ -11,7 +12,7 @@ use Rattle.virtual_time.proofs.Groups.{step-does, blocks}
 
 module _ {M S K N : Type 0} (f : Simulation M S K N) where
   -- the steps of all entries lead to the world after them
-  pub told-run : (ds : List (Told M)) (w : World M S) → run f (all_steps f ds w) w ≡ after_told f ds w
+  pub told-run : (ds : List (GroupDeed M)) (w : World M S) → run f (all_steps f ds w) w ≡ after_told f ds w
   unfolding run
   told-run [] w = refl
   told-run (d ∷ ds) w = run-then f (told_steps f d w) (all_steps f ds (run f (told_steps f d w) w)) w ∙ told-run ds (run f (told_steps f d w) w)
@@ -55,54 +56,54 @@ module _ {M S K N : Type 0} (f : Simulation M S K N) where
     done-alike (x ∷ xs) v w a o = done-alike xs (effect f x v) (effect f x w) (effect-alike x v w a o.0) o.1
 
     -- the processes of the group after an entry of its own
-    pub own-told : (g : ℕ) (d : Told M) (w : World M S) → CanTell f ours g d w → (q : ℕ) → ours q ≡ true →
+    pub own-told : (g : ℕ) (d : GroupDeed M) (w : World M S) → CanTell f ours g d w → (q : ℕ) → ours q ≡ true →
         (run f (told_steps f d w) w).parts q ≡ group_after f (d ∷ []) w.parts q
     unfolding run step effect is_enabled
-    own-told g (Fetched p ls) w c q o = ap (λ z. z.parts q) (takes f p c.1 ls c.2 w c.3)
-    own-told g (Did xs) w c q o =
+    own-told g (Collected p ls) w c q o = ap (λ z. z.parts q) (takes f p c.1 ls c.2 w c.3)
+    own-told g (Posted xs) w c q o =
         ap (λ z. z.parts q) (blocks f ours g xs w c.0 c.1 c.2) ∙
         (ap (λ b. cond b ((run f xs (in_hand f g w)).parts q) (w.parts q)) o ∙
         (ap (λ z. z.parts q) (run-done xs (in_hand f g w) c.2) ∙
         (done-alike xs (in_hand f g w) (bare f w.parts) (record { parts = λ r h. refl; mail = λ r. refl }) c.1).parts q o))
-    own-told g Set w c q o = refl
+    own-told g Published w c q o = refl
 
     -- all other processes
-    pub others-told : (g : ℕ) (d : Told M) (w : World M S) → CanTell f ours g d w → (q : ℕ) → ours q ≡ false → (run f (told_steps f d w) w).parts q ≡ w.parts q
+    pub others-told : (g : ℕ) (d : GroupDeed M) (w : World M S) → CanTell f ours g d w → (q : ℕ) → ours q ≡ false → (run f (told_steps f d w) w).parts q ≡ w.parts q
     unfolding run step effect is_enabled
-    others-told g (Fetched p ls) w c q o =
+    others-told g (Collected p ls) w c q o =
         ap (λ z. z.parts q) (takes f p c.1 ls c.2 w c.3) ∙
         put_elim (λ r z. ours r ≡ false → z ≡ w.parts r) p (local f.rules (f.opening p) (map (λ l. Deliver l) ls) (w.parts p)) w.parts (λ h. absurd (both_ways (ours p) h c.0)) (λ r n h. refl) q o
-    others-told g (Did xs) w c q o =
+    others-told g (Posted xs) w c q o =
         ap (λ z. z.parts q) (blocks f ours g xs w c.0 c.1 c.2) ∙ ap (λ b. cond b ((run f xs (in_hand f g w)).parts q) (w.parts q)) o
-    others-told g Set w c q o = refl
+    others-told g Published w c q o = refl
 
     -- entries of the group, from processes that are the same
-    abbrev AreOwn : List (Told M) → Type 0
+    abbrev AreOwn : List (GroupDeed M) → Type 0
     AreOwn [] = Unit {0}
-    AreOwn (Fetched p ls ∷ ds) = (ours p ≡ true) × AreOwn ds
-    AreOwn (Did xs ∷ ds) = AreBy ours xs × AreOwn ds
-    AreOwn (Set ∷ ds) = AreOwn ds
+    AreOwn (Collected p ls ∷ ds) = (ours p ≡ true) × AreOwn ds
+    AreOwn (Posted xs ∷ ds) = AreBy ours xs × AreOwn ds
+    AreOwn (Published ∷ ds) = AreOwn ds
 
-    after-append : (ds es : List (Told M)) (parts : ℕ → Part M S) → group_after f (ds ++ es) parts ≡ group_after f es (group_after f ds parts)
+    after-append : (ds es : List (GroupDeed M)) (parts : ℕ → Part M S) → group_after f (ds ++ es) parts ≡ group_after f es (group_after f ds parts)
     after-append [] es parts = refl
-    after-append (Fetched p ls ∷ ds) es parts = after-append ds es _
-    after-append (Did xs ∷ ds) es parts = after-append ds es _
-    after-append (Set ∷ ds) es parts = after-append ds es parts
+    after-append (Collected p ls ∷ ds) es parts = after-append ds es _
+    after-append (Posted xs ∷ ds) es parts = after-append ds es _
+    after-append (Published ∷ ds) es parts = after-append ds es parts
 
-    after-alike : (d : Told M) → AreOwn (d ∷ []) → (v w : ℕ → Part M S) → ((q : ℕ) → ours q ≡ true → v q ≡ w q) → (q : ℕ) → ours q ≡ true → group_after f (d ∷ []) v q ≡ group_after f (d ∷ []) w q
-    after-alike (Fetched p ls) o v w a q h =
+    after-alike : (d : GroupDeed M) → AreOwn (d ∷ []) → (v w : ℕ → Part M S) → ((q : ℕ) → ours q ≡ true → v q ≡ w q) → (q : ℕ) → ours q ≡ true → group_after f (d ∷ []) v q ≡ group_after f (d ∷ []) w q
+    after-alike (Collected p ls) o v w a q h =
         put_elim₂ (λ q x y. ours q ≡ true → x ≡ y) p (local f.rules (f.opening p) (map (λ l. Deliver l) ls) (v p)) (local f.rules (f.opening p) (map (λ l. Deliver l) ls) (w p)) v w
         (λ j. ap (local f.rules (f.opening p) (map (λ l. Deliver l) ls)) (a p o.0)) (λ r n. a r) q h
-    after-alike (Did xs) o v w a q h = (done-alike xs (bare f v) (bare f w) (record { parts = a; mail = λ r. refl }) o.0).parts q h
-    after-alike Set o v w a q h = a q h
+    after-alike (Posted xs) o v w a q h = (done-alike xs (bare f v) (bare f w) (record { parts = a; mail = λ r. refl }) o.0).parts q h
+    after-alike Published o v w a q h = a q h
 
-    told-own : (g : ℕ) (d : Told M) (w : World M S) → CanTell f ours g d w → AreOwn (d ∷ [])
-    told-own g (Fetched p ls) w c = (c.0, tt)
-    told-own g (Did xs) w c = (c.1, tt)
-    told-own g Set w c = tt
+    told-own : (g : ℕ) (d : GroupDeed M) (w : World M S) → CanTell f ours g d w → AreOwn (d ∷ [])
+    told-own g (Collected p ls) w c = (c.0, tt)
+    told-own g (Posted xs) w c = (c.1, tt)
+    told-own g Published w c = tt
 
     -- one entry more of the group: its processes are what its own entries make of the opening ones
-    pub group-push : (g : ℕ) (own : List (Told M)) (d : Told M) (w : World M S) (opening : ℕ → Part M S) → CanTell f ours g d w →
+    pub group-push : (g : ℕ) (own : List (GroupDeed M)) (d : GroupDeed M) (w : World M S) (opening : ℕ → Part M S) → CanTell f ours g d w →
         ((q : ℕ) → ours q ≡ true → w.parts q ≡ group_after f own opening q) →
         (q : ℕ) → ours q ≡ true → (run f (told_steps f d w) w).parts q ≡ group_after f (own ++ d ∷ []) opening q
     group-push g own d w opening c a q h =

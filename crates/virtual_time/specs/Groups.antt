@@ -43,10 +43,10 @@ IsAmong q (p ∷ ps) = (q ≡ p) ⊎ IsAmong q ps
 
 -- what an entry of a journal of groups tells: these letters were taken from the front of the mail of a process; a group did these steps, by a
 -- mail of its own; or GVT was set
-pub data Told (M : Type 0) : Type 0 where
-  Fetched : (process : ℕ) (letters : List (Letter M)) → Told M
-  Did : (block : List Step) → Told M
-  Set : Told M
+pub data GroupDeed (M : Type 0) : Type 0 where
+  Collected : (process : ℕ) (letters : List (Letter M)) → GroupDeed M
+  Posted : (block : List Step) → GroupDeed M
+  Published : GroupDeed M
 
 module _ {M S K N : Type 0} (f : Simulation M S K N) where
   -- how many letters wait for each process
@@ -90,17 +90,17 @@ module _ {M S K N : Type 0} (f : Simulation M S K N) where
     pub seen : v.gvt ≡ g
 
   -- the steps for which an entry stands in the world that it comes to
-  abbrev pub told_steps : Told M → World M S → List Step
-  told_steps (Fetched p ls) w = replicate (length ls) (Take p 0)
-  told_steps (Did xs) w = map (behind (waiting_in w)) xs
-  told_steps Set w = Gvt ∷ []
+  abbrev pub told_steps : GroupDeed M → World M S → List Step
+  told_steps (Collected p ls) w = replicate (length ls) (Take p 0)
+  told_steps (Posted xs) w = map (behind (waiting_in w)) xs
+  told_steps Published w = Gvt ∷ []
 
   -- the steps for which entries stand, and the world after them
-  abbrev pub all_steps : List (Told M) → World M S → List Step
+  abbrev pub all_steps : List (GroupDeed M) → World M S → List Step
   all_steps [] w = []
   all_steps (d ∷ ds) w = told_steps d w ++ all_steps ds (run f (told_steps d w) w)
 
-  abbrev pub after_told : List (Told M) → World M S → World M S
+  abbrev pub after_told : List (GroupDeed M) → World M S → World M S
   after_told [] w = w
   after_told (d ∷ ds) w = after_told ds (run f (told_steps d w) w)
 
@@ -109,14 +109,14 @@ module _ {M S K N : Type 0} (f : Simulation M S K N) where
   bare parts = record { parts = parts; mail = λ q. []; floors = λ q. 0; gvt = 0 }
 
   -- what its own entries make of the processes of a group, with no look at other processes, mail or GVT
-  abbrev pub group_after : List (Told M) → (ℕ → Part M S) → ℕ → Part M S
+  abbrev pub group_after : List (GroupDeed M) → (ℕ → Part M S) → ℕ → Part M S
   group_after [] parts = parts
-  group_after (Fetched p ls ∷ ds) parts = group_after ds (put p (local f.rules (f.opening p) (map (λ l. Deliver l) ls) (parts p)) parts)
-  group_after (Did xs ∷ ds) parts = group_after ds (done_by xs (bare parts)).parts
-  group_after (Set ∷ ds) parts = group_after ds parts
+  group_after (Collected p ls ∷ ds) parts = group_after ds (put p (local f.rules (f.opening p) (map (λ l. Deliver l) ls) (parts p)) parts)
+  group_after (Posted xs ∷ ds) parts = group_after ds (done_by xs (bare parts)).parts
+  group_after (Published ∷ ds) parts = group_after ds parts
 
   -- the entry is one of the group, and can be made in this world by a group that saw GVT at g
-  abbrev pub CanTell : (ℕ → Bool) → ℕ → Told M → World M S → Type 0
-  CanTell ours g (Fetched p ls) w = (ours p ≡ true) × (p < f.processes) × (rest : List (Letter M)) × (w.mail p ≡ ls ++ rest)
-  CanTell ours g (Did xs) w = (g ≤ w.gvt) × AreBy ours xs × AreDone xs (in_hand g w)
-  CanTell ours g Set w = ⊤
+  abbrev pub CanTell : (ℕ → Bool) → ℕ → GroupDeed M → World M S → Type 0
+  CanTell ours g (Collected p ls) w = (ours p ≡ true) × (p < f.processes) × (rest : List (Letter M)) × (w.mail p ≡ ls ++ rest)
+  CanTell ours g (Posted xs) w = (g ≤ w.gvt) × AreBy ours xs × AreDone xs (in_hand g w)
+  CanTell ours g Published w = ⊤

@@ -15,7 +15,7 @@ use Rattle.virtual_time.specs.Own.Act.{Deliver, Emptying, Moves}
 -- what an entry tells: these letters were taken from the front of the mail, one after another; these steps were done and then the outbox
 -- was posted; or GVT was set
 pub data Deed (M : Type 0) : Type 0 where
-  Took : (letters : List (Letter M)) → Deed M
+  Collected : (letters : List (Letter M)) → Deed M
   Posted : (block : List Move) → Deed M
   Published : Deed M
 
@@ -32,7 +32,7 @@ step_by p Committed = Commit p
 
 -- the steps for which an entry stands
 abbrev pub steps_of : {M : Type 0} → ℕ → Deed M → List Step
-steps_of p (Took ls) = replicate (length ls) (Take p 0)
+steps_of p (Collected ls) = replicate (length ls) (Take p 0)
 steps_of p (Posted ms) = map (step_by p) ms ++ Post p ∷ []
 steps_of p Published = Gvt ∷ []
 
@@ -42,7 +42,7 @@ steps (l ∷ ls) = steps_of l.process l.deed ++ steps ls
 
 -- what the process of an entry did or had done to it
 abbrev pub acts_of : {M : Type 0} → Deed M → List (Act M)
-acts_of (Took ls) = map (λ l. Deliver l) ls
+acts_of (Collected ls) = map (λ l. Deliver l) ls
 acts_of (Posted ms) = map (λ m. Moves m) ms ++ Emptying ∷ []
 acts_of Published = []
 
@@ -94,7 +94,7 @@ module _ {M S K N : Type 0} (f : Simulation M S K N) where
 
 -- where process p's last entry stands among these, of which the first has number n; GVT is no process's entry
 abbrev pub is_of : {M : Type 0} → ℕ → ℕ → Deed M → Bool
-is_of p q (Took ls) = p == q
+is_of p q (Collected ls) = p == q
 is_of p q (Posted ms) = p == q
 is_of p q Published = false
 

@@ -33,7 +33,7 @@ ghost use Rattle.virtual_time.specs.Own.Act.{Emptying, Moves};
 ghost use Rattle.virtual_time.specs.Well.{IsWell, SendsKept};
 ghost use Rattle.virtual_time.specs.SafePart.{IsSafePart, MayAct};
 ghost use Rattle.virtual_time.specs.Journal.{Entry, Posted, Published, steps_of, acts_of, own_in, reach, after_own, AreEnabled, fetched, delivered_block};
-ghost use Rattle.virtual_time.specs.Groups.{AreBy, AreDone, CanTell, IsAmong, IsSafeGroup, Told, after_told, all_steps, behind, done_by, group_after, in_hand, joined, told_steps, waiting_in};
+ghost use Rattle.virtual_time.specs.Groups.{AreBy, AreDone, CanTell, IsAmong, IsSafeGroup, GroupDeed, after_told, all_steps, behind, done_by, group_after, in_hand, joined, told_steps, waiting_in};
 ghost use Rattle.virtual_time.specs.declared.moved.Move.{Move};
 ghost use Rattle.virtual_time.specs.declared.moved.Move.TheVariants.{Ran};
 
@@ -68,7 +68,7 @@ pub use step::Step;
 /// - `whole`: in a finished world the committed events and their rows, at each process, are those of the whole one-thread run.
 /// - `alone`: each process is what its own acts make of its opening state, with no look at other processes, mail or GVT.
 /// - `stays`: a step that is not enabled leaves the very same world.
-pub fn headline<M, S, K, N>()
+pub fn headline_law<M, S, K, N>()
     ensures safe { (f : Simulation M S K N) → Laws f → (steps : List Step) → Safe f (run f steps (start f)) }
     ensures counts { (f : Simulation M S K N) → Laws f → (steps : List Step) (m : M) → CountLaw f (run f steps (start f)) m }
     ensures once { (f : Simulation M S K N) → Laws f → (steps : List Step) (m : M) → made f (history f (run f steps (start f))) m ≤ 1 }
@@ -173,11 +173,11 @@ pub fn group_law<M, S, K, N>()
     ensures blocks { (f : Simulation M S K N) (ours : ℕ → Bool) (seen : ℕ) (block : List Step) (w : World M S) → seen ≤ w.gvt →
         AreBy ours block → AreDone f block (in_hand f seen w) →
         run f (map (behind (waiting_in f w)) block) w ≡ joined f ours (run f block (in_hand f seen w)) w }
-    ensures told { (f : Simulation M S K N) (entries : List (Told M)) (w : World M S) → run f (all_steps f entries w) w ≡ after_told f entries w }
-    ensures alone { (f : Simulation M S K N) (ours : ℕ → Bool) (seen : ℕ) (entries : List (Told M)) (e : Told M) (w : World M S) → CanTell f ours seen e w →
+    ensures told { (f : Simulation M S K N) (entries : List (GroupDeed M)) (w : World M S) → run f (all_steps f entries w) w ≡ after_told f entries w }
+    ensures alone { (f : Simulation M S K N) (ours : ℕ → Bool) (seen : ℕ) (entries : List (GroupDeed M)) (e : GroupDeed M) (w : World M S) → CanTell f ours seen e w →
         ((p : ℕ) → ours p ≡ true → w.parts p ≡ group_after f entries (λ q. opened (f.opening q)) p) → (p : ℕ) → ours p ≡ true →
         (run f (told_steps f e w) w).parts p ≡ group_after f (entries ++ e ∷ []) (λ q. opened (f.opening q)) p }
-    ensures others { (f : Simulation M S K N) (ours : ℕ → Bool) (seen : ℕ) (e : Told M) (w : World M S) → CanTell f ours seen e w →
+    ensures others { (f : Simulation M S K N) (ours : ℕ → Bool) (seen : ℕ) (e : GroupDeed M) (w : World M S) → CanTell f ours seen e w →
         (p : ℕ) → ours p ≡ false → (run f (told_steps f e w) w).parts p ≡ w.parts p }
     ensures settled { (f : Simulation M S K N) (posting : List ℕ) (v : World M S) (p : ℕ) → IsAmong p posting →
         (done_by f (map (λ q. Post q) posting) v).floors p ≡ floor_of f.rules.order f.until ((done_by f (map (λ q. Post q) posting) v).parts p) }

@@ -15,25 +15,21 @@ use std::cmp::Ordering;
 
 /// The order of messages that `cmp` computes is `message_cmp`, the order written out: by time, receiver,
 /// sender, number and body. It is total, exact (messages that compare equal are the same message) and by time first.
-///
-/// A call does nothing: its caller learns what the clauses say.
-pub fn message_order()
+pub fn message_order_law()
     ensures written { (a b : Message) → ⟦<Message as Ord>⟧.cmp a b ≡ message_cmp a b }
     ensures total { IsTotalOrder message_cmp }
     ensures exact { (a b : Message) → message_cmp a b ≡ Equal → a ≡ b }
     ensures by_time { (a b : Message) → a.time < b.time → message_cmp a b ≡ Less }
 {
-    total_of::<Message>();
-    body_order();
+    total_order_law::<Message>();
+    body_order_law();
 }
 
 /// The order of messages is one that the law of virtual time asks for.
-///
-/// A call does nothing: its caller learns what the clause says.
-pub fn lawful_order()
+pub fn order_law()
     ensures { IsOrder message_order }
 {
-    message_order();
+    message_order_law();
 }
 
 /// Compares two messages as `cmp` does. Only messages of one moment are compared whole: most are of two, and need no call.
@@ -41,7 +37,7 @@ pub fn lawful_order()
 pub fn compare(a: &Message, b: &Message) -> Ordering
     ensures derived { result ≡ ⟦<Message as Ord>⟧.cmp a.now b.now }
 {
-    message_order();
+    message_order_law();
     let (first, second) = (a.time.ns(), b.time.ns());
     if first == second {
         return compare_whole(a, b);
@@ -62,25 +58,25 @@ fn compare_whole(a: &Message, b: &Message) -> Ordering
 }
 
 /// The derived order of bodies is the written one.
-fn body_order()
+fn body_order_law()
     ensures { (b c : Body) → ⟦<Body as Ord>⟧.cmp b c ≡ body_cmp b c }
 {
-    frame_order();
+    frame_order_law();
 }
 
 /// The derived order of frames is the written one.
-fn frame_order()
+fn frame_order_law()
     ensures { (f g : Frame) → ⟦<Frame as Ord>⟧.cmp f g ≡ frame_cmp f g }
 {
-    net_order();
+    net_order_law();
 }
 
 /// The derived order of networks is the written one.
-fn net_order()
+fn net_order_law()
     ensures { (a b : Net) → ⟦<Net as Ord>⟧.cmp a b ≡ net_cmp a b }
 {}
 
 /// The order of a type is total.
-fn total_of<T: Ord>()
+fn total_order_law<T: Ord>()
     ensures { IsTotalOrder T.cmp }
 {}

@@ -10,8 +10,8 @@ pub const LATEST_NS: u64 = 1_000_000_000_000_000;
 /// The greatest moment, in ns: the one after the latest end time.
 pub const GREATEST_NS: u64 = LATEST_NS + 1;
 
-/// The limits of moments are the numbers that the rules state. It does nothing.
-pub fn moment_limits()
+/// The limits of moments are the numbers that the rules state.
+pub fn moment_limits_law()
     ensures latest { LATEST_NS ≡ latest_end }
     ensures greatest { GREATEST_NS ≡ greatest_moment }
 {}

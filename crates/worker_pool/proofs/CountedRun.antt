@@ -1,50 +1,23 @@
 -- The tables of a run: those of the rows that were counted while it went on, of each group before a moment of its own.
-use Rattle.std.proofs.Common.{◌≡◌, ◌∙◌, ℕ, ◌<◌, ◌≤◌, ◌==◌, Bool, true, false, ◌&&◌, nat_le, nat_lt, List, [], ◌++◌, length, set, slice_get, take, refl, sym, ap, subst, arith, append-nil, Option, IfSome, Some, None, ◌^◌, eq-eqb, eqb-true}
-use mathlib.Core.Logic.{∥∥₁_elim, ∥∥₁_map, ∥∥₁_map₂}
-use Rattle.std.proofs.Props.{props}
-use Rattle.std.proofs.Math.Seq.{take-append_seam}
+use Rattle.std.proofs.Common.{◌≡◌, ◌∙◌, ℕ, ◌<◌, ◌≤◌, ◌==◌, Bool, true, false, ◌&&◌, nat_le, nat_lt, List, [], ◌++◌, length, set, slice_get, refl, sym, ap, subst, arith, append-nil, Option, IfSome, Some, None, eq-eqb, eqb-true}
+use mathlib.Core.Logic.{∥∥₁_map, ∥∥₁_map₂}
 use Rattle.std.proofs.lemmas.Bool.{both_ways}
 use Rattle.std.proofs.lemmas.List.{get_or-set_same, get_or-set_other}
 use Rattle.std.proofs.lemmas.List.Elements.{filter-append}
 use Rattle.virtual_time.specs.Law.{rows_at}
 use Rattle.vlink.specs.Letters.{Row}
-use Rattle.netdesc.specs.Words.{Plan}
+use Rattle.network.specs.Words.{Plan}
 use Rattle.group_exchange.specs.Rows.{rows_of_group}
 use Rattle.group_exchange.specs.Views.{is_number, is_of}
 use Rattle.trace_segments.specs.Words.{rows_within, rows_before, BatchRows}
-use Rattle.trace_tables.specs.SoFar.{SoFarLists, AreInTables, IsSoFar}
 use Rattle.trace_segments.proofs.SortedLemmas.{filters-swap}
 use Rattle.trace_segments.proofs.TimeLemmas.{none-before}
 use Rattle.seqsim.specs.Networks.{AreRowsOf}
 use Rattle.worker_pool.specs.Counts.{moment_at, moment_in, moment_of, AreCountedBefore}
-use Rattle.worker_pool.specs.Traces.{HasLawfulRows, IsBatchOfRun}
+use Rattle.run_rows.specs.Traces.{HasLawfulRows, IsBatchOfRun}
 use Rattle.worker_pool.proofs.GroupRows.{AreOfGroup, group-rows, mine-at, other-at}
-use Rattle.worker_pool.proofs.TraceText.{before-more}
-use Rattle.worker_pool.proofs.WrittenRun.{Splits}
-
--- what a call that counts rows says of the network, says it of its plan
-pub counts-in : (plan network : Plan) → network ≡ plan → (rows more : List Row) → rows ≡ more → (old new : SoFarLists) →
-    ((earlier : List Row) → IsSoFar network old earlier → IsSoFar network new (earlier ++ rows)) →
-    (earlier : List Row) → IsSoFar plan old earlier → IsSoFar plan new (earlier ++ more)
-counts-in plan network same rows more is old new counts earlier so_far =
-    subst (λ (p : Plan). IsSoFar p new (earlier ++ more)) same (subst (λ (xs : List Row). IsSoFar network new (earlier ++ xs)) is
-    (counts earlier (subst (λ (p : Plan). IsSoFar p old earlier) (sym same) so_far)))
-
--- tables of some rows, where no more is known of them
-pub known-so-far : (plan : Plan) (tables : SoFarLists) (rows : List Row) → ∥ IsSoFar plan tables rows ∥₁ → IsSoFar plan tables rows
-known-so-far plan tables rows some =
-    record {
-      first = take tables.counted rows;
-      split = ∥∥₁_elim some (hlevel props) (λ s. s.split ∙ ap (λ (xs : List Row). xs ++ tables.rest) (sym (same s)));
-      many = ∥∥₁_elim some (hlevel props) (λ s. s.many ∙ ap length (sym (same s)));
-      few = ∥∥₁_elim some (hlevel props) (λ s. subst (λ (xs : List Row). length xs ≤ 2 ^ 63) (sym (same s)) s.few);
-      counts = ∥∥₁_elim some (hlevel props) (λ s. subst (λ (xs : List Row). AreInTables plan xs tables.latencies tables.drops) (sym (same s)) s.counts);
-    }
-  where
-    same : (s : IsSoFar plan tables rows) → take tables.counted rows ≡ s.first
-    same s =
-        ap (take tables.counted) s.split
-        ∙ (ap (λ (n : ℕ). take n (s.first ++ tables.rest)) s.many ∙ take-append_seam s.first tables.rest)
+use Rattle.run_rows.proofs.TraceText.{before-more}
+use Rattle.run_rows.proofs.WrittenRun.{Splits}
 
 -- ---- moments
 -- where no group has a moment of its own, all is counted to one end

@@ -1,10 +1,12 @@
 -- What a worker shares may cross threads. The types are too many for one `search`, so each has a lemma, from those of its fields.
 -- A type that holds a snapshot, or that reaches itself, has no `TheSendSync` of its own, and no type that holds it: such are those below.
 use denote.RattleType.{RattleType}
+use denote.Ref.{NamedLft}
 use denote.Param.Send.{IsSend, IsSync, view_send, sendable}
 use denote.Param.SendFields.{declared_send, declared_sync}
 use Rattle.std.proofs.Crossing.{crosses}
 use Rattle.std.proofs.option.Option.TheSendSync as option
+use Rattle.std.proofs.sync.atomic.AtomicBool.TheSendSync as flag
 use Rattle.virtual_time.proofs.letter.Letter.TheSendSync as letter
 use Rattle.virtual_time.proofs.row.Row.TheSendSync as row
 use Rattle.vlink.specs.declared.message.Message.{Message}
@@ -28,7 +30,6 @@ use Rattle.hand.specs.contracts.letters.Letters as Letters
 use Rattle.hand.specs.contracts.letters.Letters.TheInside as LettersIn
 use Rattle.hand.specs.contracts.rows.Rows as Rows
 use Rattle.hand.specs.contracts.rows.Rows.TheInside as RowsIn
-use Rattle.journal.proofs.table.Table.TheSendSync as table
 use Rattle.group_exchange.specs.declared.run_of.GroupRun.{Ghosts as RunGhosts}
 use Rattle.group_exchange.specs.contracts.groups.GroupExchange as Exchange
 use Rattle.group_exchange.specs.contracts.groups.GroupExchange.TheInside as ExchangeIn
@@ -41,19 +42,24 @@ use Rattle.group_exchange.proofs.boxes.Boxes.TheSendSync as boxes
 use Rattle.group_exchange.proofs.steps.Kept.TheSendSync as kept
 use Rattle.halves.proofs.LeftHalf.TheSendSync as left
 use Rattle.halves.proofs.RightHalf.TheSendSync as right
+use Rattle.network.proofs.network.Network.TheSendSync as network
 use Rattle.nodes.proofs.node.Node.TheSendSync as node
 use Rattle.nodes.proofs.node.NodeRecord.TheSendSync as node_record
-use Rattle.worker_pool.specs.declared.network_run.NetworkRun.{Ghosts as NetworkGhosts}
+use Rattle.run_rows.specs.declared.network_run.NetworkRun.{Ghosts as NetworkGhosts}
 use Rattle.trace_tables.proofs.so_far.TablesSoFar.TheSendSync as so_far
 use Rattle.worker_pool.specs.contracts.counted.Counted as Counted
 use Rattle.worker_pool.specs.contracts.leaving.Leaving as Leaving
-use Rattle.worker_pool.specs.contracts.rounds.row.Row as Row
+use Rattle.worker_pool.specs.contracts.rounds.common.Common as Common
 use Rattle.worker_pool.specs.contracts.rounds.seat.Seat as Seat
-use Rattle.worker_pool.specs.contracts.row_tables.RowTables as RowTables
-use Rattle.worker_pool.specs.contracts.row_tables.RowTables.TheInside as RowTablesIn
+use Rattle.worker_pool.specs.contracts.rounds.seats.Seats as Seats
+use Rattle.run_rows.specs.contracts.row_tables.RowTables as RowTables
+use Rattle.run_rows.specs.contracts.row_tables.RowTables.TheInside as RowTablesIn
 use Rattle.worker_pool.specs.contracts.shared.Shared as Shared
 use Rattle.worker_pool.specs.contracts.shared.Shared.TheInside as SharedIn
 use Rattle.worker_pool.proofs.desk.TraceLock.TheSendSync as trace
+use Rattle.worker_pool.proofs.pace.Pace.TheSendSync as pace
+use Rattle.worker_pool.proofs.rounds.apart.Apart.TheSendSync as apart
+use Rattle.worker_pool.proofs.rounds.moments.Moments.TheSendSync as moments
 
 -- ---- a hand
 words-send : IsSend Words.the_row
@@ -88,14 +94,14 @@ exchange-send R J K g h k = view_send _ _ _ _ _ (declared_send (ExchangeIn.the_t
     (search (steps-send, left.the_send, boxes.the_send, floors.the_send, time.the_send, sendable, crosses) depth 20))
 
 -- ---- what workers share
-pub shared-send : (J : RattleType) (g : NetworkGhosts J.Denot) → IsSend (Shared.the_row J g)
+shared-send : (J : RattleType) (g : NetworkGhosts J.Denot) → IsSend (Shared.the_row J g)
 shared-send J g = view_send _ _ _ _ _ (declared_send (SharedIn.the_type J g) (search (exchange-send, sendable, crosses) depth 10))
 
 seat-send : (J : RattleType) (g : NetworkGhosts J.Denot) → IsSend (Seat.the_row J g)
 seat-send J g = declared_send (Seat.the_type J g) (search (group-send, node.the_send, node_record.the_send, sendable, crosses) depth 10)
 
-pub row-sync : (J : RattleType) (g : NetworkGhosts J.Denot) → IsSync (Row.the_row J g)
-row-sync J g = declared_sync (Row.the_type J g) (search (seat-send, sendable, crosses) depth 20)
+seats-sync : (J : RattleType) (g : NetworkGhosts J.Denot) → IsSync (Seats.the_row J g)
+seats-sync J g = declared_sync (Seats.the_type J g) (search (seat-send, apart.the_sync, sendable, crosses) depth 20)
 
 tables-send : (J : RattleType) (g : NetworkGhosts J.Denot) → IsSend (RowTables.the_row J g)
 tables-send J g = view_send _ _ _ _ _ (declared_send (RowTablesIn.the_type J g) (search (so_far.the_send, sendable, crosses) depth 20))
@@ -103,8 +109,12 @@ tables-send J g = view_send _ _ _ _ _ (declared_send (RowTablesIn.the_type J g) 
 pub counted-send : (J : RattleType) (g : NetworkGhosts J.Denot) → IsSend (Counted.the_row J g)
 counted-send J g = declared_send (Counted.the_type J g) (search (tables-send, option.the_send, time.the_send, sendable, crosses) depth 20)
 
-pub leaving-sync : (J : RattleType) (g : NetworkGhosts J.Denot) → IsSync (Leaving.the_row J g)
+leaving-sync : (J : RattleType) (g : NetworkGhosts J.Denot) → IsSync (Leaving.the_row J g)
 leaving-sync J g = declared_sync (Leaving.the_type J g) (
   search (counted-send, option.the_sync, sendable, crosses) depth 20,
   (search (trace.the_sync, option.the_sync, sendable, crosses) depth 20, tt),
 )
+
+pub common-sync : (κ : NamedLft) (J : RattleType) (g : NetworkGhosts J.Denot) → IsSync (Common.the_row κ J g)
+common-sync κ J g = declared_sync (Common.the_type κ J g)
+    (search (seats-sync, leaving-sync, shared-send, network.the_sync, apart.the_send, moments.the_sync, pace.the_sync, flag.the_sync, sendable, crosses) depth 20)

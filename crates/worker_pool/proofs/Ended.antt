@@ -1,14 +1,14 @@
 -- What holds of a run that is ended.
-use Rattle.std.proofs.Common.{◌≡◌, ◌<◌, ◌≤◌, ◌∙◌, ◌++◌, refl, inl, inr, ℕ, suc, ◌+◌, ◌==◌, Bool, true, false, List, [], filter, map, length, get_or, slice_get, append-nil, sym, ap, subst, arith, Option, Some, None}
-use Rattle.std.proofs.lemmas.Bool.{both_ways, cases_eq, cases_lt}
+use Rattle.std.proofs.Common.{◌≡◌, ◌<◌, ◌≤◌, ◌∙◌, ◌++◌, refl, inl, inr, ℕ, suc, ◌+◌, ◌==◌, Bool, true, false, List, [], map, length, get_or, slice_get, append-nil, sym, ap, subst, arith, Some}
+use Rattle.std.proofs.lemmas.Bool.{cases_eq}
 use Rattle.std.proofs.lemmas.List.Elements.{All-get_or, filter-append}
-use Rattle.std.proofs.lemmas.Option.{slice_get-get_or, slice_get_within}
+use Rattle.std.proofs.lemmas.Option.{slice_get-get_or}
 use Rattle.vlink.specs.declared.message.Message.{Message}
 use Rattle.vlink.specs.Letters.{Row}
 use Rattle.vlink.specs.Order.{message_order}
-use Rattle.virtual_time.specs.Law.{World, Part, earlier, rowed, rows_at, Laws, one, IsWhole, behind, waiting_in}
+use Rattle.virtual_time.specs.Law.{Part, earlier, rowed, rows_at, Laws, one, IsWhole, behind, waiting_in}
 use Rattle.virtual_time.specs.declared.step.Step.{Step}
-use Rattle.netdesc.specs.Words.{Plan, process_count}
+use Rattle.network.specs.Words.{Plan, process_count}
 use Rattle.nodes.specs.Words.{NodeState, opening, simulation_of}
 use Rattle.nodes.specs.declared.node.NodeRecord.{NodeRecord}
 use Rattle.hand.specs.declared.block.Did.{Did}
@@ -16,7 +16,7 @@ use Rattle.hand.specs.Block.{steps_told}
 use Rattle.group_exchange.specs.Effects.{block_in}
 use Rattle.group_exchange.specs.Keeps.{AreGrouped}
 use Rattle.group_exchange.specs.Views.{GroupState, Ledger, in_group, is_of, world_after}
-use Rattle.group_exchange.proofs.Owners.{of-one, of-other, of-owner, of-within, owner-is}
+use Rattle.group_exchange.proofs.Owners.{of-one, of-other, of-owner, of-within}
 use Rattle.seqsim.specs.Committed.{after, AreCommittedRows}
 use Rattle.seqsim.specs.Networks.{AreRowsOf}
 use Rattle.seqsim.proofs.CommittedRows.{rows-all}

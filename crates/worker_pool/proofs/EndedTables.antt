@@ -7,7 +7,7 @@ use Rattle.std.proofs.lemmas.Bool.{cases_eq, cases_lt}
 use Rattle.std.proofs.lemmas.List.Elements.{filter-append}
 use Rattle.virtual_time.specs.Law.{rows_at}
 use Rattle.vlink.specs.Letters.{Row}
-use Rattle.netdesc.specs.Words.{Plan, process_count}
+use Rattle.network.specs.Words.{Plan, process_count}
 use Rattle.group_exchange.specs.Keeps.{AreGrouped}
 use Rattle.group_exchange.specs.Rows.{rows_of_group}
 use Rattle.group_exchange.specs.Views.{is_of}
@@ -17,10 +17,10 @@ use Rattle.trace_segments.proofs.SortedLemmas.{filters-swap}
 use Rattle.trace_tables.specs.Tables.{tables_of}
 use Rattle.seqsim.specs.Networks.{AreRowsOf}
 use Rattle.worker_pool.specs.Counts.{moment_at, moment_in, moment_of, AreCountedBefore}
-use Rattle.worker_pool.specs.Traces.{AreLawfulRows, HasLawfulRows}
+use Rattle.run_rows.specs.Traces.{AreLawfulRows, HasLawfulRows}
 use Rattle.worker_pool.proofs.Ended.{no-group, own-group}
 use Rattle.worker_pool.proofs.GroupRows.{AreOfGroup, group-rows, mine-at, other-at}
-use Rattle.worker_pool.proofs.WrittenRun.{Splits}
+use Rattle.run_rows.proofs.WrittenRun.{Splits}
 
 -- rows from a moment on, of which none is later than the end of the run
 late : (until moment : ℕ) (rows : List Row) → All (λ row. row.message.time ≤ until) rows → rows_within moment (until + 1) rows ≡ rows_from moment rows

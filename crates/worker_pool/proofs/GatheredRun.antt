@@ -3,7 +3,7 @@ use Rattle.std.proofs.Common.{◌≡◌, ◌∙◌, ℕ, zero, suc, List, [], �
 use Rattle.std.specs.List.{repeat}
 use Rattle.std.proofs.lemmas.List.{length-map}
 use Rattle.vlink.specs.Letters.{Row}
-use Rattle.netdesc.specs.Words.{Plan, process_count}
+use Rattle.network.specs.Words.{Plan, process_count}
 use Rattle.group_exchange.specs.Keeps.{AreGrouped}
 use Rattle.group_exchange.specs.Rows.{rows_of_group}
 use Rattle.trace_segments.specs.Words.{IsOfRows, Gathering, no_segments, segment_fault, with_segment, Waits, Gives, rows_within, SegmentRows, BatchRows}
@@ -11,12 +11,9 @@ use Rattle.trace_segments.specs.declared.segment_fault.SegmentFault.{SegmentFaul
 use Rattle.trace_segments.proofs.IntervalLemmas.{cut-rises}
 use Rattle.seqsim.specs.Networks.{AreRowsOf}
 use Rattle.worker_pool.specs.Segments.{IsGroupSegmentOfRun}
-use Rattle.worker_pool.specs.Traces.{IsBatchOfRun, IsGatheringOfRun}
-
--- what can be nothing else
-pub none-of : {X : Type 0} (o : Option X) → ((x : X) → o ≡ Some x → ⊥) → o ≡ None
-none-of None h = refl
-none-of (Some x) h = absurd (h x refl)
+use Rattle.run_rows.specs.Traces.{IsBatchOfRun}
+use Rattle.run_rows.proofs.Nothing.{none-of}
+use Rattle.worker_pool.specs.Gatherings.{IsGatheringOfRun}
 
 -- of each group a list
 repeat-count : {X : Type 0} (x : X) (n : ℕ) → length (repeat n (x ∷ [])) ≡ n

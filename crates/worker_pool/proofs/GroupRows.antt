@@ -2,7 +2,7 @@
 use Rattle.std.proofs.Common.{◌≡◌, ◌∙◌, ℕ, ◌==◌, true, false, List, [], sym, ap}
 use Rattle.virtual_time.specs.Law.{one, rows_at}
 use Rattle.vlink.specs.Letters.{Row}
-use Rattle.netdesc.specs.Words.{Plan}
+use Rattle.network.specs.Words.{Plan}
 use Rattle.nodes.specs.Words.{simulation_of}
 use Rattle.group_exchange.specs.Rows.{rows_of_group}
 use Rattle.group_exchange.specs.Views.{is_of}

@@ -2,10 +2,10 @@
 use Rattle.std.proofs.Common.{◌≡◌, ℕ, List, [], ◌∷◌, Bool, true, false, ap, Result, Ok, Err, IfOk, OnOk, OnErr}
 use Rattle.vlink.specs.declared.message.Message.{Message}
 use Rattle.vlink.specs.declared.note.Note.{Note}
-use Rattle.virtual_time.specs.Law.{Simulation, World}
+use Rattle.virtual_time.specs.Law.{Simulation}
 use Rattle.hand.specs.declared.block.Did.{Did}
 use Rattle.journal.specs.declared.fault.PoolFault.{PoolFault}
-use Rattle.group_exchange.specs.Views.{Ledger, GroupState, world_after}
+use Rattle.group_exchange.specs.Views.{Ledger, GroupState}
 use Rattle.group_exchange.specs.Effects.{Collects, IsGroupAsBefore, Posts, posts, Publishes, publishes}
 
 module _ {S K : Type 0} (f : Simulation Message S K Note) (owners : List ℕ) where

@@ -2,7 +2,7 @@
 use Rattle.std.proofs.Common.{◌≡◌, ◌↔◌, ℕ, ◌+◌, ◌/◌, ◌≤◌, ◌==◌, Bool, true, false, ◌&&◌, cond, max, nat_le, nat_lt, List, [], ◌∷◌, filter, refl, sym, ap, ◌∙◌, subst, arith, mul-div_cancel}
 use Rattle.vlink.specs.Letters.{Row}
 use Rattle.virtual_time.specs.Law.{earlier, one, rows_at}
-use Rattle.netdesc.specs.Words.{Plan}
+use Rattle.network.specs.Words.{Plan}
 use Rattle.nodes.specs.Words.{NodeState, simulation_of}
 use Rattle.exchange.specs.Views.{HeldState}
 use Rattle.trace_segments.specs.Words.{interval_width, cut, HasInterval, rows_within, SegmentRows, segment_of}

@@ -1,7 +1,7 @@
 -- Where a process of a group in hand lacks numbers, some run uses up numbers: after the steps of the journal, and those of the group's block.
 use Rattle.std.proofs.Common.{◌≡◌, ◌<◌, ℕ, List, true, ◌∙◌, ◌⊎◌, inl, inr, sym, ap, subst}
 use Rattle.virtual_time.specs.declared.step.Step.{Step}
-use Rattle.netdesc.specs.Words.{Plan, process_count}
+use Rattle.network.specs.Words.{Plan, process_count}
 use Rattle.nodes.specs.Words.{NodeState, simulation_of}
 use Rattle.nodes.specs.declared.node.NodeRecord.{NodeRecord}
 use Rattle.journal.specs.declared.fault.PoolFault.{PoolFault}

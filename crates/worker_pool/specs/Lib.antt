@@ -2,5 +2,4 @@ pub mod Counts
 pub mod Outcomes
 pub mod Segments
 pub mod Runs
-pub mod Traces
-pub mod Written
+pub mod Gatherings

@@ -5,7 +5,7 @@ use Rattle.vlink.specs.Order.{message_order}
 use Rattle.vlink.specs.Numbering.{greatest_number}
 use Rattle.virtual_time.specs.Law.{Part, next_of}
 use Rattle.virtual_time.specs.declared.step.Step.{Step}
-use Rattle.netdesc.specs.Words.{Plan, process_count}
+use Rattle.network.specs.Words.{Plan, process_count}
 use Rattle.nodes.specs.Words.{NodeState, simulation_of}
 use Rattle.nodes.specs.declared.node.NodeRecord.{NodeRecord}
 use Rattle.journal.specs.declared.fault.PoolFault.{PoolFault}
@@ -13,6 +13,7 @@ use Rattle.journal.specs.declared.fault.PoolFault.TheVariants.{OutOfMemory}
 use Rattle.journal.specs.Faults.{fault_number}
 use Rattle.seqsim.specs.Committed.{after}
 use Rattle.group_exchange.specs.Views.{GroupState, in_group, is_of}
+use Rattle.reverse.specs.declared.sends.TheConstants.{MOST_SENT}
 
 -- an outcome without a fault whose number is below that of this one
 abbrev pub HasNoLesser : PoolFault → Result ⊤ PoolFault → Type 0
@@ -33,7 +34,7 @@ IsToldOf start threads told =
 
 -- a process has a message to handle, and its actor not enough numbers left for all that one event can send
 abbrev pub LacksNumbers : Part Message NodeState → Type 0
-LacksNumbers part = IsSome (next_of message_order part) × (greatest_number < part.state.sender.counter + 24)
+LacksNumbers part = IsSome (next_of message_order part) × (greatest_number < part.state.sender.counter + MOST_SENT)
 
 -- a process of the group lacks numbers, as the group has it in hand
 abbrev pub LackNumbers : Plan → List ℕ → GroupState NodeState NodeRecord → Type 0

@@ -1,18 +1,17 @@
 -- A run that nobody picked, and a run that is ended.
 use Rattle.std.specs.Prelude.{◌≡◌, ◌<◌, ◌≤◌, ℕ, Bool, true, false, List, [], length, slice_get, Some}
+use Rattle.vlink.specs.Letters.{Row}
 use Rattle.virtual_time.specs.declared.step.Step.{Step}
 use Rattle.virtual_time.specs.Law.{IsFinished}
-use Rattle.netdesc.specs.Words.{Plan, process_count}
+use Rattle.network.specs.Words.{Plan, process_count}
 use Rattle.nodes.specs.Words.{NodeState, simulation_of}
 use Rattle.nodes.specs.declared.node.NodeRecord.{NodeRecord}
 use Rattle.group_exchange.specs.Views.{GroupState, in_group, is_of}
 use Rattle.group_exchange.specs.Keeps.{AreGrouped}
+use Rattle.trace_tables.specs.Tables.{TableLists, tables_of}
 use Rattle.seqsim.specs.Committed.{after}
+use Rattle.seqsim.specs.Networks.{AreRowsOf}
 use Rattle.worker_pool.specs.Counts.{moment_of}
-
--- a network of nothing
-abbrev pub empty_plan : Plan
-empty_plan = record { until = 0; seed = 0; nodes = []; links = []; outages = []; vls = [] }
 
 -- so many steps the journal of a run can have: 2 to the power of 26 where it is kept, and of 62 where it is not
 abbrev pub most_steps : Bool → ℕ
@@ -49,3 +48,9 @@ IsJournalOf plan steps = IsFinished (simulation_of plan) (after plan steps)
 abbrev pub IsJournalAsked : Plan → Bool → List Step → Type 0
 IsJournalAsked plan true steps = IsJournalOf plan steps
 IsJournalAsked plan false steps = steps ≡ []
+
+-- what a run has found without a list of its rows: the tables of the rows of the one-thread run, and its steps where they are asked for
+pub record IsSummaryOf (plan : Plan) (asked : Bool) (tables : TableLists) (steps : List Step) : Type 0 where
+  pub some : (rows : List Row) × AreRowsOf plan rows × (tables ≡ tables_of plan rows)
+  pub each : (rows : List Row) → AreRowsOf plan rows → tables ≡ tables_of plan rows
+  pub journal : IsJournalAsked plan asked steps

@@ -2,15 +2,13 @@
 ghost use Rattle.std.specs.Prelude.{◌≡◌, ℕ, replicate, IfOk, IfSome};
 ghost use Rattle.worker_pool.specs.Counts.{moment_at, moment_of, AreCountedBefore};
 
-use crate::lawful_rows::lawful_rows;
 use crate::network_run::NetworkRun;
 use crate::rounds::seat::NetworkGroup;
-use crate::row_tables::RowTables;
-use crate::run_batch::RunBatch;
-use netdesc::Network;
+use network::Network;
+use run_rows::{RowTables, RunBatch, rows_law};
 use std::alloc::{AllocError, Global};
 use std::marker::PhantomData;
-use trace_tables::batches_in_order;
+use trace_tables::batches_in_order_law;
 use vlink::Time;
 
 /// The tables of rows of a run that are for good, or none where a growth was refused: of each group those before a moment of its own, where one
@@ -74,8 +72,8 @@ impl<J: NetworkRun> Counted<J> {
     pub(crate) fn take(&mut self, network: &Network, batch: &RunBatch<J>)
         requires { network.now ≡ J.plan }
     {
-        lawful_rows(network);
-        batches_in_order();
+        rows_law(network);
+        batches_in_order_law();
         let batch = &batch.batch;
         if !self.own.is_empty() || batch.from().ns() != self.end.ns() {
             return;
@@ -99,11 +97,11 @@ impl<J: NetworkRun> Counted<J> {
     ) -> Result<(), AllocError>
         requires { network.now ≡ J.plan }
     {
-        lawful_rows(network);
-        batches_in_order();
+        rows_law(network);
+        batches_in_order_law();
         let number = usize::from(group.number());
         let to = group.seen();
-        if number >= self.own.len() || !group.is_sealed_before(to) {
+        if number >= self.own.len() || !group.is_committed_before(to) {
             return Ok(());
         }
         let from = moment_of(self.own.as_slice(), self.end, number);

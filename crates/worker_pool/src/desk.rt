@@ -2,28 +2,27 @@
 ghost use Rattle.std.specs.Prelude.{◌≡◌, ◌≢◌, ◌<◌, ◌⊎◌, ℕ, None, Some, Ok, Err, IsOk, OnOk, IfOk, IfErr, IfSome, IfNone, OnErr, length};
 ghost use Rattle.vlink.specs.declared.time.TheConstants.{GREATEST_NS};
 ghost use Rattle.std.proofs.Props.{props};
-ghost use Rattle.netdesc.specs.Words.{process_count};
 ghost use Rattle.journal.specs.declared.fault.PoolFault.TheVariants as pool;
 ghost use Rattle.trace_segments.specs.declared.segment_fault.SegmentFault.{SegmentFault};
 ghost use Rattle.trace_segments.specs.declared.segment_fault.SegmentFault.TheVariants.{OutOfMemory};
 ghost use Rattle.trace_segments.specs.Words.{no_segments, segment_fault, Waits, Gives, BatchRows};
-ghost use Rattle.group_exchange.specs.Keeps.{AreGrouped};
 ghost use Rattle.worker_pool.specs.Segments.{IsGroupSegmentOfRun};
-ghost use Rattle.worker_pool.specs.Traces.{HasLawfulRows, IsGatheringOfRun};
-ghost use Rattle.worker_pool.specs.Written.{IsPlaceFault, first_of, told_of};
+ghost use Rattle.run_rows.specs.Traces.{HasLawfulRows};
+ghost use Rattle.worker_pool.specs.Gatherings.{IsGatheringOfRun};
+ghost use Rattle.run_rows.specs.Written.{IsPlaceFault};
+ghost use Rattle.worker_pool.specs.Gatherings.{first_of, told_of};
 
 use crate::group_segments::next_group_segment;
-use crate::lawful_rows::lawful_rows;
 use crate::network_run::NetworkRun;
 use crate::rounds::seat::NetworkGroup;
-use crate::run_batch::RunBatch;
 use crate::run_fault::RunFault;
+use crate::start::StartOf;
 use crossbeam_channel::{SendError, Sender};
 use journal::PoolFault;
-use netdesc::Network;
+use run_rows::{RunBatch, rows_law};
 use std::alloc::{AllocError, Global};
 use std::sync::{Mutex, Wait};
-use trace_tables::{Gather, Segment, SegmentFault, batches_in_order, segments_of_rows};
+use trace_tables::{Gather, Segment, SegmentFault, batches_in_order_law, segments_of_rows_law};
 use vlink::Time;
 
 /// What the lock of the trace keeps: the segments that wait for those of other groups, the end of the channel to the writer's thread, and
@@ -39,20 +38,16 @@ pub(crate) struct Desk<J: NetworkRun> {
 }
 
 impl<J: NetworkRun> Desk<J> {
-    /// No segment is there yet, of any of so many groups. It is refused for memory alone.
+    /// No segment is there yet, of any group. It is refused for memory alone.
     fn new(
         alloc: Global,
-        network: &Network,
-        groups: u16,
+        start: &StartOf<'_, J>,
         batches: Sender<RunBatch<J>>,
-    ) -> Result<Self, AllocError>
-        requires network { network.now ≡ J.plan }
-        requires grouped { AreGrouped (process_count J.plan) groups J.owners }
-        requires each { groups ≡ length J.names }
-    {
-        lawful_rows(network);
-        segments_of_rows();
-        let gather = Gather::new(alloc, 0, groups, network.until())?;
+    ) -> Result<Self, AllocError> {
+        let network = start.network;
+        rows_law(network);
+        segments_of_rows_law();
+        let gather = Gather::new(alloc, 0, start.grouping.groups, network.until())?;
         Ok(Desk {
             gather,
             batches,
@@ -96,8 +91,8 @@ impl<J: NetworkRun> Desk<J> {
         ensures gives { IfOk result (λ given. IfSome given (λ batch. Gives self.old.gather segment batch.batch self.new.gather)) }
         ensures fault { self.new.fault ≡ self.old.fault }
     {
-        segments_of_rows();
-        batches_in_order();
+        segments_of_rows_law();
+        batches_in_order_law();
         match self.gather.take(segment)? {
             Some(batch) => Ok(Some(RunBatch::new(batch))),
             None => Ok(None),
@@ -147,16 +142,11 @@ impl<J: NetworkRun> TraceLock<J> {
     /// No segment is there yet, and batches are sent here. It is refused for memory alone.
     pub(crate) fn new(
         alloc: Global,
-        network: &Network,
-        groups: u16,
+        start: &StartOf<'_, J>,
         batches: Sender<RunBatch<J>>,
-    ) -> Result<Self, AllocError>
-        requires network { network.now ≡ J.plan }
-        requires grouped { AreGrouped (process_count J.plan) groups J.owners }
-        requires each { groups ≡ length J.names }
-    {
-        let until = network.until();
-        let desk = Mutex::new(Desk::new(alloc, network, groups, batches)?);
+    ) -> Result<Self, AllocError> {
+        let until = start.network.until();
+        let desk = Mutex::new(Desk::new(alloc, start, batches)?);
         Ok(TraceLock { alloc, until, desk })
     }
 

@@ -1,6 +1,6 @@
 //! The end of a run: one thread has all in hand, and gives turns until everything is committed.
 ghost use Rattle.std.specs.Prelude.{◌≡◌, ◌≢◌, ◌<◌, ℕ, true, [], length, slice_get, Some, IsTrue, IfErr, OnOk};
-ghost use Rattle.netdesc.specs.Words.{process_count};
+ghost use Rattle.network.specs.Words.{process_count};
 ghost use Rattle.nodes.specs.Words.{NodeState, simulation_of};
 ghost use Rattle.nodes.specs.declared.node.NodeRecord.{NodeRecord};
 ghost use Rattle.journal.specs.declared.fault.PoolFault.TheVariants.{Spawn};
@@ -18,17 +18,20 @@ use crate::run_fault::RunFault;
 use crate::shared::Shared;
 use exchange::Gate;
 use group_exchange::GroupExchange;
-use netdesc::Network;
+use network::Network;
 use nodes::Node;
 use std::sync::Wait;
 use vlink::Time;
 
 /// The exchange and all groups of a run, which no worker has any more, and what becomes of its rows.
 #[derive(Drop)]
-pub(crate) struct Unlocked<J: NetworkRun> {
+pub(crate) struct Unlocked<'n, J: NetworkRun> {
+    pub network: &'n Network,
+    pub pace: Pace,
     pub exchange: Shared<J>,
     pub groups: Vec<NetworkGroup<J>>,
     pub leaving: Leaving<J>,
+    pub ghost planned: { network.now ≡ J.plan },
 }
 
 /// Whether this group is number `place`, has seen a GVT later than the end, and has no step that is not in the journal: then its processes are those
@@ -51,28 +54,24 @@ fn is_of_world<J: NetworkRun>(
     exchange.fits(group)
 }
 
-impl<J: NetworkRun> Unlocked<J> {
+impl<J: NetworkRun> Unlocked<'_, J> {
     /// Sets GVT and gives each group a turn, once and again until the run is ended, and, where it is asked for, no row has left a group.
     /// In the last turn each group has seen the GVT behind the end, and has no segment of the trace left
     /// to give.
     pub(crate) fn end<G: Gate, T: Wait>(
         &mut self,
         rt: &T,
-        network: &Network,
         keeps_rows: bool,
-        pace: &Pace,
         gate: &G,
     ) -> Result<(), RunFault<J>>
-        requires { network.now ≡ J.plan }
         ensures ended { OnOk result (IsEnded J.plan J.owners self.new.exchange.steps self.new.groups.items) }
         ensures kept { OnOk result (IsTrue keeps_rows → HaveGoneBy [] 0 self.new.groups.items) }
         ensures no_spawn { IfErr result (λ fault. fault ≢ Spawn) }
     {
-        let until = network.until();
         for _ in rt.forever() {
-            let _gvt = self.exchange.set_gvt()?;
-            self.take_turns(rt, network, pace, gate)?;
-            if self.is_ended(until) && (!keeps_rows || self.have_gone_by(&[], Time::default())) {
+            let _gvt = self.exchange.publish()?;
+            self.take_turns(rt, gate)?;
+            if self.is_ended() && (!keeps_rows || self.have_gone_by(&[], Time::default())) {
                 return Ok(());
             }
         }
@@ -80,34 +79,28 @@ impl<J: NetworkRun> Unlocked<J> {
     }
 
     /// Each group gets a turn, and its rows that are for good leave it where they do.
-    fn take_turns<G: Gate, T: Wait>(
-        &mut self,
-        rt: &T,
-        network: &Network,
-        pace: &Pace,
-        gate: &G,
-    ) -> Result<(), RunFault<J>>
-        requires { network.now ≡ J.plan }
+    fn take_turns<G: Gate, T: Wait>(&mut self, rt: &T, gate: &G) -> Result<(), RunFault<J>>
         ensures no_spawn { IfErr result (λ fault. fault ≢ Spawn) }
     {
         for group in self.groups.iter_mut() {
             // What a worker left is posted, so that the group sees GVT.
-            self.exchange.give_block(group)?;
-            self.exchange.take_letters(group)?;
-            if let Err(fault) = work_ahead(group, u32::from(pace.turn), pace.window_ns, gate) {
+            self.exchange.post(group)?;
+            self.exchange.collect(group)?;
+            let turn = u32::from(self.pace.turn);
+            if let Err(fault) = work_ahead(group, turn, self.pace.window_ns, gate) {
                 return Err(self.exchange.fault_of(group, fault));
             }
-            self.exchange.give_block(group)?;
-            self.leaving.take_rows(rt, network, group)?;
+            self.exchange.post(group)?;
+            self.leaving.take_rows(rt, self.network, group)?;
         }
         Ok(())
     }
 
     /// Whether GVT is beyond the end, all groups are there, each in its place and without a block, and each has committed all that it has done.
-    fn is_ended(&self, until: Time) -> bool
-        requires { until ≡ J.plan.until }
+    fn is_ended(&self) -> bool
         ensures { result ≡ true → IsEnded J.plan J.owners self.now.exchange.steps self.now.groups.items }
     {
+        let until = self.network.until();
         if self.exchange.lent().gvt().ns() != until.ns() + 1 || !self.are_of_world(until) {
             return false;
         }

@@ -1,49 +1,41 @@
 //! The exchange of a network's groups at the start.
-ghost use Rattle.std.specs.Prelude.{◌≡◌, ◌≤◌, ◌^◌, [], length, is_some, IfOk, IfErr};
-ghost use Rattle.journal.specs.declared.fault.PoolFault.TheVariants.{OutOfMemory};
-ghost use Rattle.worker_pool.specs.Runs.{IsGroupingOf};
+ghost use Rattle.std.specs.Prelude.{◌≡◌, [], length, is_some, IfOk};
 
 use crate::grouping::Grouping;
-use crate::network_run::{NetworkRun, Of};
+use crate::network_run::NetworkRun;
 use crate::rounds::seat::NetworkGroup;
-use group_exchange::{GroupExchange, Pairs};
-use journal::{PoolFault, Table};
-use netdesc::Network;
-use nodes::Node;
-use seqsim::{network_layout, nodes_of};
-use std::alloc::Global;
+use crate::shared::{Shared, most_steps};
+use crate::start::StartOf;
+use group_exchange::GroupExchange;
+use journal::Table;
+use seqsim::{layout_law, nodes_of};
+use std::alloc::{AllocError, Global};
 use traffic::offers;
 
 /// The exchange of a network's groups, with no step in its journal, and each group in hand, in order, its nodes and lines in their opening states: the
-/// offers are on their way, and GVT is 0. The journal can have `limit` steps; it is kept where there is a table, and has its places there.
-/// It is refused for memory alone.
+/// offers are on their way, and GVT is 0. It is refused for memory alone.
 pub(crate) fn open_groups<J: NetworkRun>(
     alloc: Global,
-    network: &Network,
-    grouping: Grouping,
-    table: Option<Table>,
-    pairs: Pairs,
-    limit: u64,
-) -> Result<(GroupExchange<Node, Of<J>>, Vec<NetworkGroup<J>>), PoolFault>
-    requires network { network.now ≡ J.plan }
-    requires keeps { is_some table ≡ J.keeps }
-    requires owners { grouping.owners.items ≡ J.owners }
-    requires grouped { IsGroupingOf network.now grouping.groups J.owners }
-    requires names { pairs ≡ J.names }
-    requires each { length J.names ≡ grouping.groups }
-    requires most { limit ≤ 2 ^ 62 }
+    start: StartOf<'_, J>,
+) -> Result<(Shared<J>, Vec<NetworkGroup<J>>), AllocError>
     ensures steps { IfOk result (λ r. r.0.steps ≡ []) }
-    ensures limit { IfOk result (λ r. r.0.limit ≡ limit) }
-    ensures count { IfOk result (λ r. length r.1.items ≡ grouping.groups) }
-    ensures memory { IfErr result (λ fault. fault ≡ OutOfMemory) }
+    ensures count { IfOk result (λ r. length r.1.items ≡ start.entry.grouping.groups) }
 {
-    network_layout(network);
+    let StartOf {
+        network,
+        keeps,
+        grouping,
+        pairs,
+        ..
+    } = start;
+    layout_law(network);
     // A network has at most 4,096 processes.
     let _processes = network.process_count();
+    let table = table_of(alloc, keeps)?;
     let offers = offers(alloc, network)?;
     let nodes = nodes_of(alloc, network)?;
     let Grouping { owners, .. } = grouping;
-    GroupExchange::open(
+    match GroupExchange::open(
         alloc,
         nodes,
         &offers,
@@ -51,6 +43,20 @@ pub(crate) fn open_groups<J: NetworkRun>(
         network.until(),
         table,
         pairs,
-        limit,
-    )
+        most_steps(keeps),
+    ) {
+        Ok((inner, groups)) => Ok((Shared { inner, sections: 0 }, groups)),
+        Err(_) => Err(AllocError),
+    }
+}
+
+/// A table of its own for a journal that is kept. It is refused for memory alone.
+fn table_of(alloc: Global, keeps: bool) -> Result<Option<Table>, AllocError>
+    ensures { IfOk result (λ table. is_some table ≡ keeps) }
+{
+    if keeps {
+        Ok(Some(Table::new(alloc)?))
+    } else {
+        Ok(None)
+    }
 }

@@ -57,7 +57,7 @@ fn sealed_segment<J: NetworkRun>(
 {
     let from = cut(until, k);
     let to = cut(until, k + 1);
-    if !group.is_sealed_before(to) {
+    if !group.is_committed_before(to) {
         return Ok(None);
     }
     let rows = group.rows_between(from, to);

@@ -4,7 +4,7 @@ ghost use Rattle.group_exchange.specs.Keeps.{AreGrouped};
 ghost use Rattle.worker_pool.specs.Runs.{IsGroupingOf};
 
 use crate::rounds::LEAD_NS;
-use netdesc::Network;
+use network::Network;
 use partition::{group_count, groups_of};
 use std::alloc::{AllocError, Global};
 use std::thread;

@@ -1,14 +1,14 @@
 //! What becomes of the rows of a run that are for good, while it goes on.
 ghost use Rattle.std.specs.Prelude.{◌≡◌, IfErr, IfSome};
 ghost use Rattle.journal.specs.declared.fault.PoolFault.TheVariants.{OutOfMemory};
-ghost use Rattle.worker_pool.specs.Written.{IsPlaceFault};
+ghost use Rattle.run_rows.specs.Written.{IsPlaceFault};
 
 use crate::counted::Counted;
 use crate::desk::TraceLock;
 use crate::network_run::NetworkRun;
 use crate::rounds::seat::NetworkGroup;
 use crate::run_fault::RunFault;
-use netdesc::Network;
+use network::Network;
 use std::sync::{Mutex, Wait};
 use trace_tables::SegmentFault;
 

@@ -2,6 +2,7 @@
 //! exchange of single processes, and the names of it, so that a user has one door.
 #![tactic(auto)]
 
+mod batches;
 mod counted;
 mod desk;
 mod ending;
@@ -9,7 +10,6 @@ mod group_opening;
 mod group_segments;
 mod group_work;
 mod grouping;
-mod lawful_rows;
 mod leaving;
 mod network_run;
 mod opening;
@@ -17,25 +17,22 @@ mod outcomes;
 mod pace;
 mod results;
 mod rounds;
-mod row_tables;
-mod run_batch;
 mod run_fault;
 mod running;
 mod segments;
 mod shared;
+mod start;
 mod summary;
-mod trace_run;
 mod tracing;
 mod workers;
-mod writing;
 
 pub use exchange::{ActorRun, Exchange, Gate, Held, Mark, Pairs, collect, post, publish, work};
 pub use journal::{PoolFault, Table};
 pub use network_run::{NetworkRun, Of};
 pub use opening::open_network;
 pub use pace::Pace;
+pub use run_rows::TraceRun;
 pub use running::{Outcome, run};
 pub use segments::next_segment;
 pub use summary::{Summary, run_summary};
-pub use trace_run::TraceRun;
 pub use tracing::{Traced, run_traced};

@@ -1,6 +1,6 @@
 //! The exchange of a network at the start.
 ghost use Rattle.std.specs.Prelude.{◌≡◌, ℕ, ◌<◌, ◌≤◌, ◌^◌, [], replicate, length, slice_get, Some, is_some, IfOk, IfErr};
-ghost use Rattle.netdesc.specs.Words.{process_count};
+ghost use Rattle.network.specs.Words.{process_count};
 ghost use Rattle.nodes.specs.Words.{opening};
 ghost use Rattle.journal.specs.declared.fault.PoolFault.TheVariants.{OutOfMemory};
 ghost use Rattle.exchange.specs.Views.{blank, opened_held};
@@ -8,9 +8,9 @@ ghost use Rattle.exchange.specs.Views.{blank, opened_held};
 use crate::network_run::{NetworkRun, Of};
 use exchange::{Exchange, Held, Pairs};
 use journal::{PoolFault, Table};
-use netdesc::Network;
+use network::Network;
 use nodes::Node;
-use seqsim::{network_layout, nodes_of};
+use seqsim::{layout_law, nodes_of};
 use std::alloc::Global;
 use traffic::offers;
 
@@ -35,7 +35,7 @@ pub fn open_network<J: NetworkRun>(
     ensures opened { IfOk result (λ r. (p : ℕ) → p < process_count network.now → slice_get r.1.items p ≡ Some (opened_held (opening network.now) p)) }
     ensures memory { IfErr result (λ fault. fault ≡ OutOfMemory) }
 {
-    network_layout(network);
+    layout_law(network);
     // A network has at most 4,096 processes.
     let _processes = network.process_count();
     let offers = offers(alloc, network)?;

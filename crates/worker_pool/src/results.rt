@@ -10,18 +10,17 @@ ghost use Rattle.worker_pool.specs.Runs.{IsEnded, IsJournalOf, HaveGoneBy};
 
 use crate::counted::{Counted, moment_of};
 use crate::ending::Unlocked;
-use crate::lawful_rows::lawful_rows;
 use crate::network_run::NetworkRun;
 use journal::PoolFault;
-use netdesc::Network;
 use nodes::{Node, NodeRecord};
-use seqsim::{network_laws, rows_by_process};
+use run_rows::rows_law;
+use seqsim::{network_law, rows_by_process_law};
 use std::alloc::{AllocError, Global};
-use trace_tables::{Tables, batches_in_order, put_in_message_order, tables_by_place};
-use virtual_time::headline;
+use trace_tables::{Tables, batches_in_order_law, put_in_message_order, tables_by_place_law};
+use virtual_time::headline_law;
 use vlink::{Message, Note, Row, Step, Time};
 
-impl<J: NetworkRun> Unlocked<J> {
+impl<J: NetworkRun> Unlocked<'_, J> {
     /// The steps of the run, in their order, where its journal is kept. It is refused for memory alone.
     pub(crate) fn steps(&self, alloc: Global) -> Result<Vec<Step>, PoolFault>
         requires ended { IsEnded J.plan J.owners self.now.exchange.steps self.now.groups.items }
@@ -33,13 +32,12 @@ impl<J: NetworkRun> Unlocked<J> {
     }
 
     /// The rows of all committed events, group by group. It is refused for memory alone.
-    fn gathered_rows(&self, alloc: Global, network: &Network) -> Result<Vec<Row>, AllocError>
-        requires network { network.now ≡ J.plan }
+    fn gathered_rows(&self, alloc: Global) -> Result<Vec<Row>, AllocError>
         requires ended { IsEnded J.plan J.owners self.now.exchange.steps self.now.groups.items }
         requires kept { HaveGoneBy [] 0 self.now.groups.items }
         ensures { IfOk result (λ rows. AreCommittedRows J.plan self.now.exchange.steps rows.items) }
     {
-        network_laws(network);
+        network_law(self.network);
         let mut rows = Vec::new(alloc);
         for place in 0..self.groups.len() {
             let group = &self.groups[place];
@@ -49,14 +47,13 @@ impl<J: NetworkRun> Unlocked<J> {
     }
 
     /// The rows of all events, in message order. It is refused for memory alone.
-    pub(crate) fn rows(&self, alloc: Global, network: &Network) -> Result<Vec<Row>, AllocError>
-        requires network { network.now ≡ J.plan }
+    pub(crate) fn rows(&self, alloc: Global) -> Result<Vec<Row>, AllocError>
         requires ended { IsEnded J.plan J.owners self.now.exchange.steps self.now.groups.items }
         requires kept { HaveGoneBy [] 0 self.now.groups.items }
         ensures { IfOk result (λ rows. AreRowsOf J.plan rows.items) }
     {
-        rows_by_process(network);
-        let mut rows = self.gathered_rows(alloc, network)?;
+        rows_by_process_law(self.network);
+        let mut rows = self.gathered_rows(alloc)?;
         put_in_message_order(&mut rows)?;
         Ok(rows)
     }
@@ -64,22 +61,17 @@ impl<J: NetworkRun> Unlocked<J> {
     /// The tables of the run: those of the rows that were counted, and of the rows that each process has from there on. No row of it is kept.
     ///
     /// It fails only where memory is refused, or was while rows were counted.
-    pub(crate) fn tables(
-        &self,
-        network: &Network,
-        counted: Counted<J>,
-    ) -> Result<Tables, AllocError>
-        requires network { network.now ≡ J.plan }
+    pub(crate) fn tables(&self, counted: Counted<J>) -> Result<Tables, AllocError>
         requires ended { IsEnded J.plan J.owners self.now.exchange.steps self.now.groups.items }
         requires counted { HaveGoneBy counted.own.items counted.end self.now.groups.items }
         ensures whole { IfOk result (λ tables. (rows : List Row) × AreRowsOf J.plan rows × (tables ≡ tables_of J.plan rows)) }
         ensures each { IfOk result (λ tables. (rows : List Row) → AreRowsOf J.plan rows → tables ≡ tables_of J.plan rows) }
     {
-        network_laws(network);
-        lawful_rows(network);
-        batches_in_order();
-        headline::<Message, Node, NodeRecord, Note>();
-        tables_by_place();
+        network_law(self.network);
+        rows_law(self.network);
+        batches_in_order_law();
+        headline_law::<Message, Node, NodeRecord, Note>();
+        tables_by_place_law();
         let Counted {
             tables,
             own,
@@ -89,12 +81,12 @@ impl<J: NetworkRun> Unlocked<J> {
         let Some(mut tables) = tables else {
             return Err(AllocError);
         };
-        let behind = Time::known(network.until().ns() + 1);
+        let behind = Time::known(self.network.until().ns() + 1);
         for place in 0..self.groups.len() {
             let group = &self.groups[place];
             let from = moment_of(own.as_slice(), end, place);
-            tables = tables.with(network, group.rows_between(from, behind))?;
+            tables = tables.with(self.network, group.rows_between(from, behind))?;
         }
-        tables.tables(network)
+        tables.tables(self.network)
     }
 }

@@ -1,13 +1,15 @@
-//! Who gets the next turn. A worker takes a group, which is its own until it puts it back, and gives it turn after turn: in one section of the
-//! exchange what the group did goes to the journal and letters come to it; then it works on events, as far as it may be ahead of the others.
+//! Who gets the next turn. Each group belongs to a worker, which gives it turn after turn: in one section of the exchange what the group did goes
+//! to the journal and letters come to it; then it works on events, as far as it may be ahead of the others.
 //!
-//! Where there are as many workers as groups, each keeps its group to the end. Where there are more groups, a worker puts its group to the end of
-//! the row after each turn, and takes the first (`row`). For each group the workers tell one another the moment of what it has to do next
-//! (`moments`). Nothing here is part of a proof: a wrong estimate costs a turn or a rollback.
+//! Who gives a turn has the lock of the group meanwhile (`seats`). For each group the workers tell one another the moment of what it has to do next
+//! (`moments`). A worker that finds nothing to do for its own groups looks again; soon it lets other threads run in between, and gives groups of others
+//! their turns, whose workers may be off their cores; and at last it rests until one of its own is due. Nothing here is part of a proof: a wrong estimate
+//! costs a turn or a rollback.
 pub(crate) mod apart;
+pub(crate) mod common;
 pub(crate) mod moments;
-pub(crate) mod row;
 pub(crate) mod seat;
+pub(crate) mod seats;
 pub(crate) mod worker;
 
 /// A group works on events that are less than this behind the least moment of all groups, in ns.
@@ -19,8 +21,8 @@ const PIECE: u32 = 8;
 /// A group that has letters for others ends its turn after so many messages: the others go on meanwhile, and undo more the longer the letters wait.
 const MOST_WITH_LETTERS: u32 = 32;
 
-/// What a group did goes to the journal after so many turns, at the latest.
-const MOST_UNPOSTED: u32 = 4;
+/// What a group did goes to the journal after so many messages, at the latest.
+const MOST_UNPOSTED: u32 = 256;
 
 /// A group that has nothing to do sees GVT where that is further on than this, in ns.
 const BEHIND_NS: u64 = 1_000_000;
@@ -28,11 +30,20 @@ const BEHIND_NS: u64 = 1_000_000;
 /// GVT is set in one of so many sections of the exchange.
 pub(crate) const SECTIONS_PER_GVT: u64 = 4;
 
-/// GVT is set in one of so many looks in vain.
+/// A worker that waits for GVT sets it in one of so many looks.
 const LOOKS_PER_GVT: u64 = 16;
 
-/// After so many looks in vain a worker rests, until another one has given a turn.
-const LOOKS_BEFORE_REST: u64 = 64;
+/// After so many looks in vain what a group did goes to the journal.
+const LOOKS_BEFORE_POST: u64 = 32;
+
+/// After so many looks in vain a worker gives groups of others a turn, unless that served before: then sooner.
+const LOOKS_BEFORE_HELP: u64 = 1024;
+
+/// After so many looks in vain a worker lets other threads run in between, each time.
+const LOOKS_BEFORE_YIELD: u64 = 64;
+
+/// After so many looks in vain a worker rests. It is long, 2 ms or so: to be woken takes 50 us where the machine is its own, and 1 ms where it is not.
+const LOOKS_BEFORE_REST: u64 = 4096;
 
 /// How long a worker rests at most, in microseconds.
 const REST_US: u64 = 5_000;

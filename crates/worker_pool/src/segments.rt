@@ -1,4 +1,5 @@
 //! The segments of the trace that a process gives while the run goes on.
+//! The moment before which rows have left says where the next segment begins; a number beside it could say something else.
 ghost use Rattle.std.specs.Prelude.{◌≡◌, ◌+◌, ◌<◌, ◌↔◌, ℕ, IsSome, MatchOption, IfSome, IfNone, IfOk, IfErr, OnErr};
 ghost use Rattle.vlink.specs.declared.time.TheConstants.{GREATEST_NS};
 ghost use Rattle.journal.specs.declared.fault.PoolFault.TheVariants.{OutOfMemory};
@@ -82,7 +83,7 @@ fn sealed_segment<J: NetworkRun>(
 {
     let from = cut(until, k);
     let to = cut(until, k + 1);
-    if !held.is_sealed_before(to) {
+    if !held.is_committed_before(to) {
         return Ok(None);
     }
     let rows = held.rows_between(from, to);

@@ -19,6 +19,7 @@ use std::marker::Model;
 use vlink::Time;
 
 /// So many steps the journal of a run can have: 2^26 where it is kept, and 2^62 where it is not.
+/// It is a number, and not none, where the journal is not kept: no run comes there, and no clause changes its form.
 pub(crate) fn most_steps(keeps: bool) -> u64
     ensures { result ≡ most_steps keeps }
 {
@@ -60,7 +61,7 @@ impl<J: NetworkRun> Shared<J> {
 
     /// All letters that wait for the group come to its tray. A group with a block, which a refusal left, takes none before that is posted.
     /// `JournalFull`: the steps would pass the most that a run can have.
-    pub(crate) fn take_letters(&mut self, group: &mut NetworkGroup<J>) -> Result<(), RunFault<J>>
+    pub(crate) fn collect(&mut self, group: &mut NetworkGroup<J>) -> Result<(), RunFault<J>>
         ensures full { result ≡ Err JournalFull → (letters : List Letter) × AreWaiting (simulation_of J.plan) J.owners self.old group.old letters
             × (most_steps J.keeps < length self.old.steps + length letters) }
         ensures no_spawn { IfErr result (λ fault. fault ≢ Spawn) }
@@ -75,7 +76,7 @@ impl<J: NetworkRun> Shared<J> {
     }
 
     /// What the group did goes to the journal, and its letters to the other groups. `JournalFull`: the steps would pass the most that a run can have.
-    pub(crate) fn give_block(&mut self, group: &mut NetworkGroup<J>) -> Result<(), RunFault<J>>
+    pub(crate) fn post(&mut self, group: &mut NetworkGroup<J>) -> Result<(), RunFault<J>>
         ensures full { result ≡ Err JournalFull → (0 < length (block_of group.old))
             × (most_steps J.keeps < length self.old.steps + length (block_of group.old)) }
         ensures limited { most_steps J.keeps < length self.old.steps + length (block_of group.old) → 0 < length (block_of group.old) →
@@ -90,7 +91,7 @@ impl<J: NetworkRun> Shared<J> {
     }
 
     /// Sets GVT. The answer is GVT, in ns. `JournalFull`: there are as many steps as a run can have.
-    pub(crate) fn set_gvt(&mut self) -> Result<Time, RunFault<J>>
+    pub(crate) fn publish(&mut self) -> Result<Time, RunFault<J>>
         ensures full { result ≡ Err JournalFull → most_steps J.keeps ≤ length self.old.steps }
         ensures no_spawn { IfErr result (λ fault. fault ≢ Spawn) }
     {
@@ -108,7 +109,7 @@ impl<J: NetworkRun> Shared<J> {
         if !waits && self.sections % SECTIONS_PER_GVT != 0 {
             return Ok(None);
         }
-        let gvt = self.set_gvt()?;
+        let gvt = self.publish()?;
         Ok(Some(gvt))
     }
 

@@ -1,25 +1,26 @@
 //! What is asked of a run beside its trace: its tables, and its steps where they are wanted. No row is listed for it.
-ghost use Rattle.std.specs.Prelude.{◌≡◌, ◌⊎◌, List, length, Err, IfOk, IfErr, IfSome, IfNone};
+ghost use Rattle.std.specs.Prelude.{◌≡◌, ◌⊎◌, List, Err, IfOk, IfErr, IfSome, IfNone};
 ghost use Rattle.vlink.specs.Letters.{Row};
-ghost use Rattle.netdesc.specs.Words.{process_count};
+ghost use Rattle.network.specs.Words.{process_count};
 ghost use Rattle.journal.specs.declared.fault.PoolFault.TheVariants.{OutOfMemory, Exhausted, Spawn, Torn};
 ghost use Rattle.trace_tables.specs.Tables.{tables_of};
 ghost use Rattle.seqsim.specs.Networks.{AreRowsOf};
 ghost use Rattle.worker_pool.specs.Outcomes.{CanWantWorkers, UsesUpNumbers};
-ghost use Rattle.worker_pool.specs.Runs.{IsEnded, IsGroupingOf, IsJournalAsked};
+ghost use Rattle.worker_pool.specs.Runs.{IsEnded, IsJournalAsked, IsSummaryOf};
 
 use crate::counted::Counted;
 use crate::ending::Unlocked;
-use crate::grouping::{Grouping, groups_for};
+use crate::grouping::groups_for;
 use crate::leaving::Leaving;
 use crate::network_run::NetworkRun;
 use crate::pace::Pace;
 use crate::running::run_to_end;
+use crate::start::{Start, StartOf};
 use actor_run::Watch;
 use exchange::Gate;
 use group_exchange::Pairs;
 use journal::PoolFault;
-use netdesc::Network;
+use network::Network;
 use std::alloc::Global;
 use std::marker::Brand;
 use std::sync::Wait;
@@ -34,22 +35,18 @@ pub struct Summary {
     pub journal: Vec<Step>,
 }
 
-impl<J: NetworkRun> Unlocked<J> {
+impl<J: NetworkRun> Unlocked<'_, J> {
     /// The tables of an ended run, of which so much is counted, and its steps where they are asked for. `Torn`: rows have left that nobody counted.
     /// Where a growth was refused while rows were counted, that is told first.
     pub(crate) fn summary(
         &self,
         alloc: Global,
-        network: &Network,
         counted: Option<Counted<J>>,
         with_steps: bool,
     ) -> Result<Summary, PoolFault>
-        requires network { network.now ≡ J.plan }
         requires ended { IsEnded J.plan J.owners self.now.exchange.steps self.now.groups.items }
         requires keeps { with_steps ≡ J.keeps }
-        ensures tables { IfOk result (λ s. (rows : List Row) × AreRowsOf J.plan rows × (s.tables ≡ tables_of J.plan rows)) }
-        ensures each { IfOk result (λ s. (rows : List Row) → AreRowsOf J.plan rows → s.tables ≡ tables_of J.plan rows) }
-        ensures journal { IfOk result (λ s. IsJournalAsked J.plan with_steps s.journal.items) }
+        ensures found { IfOk result (λ s. IsSummaryOf J.plan J.keeps s.tables s.journal.items) }
         ensures refused { IfSome counted (λ c. IfNone c.tables (result ≡ Err OutOfMemory)) }
         ensures faults { IfErr result (λ fault. (fault ≡ OutOfMemory) ⊎ (fault ≡ Torn)) }
     {
@@ -62,7 +59,7 @@ impl<J: NetworkRun> Unlocked<J> {
         if !self.have_gone_by(counted.own.as_slice(), counted.end) {
             return Err(PoolFault::Torn);
         }
-        let tables = self.tables(network, counted)?;
+        let tables = self.tables(counted)?;
         let journal = self.steps_asked(alloc, with_steps)?;
         Ok(Summary { tables, journal })
     }
@@ -71,7 +68,7 @@ impl<J: NetworkRun> Unlocked<J> {
     fn steps_asked(&self, alloc: Global, with_steps: bool) -> Result<Vec<Step>, PoolFault>
         requires ended { IsEnded J.plan J.owners self.now.exchange.steps self.now.groups.items }
         requires keeps { with_steps ≡ J.keeps }
-        ensures asked { IfOk result (λ steps. IsJournalAsked J.plan with_steps steps.items) }
+        ensures asked { IfOk result (λ steps. IsJournalAsked J.plan J.keeps steps.items) }
         ensures memory { IfErr result (λ fault. fault ≡ OutOfMemory) }
     {
         if with_steps {
@@ -85,32 +82,23 @@ impl<J: NetworkRun> Unlocked<J> {
 fn summary_named<J: NetworkRun + Send + Sync, G: Gate + Sync, T: Threads + Wait + Sync, W: Watch>(
     rt: &T,
     alloc: Global,
-    network: &Network,
-    grouping: Grouping,
-    pairs: Pairs,
-    pace: &Pace,
-    with_steps: bool,
+    start: Start<'_>,
     gate: &G,
     watch: &mut W,
 ) -> Result<Summary, PoolFault>
-    requires network { network.now ≡ J.plan }
-    requires keeps { with_steps ≡ J.keeps }
-    requires owners { grouping.owners.items ≡ J.owners }
-    requires grouped { IsGroupingOf network.now grouping.groups J.owners }
-    requires names { pairs ≡ J.names }
-    requires each_name { length J.names ≡ grouping.groups }
-    ensures tables { IfOk result (λ s. (rows : List Row) × AreRowsOf J.plan rows × (s.tables ≡ tables_of J.plan rows)) }
-    ensures each { IfOk result (λ s. (rows : List Row) → AreRowsOf J.plan rows → s.tables ≡ tables_of J.plan rows) }
-    ensures journal { IfOk result (λ s. IsJournalAsked J.plan with_steps s.journal.items) }
+    requires { (start.network.now ≡ J.plan) × ((start.keeps ≡ J.keeps) × ((start.pairs ≡ J.names) × (start.grouping.owners.items ≡ J.owners))) }
+    ensures found { IfOk result (λ s. IsSummaryOf J.plan J.keeps s.tables s.journal.items) }
     ensures exhausted { IfErr result (λ fault. fault ≡ Exhausted → UsesUpNumbers J.plan) }
-    ensures spawn { IfErr result (λ fault. fault ≡ Spawn → CanWantWorkers pace.now.workers (process_count network.now)) }
+    ensures spawn { IfErr result (λ fault. fault ≡ Spawn → CanWantWorkers start.entry.pace.workers (process_count J.plan)) }
     ensures watched { W.becomes watch.old watch.new }
 {
-    let leaving = Leaving::counted(Counted::each(alloc, network, grouping.groups)?);
-    let (ended, _none, counted) = run_to_end::<J, G, T, W>(
-        rt, alloc, network, with_steps, grouping, pairs, pace, gate, leaving, false, watch,
-    )?;
-    ended.summary(alloc, network, counted, with_steps)
+    let start: StartOf<J> = StartOf::of(start);
+    let keeps = start.keeps;
+    let counted = Counted::each(alloc, start.network, start.grouping.groups)?;
+    let leaving = Leaving::counted(counted);
+    let mut ended = run_to_end::<J, G, T, W>(rt, alloc, start, gate, leaving, false, watch)?;
+    let (_none, counted) = ended.leaving.closed();
+    ended.summary(alloc, counted, keeps)
 }
 
 /// Simulates a network by workers, as `run` does, and lists no rows; the steps that were done are listed where they are asked for. Its refusals
@@ -133,15 +121,12 @@ pub fn run_summary<G: Gate + Sync, T: Threads + Wait + Sync, W: Watch>(
 {
     let grouping = groups_for(rt, alloc, network, pace.workers)?;
     let pairs = Pairs::new(alloc, usize::from(grouping.groups))?;
-    summary_named::<Brand, G, T, W>(
-        rt,
-        alloc,
+    let start = Start {
         network,
+        pace: pace.that_goes(),
+        keeps: with_steps,
         grouping,
         pairs,
-        &pace.that_goes(),
-        with_steps,
-        gate,
-        watch,
-    )
+    };
+    summary_named::<Brand, G, T, W>(rt, alloc, start, gate, watch)
 }

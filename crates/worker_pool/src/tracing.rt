@@ -1,8 +1,7 @@
 //! The run of a network by workers whose trace is written while it goes on.
-ghost use Rattle.std.specs.Prelude.{◌≡◌, ◌≢◌, ◌+◌, List, length, IfOk, IfErr, IfSome, OnOk};
+ghost use Rattle.std.specs.Prelude.{◌≡◌, ◌≢◌, ◌+◌, List, IfOk, IfErr, IfSome, OnOk};
 ghost use Rattle.std.specs.Io.KnownBytes.{append_known};
 ghost use Rattle.vlink.specs.Letters.{Row};
-ghost use Rattle.netdesc.specs.Words.{process_count};
 ghost use Rattle.journal.specs.declared.fault.PoolFault.TheVariants.{Exhausted};
 ghost use Rattle.trace_segments.specs.declared.fault.OutFault.TheVariants.{Device};
 ghost use Rattle.trace_segments.specs.declared.trace_fault.TraceFault.TheVariants.{Out};
@@ -10,27 +9,29 @@ ghost use Rattle.trace_segments.specs.Words.{IsBeginning, trace_text};
 ghost use Rattle.trace_tables.specs.Tables.{tables_of};
 ghost use Rattle.seqsim.specs.Networks.{AreRowsOf};
 ghost use Rattle.worker_pool.specs.Outcomes.{UsesUpNumbers};
-ghost use Rattle.worker_pool.specs.Runs.{IsEnded, IsGroupingOf, IsJournalAsked};
-ghost use Rattle.worker_pool.specs.Written.{IsFaultOfTrace, IsPlaceFault, IsWritten};
+ghost use Rattle.worker_pool.specs.Runs.{IsEnded, IsJournalAsked, IsSummaryOf};
+ghost use Rattle.run_rows.specs.Written.{IsFaultOfTrace, IsPlaceFault, IsWritten};
 
+use crate::batches::write_batches;
 use crate::counted::Counted;
 use crate::desk::TraceLock;
 use crate::ending::Unlocked;
-use crate::grouping::{Grouping, groups_for};
+use crate::grouping::groups_for;
 use crate::leaving::Leaving;
 use crate::network_run::NetworkRun;
 use crate::pace::Pace;
+use crate::run_fault::RunFault;
 use crate::running::run_to_end;
+use crate::start::{Start, StartOf};
 use crate::summary::Summary;
-use crate::trace_run::TraceRun;
-use crate::writing::{Writing, write_batches};
 use actor_run::Watch;
-use crossbeam_channel::bounded;
+use crossbeam_channel::{Receiver, bounded};
 use exchange::Gate;
 use group_exchange::Pairs;
 use journal::PoolFault;
-use netdesc::Network;
-use std::alloc::Global;
+use network::Network;
+use run_rows::{RunBatch, TraceRun, Writing};
+use std::alloc::{AllocError, Global};
 use std::marker::Brand;
 use std::sync::Wait;
 use std::thread;
@@ -48,34 +49,54 @@ pub struct Traced<S> {
     pub sink: S,
 }
 
+/// No batch comes behind what a run has sent to the writer's thread, which else would wait for it. The answer is the run, and the first fault of a segment.
+fn closed<'n, J: NetworkRun>(
+    ran: Result<Unlocked<'n, J>, RunFault<J>>,
+) -> Result<(Unlocked<'n, J>, Option<SegmentFault>), RunFault<J>>
+    requires ended { IfOk ran (λ r. IsEnded J.plan J.owners r.exchange.steps r.groups.items) }
+    ensures ended { IfOk result (λ r. IsEnded J.plan J.owners r.0.exchange.steps r.0.groups.items) }
+    ensures fault { IfOk result (λ r. IfSome r.1 IsPlaceFault) }
+{
+    let mut ended = ran?;
+    let (fault, _none) = ended.leaving.closed();
+    Ok((ended, fault))
+}
+
 /// What a run comes to whose trace was written by a thread that is joined: it gave these back.
 fn traced_of<'a, J: NetworkRun, K: TraceRun, S: Sink + Drop>(
     alloc: Global,
-    network: &Network,
-    ran: Result<(Unlocked<J>, Option<SegmentFault>, Option<Counted<J>>), PoolFault>,
+    ran: Result<(Unlocked<'_, J>, Option<SegmentFault>), RunFault<J>>,
     writing: Writing<'a, J, K, S>,
     counted: Counted<J>,
     with_steps: bool,
 ) -> Result<Traced<S>, PoolFault>
-    requires network { network.now ≡ J.plan }
     requires keeps { with_steps ≡ J.keeps }
     requires ended { IfOk ran (λ r. IsEnded J.plan J.owners r.0.exchange.steps r.0.groups.items) }
     requires fault { IfOk ran (λ r. IfSome r.1 IsPlaceFault) }
-    requires exhausted { IfErr ran (λ fault. fault ≡ Exhausted → UsesUpNumbers J.plan) }
-    ensures tables { IfOk result (λ t. (rows : List Row) × AreRowsOf J.plan rows × (t.outcome.tables ≡ tables_of J.plan rows)) }
-    ensures each { IfOk result (λ t. (rows : List Row) → AreRowsOf J.plan rows → t.outcome.tables ≡ tables_of J.plan rows) }
-    ensures journal { IfOk result (λ t. IsJournalAsked J.plan with_steps t.outcome.journal.items) }
+    ensures found { IfOk result (λ t. IsSummaryOf J.plan J.keeps t.outcome.tables t.outcome.journal.items) }
     ensures written { IfOk result (λ t. IsWritten J.plan K.taken K.failures t.written (S.taken t.sink) (S.failures t.sink)) }
     ensures exhausted { IfErr result (λ fault. fault ≡ Exhausted → UsesUpNumbers J.plan) }
 {
-    let (ended, fault, _none) = ran?;
-    let outcome = ended.summary(alloc, network, Some(counted), with_steps)?;
+    let (ended, fault) = ran?;
+    let outcome = ended.summary(alloc, Some(counted), with_steps)?;
     let (written, sink) = writing.finish(fault);
     Ok(Traced {
         outcome,
         written,
         sink,
     })
+}
+
+/// Where the rows of a run go whose trace is written, the end of the channel where their batches come, and what counts them. It is refused for memory
+/// alone.
+fn opened<J: NetworkRun>(
+    alloc: Global,
+    start: &StartOf<'_, J>,
+) -> Result<(Leaving<J>, Receiver<RunBatch<J>>, Counted<J>), AllocError> {
+    let (to, from) = bounded(alloc, MOST_BATCHES)?;
+    let leaving = Leaving::traced(TraceLock::new(alloc, start, to)?);
+    let counted = Counted::none(alloc, start.network)?;
+    Ok((leaving, from, counted))
 }
 
 /// The run of `run_traced`, of this network run and this writing of a trace. The watch is given back.
@@ -89,78 +110,46 @@ fn traced_named<
 >(
     rt: &T,
     alloc: Global,
-    network: &Network,
-    grouping: Grouping,
-    pairs: Pairs,
-    pace: &Pace,
-    with_steps: bool,
+    start: Start<'_>,
     gate: &G,
     sink: S,
     watch: W,
 ) -> (Result<Traced<S>, PoolFault>, W)
-    requires network { network.now ≡ J.plan }
-    requires keeps { with_steps ≡ J.keeps }
-    requires owners { grouping.owners.items ≡ J.owners }
-    requires grouped { IsGroupingOf network.now grouping.groups J.owners }
-    requires names { pairs ≡ J.names }
-    requires each_name { length J.names ≡ grouping.groups }
+    requires names { (start.network.now ≡ J.plan) × ((start.keeps ≡ J.keeps) × ((start.pairs ≡ J.names) × (start.grouping.owners.items ≡ J.owners))) }
     requires taken { S.taken sink ≡ K.taken }
     requires failures { S.failures sink ≡ K.failures }
-    ensures tables { IfOk result.0 (λ t. (rows : List Row) × AreRowsOf J.plan rows × (t.outcome.tables ≡ tables_of J.plan rows)) }
-    ensures each { IfOk result.0 (λ t. (rows : List Row) → AreRowsOf J.plan rows → t.outcome.tables ≡ tables_of J.plan rows) }
-    ensures journal { IfOk result.0 (λ t. IsJournalAsked J.plan with_steps t.outcome.journal.items) }
+    ensures found { IfOk result.0 (λ t. IsSummaryOf J.plan J.keeps t.outcome.tables t.outcome.journal.items) }
     ensures written { IfOk result.0 (λ t. IsWritten J.plan K.taken K.failures t.written (S.taken t.sink) (S.failures t.sink)) }
     ensures exhausted { IfErr result.0 (λ fault. fault ≡ Exhausted → UsesUpNumbers J.plan) }
     ensures watched { W.becomes watch result.1 }
 {
-    let Ok((to, from)) = bounded(alloc, MOST_BATCHES) else {
+    let start: StartOf<J> = StartOf::of(start);
+    let Ok((leaving, batches, counted)) = opened(alloc, &start) else {
         return (Err(PoolFault::OutOfMemory), watch);
     };
-    let Ok(trace) = TraceLock::new(alloc, network, grouping.groups, to) else {
-        return (Err(PoolFault::OutOfMemory), watch);
-    };
-    let Ok(counted) = Counted::none(alloc, network) else {
-        return (Err(PoolFault::OutOfMemory), watch);
-    };
+    let network = start.network;
     let writing: Writing<J, K, S> = Writing::new(alloc, network, sink);
     thread::scope(
         thread::scope_env(),
         rt,
         |scope| -> (Result<Traced<S>, PoolFault>, W)
-            requires network { network.now ≡ J.plan }
-            requires keeps { with_steps ≡ J.keeps }
-            requires owners { grouping.owners.items ≡ J.owners }
-            requires grouped { IsGroupingOf network.now grouping.groups J.owners }
-            requires names { pairs ≡ J.names }
-            requires each_name { length J.names ≡ grouping.groups }
-            ensures tables { IfOk result.0 (λ t. (rows : List Row) × AreRowsOf J.plan rows × (t.outcome.tables ≡ tables_of J.plan rows)) }
-            ensures each { IfOk result.0 (λ t. (rows : List Row) → AreRowsOf J.plan rows → t.outcome.tables ≡ tables_of J.plan rows) }
-            ensures journal { IfOk result.0 (λ t. IsJournalAsked J.plan with_steps t.outcome.journal.items) }
+            requires { network.now ≡ J.plan }
+            ensures found { IfOk result.0 (λ t. IsSummaryOf J.plan J.keeps t.outcome.tables t.outcome.journal.items) }
             ensures written { IfOk result.0 (λ t. IsWritten J.plan K.taken K.failures t.written (S.taken t.sink) (S.failures t.sink)) }
             ensures exhausted { IfErr result.0 (λ fault. fault ≡ Exhausted → UsesUpNumbers J.plan) }
             ensures watched { W.becomes watch result.1 }
         {
             let mut watch = watch;
-            let Ok(writer) = scope.spawn(move || write_batches(rt, network, writing, counted, from))
-            else {
+            let Ok(writer) = scope.spawn(move || write_batches(
+                rt, network, writing, counted, batches,
+            )) else {
                 return (Err(PoolFault::Spawn), watch);
             };
-            let ran = run_to_end(
-                rt,
-                alloc,
-                network,
-                with_steps,
-                grouping,
-                pairs,
-                pace,
-                gate,
-                Leaving::traced(trace),
-                false,
-                &mut watch,
-            );
+            let keeps = start.keeps;
+            let ran = run_to_end(rt, alloc, start, gate, leaving, false, &mut watch);
+            let ran = closed(ran);
             let (writing, counted) = writer.join(rt);
-            let traced = traced_of(alloc, network, ran, writing, counted, with_steps);
-            (traced, watch)
+            (traced_of(alloc, ran, writing, counted, keeps), watch)
         },
     )
 }
@@ -207,17 +196,15 @@ pub fn run_traced<S: Sink + Drop + Send, G: Gate + Sync, T: Threads + Wait + Syn
 {
     let grouping = groups_for(rt, alloc, network, pace.workers)?;
     let pairs = Pairs::new(alloc, usize::from(grouping.groups))?;
-    let (traced, _watch) = traced_named::<Brand, Brand, S, G, T, &mut W>(
-        rt,
-        alloc,
+    let start = Start {
         network,
+        pace: pace.that_goes(),
+        keeps: with_steps,
         grouping,
         pairs,
-        &pace.that_goes(),
-        with_steps,
-        gate,
-        sink,
-        watch,
+    };
+    let (traced, _watch) = traced_named::<Brand, Brand, S, G, T, &mut W>(
+        rt, alloc, start, gate, sink, watch,
     );
     traced
 }

@@ -1,10 +1,11 @@
 //! What the calls on an exchange of a network and on its processes come to. What is expected was worked out by hand.
 ghost use Rattle.std.specs.Prelude.{◌≡◌, true, length};
-ghost use Rattle.netdesc.specs.Words.{process_count};
+ghost use Rattle.network.specs.Words.{process_count};
 
 use super::changes::changed;
 use super::stage::{CountingGate, Stage};
-use netdesc::{Network, read};
+use netdesc::read;
+use network::Network;
 use std::alloc::Global;
 use std::marker::Brand;
 use std::test::Fail;

@@ -1,7 +1,8 @@
 //! A host that tells all: what its files and streams hold, which file can be read and which can be made, and that a file was missed.
 ghost use Rattle.std.specs.Prelude.{◌≡◌, ℕ, [], List, None, Some, IfSome, map, option_map};
 ghost use Rattle.command_line.specs.declared.orders.Order.{Order};
-ghost use Rattle.netdesc.specs.Words.{Plan, Describes};
+ghost use Rattle.network.specs.Words.{Plan};
+ghost use Rattle.netdesc.specs.Words.{Describes};
 ghost use Rattle.afdxsim.specs.Files.{ShowsAlone, WritesFile};
 ghost use Rattle.afdxsim.specs.Naming.{journal_of, net_of, trace_of};
 ghost use Rattle.afdxsim.specs.Reading.{GivesNetwork};

@@ -7,12 +7,12 @@ use Rattle.std.specs.HashMap.{HashMap, get_by, get}
 use Rattle.vlink.specs.declared.frame.Net.{Net}
 use denote.Ref.{Bor}
 use Rattle.network_rows.specs.declared.fault.DescFault.{DescFault}
-use Rattle.netdesc.specs.declared.wiring.Link.{Link}
-use Rattle.netdesc.specs.declared.wiring.Hop.{Hop}
-use Rattle.netdesc.specs.Faults.{Tells}
-use Rattle.netdesc.specs.Names.{place_among}
-use Rattle.netdesc.specs.Wiring.{link_between, leads}
-use Rattle.netdesc.specs.Plan.{NodePlan}
+use Rattle.network.specs.declared.wiring.Link.{Link}
+use Rattle.network.specs.declared.wiring.Hop.{Hop}
+use Rattle.network.specs.Faults.{Tells}
+use Rattle.network.specs.Names.{place_among}
+use Rattle.network.specs.Wiring.{link_between, leads}
+use Rattle.network.specs.Plan.{NodePlan}
 
 -- there is none of these faults, or the first one is told
 abbrev pub Finds : {X : Type 0} → Result X DescFault → List DescFault → Type 0

@@ -2,10 +2,10 @@
 use Rattle.std.specs.Prelude.{List, map}
 use Rattle.network_rows.specs.declared.rows.NodeRow.{NodeRow}
 use Rattle.network_rows.specs.declared.rows.Rows.{Rows}
-use Rattle.netdesc.specs.declared.wiring.Link.{Link}
-use Rattle.netdesc.specs.declared.wiring.Outage.{Outage}
-use Rattle.netdesc.specs.declared.plan.Numbered.{Numbered}
-use Rattle.netdesc.specs.Plan.{Plan, VlPlan, node_plan, plan_of}
+use Rattle.network.specs.declared.wiring.Link.{Link}
+use Rattle.network.specs.declared.wiring.Outage.{Outage}
+use Rattle.network.specs.declared.plan.Numbered.{Numbered}
+use Rattle.network.specs.Plan.{Plan, VlPlan, node_plan, plan_of}
 
 pub record RowLists : Type 0 where
   pub links : List Link

@@ -31,7 +31,7 @@ use Rattle.nodes.specs.declared.reception.Reception.{Reception}
 use Rattle.reverse.specs.Sending.{Wish, Reply, silent, joined, loss}
 use Rattle.nodes.specs.rules.Ports.{PortsState, changed, exists, reply}
 use Rattle.nodes.specs.rules.Finding.{Found, find}
-use Rattle.nodes.specs.rules.EndSystem.{EndSystemState, EndSystemOutcome, source_at, source_number, reception_number, ending_on, unmoved, is_on, port_of, copy, copied, copied_reply, released_out, released_reply, asked, full, regulated, offered_frame, check_of, received_reply, checked, delivered, taken, freed, end_system}
+use Rattle.nodes.specs.rules.EndSystem.{EndSystemState, EndSystemOutcome, source_at, source_number, reception_number, ending_on, unmoved, is_on, port_of, copy, copied, copied_reply, released_out, released_reply, asked, full, regulated, offered_frame, check_of, received_reply, checked, delivered, taken_in, freed, end_system}
 use Rattle.nodes.specs.rules.Placed.{AllWires}
 use Rattle.nodes.specs.laws.Places.{All-there, found-there}
 use Rattle.nodes.specs.laws.Replies.{IsQuiet, silent-quiet, loss-quiet, quiet-all, joined-all}
@@ -42,7 +42,7 @@ use Rattle.nodes.specs.laws.Regulator.{bag-stays}
 -- through the checks of its virtual link; the frame of a port leaves; a regulator is asked
 pub record EndSystemCases (K : EndSystemOutcome → Type 0) (n t : ℕ) (s : EndSystemState) : Type 0 where
   pub quiet : (r : Reply) → IsQuiet r → K (record { state = s; reply = r; change = change.Nothing })
-  pub receives : (frame : Frame) (found : Found Reception) → find reception_number s.receptions frame.vl.0 ≡ Some found → K (taken t frame s (Some found))
+  pub receives : (frame : Frame) (found : Found Reception) → find reception_number s.receptions frame.vl.0 ≡ Some found → K (taken_in t frame s (Some found))
   pub frees : (q : ℕ) → K (freed n t q s)
   pub asks : (vl : VlId) (e : RegEvent) (otherwise : Reply) (found : Found Source) → moment_of e ≡ t → source_at s vl ≡ Some found →
       K (regulated n t e otherwise s (Some found))
@@ -75,12 +75,12 @@ end_system-cases K n t s is (body.Release vl) = go (source_at s vl) refl
 end_system-cases K n t s is (body.PortFree q) = is.frees q
 end_system-cases K n t s is (body.Arrive q frame) = go (exists s.ports q) (find reception_number s.receptions frame.vl.0) refl
   where
-    by_net : (found : Found Reception) → find reception_number s.receptions frame.vl.0 ≡ Some found → (b : Bool) → K (taken t frame s (cond b (Some found) None))
+    by_net : (found : Found Reception) → find reception_number s.receptions frame.vl.0 ≡ Some found → (b : Bool) → K (taken_in t frame s (cond b (Some found) None))
     by_net found h true = is.receives frame found h
     by_net found h false = is.quiet (loss Unknown frame) (loss-quiet Unknown frame)
 
     go : (b : Bool) (o : Option (Found Reception)) → find reception_number s.receptions frame.vl.0 ≡ o →
-        K (cond b (taken t frame s (option_and_then (ending_on frame.net) o)) (unmoved s))
+        K (cond b (taken_in t frame s (option_and_then (ending_on frame.net) o)) (unmoved s))
     go true None h = is.quiet (loss Unknown frame) (loss-quiet Unknown frame)
     go true (Some found) h = by_net found h (is_on found.entry.end frame.net)
     go false o h = is.quiet silent silent-quiet

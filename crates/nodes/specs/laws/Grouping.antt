@@ -1,7 +1,7 @@
 -- For proofs alone: ways at a node, taken together by their virtual links.
 use Rattle.std.specs.Prelude.{ℕ, ◌==◌, if◌then◌else◌, List, [], ◌∷◌, Option, slice_get, flat_map, option_map, option_and_then, option_to_list}
-use Rattle.netdesc.specs.declared.wiring.Way.{Way}
-use Rattle.netdesc.specs.Words.{Plan, VlPlan, place_of_vl}
+use Rattle.network.specs.declared.wiring.Way.{Way}
+use Rattle.network.specs.Words.{Plan, VlPlan, place_of_vl}
 use Rattle.nodes.specs.declared.opening.meeting.Meeting.{Meeting}
 use Rattle.nodes.specs.rules.Meeting.{ports_by}
 

@@ -1,6 +1,6 @@
 -- For proofs alone: what is made of the virtual links at a node.
 use Rattle.std.specs.Prelude.{ℕ, Bool, false, List, Option, None, Some, replicate, slice_index_or}
-use Rattle.netdesc.specs.declared.too_many.TheConstants.{GREATEST_PORTS}
+use Rattle.network.specs.declared.limits.TheConstants.{GREATEST_PORTS}
 use Rattle.nodes.specs.declared.opening.meeting.Meeting.{Meeting}
 use Rattle.nodes.specs.declared.transit.Transit.{Transit}
 use Rattle.nodes.specs.declared.vl_end.VlEnd.{VlEnd}

@@ -16,7 +16,7 @@ use Rattle.reverse.specs.Sending.{Wish, Reply, silent, loss}
 use Rattle.nodes.specs.rules.Finding.{Found}
 use Rattle.nodes.specs.declared.ports.Wire.{Wire}
 use Rattle.nodes.specs.rules.Ports.{exists}
-use Rattle.nodes.specs.rules.Switch.{SwitchState, SwitchOutcome, transit_at, outputs_of, entered_reply, judged, taken, put, at_port, switch, unmoved}
+use Rattle.nodes.specs.rules.Switch.{SwitchState, SwitchOutcome, transit_at, outputs_of, entered_reply, judged, taken_in, put, at_port, switch, unmoved}
 use Rattle.nodes.specs.rules.Placed.{AllWires}
 use Rattle.nodes.specs.laws.Replies.{IsQuiet, silent-quiet, loss-quiet, quiet-all}
 use Rattle.nodes.specs.laws.Ports.{WireMeets, wires-stay, reply-all}
@@ -26,7 +26,7 @@ use Rattle.nodes.specs.laws.Ports.{WireMeets, wires-stay, reply-all}
 pub record SwitchCases (K : SwitchOutcome → Type 0) (n t : ℕ) (s : SwitchState) : Type 0 where
   pub quiet : (r : Reply) → IsQuiet r → K (record { state = s; reply = r; change = change.Nothing })
   pub at_ports : (q : ℕ) (e : PortEvent) → K (at_port n t q e s)
-  pub takes : (q : ℕ) (frame : Frame) (found : Found Transit) → transit_at s frame.vl ≡ Some found → K (taken n t q frame s (Some found))
+  pub takes : (q : ℕ) (frame : Frame) (found : Found Transit) → transit_at s frame.vl ≡ Some found → K (taken_in n t q frame s (Some found))
 
 pub switch-cases : (K : SwitchOutcome → Type 0) (n t : ℕ) (s : SwitchState) → SwitchCases K n t s → (body : Body) → K (switch n t body s)
 switch-cases K n t s is (Offer vl size sub) = is.quiet silent silent-quiet
@@ -34,7 +34,7 @@ switch-cases K n t s is (Release vl) = is.quiet silent silent-quiet
 switch-cases K n t s is (PortFree q) = is.at_ports q Free
 switch-cases K n t s is (Arrive q frame) = go (exists s.ports q) (transit_at s frame.vl) refl
   where
-    go : (b : Bool) (o : Option (Found Transit)) → transit_at s frame.vl ≡ o → K (cond b (taken n t q frame s o) (unmoved s))
+    go : (b : Bool) (o : Option (Found Transit)) → transit_at s frame.vl ≡ o → K (cond b (taken_in n t q frame s o) (unmoved s))
     go true None h = is.quiet (loss Unknown frame) (loss-quiet Unknown frame)
     go true (Some found) h = is.takes q frame found h
     go false o h = is.quiet silent silent-quiet

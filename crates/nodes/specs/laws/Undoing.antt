@@ -30,7 +30,7 @@ use Rattle.nodes.specs.rules.EndSystem.{EndSystemState, check_of, copied, copied
 use Rattle.nodes.specs.rules.Node.{handled}
 use Rattle.nodes.specs.rules.Ports.{PortsState, changed, port_change, port_kept, port_put_kept}
 use Rattle.nodes.specs.rules.Switch.{SwitchState, entered, entered_kept, transit_change, transit_number}
-use Rattle.nodes.specs.undoing.Changes.{end_system_undone, reception_undone, source_undone, switch_undone, transit_undone, undelivered, undone, unreceived, IsLastOfEndSystem, IsLastOfSource, IsLastOfSwitch, IsLastOfTransit}
+use Rattle.nodes.specs.undoing.Changes.{end_system_undone, reception_undone, source_undone, switch_undone, transit_undone, undelivered, undone, unreceived, IsLastOfSource, IsLastOfSwitch, IsLastOfTransit}
 use Rattle.nodes.specs.undoing.Ports.{restored, uncopied, IsPortValue}
 use Rattle.nodes.specs.laws.EndSystemSending.{end_system-cases}
 use Rattle.nodes.specs.laws.Places.{found-there, get-set, modified-back, set-same}
@@ -130,11 +130,6 @@ pub transit-last : (s : SwitchState) (place : ℕ) (x new : Transit) (o : Option
     IfSome o (λ kept. IsLastOfTransit kept new) → IsLastOfSwitch (transit_change place o) (record s { transits = slice_set s.transits place new })
 transit-last s place x new None h last = tt
 transit-last s place x new (Some kept) h last = subst (λ o. IfSome o (IsLastOfTransit kept)) (sym (get-set s.transits place x new h)) last
-
-pub end_system-port-last : (s : EndSystemState) (q : ℕ) (e : PortEvent) → IsPortValue q s.ports →
-    IsLastOfEndSystem (port_change q (port_kept q e s.ports)) (record s { ports = changed q e s.ports })
-end_system-port-last s q e value =
-    port-cases (λ kept now. IsLastOfEndSystem (port_change q kept) (record s { ports = now })) q e s.ports tt (λ kept now back last. last value)
 
 pub switch-port-last : (s : SwitchState) (q : ℕ) (e : PortEvent) → IsPortValue q s.ports →
     IsLastOfSwitch (port_change q (port_kept q e s.ports)) (record s { ports = changed q e s.ports })

@@ -203,9 +203,9 @@ received_kept frame r =
     record { net = frame.net; check = check; delivery = delivery_kept r (integrity.out check frame.number) }
 
 -- a frame has come: it is lost where its virtual link does not end here on its network
-abbrev pub taken : ℕ → Frame → EndSystemState → Option (Found Reception) → EndSystemOutcome
-taken t frame s None = record { state = s; reply = loss Unknown frame; change = change.Nothing }
-taken t frame s (Some found) =
+abbrev pub taken_in : ℕ → Frame → EndSystemState → Option (Found Reception) → EndSystemOutcome
+taken_in t frame s None = record { state = s; reply = loss Unknown frame; change = change.Nothing }
+taken_in t frame s (Some found) =
     let reception = found.entry in
     record {
       state = record s { receptions = slice_set s.receptions found.place (record reception { receiving = received t frame reception.receiving }) };
@@ -215,7 +215,7 @@ taken t frame s (Some found) =
 
 -- a frame has come to a port
 abbrev pub arrived : ℕ → ℕ → Frame → EndSystemState → EndSystemOutcome
-arrived t q frame s = if exists s.ports q then taken t frame s (reception_at s frame.vl frame.net) else unmoved s
+arrived t q frame s = if exists s.ports q then taken_in t frame s (reception_at s frame.vl frame.net) else unmoved s
 
 -- the frame of a port has left
 abbrev pub freed : ℕ → ℕ → ℕ → EndSystemState → EndSystemOutcome

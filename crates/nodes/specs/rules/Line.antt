@@ -5,7 +5,7 @@ use Rattle.vlink.specs.declared.frame.Frame.{Frame}
 use Rattle.vlink.specs.declared.message.Body.{Body}
 use Rattle.vlink.specs.declared.message.Body.TheVariants.{Offer, Release, PortFree, Arrive, Enqueue, Carry}
 use Rattle.vlink.specs.declared.note.Cause.TheVariants as cause
-use Rattle.netdesc.specs.declared.wiring.Outage.{Outage}
+use Rattle.network.specs.declared.wiring.Outage.{Outage}
 use Rattle.reverse.specs.Sending.{Reply, silent, loss}
 
 -- the node that it leads to, with the port there; how long a frame is on the way; and its outages

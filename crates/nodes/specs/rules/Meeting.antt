@@ -1,9 +1,9 @@
 -- Definition: the virtual links at a node, and the ports by which each leaves it or comes in.
 use Rattle.std.specs.Prelude.{ℕ, ◌==◌, not, Bool, List, [], ◌∷◌, map, filter}
 use Rattle.std.specs.List.{list_any, range_with_len}
-use Rattle.netdesc.specs.declared.too_many.TheConstants.{GREATEST_PORTS}
-use Rattle.netdesc.specs.declared.wiring.Way.{Way}
-use Rattle.netdesc.specs.Words.{Plan, VlPlan, is_none, lines_of, leaves, comes_in}
+use Rattle.network.specs.declared.limits.TheConstants.{GREATEST_PORTS}
+use Rattle.network.specs.declared.wiring.Way.{Way}
+use Rattle.network.specs.Words.{Plan, VlPlan, is_none, lines_of, leaves, comes_in}
 use Rattle.nodes.specs.declared.opening.meeting.Meeting.{Meeting}
 use Rattle.nodes.specs.declared.opening.meeting.Side.{Side}
 use Rattle.nodes.specs.declared.opening.meeting.Side.TheVariants.{Out, In}

@@ -16,11 +16,11 @@ use Rattle.policer.specs.declared.account.Measure.TheVariants as measure
 use Rattle.output_port.specs.Port as port
 use Rattle.output_port.specs.declared.event.Priority as waiting
 use Rattle.output_port.specs.declared.event.Priority.TheVariants.{High, Low}
-use Rattle.netdesc.specs.declared.too_many.TheConstants.{GREATEST_PORTS}
+use Rattle.network.specs.declared.limits.TheConstants.{GREATEST_PORTS}
 use Rattle.network_rows.specs.declared.rows.VirtualLink.{VirtualLink}
-use Rattle.netdesc.specs.declared.wiring.Direction.{Direction}
-use Rattle.netdesc.specs.declared.wiring.Way.{Way}
-use Rattle.netdesc.specs.Words.{Plan, NodePlan, VlPlan, lines_of, outages_of}
+use Rattle.network.specs.declared.wiring.LinePlan.{LinePlan}
+use Rattle.network.specs.declared.wiring.Way.{Way}
+use Rattle.network.specs.Words.{Plan, NodePlan, VlPlan, lines_of, outages_of}
 use Rattle.nodes.specs.declared.opening.meeting.Side.TheVariants.{Out, In}
 use Rattle.nodes.specs.declared.equipment.Equipment.{Equipment}
 use Rattle.nodes.specs.declared.equipment.Equipment.TheVariants as equipment
@@ -41,11 +41,11 @@ use Rattle.nodes.specs.rules.Node.{NodeState}
 -- ---- ports
 
 -- the line leaves node n by port q
-abbrev pub leaves_by : ℕ → ℕ → Direction → Bool
+abbrev pub leaves_by : ℕ → ℕ → LinePlan → Bool
 leaves_by n q line = (line.from == n) && (line.from_port == q)
 
 -- the first of these lines that does; they are the processes from `process` on
-abbrev pub wire_among : ℕ → ℕ → ℕ → List Direction → Option Wire
+abbrev pub wire_among : ℕ → ℕ → ℕ → List LinePlan → Option Wire
 wire_among n q process [] = None
 wire_among n q process (line ∷ lines) =
     if leaves_by n q line
@@ -138,7 +138,7 @@ node_opening plan n bytes kind.EndSystem = equipment.EndSystem (end_system_openi
 node_opening plan n bytes (kind.Switch net latency_ns) = equipment.Switch (switch_opening plan n latency_ns bytes)
 
 -- line k; where there is none, a line without a propagation time and outages stands for it
-abbrev pub line_opening : Plan → ℕ → Option Direction → LineState
+abbrev pub line_opening : Plan → ℕ → Option LinePlan → LineState
 line_opening plan k (Some line) = record { to = line.to; to_port = line.to_port; propagation = line.propagation_ns; outages = outages_of plan k }
 line_opening plan k None = record { to = 0; to_port = 0; propagation = 0; outages = [] }
 

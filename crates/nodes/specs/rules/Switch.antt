@@ -81,9 +81,9 @@ transit_change place None = change.Nothing
 transit_change place (Some kept) = change.Transit place kept
 
 -- and where its virtual link does not go through the switch
-abbrev pub taken : ℕ → ℕ → ℕ → Frame → SwitchState → Option (Found Transit) → SwitchOutcome
-taken n t q frame s None = record { state = s; reply = loss Unknown frame; change = change.Nothing }
-taken n t q frame s (Some found) = record {
+abbrev pub taken_in : ℕ → ℕ → ℕ → Frame → SwitchState → Option (Found Transit) → SwitchOutcome
+taken_in n t q frame s None = record { state = s; reply = loss Unknown frame; change = change.Nothing }
+taken_in n t q frame s (Some found) = record {
   state = record s { transits = slice_set s.transits found.place (entered t q frame found.entry) };
   reply = entered_reply n t s.latency q frame found.entry;
   change = transit_change found.place (entered_kept t q frame found.entry);
@@ -91,7 +91,7 @@ taken n t q frame s (Some found) = record {
 
 -- a frame has come to port q
 abbrev pub arrived : ℕ → ℕ → ℕ → Frame → SwitchState → SwitchOutcome
-arrived n t q frame s = if exists s.ports q then taken n t q frame s (transit_at s frame.vl) else unmoved s
+arrived n t q frame s = if exists s.ports q then taken_in n t q frame s (transit_at s frame.vl) else unmoved s
 
 -- port q is asked to do something
 abbrev pub at_port : ℕ → ℕ → ℕ → PortEvent → SwitchState → SwitchOutcome

@@ -1,6 +1,6 @@
 //! The virtual links of a node in their opening states.
 ghost use Rattle.std.specs.Prelude.{◌≡◌, All, map, IfOk};
-ghost use Rattle.netdesc.specs.Words.{IsLinkInLimits};
+ghost use Rattle.network.specs.Words.{IsLinkInLimits};
 ghost use Rattle.nodes.specs.rules.Finding.{IsRising};
 ghost use Rattle.nodes.specs.rules.Opening.{regulator_of, receiving_of, account_of, measure_of, port_priority};
 ghost use Rattle.nodes.specs.laws.Making.{number_met, end_met, source_met, reception_met, ports_among, transit_met};
@@ -15,7 +15,7 @@ use crate::transit::Transit;
 use crate::vl_end::VlEnd;
 use bag_regulator::BagRegulator;
 use integrity::Integrity;
-use netdesc::{Policing, VirtualLink};
+use network::{GREATEST_PORTS, Policing, VirtualLink};
 use policer::{Account, Measure};
 use redundancy::Redundancy;
 use std::alloc::{AllocError, Global};
@@ -103,23 +103,23 @@ fn account_of(link: &VirtualLink) -> Account
 }
 
 /// Which list of an output port the frames of a virtual link wait in.
-fn port_priority(priority: netdesc::Priority) -> output_port::Priority
+fn port_priority(priority: network::Priority) -> output_port::Priority
     ensures { result ≡ port_priority priority }
 {
     match priority {
-        netdesc::Priority::High => output_port::Priority::High,
-        netdesc::Priority::Low => output_port::Priority::Low,
+        network::Priority::High => output_port::Priority::High,
+        network::Priority::Low => output_port::Priority::Low,
     }
 }
 
 /// The ports of the virtual link with this number.
-fn ports_among(meetings: &[Meeting], vl: VlId) -> [bool; 24]
+fn ports_among(meetings: &[Meeting], vl: VlId) -> [bool; GREATEST_PORTS]
     requires { IsRising (map number_met meetings.now) }
     ensures { result ≡ ports_among meetings.now vl.0 }
 {
     match place_of(meetings, vl) {
         Some(place) => meetings[place].ports,
-        None => [false; 24],
+        None => [false; GREATEST_PORTS],
     }
 }
 

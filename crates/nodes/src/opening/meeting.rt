@@ -1,15 +1,16 @@
 //! Where a virtual link and a node meet.
+//! Ways are taken together by virtual link here alone: only rising numbers tell where the next virtual link begins.
 ghost use Rattle.std.specs.Prelude.{◌≡◌, ◌<◌, ◌≤◌, ◌++◌, ◌∷◌, All, length, map, take, drop, IfOk, OnOk};
 ghost use Rattle.std.specs.List.{flat_map};
-ghost use Rattle.netdesc.specs.declared.too_many.TheConstants.{GREATEST_PORTS};
-ghost use Rattle.netdesc.specs.Words.{IsLinkInLimits};
+ghost use Rattle.network.specs.declared.limits.TheConstants.{GREATEST_PORTS};
+ghost use Rattle.network.specs.Words.{IsLinkInLimits};
 ghost use Rattle.nodes.specs.rules.Finding.{IsRising};
 ghost use Rattle.nodes.specs.rules.Meeting.{ports_by, ways_at, meetings};
 ghost use Rattle.nodes.specs.laws.Grouping.{groups, met, all_met};
 ghost use Rattle.nodes.specs.laws.Making.{number_met};
 
 use crate::finding::Numbered;
-use netdesc::{Network, VirtualLink, Way};
+use network::{GREATEST_PORTS, Network, VirtualLink, Way};
 use std::alloc::{AllocError, Global};
 
 /// Whether virtual links leave a node or come in.
@@ -26,7 +27,7 @@ pub struct Meeting {
     /// The first port by which it does so.
     pub first: u8,
     /// Whether it does so by the port with this place.
-    pub ports: [bool; 24],
+    pub ports: [bool; GREATEST_PORTS],
 }
 
 impl Numbered for Meeting {
@@ -54,11 +55,11 @@ fn group_len(ways: &[Way]) -> usize
 }
 
 /// For each port, whether one of these ways is by it.
-fn ports_by(ways: &[Way]) -> [bool; 24]
+fn ports_by(ways: &[Way]) -> [bool; GREATEST_PORTS]
     requires { All (λ way. way.port < GREATEST_PORTS) ways.now }
     ensures { result ≡ ports_by ways.now }
 {
-    let mut ports = [false; 24];
+    let mut ports = [false; GREATEST_PORTS];
     for way in ways {
         ports[usize::from(way.port)] = true;
     }
@@ -125,6 +126,6 @@ pub fn meetings(
     ensures rising { IfOk result (λ found. IsRising (map number_met found.items)) }
     ensures limits { IfOk result (λ found. All (λ m. IsLinkInLimits m.link) found.items) }
 {
-    network.accepted();
+    network.accepted_law();
     all_met(alloc, network, ways_at(network, node, side))
 }

@@ -1,11 +1,11 @@
 //! Which line each port leads into.
 ghost use Rattle.std.specs.Prelude.{◌≡◌, ℕ, ◌+◌, ◌<◌, ◌&&◌, None, Some, is_none, if◌then◌else◌, length, slice_index_or, vec_len, IfOk};
 ghost use Rattle.std.specs.Option.{option_map};
-ghost use Rattle.netdesc.specs.Words.{lines_of};
+ghost use Rattle.network.specs.Words.{lines_of};
 ghost use Rattle.nodes.specs.rules.Opening.{leaves_by, wires_of, outlet_of, ports_of};
 
 use crate::ports::{Outlet, Ports, Wire};
-use netdesc::{Direction, Network};
+use network::{LinePlan, Network};
 use output_port::Port;
 use std::alloc::{AllocError, Global};
 
@@ -21,7 +21,7 @@ fn process_of(network: &Network, line: usize) -> u16
 }
 
 /// Notes the wire of a line at its port, where the line leaves this node and the port has none yet.
-fn note_line(wires: &mut Vec<Option<Wire>>, node: u16, line: Direction, wire: Wire)
+fn note_line(wires: &mut Vec<Option<Wire>>, node: u16, line: LinePlan, wire: Wire)
     ensures stored { (q : ℕ) → q < vec_len wires.old →
         slice_index_or wires.new.items q None ≡ (if leaves_by node q line && is_none (slice_index_or wires.old.items q None) then Some wire else slice_index_or wires.old.items q None) }
     ensures len { vec_len wires.new ≡ vec_len wires.old }

@@ -5,7 +5,7 @@ use super::player::{actor, letter};
 use crate::Summing;
 use actor_run::{SimFault, Unwatched, run_actors};
 use process_queues::ProcFault;
-use reverse::{act_and_undo, actor_laws, actor_rules};
+use reverse::{act_and_undo, actor_law, actor_rules_law};
 use std::alloc::Global;
 use std::fmt::Write;
 use vlink::{Body, Message, Time};
@@ -25,8 +25,8 @@ pub(crate) fn tell(alloc: Global, told: &mut String, counter: u64) -> Result<(),
 fn rows(alloc: Global, actor: Summing) -> Result<usize, SimFault>
     requires { actor.until < 5 }
 {
-    actor_rules::<Summing>();
-    actor_laws::<Summing>();
+    actor_rules_law::<Summing>();
+    actor_law::<Summing>();
     let offer = Message {
         time: Time::default(),
         receiver: 0,

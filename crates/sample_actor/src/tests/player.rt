@@ -8,7 +8,7 @@ use super::{alone, asking, mailing};
 use crate::Summing;
 use antimessages::Mail;
 use gvt::Floors;
-use process_queues::{ProcFault, Process, process_laws};
+use process_queues::{ProcFault, Process, sending_law};
 use std::alloc::Global;
 use std::fmt::Write;
 use std::test::Fail;
@@ -54,9 +54,8 @@ fn ended(stage: Stage) -> Result<String, Fail> {
         mut told,
         ..
     } = stage;
-    // These two do nothing: their clauses hold of every process.
-    process_laws::<Summing>();
-    process.stands();
+    sending_law::<Summing>();
+    process.stands_law();
     let actor = process.undo_all();
     write!(told, "sum {} counter {}", actor.sum, actor.counter)?;
     Ok(told)

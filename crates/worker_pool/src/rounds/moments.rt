@@ -1,4 +1,4 @@
-//! When each group has something to do next, and how far the workers have come.
+//! When each group has something to do next, how far the workers have come, and who of them rests.
 use super::apart::Apart;
 use super::{LEAD_NS, REST_US};
 use std::alloc::{AllocError, Global};
@@ -9,42 +9,65 @@ use std::time::Duration;
 /// What is told of a group.
 #[derive(Drop)]
 struct Moment {
-    /// The moment of its next event, in ns, as its worker told it last.
+    /// The moment of its next event, in ns, as who gave it a turn told it last.
     next_ns: AtomicU64,
-    /// The least moment of the letters that wait for it, in ns. Who posted one lowers it after that, and the group's worker raises it in the section in
-    /// which it takes them. So no letter is missed.
+    /// The least moment of the letters that wait for it, in ns. Who posted one lowers it after that, and who takes them raises it in the same section.
+    /// So no letter is missed.
     letter_ns: AtomicU64,
+}
+
+impl Moment {
+    /// Whether it has something to do before this moment, in ns.
+    fn is_due(&self, limit_ns: u64) -> bool {
+        self.next_ns.load(Ordering::SeqCst) < limit_ns
+            || self.letter_ns.load(Ordering::SeqCst) < limit_ns
+    }
 }
 
 /// What the workers tell one another.
 #[derive(Drop)]
 pub(crate) struct Moments {
     moments: Vec<Apart<Moment>>,
-    /// The GVT that was set last, in ns.
-    gvt_ns: Apart<AtomicU64>,
-    /// How often workers that rest were woken.
-    woken: Apart<AtomicU64>,
+    /// The worker of each group.
+    owners: Vec<usize>,
+    /// Of each worker, 1 as long as it rests or is about to: who has something for it sets that to 0, and wakes it.
+    rests: Vec<Apart<AtomicU64>>,
     /// How many workers rest, or are about to.
     resting: Apart<AtomicU64>,
+    /// The GVT that was set last, in ns.
+    gvt_ns: Apart<AtomicU64>,
     /// 0 as long as the run goes on: a thread that watches waits for it to change.
     ended: Apart<AtomicU64>,
 }
 
 impl Moments {
-    /// A letter of the moment 0 waits for each of so many groups. It is refused for memory alone.
-    pub(crate) fn new(alloc: Global, groups: usize) -> Result<Self, AllocError> {
+    /// A letter of the moment 0 waits for each of so many groups, which belong to so many workers in turn. It is refused for memory alone.
+    pub(crate) fn new(alloc: Global, groups: usize, workers: usize) -> Result<Self, AllocError> {
         let mut moments = Vec::with_capacity(alloc, groups)?;
+        let mut owners = Vec::with_capacity(alloc, groups)?;
+        let mut owner: usize = 0;
         for group in 0..groups {
             moments.push(Apart::new(Moment {
                 next_ns: AtomicU64::new(u64::MAX),
                 letter_ns: AtomicU64::new(0),
             }))?;
+            owners.push(owner)?;
+            owner = if owner.saturating_add(1) < workers {
+                owner.saturating_add(1)
+            } else {
+                0
+            };
+        }
+        let mut rests = Vec::with_capacity(alloc, workers)?;
+        for worker in 0..workers {
+            rests.push(Apart::new(AtomicU64::new(0)))?;
         }
         Ok(Moments {
             moments,
-            gvt_ns: Apart::new(AtomicU64::new(0)),
-            woken: Apart::new(AtomicU64::new(0)),
+            owners,
+            rests,
             resting: Apart::new(AtomicU64::new(0)),
+            gvt_ns: Apart::new(AtomicU64::new(0)),
             ended: Apart::new(AtomicU64::new(0)),
         })
     }
@@ -54,13 +77,21 @@ impl Moments {
         self.moments.len()
     }
 
+    /// Whether the group is this worker's.
+    pub(crate) fn is_of(&self, group: usize, worker: usize) -> bool {
+        match self.owners.get(group) {
+            Some(owner) => *owner == worker,
+            None => false,
+        }
+    }
+
     /// The GVT that was set last, in ns.
     pub(crate) fn gvt_ns(&self) -> u64 {
         self.gvt_ns.value.load(Ordering::SeqCst)
     }
 
     /// GVT is this moment, in ns. The answer is whether it is another one. Its caller has the lock of the exchange.
-    pub(crate) fn set_gvt(&self, gvt_ns: u64) -> bool {
+    pub(crate) fn publish(&self, gvt_ns: u64) -> bool {
         if self.gvt_ns() == gvt_ns {
             return false;
         }
@@ -82,6 +113,14 @@ impl Moments {
         least_ns.saturating_add(LEAD_NS)
     }
 
+    /// Whether the group has something to do before this moment, in ns.
+    pub(crate) fn is_due(&self, group: usize, limit_ns: u64) -> bool {
+        match self.moments.get(group) {
+            Some(moment) => moment.value.is_due(limit_ns),
+            None => false,
+        }
+    }
+
     /// The least moment of the letters that wait for this group, in ns.
     pub(crate) fn letter_ns(&self, group: u16) -> u64 {
         match self.moments.get(usize::from(group)) {
@@ -97,7 +136,7 @@ impl Moments {
         }
     }
 
-    /// The group took the letters that waited for it. The answer is the least moment of those that were told of, in ns. Its caller has the lock of the
+    /// The letters that waited for the group are taken. The answer is the least moment of those that were told of, in ns. Its caller has the lock of the
     /// exchange.
     pub(crate) fn taken(&self, group: u16) -> u64 {
         let Some(moment) = self.moments.get(usize::from(group)) else {
@@ -120,30 +159,51 @@ impl Moments {
         }
     }
 
-    /// A turn was given: workers that rest are woken.
+    /// A turn was given, or GVT was set: workers that rest are woken where a group of theirs is due.
     pub(crate) fn turned(&self) {
-        if self.resting.value.load(Ordering::SeqCst) != 0 {
-            self.woken.value.fetch_add(1, Ordering::SeqCst);
-            self.woken.value.wake_all();
+        if self.resting.value.load(Ordering::SeqCst) == 0 {
+            return;
+        }
+        let limit_ns = self.limit_ns();
+        for group in 0..self.owners.len() {
+            if self.is_due(group, limit_ns) {
+                self.wake(self.owners[group]);
+            }
         }
     }
 
-    /// A worker begins to rest. The answer is how often workers were woken; before it rests it looks once more whether it is to.
-    pub(crate) fn begin_rest(&self) -> u64 {
+    /// The worker goes on, if it rests.
+    fn wake(&self, worker: usize) {
+        if let Some(rests) = self.rests.get(worker) {
+            if rests.value.load(Ordering::SeqCst) != 0 {
+                rests.value.store(0, Ordering::SeqCst);
+                rests.value.wake_all();
+            }
+        }
+    }
+
+    /// The worker is about to rest, and will be woken from here on: before it rests it looks once more whether it is to.
+    pub(crate) fn begin_rest(&self, worker: usize) {
         self.resting.value.fetch_add(1, Ordering::SeqCst);
-        self.woken.value.load(Ordering::SeqCst)
+        if let Some(rests) = self.rests.get(worker) {
+            rests.value.store(1, Ordering::SeqCst);
+        }
     }
 
-    /// The calling thread rests until workers are woken once more than so often, or `REST_US` have passed.
-    pub(crate) fn rest<T: Wait>(&self, rt: &T, woken: u64) {
-        let low = woken % 4_294_967_296;
-        self.woken
-            .value
-            .park_timeout(rt, low as u32, Duration::from_micros(REST_US));
+    /// The worker, which the calling thread is, rests until it is woken, or `REST_US` have passed.
+    pub(crate) fn rest<T: Wait>(&self, rt: &T, worker: usize) {
+        if let Some(rests) = self.rests.get(worker) {
+            rests
+                .value
+                .park_timeout(rt, 1, Duration::from_micros(REST_US));
+        }
     }
 
-    /// A worker does not rest any more.
-    pub(crate) fn end_rest(&self) {
+    /// The worker does not rest any more.
+    pub(crate) fn end_rest(&self, worker: usize) {
+        if let Some(rests) = self.rests.get(worker) {
+            rests.value.store(0, Ordering::SeqCst);
+        }
         self.resting.value.fetch_sub(1, Ordering::SeqCst);
     }
 
@@ -163,7 +223,8 @@ impl Moments {
     pub(crate) fn end(&self) {
         self.ended.value.store(1, Ordering::SeqCst);
         self.ended.value.wake_all();
-        self.woken.value.fetch_add(1, Ordering::SeqCst);
-        self.woken.value.wake_all();
+        for worker in 0..self.rests.len() {
+            self.wake(worker);
+        }
     }
 }

@@ -6,13 +6,13 @@ use nodes::Node;
 /// A group of the run.
 pub(crate) type NetworkGroup<J> = Group<Node, Of<J>>;
 
-/// A group, and how far its worker has come.
+/// A group, and how far it has come.
 #[derive(Drop)]
 pub(crate) struct Seat<J: NetworkRun> {
     pub group: NetworkGroup<J>,
     /// The moment of its next event, in ns.
     pub next_ns: u64,
-    /// How many turns it had since its block was posted.
+    /// How many messages it handled since its block was posted.
     pub unposted: u32,
 }
 

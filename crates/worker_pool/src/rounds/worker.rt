@@ -1,65 +1,71 @@
-//! A worker: it has a group, and gives it turns.
-ghost use Rattle.std.specs.Prelude.{◌≡◌};
-
+//! A worker: it gives groups their turns.
 use super::apart::Apart;
-use super::moments::Moments;
-use super::row::Row;
+use super::common::Common;
 use super::seat::{NetworkGroup, Seat};
 use super::{
-    BEHIND_NS, LOOKS_BEFORE_REST, LOOKS_PER_GVT, MOST_UNPOSTED, MOST_WITH_LETTERS, PAUSES,
-    PAUSES_OF_TRY, PIECE, TRIES,
+    BEHIND_NS, LEAD_NS, LOOKS_BEFORE_HELP, LOOKS_BEFORE_POST, LOOKS_BEFORE_REST,
+    LOOKS_BEFORE_YIELD, LOOKS_PER_GVT, MOST_UNPOSTED, MOST_WITH_LETTERS, PAUSES, PAUSES_OF_TRY,
+    PIECE, TRIES,
 };
 use crate::group_work::work_ahead;
-use crate::leaving::Leaving;
 use crate::network_run::{NetworkRun, Of};
-use crate::pace::Pace;
 use crate::run_fault::RunFault;
 use crate::shared::Shared;
 use exchange::Gate;
 use group_exchange::GroupExchange;
-use netdesc::Network;
 use nodes::Node;
-use std::hint;
-use std::sync::atomic::{AtomicBool, Ordering};
+use std::alloc::{AllocError, Global};
+use std::sync::atomic::Ordering;
 use std::sync::{Mutex, MutexGuard, Wait};
+use std::{hint, thread};
 
 /// The lock of the exchange.
 pub(crate) type ExchangeLock<J> = Mutex<Apart<Shared<J>>>;
 
 /// What a worker has for itself, and what it shares with the others.
 #[derive(Drop)]
-pub(crate) struct Worker<'s, J: NetworkRun, G: Gate, T: Wait> {
-    pub rt: &'s T,
-    pub network: &'s Network,
+pub(crate) struct Worker<'s, 'n, J: NetworkRun, G: Gate, T: Wait> {
+    rt: &'s T,
+    common: &'s Common<'n, J>,
+    gate: &'s G,
+    number: usize,
     /// For each group the least moment of the letters that were posted to it last, in ns.
-    pub letters_ns: Vec<u64>,
+    letters_ns: Vec<u64>,
     /// How often it has looked in vain since a turn.
-    pub looks: u64,
-    pub row: &'s Row<J>,
-    pub moments: &'s Moments,
-    pub exchange: &'s ExchangeLock<J>,
-    pub leaving: &'s Leaving<J>,
-    pub pace: &'s Pace,
-    pub gate: &'s G,
-    /// Is set where a refusal ends all workers.
-    pub stop: &'s AtomicBool,
-    pub ghost planned: { network.now ≡ J.plan },
+    looks: u64,
+    /// How often it looks in vain before it gives groups of others a turn.
+    patience: u64,
 }
 
-impl<'s, J: NetworkRun, G: Gate, T: Wait> Worker<'s, J, G, T> {
-    /// Turns for one group after another, or for one to the end, until the run is over or the flag is set.
+impl<'s, 'n, J: NetworkRun, G: Gate, T: Wait> Worker<'s, 'n, J, G, T> {
+    /// The worker of this number, which has given no turn. It is refused for memory alone.
+    pub(crate) fn new(
+        rt: &'s T,
+        alloc: Global,
+        common: &'s Common<'n, J>,
+        gate: &'s G,
+        number: usize,
+    ) -> Result<Self, AllocError> {
+        let letters_ns = vec![in alloc; u64::MAX; common.moments.groups()]?;
+        Ok(Worker {
+            rt,
+            common,
+            gate,
+            number,
+            letters_ns,
+            looks: 0,
+            patience: LOOKS_BEFORE_HELP,
+        })
+    }
+
+    /// Gives turns until the run is over or the flag is set.
     pub(crate) fn turns(&mut self) -> Result<(), RunFault<J>> {
         let rt = self.rt;
         for _ in rt.forever() {
-            let Some(mut seat) = self.row.take(rt) else {
-                return Ok(());
-            };
-            let has_worked = self.give_turns(&mut seat)?;
-            self.row.put(rt, seat)?;
             if self.is_over() {
                 return Ok(());
             }
-            if !has_worked {
+            if !self.own_turns()? && !self.turn_of_others()? {
                 self.found_nothing()?;
             }
         }
@@ -68,63 +74,96 @@ impl<'s, J: NetworkRun, G: Gate, T: Wait> Worker<'s, J, G, T> {
 
     /// Whether GVT is beyond the end, or the flag is set.
     fn is_over(&self) -> bool {
-        self.moments.gvt_ns() > self.network.until().ns() || self.stop.load(Ordering::SeqCst)
+        self.common.moments.gvt_ns() > self.common.network.until().ns()
+            || self.common.stop.load(Ordering::SeqCst)
     }
 
-    /// A turn for a group where groups go round; else turns for it, until the run is over. The answer is whether it worked.
-    fn give_turns(&mut self, seat: &mut Seat<J>) -> Result<bool, RunFault<J>> {
-        let rt = self.rt;
-        let goes_round = self.row.turns_round();
-        for _ in rt.forever() {
-            if self.is_over() {
-                break;
-            }
-            let has_worked = self.turn(seat)?;
-            if goes_round {
-                if seat.group.has_block() {
-                    self.meet(seat)?;
-                }
-                return Ok(has_worked);
-            }
-            if !has_worked {
-                self.found_nothing_for(seat)?;
+    /// A turn for each group of its own that no other worker has. The answer is whether a message was handled.
+    fn own_turns(&mut self) -> Result<bool, RunFault<J>> {
+        let mut has_worked = false;
+        for group in 0..self.common.moments.groups() {
+            if self.common.moments.is_of(group, self.number) && self.turn_of(group)? {
+                has_worked = true;
             }
         }
-        Ok(true)
+        if has_worked {
+            self.looks = 0;
+            self.patience = self.patience.saturating_add(8).min(LOOKS_BEFORE_HELP);
+        }
+        Ok(has_worked)
+    }
+
+    /// A turn for a group of another worker, which may be off its core, where nothing was to do for its own for a while. The more often that served, the
+    /// sooner it does so. The answer is whether a message was handled.
+    fn turn_of_others(&mut self) -> Result<bool, RunFault<J>> {
+        if self.looks < self.patience {
+            return Ok(false);
+        }
+        let limit_ns = self.common.moments.limit_ns();
+        for group in 0..self.common.moments.groups() {
+            let is_own = self.common.moments.is_of(group, self.number);
+            if !is_own && self.common.moments.is_due(group, limit_ns) && self.help(group)? {
+                self.patience /= 2;
+                self.looks = self.patience;
+                return Ok(true);
+            }
+        }
+        Ok(false)
+    }
+
+    /// A turn for a group, unless another thread has it. The answer is whether a message was handled.
+    fn turn_of(&mut self, group: usize) -> Result<bool, RunFault<J>> {
+        let common = self.common;
+        let Some(mut seat) = common.seats.try_take(group) else {
+            return Ok(false);
+        };
+        self.turn(&mut seat)
+    }
+
+    /// A turn for a group of another worker, unless another thread has it; what it did goes to the journal at once, since its worker may rest. The answer
+    /// is whether a message was handled.
+    fn help(&mut self, group: usize) -> Result<bool, RunFault<J>> {
+        let common = self.common;
+        let Some(mut seat) = common.seats.try_take(group) else {
+            return Ok(false);
+        };
+        let has_worked = self.turn(&mut seat)?;
+        if seat.group.has_block() {
+            self.meet(&mut seat)?;
+        }
+        Ok(has_worked)
     }
 
     /// A turn for a group. The answer is whether a message was handled.
     fn turn(&mut self, seat: &mut Seat<J>) -> Result<bool, RunFault<J>> {
-        let limit_ns = self.moments.limit_ns();
+        let limit_ns = self.common.moments.limit_ns();
         if self.is_to_meet(seat, limit_ns) {
             self.meet(seat)?;
         } else if !self.is_due(seat, limit_ns) {
             return Ok(false);
         }
         let has_worked = self.work(seat)?;
-        self.moments.turned();
-        if has_worked {
-            self.looks = 0;
-            seat.unposted = seat.unposted.saturating_add(1);
-        }
-        self.leaving
-            .take_rows(self.rt, self.network, &mut seat.group)?;
+        self.common.moments.turned();
+        self.common
+            .leaving
+            .take_rows(self.rt, self.common.network, &mut seat.group)?;
         Ok(has_worked)
     }
 
     /// Whether the next event of the group is due, where that is what is before the limit, in ns, and the window.
     fn is_due(&self, seat: &Seat<J>, limit_ns: u64) -> bool {
         let seen_ns = seat.group.seen().ns();
-        seat.next_ns < limit_ns.min(seen_ns.saturating_add(self.pace.window_ns))
+        seat.next_ns < limit_ns.min(seen_ns.saturating_add(self.common.pace.window_ns))
     }
 
-    /// Whether a group is to post and to look for letters before it goes on: it has letters for others, or did not post for a while; or a letter waits
-    /// that comes before its next event; or nothing is due, and what it did is not posted, or GVT is further on.
+    /// Whether a group is to post and to look for letters before it goes on: it has letters for others, or did not post for long; or a letter waits that
+    /// comes before its next event; or its next event waits for GVT; or nothing is due, and GVT is much further on, or what it did was not posted for a
+    /// while.
     fn is_to_meet(&self, seat: &Seat<J>, limit_ns: u64) -> bool {
         if seat.unposted >= MOST_UNPOSTED || !seat.group.abroad().is_empty() {
             return true;
         }
-        let letter_ns = self.moments.letter_ns(seat.group.number());
+        let letter_ns = self.common.moments.letter_ns(seat.group.number());
         if letter_ns <= seat.next_ns && letter_ns < limit_ns {
             return true;
         }
@@ -132,10 +171,12 @@ impl<'s, J: NetworkRun, G: Gate, T: Wait> Worker<'s, J, G, T> {
             return false;
         }
         let seen_ns = seat.group.seen().ns();
-        let gvt_ns = self.moments.gvt_ns();
-        seat.group.has_block()
-            || gvt_ns >= seen_ns.saturating_add(BEHIND_NS)
-            || (gvt_ns > seen_ns && seat.next_ns < limit_ns)
+        let gvt_ns = self.common.moments.gvt_ns();
+        if seat.next_ns < limit_ns {
+            return seat.group.has_block() || gvt_ns > seen_ns;
+        }
+        let is_late = self.looks >= LOOKS_BEFORE_POST || self.common.pace.window_ns < LEAD_NS;
+        gvt_ns >= seen_ns.saturating_add(BEHIND_NS) || (is_late && seat.group.has_block())
     }
 
     /// In one section of the exchange what the group did goes to the journal, its letters go to the other groups, and its own come to it; and now and
@@ -143,17 +184,17 @@ impl<'s, J: NetworkRun, G: Gate, T: Wait> Worker<'s, J, G, T> {
     fn meet(&mut self, seat: &mut Seat<J>) -> Result<(), RunFault<J>> {
         let number = seat.group.number();
         let seen_ns = seat.group.seen().ns();
-        let waits = seat.next_ns >= seen_ns.saturating_add(self.pace.window_ns);
-        let mut exchange = locked_soon(self.rt, self.exchange);
+        let waits = seat.next_ns >= seen_ns.saturating_add(self.common.pace.window_ns);
+        let mut exchange = locked_soon(self.rt, &self.common.exchange);
         let shared = &mut exchange.value;
         list_letters(&mut self.letters_ns, &shared.inner, &seat.group);
-        shared.give_block(&mut seat.group)?;
+        shared.post(&mut seat.group)?;
         if let Some(gvt) = shared.passed(waits)? {
-            let _is_new = self.moments.set_gvt(gvt.ns());
+            let _is_new = self.common.moments.publish(gvt.ns());
         }
-        shared.take_letters(&mut seat.group)?;
+        shared.collect(&mut seat.group)?;
         // A letter in the tray is to be worked on no later than an event of its moment.
-        seat.next_ns = seat.next_ns.min(self.moments.taken(number));
+        seat.next_ns = seat.next_ns.min(self.common.moments.taken(number));
         drop(exchange);
         seat.unposted = 0;
         self.call_all();
@@ -164,25 +205,26 @@ impl<'s, J: NetworkRun, G: Gate, T: Wait> Worker<'s, J, G, T> {
     /// others. The answer is whether a message was handled.
     fn work(&mut self, seat: &mut Seat<J>) -> Result<bool, RunFault<J>> {
         let number = seat.group.number();
-        let turn = u32::from(self.pace.turn);
+        let turn = u32::from(self.common.pace.turn);
         let mut handled = 0;
         // Nobody asks how far the only group is.
-        let piece = if self.moments.groups() == 1 {
+        let piece = if self.common.moments.groups() == 1 {
             turn
         } else {
             PIECE
         };
         for given in 0..turn {
             let most = piece.min(turn - handled.min(turn));
-            let limit_ns = self.moments.limit_ns();
+            let limit_ns = self.common.moments.limit_ns();
             let count = self.work_to(&mut seat.group, most, limit_ns)?;
             handled = handled.saturating_add(count);
             seat.look();
-            self.moments.tell(number, seat.next_ns);
+            self.common.moments.tell(number, seat.next_ns);
             if count < most || handled >= turn || self.ends_turn(seat, handled) {
                 break;
             }
         }
+        seat.unposted = seat.unposted.saturating_add(handled);
         Ok(handled != 0)
     }
 
@@ -192,7 +234,7 @@ impl<'s, J: NetworkRun, G: Gate, T: Wait> Worker<'s, J, G, T> {
         if handled >= MOST_WITH_LETTERS && !seat.group.abroad().is_empty() {
             return true;
         }
-        self.moments.letter_ns(seat.group.number()) <= seat.next_ns
+        self.common.moments.letter_ns(seat.group.number()) <= seat.next_ns
     }
 
     /// The group handles messages before the limit, in ns, so many at most, no further ahead of the GVT that it saw than the window. The answer is how
@@ -205,10 +247,16 @@ impl<'s, J: NetworkRun, G: Gate, T: Wait> Worker<'s, J, G, T> {
     ) -> Result<u32, RunFault<J>> {
         let ahead_ns = limit_ns
             .saturating_sub(group.seen().ns())
-            .min(self.pace.window_ns);
+            .min(self.common.pace.window_ns);
         match work_ahead(group, most, ahead_ns, self.gate) {
             Ok(count) => Ok(count),
-            Err(fault) => Err(self.exchange.lock(self.rt).value.fault_of(group, fault)),
+            Err(fault) => Err(
+                self.common
+                    .exchange
+                    .lock(self.rt)
+                    .value
+                    .fault_of(group, fault),
+            ),
         }
     }
 
@@ -217,70 +265,81 @@ impl<'s, J: NetworkRun, G: Gate, T: Wait> Worker<'s, J, G, T> {
         for group in 0..self.letters_ns.len() {
             let moment_ns = self.letters_ns[group];
             if moment_ns != u64::MAX {
-                self.moments.call(group, moment_ns);
+                self.common.moments.call(group, moment_ns);
                 self.letters_ns[group] = u64::MAX;
             }
         }
     }
 
-    /// Nothing was due for the groups that it took: it looks again later.
+    /// Nothing was due: it looks again soon, lets other threads run after `LOOKS_BEFORE_YIELD` looks, and rests after `LOOKS_BEFORE_REST`. Where it waits
+    /// for GVT, that is set once in `LOOKS_PER_GVT` looks.
     fn found_nothing(&mut self) -> Result<(), RunFault<J>> {
-        if self.is_to_look_on()? {
-            return Ok(());
-        }
-        let woken = self.moments.begin_rest();
-        if !self.is_over() {
-            self.moments.rest(self.rt, woken);
-        }
-        self.moments.end_rest();
-        Ok(())
-    }
-
-    /// Nothing was due for the group in hand: it looks again later.
-    fn found_nothing_for(&mut self, seat: &Seat<J>) -> Result<(), RunFault<J>> {
-        if self.is_to_look_on()? {
-            return Ok(());
-        }
-        let woken = self.moments.begin_rest();
-        if !self.is_over() && !self.can_go_on(seat) {
-            self.moments.rest(self.rt, woken);
-        }
-        self.moments.end_rest();
-        Ok(())
-    }
-
-    /// It has looked in vain once more. GVT is set once in `LOOKS_PER_GVT` looks, and after `LOOKS_BEFORE_REST` of them it is to rest. The answer is
-    /// whether it is not yet, and then it has made some pauses.
-    fn is_to_look_on(&mut self) -> Result<bool, RunFault<J>> {
         self.looks = self.looks.saturating_add(1);
-        if self.looks % LOOKS_PER_GVT == 0 {
-            self.set_gvt()?;
+        if self.looks % LOOKS_PER_GVT == 0 && self.waits_for_gvt() {
+            self.publish()?;
         }
         if self.looks >= LOOKS_BEFORE_REST {
-            return Ok(false);
+            self.rest();
+        } else if self.looks >= LOOKS_BEFORE_YIELD {
+            thread::yield_now();
+        } else {
+            for pause in 0..PAUSES {
+                hint::spin_loop();
+            }
         }
-        for pause in 0..PAUSES {
-            hint::spin_loop();
-        }
-        Ok(true)
+        Ok(())
     }
 
-    /// Whether there is something to do for the group in hand.
-    fn can_go_on(&self, seat: &Seat<J>) -> bool {
-        let limit_ns = self.moments.limit_ns();
-        self.is_to_meet(seat, limit_ns) || self.is_due(seat, limit_ns)
+    /// Whether nothing but GVT is to come: no group has an event before the end, or one of its own would be due but for the window; or it has waited for
+    /// long.
+    fn waits_for_gvt(&self) -> bool {
+        let limit_ns = self.common.moments.limit_ns();
+        if limit_ns > self.common.network.until().ns() || self.looks >= LOOKS_BEFORE_REST {
+            return true;
+        }
+        for group in 0..self.common.moments.groups() {
+            let is_own = self.common.moments.is_of(group, self.number);
+            if is_own && self.common.moments.is_due(group, limit_ns) {
+                return true;
+            }
+        }
+        false
+    }
+
+    /// Rests until a group of its own is due, unless one is.
+    fn rest(&self) {
+        self.common.moments.begin_rest(self.number);
+        if !self.is_over() && !self.can_go_on() {
+            self.common.moments.rest(self.rt, self.number);
+        }
+        self.common.moments.end_rest(self.number);
+    }
+
+    /// Whether there is something to do for a group of its own that no other thread has.
+    fn can_go_on(&self) -> bool {
+        let limit_ns = self.common.moments.limit_ns();
+        for group in 0..self.common.moments.groups() {
+            if self.common.moments.is_of(group, self.number) {
+                if let Some(seat) = self.common.seats.try_take(group) {
+                    if self.is_to_meet(&seat, limit_ns) || self.is_due(&seat, limit_ns) {
+                        return true;
+                    }
+                }
+            }
+        }
+        false
     }
 
     /// GVT is set, where no other thread is at the exchange.
-    fn set_gvt(&self) -> Result<(), RunFault<J>> {
-        let Some(mut exchange) = self.exchange.try_lock() else {
+    fn publish(&self) -> Result<(), RunFault<J>> {
+        let Some(mut exchange) = self.common.exchange.try_lock() else {
             return Ok(());
         };
-        let gvt = exchange.value.set_gvt()?;
-        let is_new = self.moments.set_gvt(gvt.ns());
+        let gvt = exchange.value.publish()?;
+        let is_new = self.common.moments.publish(gvt.ns());
         drop(exchange);
         if is_new {
-            self.moments.turned();
+            self.common.moments.turned();
         }
         Ok(())
     }

@@ -11,4 +11,4 @@ returns-in-Some-peek-clause-offer c = λ t.
     let top = c.in-Some-peek.top.now in
     let before : is_before offer top ≡ true = search rules in
     subst (λ o. IsSomeAnd o (λ m. NoneBefore m sent)) c.in-Some.ensures.value
-    (before-sent c.message_order.ensures.total sent top offer (top-first c.message_order.ensures.written top sent (c.in-Some-peek.ensures.greatest c.requires)) before)
+    (before-sent c.message_order_law.ensures.total sent top offer (top-first c.message_order_law.ensures.written top sent (c.in-Some-peek.ensures.greatest c.requires)) before)

@@ -13,11 +13,11 @@ use Rattle.antimessages.proofs.occurrences.last_of.Goals as goal
 range : (c : After-range) → IsRangeOf occurrence_cmp Unbounded (Included (occurrence_of c.args.message.now 18446744073709551615)) c.args.signs.now c.range.result
 range c =
     subst (λ (f : Occurrence → Occurrence → Ordering). IsRangeOf f Unbounded (Included (occurrence_of c.args.message.now 18446744073709551615)) c.args.signs.now c.range.result)
-    c.occurrence_order.ensures.written (c.range.ensures.in_range tt)
+    c.occurrence_order_law.ensures.written (c.range.ensures.in_range tt)
 
 pub returns-in_err-last-clause-count : goal.returns-in_err-last-clause-count
 returns-in_err-last-clause-count c =
-    let w = c.occurrence_order.ensures in
+    let w = c.occurrence_order_law.ensures in
     let r = range (goal.at.returns-in_err-last-clause-count c).After-range in
     rw c.from_residual.ensures (count-none w.total w.exact c.args.message.now 18446744073709551615 c.args.signs.now.entries c.requires
     (λ q l. r.5 c.in_err-last.ensures.steps.0 q (tt, l)))
@@ -35,7 +35,7 @@ few c = let l = c.len-len.ensures.len in let t = c.len-len.ensures.small in omeg
 
 pub returns-then-is_same-clause-count : goal.returns-then-is_same-clause-count
 returns-then-is_same-clause-count c =
-    let w = c.occurrence_order.ensures in
+    let w = c.occurrence_order_law.ensures in
     let p = c.in_ok-last.last.now in
     let b = (range (goal.at.returns-then-is_same-clause-count c).After-range).4 (p, c.in_ok-last.sign.now) c.next_back.new.self c.in_ok-last.ensures.steps in
     count-last w.total w.exact c.args.message.now 18446744073709551615 c.args.signs.now.entries c.requires p.ordinal c.in_ok-last.sign.now (here c) (few c)
@@ -43,7 +43,7 @@ returns-then-is_same-clause-count c =
 
 pub returns-then-is_same-clause-room : goal.returns-then-is_same-clause-room
 returns-then-is_same-clause-room c =
-    let w = c.occurrence_order.ensures in
+    let w = c.occurrence_order_law.ensures in
     let t = room w.total w.exact c.args.message.now 18446744073709551615 c.args.signs.now.entries c.requires
     c.in_ok-last.last.now.ordinal c.in_ok-last.sign.now (here c) (few c) in
     let l = c.len-len.ensures.len in
@@ -52,7 +52,7 @@ returns-then-is_same-clause-room c =
 
 pub returns-else-is_same-clause-count : goal.returns-else-is_same-clause-count
 returns-else-is_same-clause-count c =
-    let w = c.occurrence_order.ensures in
+    let w = c.occurrence_order_law.ensures in
     let p = c.in_ok-last.last.now in
     let s = c.in_ok-last.sign.now in
     let r = range (goal.at.returns-else-is_same-clause-count c).After-range in

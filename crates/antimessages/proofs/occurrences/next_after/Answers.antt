@@ -14,7 +14,7 @@ use Rattle.antimessages.proofs.occurrences.next_after.Goals as goal
 
 pub returns : goal.returns
 returns c =
-    let w = c.occurrence_order.ensures in
+    let w = c.occurrence_order_law.ensures in
     let signs = c.args.signs.now in
     let newest = option_copied c.args.newest in
     let up = subst (λ (f : Occurrence → Occurrence → Ordering). IsStrictlySortedBy f (keys signs)) w.written c.len-len.ensures.ordered in
@@ -27,7 +27,7 @@ returns c =
 
 pub returns-then-is_after : goal.returns-then-is_after
 returns-then-is_after c =
-    let w = c.occurrence_order.ensures in
+    let w = c.occurrence_order_law.ensures in
     let signs = c.args.signs.now in
     let up = subst (λ (f : Occurrence → Occurrence → Ordering). IsStrictlySortedBy f (keys signs)) w.written c.len-len.ensures.ordered in
     let o = c.in_ok-first.first.now in

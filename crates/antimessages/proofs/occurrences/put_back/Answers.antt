@@ -8,7 +8,7 @@ use Rattle.antimessages.proofs.occurrences.put_back.Goals as goal
 
 pub returns : goal.returns
 returns c =
-    let w = c.occurrence_order.ensures in
+    let w = c.occurrence_order_law.ensures in
     let q = occurrence_of c.args.message.now 0 in
     let es = c.args.signs.now.entries in
     let fs = c.insert-sign.new.self.entries in

@@ -12,30 +12,30 @@ use Rattle.antimessages.proofs.occurrences.put_first.Goals as goal
 pub returns-in-None-clause-none : goal.returns-in-None-clause-none
 returns-in-None-clause-none c = λ _.
     none-counts c.args.message.now c.args.signs.now.entries c.requires
-    (subst (λ (f : Occurrence → Occurrence → Ordering). lookup (is_at (f (occurrence_of c.args.message.now 0))) c.args.signs.now.entries ≡ None) c.occurrence_order.ensures.written
+    (subst (λ (f : Occurrence → Occurrence → Ordering). lookup (is_at (f (occurrence_of c.args.message.now 0))) c.args.signs.now.entries ≡ None) c.occurrence_order_law.ensures.written
     (sym c.in_ok-insert.ensures.old ∙ c.in-None.is))
 
 pub returns-in-None-clause-tallied : goal.returns-in-None-clause-tallied
 returns-in-None-clause-tallied c =
-    let w = c.occurrence_order.ensures in
+    let w = c.occurrence_order_law.ensures in
     (put-both w.total w.exact w.messages c.args.message.now 0 c.args.sign c.args.signs.now.entries c.insert.new.self.entries
     w.written c.requires (returns-in-None-clause-none c refl ∙ none-with c.args.sign) c.in_ok-insert.ensures.entries c.in_ok-insert.ensures.updates.0).0
 
 pub returns-in-None-clause-counts : goal.returns-in-None-clause-counts
 returns-in-None-clause-counts c = λ _.
-    let w = c.occurrence_order.ensures in
+    let w = c.occurrence_order_law.ensures in
     (put-both w.total w.exact w.messages c.args.message.now 0 c.args.sign c.args.signs.now.entries c.insert.new.self.entries
     w.written c.requires (returns-in-None-clause-none c refl ∙ none-with c.args.sign) c.in_ok-insert.ensures.entries c.in_ok-insert.ensures.updates.0).1
 
 pub put_back-requires : goal.put_back-requires
 put_back-requires c =
     let there = subst (λ (f : Occurrence → Occurrence → Ordering). lookup (is_at (f (occurrence_of c.args.message.now 0))) c.insert.new.self.entries ≡ Some c.args.sign)
-    c.occurrence_order.ensures.written c.in_ok-insert.ensures.updates.1 in
+    c.occurrence_order_law.ensures.written c.in_ok-insert.ensures.updates.1 in
     subst IsSome (sym there) refl
 
 pub returns-in-Some-clause-stays : goal.returns-in-Some-clause-stays
 returns-in-Some-clause-stays c = λ _.
-    let w = c.occurrence_order.ensures in
+    let w = c.occurrence_order_law.ensures in
     let q = occurrence_of c.args.message.now 0 in
     let es = c.args.signs.now.entries in
     let s = c.in-Some.tallied in

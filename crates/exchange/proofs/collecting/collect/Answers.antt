@@ -1,6 +1,6 @@
 use Rattle.std.proofs.Common.{◌≡◌, ◌≤◌, [], ◌∷◌, ◌++◌, map, length, take, Ok, Some, refl, sym, ap, ◌∙◌, arith}
 use Rattle.antimessages.specs.Mailing.{letters_for}
-use Rattle.virtual_time.specs.Law.{Took}
+use Rattle.virtual_time.specs.Law.{Collected}
 use Rattle.process_queues.specs.Queues.{Queues}
 use Rattle.halves.specs.declared.LeftHalf.{LeftHalf}
 use Rattle.journal.specs.Deeds.{prior_own, place_of}
@@ -24,12 +24,12 @@ took g c =
 -- its entry is in the journal, and both halves tell it
 entered : (g : Over) (c : After-tell_both g) →
     Entered c.exchange.inside.journal.entries (map (λ (b : LeftHalf Standing). b.value) c.exchange.inside.marks.items)
-    c.held.inside.number c.held.inside.standing.last (Took (take c.min-count.result (letters_for c.held.inside.number c.exchange.inside.mail)))
+    c.held.inside.number c.held.inside.standing.last (Collected (take c.min-count.result (letters_for c.held.inside.number c.exchange.inside.mail)))
     c.push_reserved.new.self.entries (map (λ (b : LeftHalf Standing). b.value) c.tell_both.new.marks.items) (record { last = c.after.result; seen = c.exchange.inside.gvt })
 entered g c =
     let entry = c.entry_of-entry.ensures in
     let prior = entry.prior ∙ c.replace-prior.ensures.value in
-    let mine = rw (sym c.held.view_is, sym c.exchange.view_is) at c.join.ensures.own in
+    let mine = rw (sym c.held.view_is, sym c.exchange.view_is) at c.join_law.ensures.own in
     let journal = c.reserve.ensures.entries in
     record {
       entry = c.entry_of-entry.result;
@@ -70,7 +70,7 @@ invariant_of-held-2 g c =
     let taken = rw (took g at.After-collect-taken) at c.collect-taken.ensures.delivered in
     let queues = rw (took g at.After-collect-taken) at c.collect-taken.ensures.queues in (
       holds-taken c.exchange.invariant.2 c.held.invariant.0 c.min-count.result (omega arith) (omega arith) (entered g at.After-tell_both) refl
-          (rw (sym c.held.view_is) at c.requires.posted) (invariant_of-exchange-2 g c).2 (c.actor_laws.ensures g.J.ActorRun.setting c.exchange.invariant.2.laid)
+          (rw (sym c.held.view_is) at c.requires.posted) (invariant_of-exchange-2 g c).2 (c.actor_law.ensures g.J.ActorRun.setting c.exchange.invariant.2.laid)
           c.reserve_letters.new.self.queues c.collect-taken.new.self.queues c.reserve_letters.ensures.same taken
           (ap (λ (z : Queues g.row.R.Denot g.row.R-Record.Denot). z.left) queues),
       record { name = c.tell_both.ensures.name ∙ c.held.invariant.1.name; value = c.tell_both.ensures.mark },

@@ -21,8 +21,8 @@ invariant_of-exchange g c =
     let k = c.exchange.invariant.2 in
     let h = c.held.invariant.0 in
     let p = c.held.inside.number in
-    let fits = rw (sym c.held.view_is, sym c.exchange.view_is) at c.join.ensures.same in
-    let mine = rw (sym c.held.view_is, sym c.exchange.view_is) at c.join.ensures.own in
+    let fits = rw (sym c.held.view_is, sym c.exchange.view_is) at c.join_law.ensures.same in
+    let mine = rw (sym c.held.view_is, sym c.exchange.view_is) at c.join_law.ensures.own in
     let s : Standing = record { last = c.held.inside.standing.last; seen = c.exchange.inside.gvt } in (
       c.exchange.invariant.0,
       c.exchange.invariant.1,
@@ -41,9 +41,9 @@ invariant_of-held g c =
     let x = g.J.ActorRun.setting in
     let p = c.held.inside.number in
     let none = rw (sym c.held.view_is) at c.requires.posted in
-    let mine = rw (sym c.held.view_is, sym c.exchange.view_is) at c.join.ensures.own in
+    let mine = rw (sym c.held.view_is, sym c.exchange.view_is) at c.join_law.ensures.own in
     let base = after_own (simulation_of r x) p (prior_own c.held.inside.standing.last) in (
-      holds-seen k (c.actor_laws.ensures x k.laid) g.R.Reversible.is_value p h.number_is c.held.inside.standing.last mine c.held.inside.process.queues
+      holds-seen k (c.actor_law.ensures x k.laid) g.R.Reversible.is_value p h.number_is c.held.inside.standing.last mine c.held.inside.process.queues
           (subst (λ b. StandsFor r g.R.Reversible.is_value (x.opening p) (after_moves r (x.opening p) b base) c.held.inside.process.queues) none h.stands)
           c.held.inside.gone
           (gone-stays r (x.opening p) (after_moves r (x.opening p) c.held.inside.block base) c.held.inside.process.queues h.stands c.held.inside.gone h.gone_early [] base

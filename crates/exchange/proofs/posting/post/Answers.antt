@@ -14,21 +14,21 @@ use Rattle.exchange.proofs.Entered.{Entered}
 use Rattle.exchange.proofs.Outcomes.{when-ok, when-no-err}
 use Rattle.exchange.proofs.Posted.{outbox-goes, kept-posted, holds-posted, block-posted}
 use Rattle.exchange.proofs.posting.post.Given.{Over}
-use Rattle.exchange.proofs.posting.post.Goals.{After-join, After-post-posted, After-tell_both}
+use Rattle.exchange.proofs.posting.post.Goals.{After-join_law, After-post-posted, After-tell_both}
 use Rattle.exchange.proofs.posting.post.Goals as goal
 
 -- the process in hand is that of the journal
-joined : (g : Over) (c : After-join g) →
+joined : (g : Over) (c : After-join_law g) →
     Joined (simulation_of (rules_of g.R.Reversible.plain) g.J.ActorRun.setting) c.exchange.inside.journal.entries c.held.inside.number c.held.inside.block c.held.inside.standing.last
 joined g c = record {
-  part = rw (sym c.held.view_is, sym c.exchange.view_is) at c.join.ensures.part;
-  enabled = rw (sym c.held.view_is, sym c.exchange.view_is) at c.join.ensures.enabled;
-  own = rw (sym c.held.view_is, sym c.exchange.view_is) at c.join.ensures.own;
+  part = rw (sym c.held.view_is, sym c.exchange.view_is) at c.join_law.ensures.part;
+  enabled = rw (sym c.held.view_is, sym c.exchange.view_is) at c.join_law.ensures.enabled;
+  own = rw (sym c.held.view_is, sym c.exchange.view_is) at c.join_law.ensures.own;
 }
 
 -- what is in the outbox goes to processes
-goes : (g : Over) (c : After-join g) → All (λ l. l.message.receiver < length c.exchange.inside.mail) c.held.inside.process.queues.outbox
-goes g c = outbox-goes c.exchange.invariant.2 c.held.invariant.0 (c.actor_laws.ensures g.J.ActorRun.setting c.exchange.invariant.2.laid) (joined g c)
+goes : (g : Over) (c : After-join_law g) → All (λ l. l.message.receiver < length c.exchange.inside.mail) c.held.inside.process.queues.outbox
+goes g c = outbox-goes c.exchange.invariant.2 c.held.invariant.0 (c.actor_law.ensures g.J.ActorRun.setting c.exchange.invariant.2.laid) (joined g c)
 
 -- the mail has room for it
 is-ok : (g : Over) (c : After-post-posted g) → IsOk c.post-posted.result
@@ -43,7 +43,7 @@ entered g c =
     let p = c.held.inside.number in
     let entry = c.new-entry.ensures in
     let prior = entry.prior ∙ c.replace-prior.ensures.value in
-    let mine = rw (sym c.held.view_is, sym c.exchange.view_is) at c.join.ensures.own in
+    let mine = rw (sym c.held.view_is, sym c.exchange.view_is) at c.join_law.ensures.own in
     let journal = c.reserve.ensures.entries in
     record {
       entry = c.new-entry.result;
@@ -57,17 +57,17 @@ entered g c =
     }
 
 pub reserve_post-requires : goal.reserve_post-requires
-reserve_post-requires g c = goes g (goal.at.reserve_post-requires g c).After-join
+reserve_post-requires g c = goes g (goal.at.reserve_post-requires g c).After-join_law
 
 pub post-posted-requires : goal.post-posted-requires
 post-posted-requires g c =
-    subst (λ n. All (λ l. l.message.receiver < n) c.held.inside.process.queues.outbox) (sym c.reserve_post.ensures.processes) (goes g (goal.at.post-posted-requires g c).After-join)
+    subst (λ n. All (λ l. l.message.receiver < n) c.held.inside.process.queues.outbox) (sym c.reserve_post.ensures.processes) (goes g (goal.at.post-posted-requires g c).After-join_law)
 
 pub invariant_of-held : goal.invariant_of-held
 invariant_of-held g c =
     let at = goal.at.invariant_of-held g c in
     let k = c.exchange.invariant.2 in
-    let L = c.actor_laws.ensures g.J.ActorRun.setting k.laid in
+    let L = c.actor_law.ensures g.J.ActorRun.setting k.laid in
     let ok = is-ok g at.After-post-posted in (
       holds-posted k c.held.invariant.0 L (entered g at.After-tell_both) refl (when-ok c.post-posted.result ok c.post-posted.ensures.emptied)
           (ap (λ (z : Queues g.row.R.Denot g.row.R-Record.Denot). z.left) (when-ok c.post-posted.result ok c.post-posted.ensures.queues))
@@ -80,13 +80,13 @@ invariant_of-exchange-2 g c =
     let at = goal.at.invariant_of-exchange-2 g c in
     let k = c.exchange.invariant.2 in
     let h = c.held.invariant.0 in
-    let L = c.actor_laws.ensures g.J.ActorRun.setting k.laid in
-    let fits = rw (sym c.held.view_is, sym c.exchange.view_is) at c.join.ensures.same in
+    let L = c.actor_law.ensures g.J.ActorRun.setting k.laid in
+    let fits = rw (sym c.held.view_is, sym c.exchange.view_is) at c.join_law.ensures.same in
     let ok = is-ok g at.After-post-posted in
     let posted = when-ok c.post-posted.result ok c.post-posted.ensures.posted in (
       omega arith,
       c.exchange.invariant.1,
-      kept-posted k h L (entered g at.After-tell_both) refl (when-ok c.post-posted.result ok c.post-posted.ensures.emptied) (joined g at.After-join)
+      kept-posted k h L (entered g at.After-tell_both) refl (when-ok c.post-posted.result ok c.post-posted.ensures.emptied) (joined g at.After-join_law)
           (seen-low k h.number_is c.held.inside.standing fits) (λ s m. g.met.R.Actor.end_stays s m)
           c.post-posted.new.mail (c.post-posted.ensures.processes ∙ c.reserve_post.ensures.processes)
           (λ q. posted q ∙ (λ j. c.reserve_post.ensures.same q j ++ received_by (rules_of g.R.Reversible.plain).order q c.held.inside.process.queues.outbox))

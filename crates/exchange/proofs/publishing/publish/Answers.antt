@@ -8,7 +8,7 @@ use Rattle.journal.specs.Deeds.{seen_deed, prior_own, place_of}
 use Rattle.exchange.specs.declared.mark.Standing.{Standing}
 use Rattle.exchange.specs.Views.{marks_in}
 use Rattle.exchange.specs.Keeps.{entries_of, IsDeedWithinMail}
-use Rattle.exchange.specs.Effects.{told}
+use Rattle.exchange.specs.Effects.{entry_by}
 use Rattle.exchange.proofs.Collected.{kept-refused}
 use Rattle.exchange.proofs.Growth.{Fresh, entry-fresh, entries-are}
 use Rattle.exchange.proofs.Published.{gvt-told, kept-published, publishes-more, publishes-none}
@@ -17,7 +17,7 @@ use Rattle.exchange.proofs.publishing.publish.Goals.{After-new-entry}
 use Rattle.exchange.proofs.publishing.publish.Goals as goal
 
 -- its entry
-fresh : (g : Over) (c : After-new-entry g) → Fresh (told 0 None Published) [] c.new-entry.result
+fresh : (g : Over) (c : After-new-entry g) → Fresh (entry_by 0 None Published) [] c.new-entry.result
 fresh g c =
     let entry = c.new-entry.ensures in
     entry-fresh entry.process (ap place_of entry.prior) (ap prior_own entry.prior) (ap (seen_deed 0) entry.deed) (subst (IsDeedWithinMail 0) (sym entry.deed) tt)
@@ -38,7 +38,7 @@ invariant_of-exchange-2 g c =
     let gvt = c.horizon-gvt.ensures ∙ gvt-told k c.gvt_law.ensures (λ m. refl) in (
       omega arith,
       c.exchange.invariant.1,
-      kept-published k (c.actor_laws.ensures g.J.ActorRun.setting k.laid) (fresh g (goal.at.invariant_of-exchange-2 g c).After-new-entry)
+      kept-published k (c.actor_law.ensures g.J.ActorRun.setting k.laid) (fresh g (goal.at.invariant_of-exchange-2 g c).After-new-entry)
           c.horizon-gvt.result gvt c.push_reserved.new.self.entries journal _ refl,
       c.exchange.invariant.3,
       c.push_reserved.ensures.keeps ∙ (c.reserve.ensures.keeps ∙ c.exchange.invariant.4),

@@ -27,7 +27,7 @@ loop-committed-preserved g c =
 pub returns-clause-answer : goal.returns-clause-answer
 returns-clause-answer g c opening part h =
     c.committable-count.ensures.stands opening part h ∙
-    committable-below (rules_of g.R.Reversible.plain) c.actor_rules.ensures.order c.args.gvt c.args.n part h.past.ascending
+    committable-below (rules_of g.R.Reversible.plain) c.actor_rules_law.ensures.order c.args.gvt c.args.n part h.past.ascending
 
 pub returns-clause-one_part : goal.returns-clause-one_part
 returns-clause-one_part g c one opening part h =
@@ -42,5 +42,5 @@ returns-clause-one_part g c one opening part h =
 pub returns-then-is_err-clause-reserved : goal.returns-then-is_err-clause-reserved
 returns-then-is_err-clause-reserved g c opening part h =
     subst (λ z. c.args.process.now.committed_room < z) (c.committable-count.ensures.stands opening part h ∙
-    committable-below (rules_of g.R.Reversible.plain) c.actor_rules.ensures.order c.args.gvt c.args.n part h.past.ascending)
+    committable-below (rules_of g.R.Reversible.plain) c.actor_rules_law.ensures.order c.args.gvt c.args.n part h.past.ascending)
     (on_err-is (c.args.process.now.committed_room < c.committable-count.result) c.reserve_rows.result c.reserve_rows.ensures.reserved (sym c.if-is_err.ensures.value))

@@ -19,16 +19,16 @@ use Rattle.group_exchange.proofs.RowsKept.{rows-again}
 use Rattle.group_exchange.proofs.Waiting.{behind-waiting, recorded-mail}
 use Rattle.group_exchange.proofs.Words.{length_behind}
 use Rattle.group_exchange.proofs.posting.post.Given.{Over}
-use Rattle.group_exchange.proofs.posting.post.Goals.{After-join, After-reserve_post, After-post_reserved}
+use Rattle.group_exchange.proofs.posting.post.Goals.{After-join_law, After-reserve_post, After-post_reserved}
 use Rattle.group_exchange.proofs.posting.post.Goals as goal
 
 -- where the group stands
-marked : (g : Over) (c : After-join g) →
+marked : (g : Over) (c : After-join_law g) →
     IsMarked (rules_of g.R.Reversible.plain) g.R.Actor.number g.R.Actor.end g.R.Actor.is_placed g.J.GroupRun.setting g.J.GroupRun.owners
     c.exchange.inside.journal.steps c.exchange.inside.gvt c.group.inside.number c.group.inside.standing
 marked g c =
-    marked-by c.exchange.invariant.3 c.group.inside.number c.group.inside.standing (rw (sym c.group.view_is, sym c.exchange.view_is) at c.join.ensures.stands) c.group.invariant.3
-    (rw (sym c.group.view_is, sym c.exchange.view_is) at c.join.ensures.seen)
+    marked-by c.exchange.invariant.3 c.group.inside.number c.group.inside.standing (rw (sym c.group.view_is, sym c.exchange.view_is) at c.join_law.ensures.stands) c.group.invariant.3
+    (rw (sym c.group.view_is, sym c.exchange.view_is) at c.join_law.ensures.seen)
 
 -- the group in hand where messages that are done count beside
 held : (g : Over) (c : After-reserve_post g) →
@@ -82,13 +82,13 @@ pub post_reserved-requires : goal.post_reserved-requires
 post_reserved-requires g c =
     let at = goal.at.post_reserved-requires g c in
     let k = c.exchange.invariant.3 in
-    let L = c.actor_laws.ensures g.J.GroupRun.setting k.laid in
+    let L = c.actor_law.ensures g.J.GroupRun.setting k.laid in
     let x = g.J.GroupRun.setting in
     let e = c.reserve_post.ensures in
     let same = c.floor-floor.ensures.same.flow in
     let words = ap (λ (z : Flow). length (steps_told z.words)) same ∙ counted g at.After-reserve_post in
     let abroad = ap (λ (z : Flow). z.abroad) same in
-    let lawful = abroad-lawful k c.group.inside.number (marked g at.After-join) (held g at.After-reserve_post) _ refl L in
+    let lawful = abroad-lawful k c.group.inside.number (marked g at.After-join_law) (held g at.After-reserve_post) _ refl L in
     let goes = subst (λ ls. All (λ (l : Letter). (l.message.receiver < x.processes) × (l.message.time ≤ x.until)) ls) (sym abroad) lawful in
     record {
       some = omega (arith, words, c.if-count-eq0.false);
@@ -103,7 +103,7 @@ pub invariant_of-exchange-2 : goal.invariant_of-exchange-2
 invariant_of-exchange-2 g c =
     let at = goal.at.invariant_of-exchange-2 g c in
     let k = c.exchange.invariant.3 in
-    let L = c.actor_laws.ensures g.J.GroupRun.setting k.laid in
+    let L = c.actor_law.ensures g.J.GroupRun.setting k.laid in
     let x = g.J.GroupRun.setting in
     let h = held g at.After-reserve_post in
     let e = c.reserve_post.ensures in
@@ -127,7 +127,7 @@ invariant_of-exchange-2 g c =
       ),
       c.exchange.invariant.1,
       c.exchange.invariant.2,
-      kept-posted k c.group.inside.number (marked g at.After-join) h c.post_reserved.new.journal.steps (posted g at.After-post_reserved h.by) L
+      kept-posted k c.group.inside.number (marked g at.After-join_law) h c.post_reserved.new.journal.steps (posted g at.After-post_reserved h.by) L
           c.post_reserved.new.boxes (p.owners ∙ e.owners) (p.boxes ∙ ap length e.boxes)
           (λ i w. p.posted i (omega (arith, w, k.boxes, ap length e.boxes)) ∙ (λ j. box_of (e.boxes j) i ++ for_group message_order ((e.owners ∙ k.owners_is) j) i (abroad j)))
           c.set.new.self c.set.ensures.processes c.set.ensures.until c.floor-floor.result
@@ -149,9 +149,9 @@ invariant_of-group-2 g c =
     let same = c.floor-floor.ensures.same in
     let now = c.standing_now.ensures in
     let new = c.post_reserved.new.hand in (
-      holds-as (holds-posted c.exchange.invariant.3 c.group.inside.number (marked g at.After-join) h c.post_reserved.new.journal.steps (posted g at.After-post_reserved h.by)
+      holds-as (holds-posted c.exchange.invariant.3 c.group.inside.number (marked g at.After-join_law) h c.post_reserved.new.journal.steps (posted g at.After-post_reserved h.by)
           new (ap (λ z. z.members) left ∙ same.members) (ap (λ z. z.flow.words) left)
-          (λ v t. c.post_reserved.ensures.stands g.J.GroupRun.setting v (c.hand_laws.ensures.as_before c.reserve_post.new.hand c.floor-floor.new.self same g.J.GroupRun.setting v t)))
+          (λ v t. c.post_reserved.ensures.stands g.J.GroupRun.setting v (c.hand_law.ensures.as_before c.reserve_post.new.hand c.floor-floor.new.self same g.J.GroupRun.setting v t)))
           c.standing_now.result.seen (last_in c.standing_now.result) now.seen now.last,
       record { name = c.tell_both.ensures.name ∙ c.group.invariant.1.name; value = c.tell_both.ensures.mark },
       ap (λ z. z.flow.keeps) left ∙ (ap (λ (z : Flow). z.keeps) same.flow ∙ (ap (λ z. z.flow.keeps) e ∙ c.group.invariant.2)),

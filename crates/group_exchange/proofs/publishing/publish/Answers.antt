@@ -22,7 +22,7 @@ found : (g : Over) (c : After-earliest-gvt g) → c.earliest-gvt.result ≡ gvt_
 found g c =
     let k = c.exchange.invariant.3 in
     let end : c.exchange.inside.end ≡ c.exchange.inside.floors.until + 1 = omega (arith, c.exchange.invariant.2, k.until) in
-    gvt-told k (c.actor_laws.ensures g.J.GroupRun.setting k.laid) c.earliest-gvt.result
+    gvt-told k (c.actor_law.ensures g.J.GroupRun.setting k.laid) c.earliest-gvt.result
     (c.earliest-gvt.ensures ∙ ap (λ d. lowest d (times_of message_order (flat_map (λ box. box) c.exchange.inside.boxes.boxes)))
     (c.earliest_floor.ensures ∙ ap (λ d. lowest d c.exchange.inside.floors.floors) end))
 
@@ -40,13 +40,13 @@ pub invariant_of-exchange-2 : goal.invariant_of-exchange-2
 invariant_of-exchange-2 g c =
     let k = c.exchange.invariant.3 in
     let gvt = found g (goal.at.invariant_of-exchange-2 g c).After-earliest-gvt in
-    let longer = c.set_gvt.ensures.steps ∙ ap (λ (ss : List Step). ss ++ Gvt ∷ []) c.reserve.ensures.steps in (
+    let longer = c.publish.ensures.steps ∙ ap (λ (ss : List Step). ss ++ Gvt ∷ []) c.reserve.ensures.steps in (
       omega (arith, ap length longer, length-append c.exchange.inside.journal.steps (Gvt ∷ []), c.if-len-exchange.false, c.len.ensures),
       c.exchange.invariant.1,
       c.exchange.invariant.2,
-      kept-published k (c.actor_laws.ensures g.J.GroupRun.setting k.laid) c.earliest-gvt.result gvt c.set_gvt.new.self.steps longer,
+      kept-published k (c.actor_law.ensures g.J.GroupRun.setting k.laid) c.earliest-gvt.result gvt c.publish.new.self.steps longer,
       c.exchange.invariant.4,
-      c.set_gvt.ensures.keeps ∙ (c.reserve.ensures.keeps ∙ c.exchange.invariant.5),
+      c.publish.ensures.keeps ∙ (c.reserve.ensures.keeps ∙ c.exchange.invariant.5),
     )
 
 pub returns-then-eq-clause-ok : goal.returns-then-eq-clause-ok
@@ -61,7 +61,7 @@ returns-clause-ok g c =
     let k = c.exchange.invariant.3 in
     let f = simulation_of (rules_of g.R.Reversible.plain) g.J.GroupRun.setting in
     let gvt = found g (goal.at.returns-clause-ok g c).After-earliest-gvt in
-    let longer = c.set_gvt.ensures.steps ∙ ap (λ (ss : List Step). ss ++ Gvt ∷ []) c.reserve.ensures.steps in
+    let longer = c.publish.ensures.steps ∙ ap (λ (ss : List Step). ss ++ Gvt ∷ []) c.reserve.ensures.steps in
     rw (sym c.exchange.view_is) (
       gvt,
       publishes-more f g.J.GroupRun.owners _ _ _ (ap (λ z. c.earliest-gvt.result == z) (sym k.gvt_is) ∙ (sym c.eq.ensures ∙ c.if-eq.false))

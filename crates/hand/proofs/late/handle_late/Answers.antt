@@ -96,7 +96,7 @@ returns-clause-came g c =
     let s = c.requires.able.0 in
     let at = c.requires.able.1 in
     subst (λ ms. (p : ℕ) → CameTo (rules_of plain) V ms c.bring_back-2.new.done.deeds p) (sym (c.act-kept.ensures.members s at))
-    (late-came plain V c.actor_rules.ensures.order c.actor_rules.ensures.undoes c.args.members.now c.args.done.now.deeds c.set_aside.new.done.deeds c.set_aside.new.aside.deeds c.bring_back-2.new.done.deeds (record { all = []; left = 0 })
+    (late-came plain V c.actor_rules_law.ensures.order c.actor_rules_law.ensures.undoes c.args.members.now c.args.done.now.deeds c.set_aside.new.done.deeds c.set_aside.new.aside.deeds c.bring_back-2.new.done.deeds (record { all = []; left = 0 })
     c.args.letters.now c.take_first.new.self c.tell.new.self c.send_later.new.letters m s at (c.act-kept.ensures.valid s at) c.set_aside.ensures.aside (search rules)
     (now-done g (goal.at.returns-clause-came g c).After-bring_back-2) c.requires.came)
 
@@ -108,24 +108,24 @@ returns-clause-did g c = λ rows.
     let m = c.args.message.now in
     let s = c.requires.able.0 in
     let at = c.requires.able.1 in
-    let O = c.actor_rules.ensures.order in
+    let O = c.actor_rules_law.ensures.order in
     let members = c.act-kept.ensures.members s at in
     let again = c.messages-2.ensures.messages ∙ c.act-kept.ensures.messages s at in
     let went = subst (λ xs. WentOn (set c.args.members.now m.receiver (Some (plain.after s m))) (map plus_of xs) c.tell.new.self c.send_later.new.letters) again
     (subst (λ ms. WentOn ms (map plus_of c.messages-2.result.now) c.tell.new.self c.send_later.new.letters) members c.send_later.ensures.went) in
     subst (λ ms. DoesSent r V (held c.args.members.now c.args.done.now.deeds rows c.args.letters.now) [] (held ms c.bring_back-2.new.done.deeds rows c.send_later.new.letters) []) (sym members)
-    (late-handles plain V O c.actor_rules.ensures.undoes c.args.members.now c.args.done.now.deeds c.set_aside.new.done.deeds c.set_aside.new.aside.deeds c.bring_back-2.new.done.deeds rows
+    (late-handles plain V O c.actor_rules_law.ensures.undoes c.args.members.now c.args.done.now.deeds c.set_aside.new.done.deeds c.set_aside.new.aside.deeds c.bring_back-2.new.done.deeds rows
     c.args.letters.now c.take_first.new.self c.tell.new.self c.send_later.new.letters m s at (c.act-kept.ensures.valid s at) c.set_aside.ensures.aside (search rules)
     (now-done g (goal.at.returns-clause-did g c).After-bring_back-2) c.requires.first (λ up. none-among O (messages_of c.args.done.now.deeds) m (c.requires.not_done up))
     c.take_first.ensures.taken c.take_first.ensures.others c.tell.ensures.told went c.send_later.ensures.queue c.send_later.ensures.extra)
 
 pub returns-then-not-is_before-clause-handled : goal.returns-then-not-is_before-clause-handled
 returns-then-not-is_before-clause-handled g c =
-    inr (has-later c.actor_rules.ensures.order c.args.message.now c.args.done.now.deeds c.set_aside.new.done.deeds c.set_aside.new.aside.deeds c.set_aside.ensures.aside
+    inr (has-later c.actor_rules_law.ensures.order c.args.message.now c.args.done.now.deeds c.set_aside.new.done.deeds c.set_aside.new.aside.deeds c.set_aside.ensures.aside
     c.set_aside.ensures.stops (search rules))
 
 pub returns-clause-handled : goal.returns-clause-handled
 returns-clause-handled g c =
-    inl (one-more c.actor_rules.ensures.order c.args.message.now c.args.done.now.deeds c.set_aside.new.done.deeds c.set_aside.new.aside.deeds c.set_aside.ensures.aside
+    inl (one-more c.actor_rules_law.ensures.order c.args.message.now c.args.done.now.deeds c.set_aside.new.done.deeds c.set_aside.new.aside.deeds c.set_aside.ensures.aside
     c.bring_back-2.new.done.deeds (deed_of (rules_of g.R.Reversible.plain) c.requires.able.0 c.args.message.now)
     (now-done g (goal.at.returns-clause-handled g c).After-bring_back-2))

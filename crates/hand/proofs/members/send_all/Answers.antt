@@ -7,7 +7,7 @@ use Rattle.hand.proofs.members.send_all.Goals as goal
 
 pub loop-place-init : goal.loop-place-init
 loop-place-init g c = record {
-  went = none-gone g.R.Reversible.plain g.R.Reversible.is_value c.actor_rules.ensures.order c.actor_rules.ensures.undoes c.args.members.now c.args.messages.now c.args.letters.now c.args.messages.now;
+  went = none-gone g.R.Reversible.plain g.R.Reversible.is_value c.actor_rules_law.ensures.order c.actor_rules_law.ensures.undoes c.args.members.now c.args.messages.now c.args.letters.now c.args.messages.now;
   room = omega (arith, c.requires.room);
 }
 
@@ -21,11 +21,11 @@ loop-place-preserved g c =
     let split : drop k all ≡ m ∷ drop (k + 1) all =
     drop-cons all k m within ∙ (λ j. sym c.index-messages-place.is j ∷ drop (sym (add-one k) j) all) in
     record {
-      went = both-gone g.R.Reversible.plain g.R.Reversible.is_value c.actor_rules.ensures.order c.actor_rules.ensures.undoes c.args.members.now all c.args.letters.now c.loop-place.letters c.pass.new.self
+      went = both-gone g.R.Reversible.plain g.R.Reversible.is_value c.actor_rules_law.ensures.order c.actor_rules_law.ensures.undoes c.args.members.now all c.args.letters.now c.loop-place.letters c.pass.new.self
           all (m ∷ drop (k + 1) all) (drop (k + 1) all)
           (subst (λ (zs : List Message). GoesOn r g.R.Reversible.is_value c.args.members.now all c.args.letters.now all c.loop-place.letters zs) split c.loop-place.invariant.went)
-          (one-gone g.R.Reversible.plain g.R.Reversible.is_value c.actor_rules.ensures.order c.actor_rules.ensures.undoes c.args.members.now all c.loop-place.letters c.pass.new.self m (drop (k + 1) all)
-          (at-in c.actor_rules.ensures.order all k m within c.index-messages-place.is) c.is_ours.result c.is_ours.ensures c.pass.ensures.abroad c.pass.ensures.home);
+          (one-gone g.R.Reversible.plain g.R.Reversible.is_value c.actor_rules_law.ensures.order c.actor_rules_law.ensures.undoes c.args.members.now all c.loop-place.letters c.pass.new.self m (drop (k + 1) all)
+          (at-in c.actor_rules_law.ensures.order all k m within c.index-messages-place.is) c.is_ours.result c.is_ours.ensures c.pass.ensures.abroad c.pass.ensures.home);
       room = let a = c.pass.ensures.room in let b = c.loop-place.invariant.room in omega arith;
     }
 

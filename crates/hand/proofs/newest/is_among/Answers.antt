@@ -5,9 +5,9 @@ use Rattle.hand.proofs.newest.is_among.Goals as goal
 
 pub loop-place-preserved : goal.loop-place-preserved
 loop-place-preserved g c =
-    let n : c.index.result.now.message ≢ c.args.message.now = c.if-is_same.ensures.no refl in
+    let n : c.item.result.now.message ≢ c.args.message.now = c.if-is_same.ensures.no refl in
     let l : c.loop-place.place < length c.args.events.now.items = (let t = c.loop-place-test.true in let k = c.len-place-end.ensures in omega arith) in
-    none-more c.args.message.now c.args.events.now.items c.loop-place.place c.index.result.now l c.index.ensures n c.loop-place.invariant
+    none-more c.args.message.now c.args.events.now.items c.loop-place.place c.item.result.now l c.item.ensures n c.loop-place.invariant
 
 pub returns-clause-no : goal.returns-clause-no
 returns-clause-no g c = λ e.

@@ -29,7 +29,7 @@ returns-then-newest_is_for-clause-came g c =
     let m = mine g (goal.at.returns-then-newest_is_for-clause-came g c).After-pop_newest-event in
     let place : c.pop_newest-event.result.message.receiver ≡ c.args.message.now.receiver = ap (λ z. z.receiver) d.3 ∙ m in
     undone-came (rules_of g.R.Reversible.plain) g.R.Reversible.is_value c.args.message.now.receiver c.args.members.now c.undo.new.members c.args.done.now.deeds c.pop_newest-event.new.self.deeds
-    d.0 d.1 c.requires.came m c.pop_newest-event.result.message c.pop_newest-event.result.kept d.3 d.4 c.actor_rules.ensures.undoes (c.undo.ensures.ours c.args.message.now.receiver)
+    d.0 d.1 c.requires.came m c.pop_newest-event.result.message c.pop_newest-event.result.kept d.3 d.4 c.actor_rules_law.ensures.undoes (c.undo.ensures.ours c.args.message.now.receiver)
     (λ s e. subst (λ q. slice_get c.undo.new.members q ≡ Some (Some (g.R.Reversible.plain.before s c.pop_newest-event.result.message c.pop_newest-event.result.kept))) place
     (c.undo.ensures.member s (subst (λ q. slice_get c.args.members.now q ≡ Some (Some s)) (sym place) e)))
 

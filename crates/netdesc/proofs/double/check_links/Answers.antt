@@ -1,8 +1,8 @@
 use Rattle.std.proofs.Common.{◌≡◌, ◌<◌, true, false, length, take, get_or, arith, ap, sym, refl, inr, Some}
 use Rattle.network_rows.specs.declared.fault.DescFault.TheVariants.{DoubleName}
-use Rattle.netdesc.specs.Words.{joins, is_linked, double_at_link}
-use Rattle.netdesc.proofs.EachLemmas.{Tells-each, each-none, length-before}
-use Rattle.netdesc.proofs.PlaceLemmas.{place_by-before}
+use Rattle.network.specs.Words.{joins, is_linked, double_at_link}
+use Rattle.network.proofs.EachLemmas.{Tells-each, each-none, length-before}
+use Rattle.network.proofs.PlaceLemmas.{place_by-before}
 use Rattle.netdesc.proofs.JoinLemmas.{joins-own, no_link}
 use Rattle.netdesc.proofs.double.check_links.Goals as goal
 

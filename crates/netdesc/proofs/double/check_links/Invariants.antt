@@ -1,5 +1,5 @@
 use Rattle.std.proofs.Common.{◌≡◌, [], take}
-use Rattle.netdesc.specs.Words.{each, double_at_link}
+use Rattle.network.specs.Words.{each, double_at_link}
 use Rattle.netdesc.proofs.double.check_links.Given as goal
 
 abbrev pub invariant-loop-i : goal.invariant-loop-i

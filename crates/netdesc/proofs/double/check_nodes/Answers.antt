@@ -2,10 +2,10 @@ use Rattle.std.proofs.Common.{◌≡◌, ◌<◌, true, false, length, take, get
 use Rattle.std.proofs.lemmas.List.{length-map}
 use Rattle.std.proofs.lemmas.Slice.Eq.{bytes_eq-Decides}
 use Rattle.network_rows.specs.declared.fault.DescFault.TheVariants.{DoubleName}
-use Rattle.netdesc.specs.Words.{names_of, is_among, place_among, node_plan, double_at_node}
-use Rattle.netdesc.proofs.EachLemmas.{Tells-mapped, none-mapped, length-before-mapped, read-map}
+use Rattle.network.specs.Words.{names_of, is_among, place_among, node_plan, double_at_node}
+use Rattle.network.proofs.EachLemmas.{Tells-mapped, none-mapped, length-before-mapped, read-map}
 use Rattle.netdesc.proofs.NameLemmas.{names_of-before}
-use Rattle.netdesc.proofs.PlaceLemmas.{place_by-before}
+use Rattle.network.proofs.PlaceLemmas.{place_by-before}
 use Rattle.netdesc.proofs.double.check_nodes.Goals as goal
 
 pub returns-then-first-i : goal.returns-then-first-i

@@ -1,6 +1,6 @@
 use Rattle.std.proofs.Common.{◌<◌, length, take, arith, sym, subst}
 use Rattle.std.proofs.lemmas.Result.{err_from_is_err_and}
-use Rattle.netdesc.proofs.EachLemmas.{Tells-read, none-read, take-read, length-before}
+use Rattle.network.proofs.EachLemmas.{Tells-read, none-read, take-read, length-before}
 use Rattle.netdesc.proofs.each.check_each.Goals as goal
 
 pub returns-in_err-review : goal.returns-in_err-review

@@ -1,5 +1,5 @@
 use Rattle.std.proofs.Common.{◌≡◌, [], take}
-use Rattle.netdesc.specs.Words.{each}
+use Rattle.network.specs.Words.{each}
 use Rattle.netdesc.proofs.each.check_each.Given as goal
 
 abbrev pub invariant-loop-i : goal.invariant-loop-i

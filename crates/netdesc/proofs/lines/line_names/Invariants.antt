@@ -1,5 +1,5 @@
 use Rattle.std.proofs.Common.{◌≡◌, take, map, string_bytes}
-use Rattle.netdesc.specs.Words.{node_plan, line_name}
+use Rattle.network.specs.Words.{node_plan, line_name}
 use Rattle.netdesc.proofs.lines.line_names.Given as goal
 
 abbrev pub invariant-loop-line : goal.invariant-loop-line

@@ -1,10 +1,10 @@
 use Rattle.std.proofs.Common.{◌≡◌, ℕ, ◌+◌, ◌<◌, ◌≤◌, cond, ◌++◌, length, vec_len, map, take, get_or, count_by, arith, ap, sym, subst, ◌∙◌, length-take-le, take_all, All}
 use Rattle.std.proofs.lemmas.List.{get_or_read}
-use Rattle.netdesc.proofs.BuildLemmas.{LeadsWithin, All-lines}
+use Rattle.network.proofs.BuildLemmas.{LeadsWithin, All-lines}
 use Rattle.std.proofs.lemmas.List.Sums.{count_by-le-length}
 use Rattle.vlink.specs.declared.frame.Net.TheVariants.{A}
-use Rattle.netdesc.specs.Words.{each, node_plan, is_end_system, is_switch_of, touches, port_at, both, directions}
-use Rattle.netdesc.proofs.EachLemmas.{each-more, count_by-more}
+use Rattle.network.specs.Words.{each, node_plan, is_end_system, is_switch_of, touches, port_at, both, directions}
+use Rattle.network.proofs.EachLemmas.{each-more, count_by-more}
 use Rattle.netdesc.proofs.JoinLemmas.{no_link}
 use Rattle.netdesc.proofs.lines.lines_of.Goals as goal
 

@@ -1,5 +1,5 @@
 use Rattle.std.proofs.Common.{◌≡◌, ℕ, ◌+◌, ◌<◌, ◌≤◌, get_or, take, map, length, vec_len, count_by}
-use Rattle.netdesc.specs.Words.{each, node_plan, directions, touches}
+use Rattle.network.specs.Words.{each, node_plan, directions, touches}
 use Rattle.netdesc.proofs.lines.lines_of.Given as goal
 
 abbrev pub invariant-loop-link : goal.invariant-loop-link

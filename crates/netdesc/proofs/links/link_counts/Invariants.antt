@@ -1,5 +1,5 @@
 use Rattle.std.proofs.Common.{◌≡◌, ℕ, ◌<◌, get_or, take, vec_len, count_by}
-use Rattle.netdesc.specs.Words.{touches}
+use Rattle.network.specs.Words.{touches}
 use Rattle.netdesc.proofs.links.link_counts.Given as goal
 
 abbrev pub invariant-loop-link : goal.invariant-loop-link

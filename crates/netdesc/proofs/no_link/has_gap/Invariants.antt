@@ -1,5 +1,5 @@
 use Rattle.std.proofs.Common.{◌≡◌, drop, map}
-use Rattle.netdesc.specs.Words.{has_gap, items_of}
+use Rattle.network.specs.Words.{has_gap, items_of}
 use Rattle.netdesc.proofs.no_link.has_gap.Given as goal
 
 abbrev pub invariant-loop-path : goal.invariant-loop-path

@@ -1,6 +1,6 @@
 use Rattle.std.proofs.Common.{◌≡◌, drop}
 use Rattle.std.specs.List.{list_any}
-use Rattle.netdesc.specs.Words.{hops_after, is_gap}
+use Rattle.network.specs.Words.{hops_after, is_gap}
 use Rattle.netdesc.proofs.no_link.has_gap_after.Given as goal
 
 abbrev pub invariant-loop-to : goal.invariant-loop-to

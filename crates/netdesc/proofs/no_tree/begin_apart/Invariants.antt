@@ -1,6 +1,6 @@
 use Rattle.std.proofs.Common.{◌≡◌, drop, map}
 use Rattle.std.specs.List.{list_any}
-use Rattle.netdesc.specs.Words.{differ, first_of, source_among, items_of}
+use Rattle.network.specs.Words.{differ, first_of, source_among, items_of}
 use Rattle.netdesc.proofs.no_tree.begin_apart.Given as goal
 
 abbrev pub invariant-loop-path : goal.invariant-loop-path

@@ -1,6 +1,6 @@
 use Rattle.std.proofs.Common.{◌≡◌, drop, map}
 use Rattle.std.specs.List.{list_any}
-use Rattle.netdesc.specs.Words.{node_plan, is_bad_path, items_of}
+use Rattle.network.specs.Words.{node_plan, is_bad_path, items_of}
 use Rattle.netdesc.proofs.no_tree.has_bad.Given as goal
 
 abbrev pub invariant-loop-path : goal.invariant-loop-path

@@ -1,5 +1,5 @@
 use Rattle.std.proofs.Common.{◌≡◌, length}
-use Rattle.netdesc.specs.Words.{has_double}
+use Rattle.network.specs.Words.{has_double}
 use Rattle.netdesc.proofs.no_tree.has_double.Given as goal
 
 abbrev pub invariant-loop-first : goal.invariant-loop-first

@@ -1,6 +1,6 @@
 use Rattle.std.proofs.Common.{◌≡◌, drop, map, not}
 use Rattle.std.specs.List.{list_any}
-use Rattle.netdesc.specs.Words.{node_plan, is_switch_of}
+use Rattle.network.specs.Words.{node_plan, is_switch_of}
 use Rattle.netdesc.proofs.no_tree.has_other.Given as goal
 
 abbrev pub invariant-loop-node : goal.invariant-loop-node

@@ -1,7 +1,7 @@
 use Rattle.std.proofs.Common.{◌≡◌, ℕ, ◌==◌, false, take}
 use Rattle.std.specs.List.{list_any}
 use Rattle.std.specs.HashSet.{contains}
-use Rattle.netdesc.specs.Words.{has_double}
+use Rattle.network.specs.Words.{has_double}
 use Rattle.netdesc.proofs.no_tree.has_repeat.Given as goal
 
 abbrev pub invariant-loop-n : goal.invariant-loop-n

@@ -1,7 +1,8 @@
 use Rattle.std.proofs.Common.{◌≡◌, ◌++◌, [], refl}
 use Rattle.std.proofs.lemmas.Result.{err_from_is_err_and}
-use Rattle.netdesc.specs.Words.{plan_in, double_names, not_links}
-use Rattle.netdesc.proofs.EachLemmas.{Tells-front, Tells-behind}
+use Rattle.network.specs.Words.{double_names, not_links}
+use Rattle.netdesc.specs.Words.{plan_in}
+use Rattle.network.proofs.EachLemmas.{Tells-front, Tells-behind}
 use Rattle.netdesc.proofs.reading.check_numbered.Goals as goal
 
 pub returns-in_err-check_no_link : goal.returns-in_err-check_no_link

@@ -1,6 +1,6 @@
 use Rattle.std.proofs.Common.{◌≡◌}
 use Rattle.std.proofs.lemmas.Result.{err_from_is_err_and}
-use Rattle.netdesc.proofs.EachLemmas.{Tells-front, Tells-behind}
+use Rattle.network.proofs.EachLemmas.{Tells-front, Tells-behind}
 use Rattle.netdesc.proofs.reading.join_links.Goals as goal
 
 pub returns-in_err-check_links : goal.returns-in_err-check_links

@@ -2,11 +2,11 @@ use Rattle.std.proofs.Common.{◌≡◌, List, Result, Ok, Err, map, refl, ap, s
 use Rattle.network_rows.specs.declared.fault.DescFault.{DescFault}
 use Rattle.network_rows.specs.declared.fault.DescFault.TheVariants.{OutOfMemory}
 use Rattle.network_rows.specs.declared.rows.Rows.{Rows}
-use Rattle.netdesc.specs.Words.{Plan, VlPlan, node_plan, faults_of, Tells, IsPlanOf}
+use Rattle.network.specs.Words.{Plan, VlPlan, node_plan, faults_of, Tells, IsPlanOf}
 use Rattle.netdesc.proofs.reading.network_of.Goals as goal
 
-pub new-requires : goal.new-requires
-new-requires c =
+pub network_with-requires : goal.network_with-requires
+network_with-requires c =
     let rows = c.args.rows in
     let lists = c.in_ok-numbered.ensures.1 in
     record {
@@ -34,7 +34,7 @@ pub returns : goal.returns
 returns c =
     let rows = c.args.rows in
     let lists = c.in_ok-numbered.ensures.1 in
-    made-of rows _ c.new.result (record {
+    made-of rows _ c.network_with.result (record {
       none = c.in_ok-numbered.ensures.0;
       until = refl;
       seed = refl;
@@ -43,4 +43,4 @@ returns c =
       outages = ap (λ p. p.outages) lists;
       vls = subst (λ (before : List VlPlan). IsPermutation before c.sort_vls.new.vls.items) (ap (λ p. p.vls) lists) c.in_ok-sort_vls.ensures.moved;
       in_order = c.in_ok-sort_vls.ensures.in_order;
-    }) c.new.ensures.made c.new.ensures.memory
+    }) c.network_with.ensures.made c.network_with.ensures.memory

@@ -1,7 +1,7 @@
 use Rattle.std.proofs.Common.{rules}
 use Rattle.std.proofs.lemmas.List.Sorted.{IsNonDecreasingBy-from_sort_by_key}
-use Rattle.netdesc.specs.Words.{id_of}
-use Rattle.netdesc.proofs.BuildLemmas.{rising-map}
+use Rattle.network.specs.Words.{id_of}
+use Rattle.network.proofs.BuildLemmas.{rising-map}
 use Rattle.netdesc.proofs.reading.sort_vls.Goals as goal
 
 pub returns-clause-in_order : goal.returns-clause-in_order

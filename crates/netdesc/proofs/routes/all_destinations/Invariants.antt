@@ -1,5 +1,5 @@
 use Rattle.std.proofs.Common.{◌≡◌, take, map}
-use Rattle.netdesc.specs.Words.{destinations_of, lists_of}
+use Rattle.network.specs.Words.{destinations_of, lists_of}
 use Rattle.netdesc.proofs.routes.all_destinations.Given as goal
 
 abbrev pub invariant-loop-vl : goal.invariant-loop-vl

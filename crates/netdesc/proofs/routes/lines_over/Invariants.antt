@@ -1,5 +1,5 @@
 use Rattle.std.proofs.Common.{◌≡◌, ◌++◌, drop, flat_map}
-use Rattle.netdesc.specs.Words.{lines_over}
+use Rattle.network.specs.Words.{lines_over}
 use Rattle.netdesc.proofs.routes.lines_over.Given as goal
 
 abbrev pub invariant-loop-hop : goal.invariant-loop-hop

@@ -1,8 +1,9 @@
 use Rattle.std.proofs.Common.{◌≡◌, ℕ, ◌+◌, ◌<◌, List, ◌++◌, length, drop, get_or, ap, sym, ◌∙◌, arith, append_assoc, flat_map}
 use Rattle.std.proofs.lemmas.List.{drop_more}
-use Rattle.netdesc.specs.declared.wiring.Way.{Way}
+use Rattle.network.specs.declared.wiring.Way.{Way}
 use Rattle.netdesc.specs.declared.routes.End.TheVariants.{From, To}
-use Rattle.netdesc.specs.Words.{VlPlan, leaves, comes_in, ways_over, ways_at, way_at}
+use Rattle.network.specs.Words.{VlPlan, leaves, comes_in, ways_over, ways_at}
+use Rattle.netdesc.specs.Words.{way_at}
 use Rattle.netdesc.proofs.routes.meetings_of.Goals as goal
 
 -- what one virtual link more puts behind

@@ -1,5 +1,5 @@
 use Rattle.std.proofs.Common.{◌≡◌, ℕ, ◌<◌, ◌++◌, drop, vec_len, flat_map}
-use Rattle.netdesc.specs.Words.{leaves, comes_in, ways_at}
+use Rattle.network.specs.Words.{leaves, comes_in, ways_at}
 use Rattle.netdesc.proofs.routes.meetings_of.Given as goal
 
 abbrev pub invariant-loop-vl : goal.invariant-loop-vl

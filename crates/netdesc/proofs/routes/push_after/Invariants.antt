@@ -1,5 +1,5 @@
 use Rattle.std.proofs.Common.{◌≡◌, ◌++◌, drop}
-use Rattle.netdesc.specs.Words.{hops_after}
+use Rattle.network.specs.Words.{hops_after}
 use Rattle.netdesc.proofs.routes.push_after.Given as goal
 
 abbrev pub invariant-loop-to : goal.invariant-loop-to

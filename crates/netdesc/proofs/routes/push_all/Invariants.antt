@@ -1,5 +1,5 @@
 use Rattle.std.proofs.Common.{◌≡◌, ◌++◌, drop, map}
-use Rattle.netdesc.specs.Words.{all_hops, items_of}
+use Rattle.network.specs.Words.{all_hops, items_of}
 use Rattle.netdesc.proofs.routes.push_all.Given as goal
 
 abbrev pub invariant-loop-path : goal.invariant-loop-path

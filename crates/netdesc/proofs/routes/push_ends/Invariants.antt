@@ -1,5 +1,5 @@
 use Rattle.std.proofs.Common.{◌≡◌, ◌++◌, drop, map}
-use Rattle.netdesc.specs.Words.{ends_of, items_of}
+use Rattle.network.specs.Words.{ends_of, items_of}
 use Rattle.netdesc.proofs.routes.push_ends.Given as goal
 
 abbrev pub invariant-loop-path : goal.invariant-loop-path

@@ -1,5 +1,6 @@
 use Rattle.std.proofs.Common.{◌≡◌, ℕ, ◌<◌, ◌++◌, drop, vec_len}
-use Rattle.netdesc.specs.Words.{ways_over, ways_at, way_at}
+use Rattle.network.specs.Words.{ways_over, ways_at}
+use Rattle.netdesc.specs.Words.{way_at}
 use Rattle.netdesc.proofs.routes.put_route.Given as goal
 
 abbrev pub invariant-loop-k : goal.invariant-loop-k

@@ -1,5 +1,5 @@
 use Rattle.std.proofs.Common.{◌≡◌, ℕ, [], get_or, vec_len}
-use Rattle.netdesc.specs.Words.{lists_of}
+use Rattle.network.specs.Words.{lists_of}
 use Rattle.netdesc.proofs.tables.no_lists.Given as goal
 
 abbrev pub invariant-loop : goal.invariant-loop

@@ -1,7 +1,7 @@
 use Rattle.std.proofs.Common.{◌<◌, ◌==◌, ◌&&◌, cond, is_none, length, take, get_or, None, Some, arith, ap, sym, ◌∙◌}
-use Rattle.netdesc.specs.Words.{place_of_vl}
-use Rattle.netdesc.proofs.PlaceLemmas.{or_else, or_else-stored, place_by-push}
-use Rattle.netdesc.proofs.EachLemmas.{take-read, length-before}
+use Rattle.network.specs.Words.{place_of_vl}
+use Rattle.network.proofs.PlaceLemmas.{or_else, or_else-stored, place_by-push}
+use Rattle.network.proofs.EachLemmas.{take-read, length-before}
 use Rattle.netdesc.proofs.tables.places_of.Goals as goal
 
 pub loop-i-preserved : goal.loop-i-preserved

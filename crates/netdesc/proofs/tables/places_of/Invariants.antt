@@ -1,5 +1,5 @@
 use Rattle.std.proofs.Common.{◌≡◌, ℕ, take, get_or, None}
-use Rattle.netdesc.specs.Words.{place_of_vl}
+use Rattle.network.specs.Words.{place_of_vl}
 use Rattle.netdesc.proofs.tables.places_of.Given as goal
 
 abbrev pub invariant-loop-i : goal.invariant-loop-i

@@ -1,6 +1,6 @@
 use Rattle.std.proofs.Common.{◌≡◌, ◌<◌, ◌++◌, [], ◌∷◌, length, set, get_or, ap, sym, ◌∙◌, arith}
 use Rattle.std.proofs.lemmas.List.{map-set, get_or-map}
-use Rattle.netdesc.specs.Words.{items_of, lists_of}
+use Rattle.network.specs.Words.{items_of, lists_of}
 use Rattle.netdesc.proofs.tables.put.Goals as goal
 
 pub returns-clause-put : goal.returns-clause-put

@@ -1,6 +1,6 @@
 use Rattle.std.proofs.Common.{◌≡◌, ◌<◌, length, map, ap, ◌∙◌, arith}
 use Rattle.std.proofs.lemmas.List.{length-map}
-use Rattle.netdesc.specs.Words.{each, node_plan, directions, line_name}
+use Rattle.network.specs.Words.{each, node_plan, directions, line_name}
 use Rattle.netdesc.proofs.tables.tables_of.Goals as goal
 
 pub returns-clause-tables : goal.returns-clause-tables
@@ -14,8 +14,8 @@ returns-clause-tables c = λ until seed.
     record {
       lines = lines;
       line_names = c.in_ok-line_names.ensures.names ∙ ap (map (line_name nodes)) (c.as_slice-2.ensures.value ∙ lines);
-      losses = λ k h. rw (links, c.as_slice-3.ensures.value) at (c.in_ok-losses.ensures.outages k (omega (arith, count, h)));
-      losses_len = c.in_ok-losses.ensures.len ∙ count;
+      outages = λ k h. rw (links, c.as_slice-3.ensures.value) at (c.in_ok-outages.ensures.outages k (omega (arith, count, h)));
+      outages_len = c.in_ok-outages.ensures.len ∙ count;
       departures = λ node h. rw (links, c.as_slice-4.ensures.value, lines, c.as_slice-5.ensures.value) at (c.in_ok-meetings.ensures.departures node (omega (arith, same, h)));
       departures_len = omega (arith, same, c.in_ok-meetings.ensures.departures_len);
       arrivals = λ node h. rw (links, c.as_slice-4.ensures.value, lines, c.as_slice-5.ensures.value) at (c.in_ok-meetings.ensures.arrivals node (omega (arith, same, h)));

@@ -2,9 +2,9 @@ use Rattle.std.proofs.Common.{◌≡◌, ℕ, ◌+◌, ◌<◌, List, [], None, 
 use Rattle.std.proofs.lemmas.List.{get_or_read}
 use Rattle.network_rows.specs.declared.key.Section.TheVariants.{Node}
 use Rattle.network_rows.specs.declared.fault.DescFault.{DescFault}
-use Rattle.netdesc.specs.Words.{when, greatest_ports, NodePlan, node_plan, is_end_system, too_many_at_node, touches, Tells}
+use Rattle.network.specs.Words.{when, greatest_ports, NodePlan, node_plan, is_end_system, too_many_at_node, touches, Tells}
 use Rattle.network_rows.specs.declared.fault.DescFault.TheVariants.{TooMany}
-use Rattle.netdesc.proofs.EachLemmas.{Tells-mapped, none-mapped, length-before-mapped}
+use Rattle.network.proofs.EachLemmas.{Tells-mapped, none-mapped, length-before-mapped}
 use Rattle.netdesc.proofs.too_many.check_nodes.Goals as goal
 
 -- what the node with this number has, where so many links name it

@@ -1,5 +1,5 @@
 use Rattle.std.proofs.Common.{◌≡◌, [], take, map}
-use Rattle.netdesc.specs.Words.{each, node_plan, too_many_at_node}
+use Rattle.network.specs.Words.{each, node_plan, too_many_at_node}
 use Rattle.netdesc.proofs.too_many.check_nodes.Given as goal
 
 abbrev pub invariant-loop-i : goal.invariant-loop-i

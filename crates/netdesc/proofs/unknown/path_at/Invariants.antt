@@ -1,6 +1,6 @@
 use Rattle.std.proofs.Common.{◌≡◌, false, take, map}
 use Rattle.std.specs.List.{list_any}
-use Rattle.netdesc.specs.Words.{names_of, number_of, is_unknown}
+use Rattle.network.specs.Words.{names_of, number_of, is_unknown}
 use Rattle.netdesc.proofs.unknown.path_at.Given as goal
 
 abbrev pub invariant-loop-k : goal.invariant-loop-k

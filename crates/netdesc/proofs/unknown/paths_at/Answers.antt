@@ -2,8 +2,8 @@ use Rattle.std.proofs.Common.{[], ◌<◌, length, arith}
 use Rattle.std.proofs.lemmas.Result.{err_from_is_err_and}
 use Rattle.std.specs.List.{list_any}
 use Rattle.network_rows.specs.declared.fault.DescFault.TheVariants.{UnknownName}
-use Rattle.netdesc.specs.Words.{names_of, is_unknown}
-use Rattle.netdesc.proofs.EachLemmas.{Tells-any}
+use Rattle.network.specs.Words.{names_of, is_unknown}
+use Rattle.network.proofs.EachLemmas.{Tells-any}
 use Rattle.netdesc.proofs.unknown.paths_at.Goals as goal
 
 pub returns-in_err-path_at : goal.returns-in_err-path_at

@@ -1,6 +1,6 @@
 use Rattle.std.proofs.Common.{◌≡◌, false, take, map}
 use Rattle.std.specs.List.{list_any}
-use Rattle.netdesc.specs.Words.{names_of, path_numbers, is_unknown, lists_of}
+use Rattle.network.specs.Words.{names_of, path_numbers, is_unknown, lists_of}
 use Rattle.netdesc.proofs.unknown.paths_at.Given as goal
 
 abbrev pub invariant-loop-k : goal.invariant-loop-k

@@ -9,4 +9,4 @@ pub returns : goal.returns
 returns c =
     let document = table_view c.args.document.now in
     let all : c.note_document.new.firsts ≡ all_stored nowhere (faults_in_document document) = rw c.none-firsts.ensures at c.note_document.ensures in
-    c.told.ensures ∙ told_of_document document c.note_document.new.firsts all
+    c.told_fault.ensures ∙ told_of_document document c.note_document.new.firsts all

@@ -1,5 +1,5 @@
 use Rattle.std.proofs.Common.{map, ap, sym, ◌∙◌, subst, All}
-use Rattle.netdesc.specs.Words.{IsLinkInLimits}
+use Rattle.network.specs.Words.{IsLinkInLimits}
 use Rattle.nodes.specs.declared.opening.meeting.Meeting.{Meeting}
 use Rattle.nodes.specs.Words.{IsRising, source_number, reception_number, number_met, source_met, reception_met}
 use Rattle.nodes.proofs.MakingLemmas.{source-numbers, reception-numbers}

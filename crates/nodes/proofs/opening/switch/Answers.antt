@@ -1,5 +1,5 @@
 use Rattle.std.proofs.Common.{List, map, refl, ap, sym, ◌∙◌, subst, All}
-use Rattle.netdesc.specs.Words.{IsLinkInLimits}
+use Rattle.network.specs.Words.{IsLinkInLimits}
 use Rattle.nodes.specs.declared.opening.meeting.Meeting.{Meeting}
 use Rattle.nodes.specs.Words.{IsRising, transit_number, number_met, transit_met}
 use Rattle.nodes.proofs.MakingLemmas.{transit-numbers}
@@ -21,5 +21,5 @@ pub returns : goal.returns
 returns c =
     let arriving = c.deref.ensures.value ∙ c.in_ok-arriving.ensures.meetings in
     let departing = c.deref-2.ensures.value ∙ c.in_ok-departing.ensures.meetings in
-    c.new.ensures ∙ switch-made c.args.network.now c.args.node c.args.latency_ns c.args.bytes c.accepted.ensures _ refl
+    c.new.ensures ∙ switch-made c.args.network.now c.args.node c.args.latency_ns c.args.bytes c.accepted_law.ensures _ refl
     (c.in_ok-transits_of.ensures ∙ λ i. map (transit_met (departing i)) (arriving i)) c.in_ok-ports_of.ensures

@@ -12,7 +12,7 @@ returns-then-not-is_committable g c =
     let t = c.loop-place-test.true in
     let i = c.loop-place.invariant in
     let es = c.args.events.now.items in
-    let R = of-messages g.R.Reversible.plain c.actor_rules.ensures.order c.actor_rules.ensures.undoes in
+    let R = of-messages g.R.Reversible.plain c.actor_rules_law.ensures.order c.actor_rules_law.ensures.undoes in
     let can = c.if-not-is_committable.ensures (with_done c.args.tally.now es)
     (one-at R c.args.tally.now es c.requires c.loop-place.place c.index.result.now (omega arith) c.index.ensures) in
     let z = commits-from (λ e. e.message) c.args.moment (with_done c.args.tally.now es) es c.args.most c.loop-place.place c.index.result.now
@@ -26,7 +26,7 @@ loop-place-preserved g c =
     let t = c.loop-place-test.true in
     let i = c.loop-place.invariant in
     let es = c.args.events.now.items in
-    let R = of-messages g.R.Reversible.plain c.actor_rules.ensures.order c.actor_rules.ensures.undoes in
+    let R = of-messages g.R.Reversible.plain c.actor_rules_law.ensures.order c.actor_rules_law.ensures.undoes in
     let can = c.if-not-is_committable.ensures (with_done c.args.tally.now es)
     (one-at R c.args.tally.now es c.requires c.loop-place.place c.index.result.now (omega arith) c.index.ensures) in
     let z = commits-from (λ e. e.message) c.args.moment (with_done c.args.tally.now es) es c.args.most c.loop-place.place c.index.result.now

@@ -9,7 +9,7 @@ pub run_actors-requires : goal.run_actors-requires
 run_actors-requires g c = (
   setting_of c.args.network.now,
   opened c.args.network.now _ _ _ _ c.deref_mut.ensures.value c.deref.ensures.value c.in_ok-nodes.ensures c.in_ok-offers.ensures,
-  c.network_laws.ensures,
+  c.network_law.ensures,
 )
 
 pub returns-in_err-rows-clause-exhausted : goal.returns-in_err-rows-clause-exhausted
@@ -20,15 +20,15 @@ returns-in_err-rows-clause-exhausted g c = λ e.
     let k : c.run_actors.result ≡ Err Exhausted = cc in
     c.run_actors.ensures.exhausted k (setting_of c.args.network.now)
     (opened c.args.network.now _ _ _ _ c.deref_mut.ensures.value c.deref.ensures.value c.in_ok-nodes.ensures c.in_ok-offers.ensures)
-    c.network_laws.ensures
+    c.network_law.ensures
 
 pub returns-clause-whole : goal.returns-clause-whole
 returns-clause-whole g c =
     let (n, ended, rows, states) = c.in_ok-rows.ensures.whole (setting_of c.args.network.now)
-    (opened c.args.network.now _ _ _ _ c.deref_mut.ensures.value c.deref.ensures.value c.in_ok-nodes.ensures c.in_ok-offers.ensures) c.network_laws.ensures in
+    (opened c.args.network.now _ _ _ _ c.deref_mut.ensures.value c.deref.ensures.value c.in_ok-nodes.ensures c.in_ok-offers.ensures) c.network_law.ensures in
     (n, ended, rows)
 
 pub returns-clause-numbers : goal.returns-clause-numbers
 returns-clause-numbers g c =
     c.in_ok-rows.ensures.numbers (setting_of c.args.network.now)
-    (opened c.args.network.now _ _ _ _ c.deref_mut.ensures.value c.deref.ensures.value c.in_ok-nodes.ensures c.in_ok-offers.ensures) c.network_laws.ensures
+    (opened c.args.network.now _ _ _ _ c.deref_mut.ensures.value c.deref.ensures.value c.in_ok-nodes.ensures c.in_ok-offers.ensures) c.network_law.ensures

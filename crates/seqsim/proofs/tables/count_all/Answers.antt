@@ -6,7 +6,7 @@ use Rattle.seqsim.specs.Networks.{setting_of}
 use Rattle.seqsim.proofs.tables.count_all.Goals as goal
 
 pub handle_all-requires : goal.handle_all-requires
-handle_all-requires g c = ([], c.in_ok-counted.ensures.none, (setting_of c.args.network.now, c.network_laws.ensures, 0, c.requires))
+handle_all-requires g c = ([], c.in_ok-counted.ensures.none, (setting_of c.args.network.now, c.network_law.ensures, 0, c.requires))
 
 pub returns-in_err-handle_all-clause-exhausted : goal.returns-in_err-handle_all-clause-exhausted
 returns-in_err-handle_all-clause-exhausted g c = λ e.
@@ -14,16 +14,16 @@ returns-in_err-handle_all-clause-exhausted g c = λ e.
     let q : p.0 ≡ c.in_err-handle_all.field-0.0 = p.2 in
     let w : c.handle_all.result ≡ Err c.in_err-handle_all.field-0.0 = c.in_err-handle_all.was in
     let k : c.handle_all.result ≡ Err Exhausted = cc in
-    c.handle_all.ensures.exhausted k [] c.in_ok-counted.ensures.none (setting_of c.args.network.now) c.network_laws.ensures 0 c.requires
+    c.handle_all.ensures.exhausted k [] c.in_ok-counted.ensures.none (setting_of c.args.network.now) c.network_law.ensures 0 c.requires
 
 pub into_tables-requires : goal.into_tables-requires
 into_tables-requires g c =
-    let whole = c.in_ok-handle_all.ensures.whole [] c.in_ok-counted.ensures.none (setting_of c.args.network.now) c.network_laws.ensures 0 c.requires in
+    let whole = c.in_ok-handle_all.ensures.whole [] c.in_ok-counted.ensures.none (setting_of c.args.network.now) c.network_law.ensures 0 c.requires in
     (whole.0, whole.1)
 
 pub returns-clause-whole : goal.returns-clause-whole
 returns-clause-whole g c =
-    let (rows, taken, (n, ended, seen, states)) = c.in_ok-handle_all.ensures.whole [] c.in_ok-counted.ensures.none (setting_of c.args.network.now) c.network_laws.ensures 0 c.requires in (
+    let (rows, taken, (n, ended, seen, states)) = c.in_ok-handle_all.ensures.whole [] c.in_ok-counted.ensures.none (setting_of c.args.network.now) c.network_law.ensures 0 c.requires in (
       rows,
       (n, ended, seen),
       c.in_ok-into_tables.ensures rows taken
@@ -32,4 +32,4 @@ returns-clause-whole g c =
 
 pub returns-clause-numbers : goal.returns-clause-numbers
 returns-clause-numbers g c =
-    c.in_ok-handle_all.ensures.numbers [] c.in_ok-counted.ensures.none (setting_of c.args.network.now) c.network_laws.ensures 0 c.requires
+    c.in_ok-handle_all.ensures.numbers [] c.in_ok-counted.ensures.none (setting_of c.args.network.now) c.network_law.ensures 0 c.requires

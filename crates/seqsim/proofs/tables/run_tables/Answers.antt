@@ -2,7 +2,7 @@ use Rattle.std.proofs.Common.{◌≡◌, ◌∙◌, List, [], Result, Ok, Err, I
 use Rattle.actor_run.specs.declared.fault.SimFault.{SimFault}
 use Rattle.vlink.specs.Letters.{Row}
 use Rattle.virtual_time.specs.Law.{Laws}
-use Rattle.netdesc.specs.Words.{Plan}
+use Rattle.network.specs.Words.{Plan}
 use Rattle.nodes.specs.Words.{simulation_of}
 use Rattle.trace_tables.specs.Tables.{TableLists, tables_of}
 use Rattle.seqsim.specs.Networks.{AreRowsOf, setting_of}
@@ -29,4 +29,4 @@ each-of plan L (Ok tables) some = λ rows r. some.2 ∙ ap (tables_of plan) (sam
 each-of plan L (Err fault) some = some
 
 pub returns-clause-each : goal.returns-clause-each
-returns-clause-each g c = each-of c.args.network.now c.network_laws.ensures c.count_all.result c.count_all.ensures.whole
+returns-clause-each g c = each-of c.args.network.now c.network_law.ensures c.count_all.result c.count_all.ensures.whole

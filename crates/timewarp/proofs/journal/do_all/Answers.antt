@@ -6,7 +6,7 @@ use Rattle.std.proofs.lemmas.Result.{err_from_is_err_and}
 use Rattle.virtual_time.specs.declared.step.Step.TheVariants.{Take}
 use Rattle.virtual_time.specs.declared.step.Step.{Step}
 use Rattle.virtual_time.specs.Law.{is_enabled}
-use Rattle.netdesc.specs.Words.{Plan}
+use Rattle.network.specs.Words.{Plan}
 use Rattle.nodes.specs.Words.{simulation_of}
 use Rattle.actor_world.specs.declared.fault.StepFault.TheVariants.{Exhausted, OutOfMemory}
 use Rattle.seqsim.specs.Committed.{after}

@@ -1,6 +1,6 @@
 use Rattle.std.proofs.Common.{◌≡◌, Err, map, take, subst}
 use Rattle.std.proofs.lemmas.Result.{err_from_is_err_and}
-use Rattle.netdesc.specs.Words.{Plan}
+use Rattle.network.specs.Words.{Plan}
 use Rattle.nodes.specs.Words.{simulation_of}
 use Rattle.actor_world.specs.declared.fault.StepFault.TheVariants.{Exhausted}
 use Rattle.actor_world.specs.Worlds.{IsExhausted}
@@ -9,22 +9,22 @@ use Rattle.timewarp.proofs.Beginnings.{beginnings-rise, beginnings-stay}
 use Rattle.timewarp.proofs.journal.replay.Goals as goal
 
 pub returns-in_err-replay-clause-rises : goal.returns-in_err-replay-clause-rises
-returns-in_err-replay-clause-rises c = beginnings-rise c.args.network c.world_laws.ensures.rises c.args.steps.now
+returns-in_err-replay-clause-rises c = beginnings-rise c.args.network c.world_law.ensures.rises c.args.steps.now
 
 pub returns-in_err-replay-clause-never_undone : goal.returns-in_err-replay-clause-never_undone
-returns-in_err-replay-clause-never_undone c = beginnings-stay c.args.network c.world_laws.ensures.never_undone c.args.steps.now
+returns-in_err-replay-clause-never_undone c = beginnings-stay c.args.network c.world_law.ensures.never_undone c.args.steps.now
 
 pub returns-in_err-do_all-clause-rises : goal.returns-in_err-do_all-clause-rises
-returns-in_err-do_all-clause-rises c = beginnings-rise c.args.network c.world_laws.ensures.rises c.args.steps.now
+returns-in_err-do_all-clause-rises c = beginnings-rise c.args.network c.world_law.ensures.rises c.args.steps.now
 
 pub returns-in_err-do_all-clause-never_undone : goal.returns-in_err-do_all-clause-never_undone
-returns-in_err-do_all-clause-never_undone c = beginnings-stay c.args.network c.world_laws.ensures.never_undone c.args.steps.now
+returns-in_err-do_all-clause-never_undone c = beginnings-stay c.args.network c.world_law.ensures.never_undone c.args.steps.now
 
 pub returns-clause-rises : goal.returns-clause-rises
-returns-clause-rises c = beginnings-rise c.args.network c.world_laws.ensures.rises c.args.steps.now
+returns-clause-rises c = beginnings-rise c.args.network c.world_law.ensures.rises c.args.steps.now
 
 pub returns-clause-never_undone : goal.returns-clause-never_undone
-returns-clause-never_undone c = beginnings-stay c.args.network c.world_laws.ensures.never_undone c.args.steps.now
+returns-clause-never_undone c = beginnings-stay c.args.network c.world_law.ensures.never_undone c.args.steps.now
 
 pub returns-in_err-do_all-clause-exhausted : goal.returns-in_err-do_all-clause-exhausted
 returns-in_err-do_all-clause-exhausted c = λ e.

@@ -11,7 +11,7 @@ loop-place-preserved c =
     let place = get_or c.args.places.now c.loop-place.place-index 0 in
     let table = c.loop-place.table.entries in
     c.in_ok-insert.ensures.entries
-    ∙ inserted _ c.destination_order.ensures table (destination vl place) c.none.result
+    ∙ inserted _ c.destination_order_law.ensures table (destination vl place) c.none.result
     ∙ ap (insert_entry destination_cmp table (destination vl place)) c.none.ensures
     ∙ ap (λ es. insert_entry destination_cmp es (destination vl place) (counts_of [])) c.loop-place.invariant
     ∙ sym (with-place c.args.table.now.entries vl c.args.places.now c.loop-place.place-index c.loop-place-test.true)

@@ -1,6 +1,6 @@
 use Rattle.std.proofs.Common.{[], map, take, ap, sym, ◌∙◌, add-one, arith, take_all}
 use Rattle.std.proofs.lemmas.Map.Keys.{sorted_from_strictly_increasing}
-use Rattle.netdesc.specs.Words.{ids_of}
+use Rattle.network.specs.Words.{ids_of}
 use Rattle.trace_tables.specs.Destinations.{destination, destinations_in, with_destinations}
 use Rattle.trace_tables.proofs.DestinationLemmas.{destinations-more, none-counted, with_destinations-append}
 use Rattle.trace_tables.proofs.ListLemmas.{rises-of}

@@ -23,16 +23,16 @@ put cmp same counts loss n = ap (λ (order : Loss → Loss → Ordering). insert
 pub overflow_add-drops : goal.overflow_add-drops
 overflow_add-drops c =
     let e : c.or_insert.result.now ≡ count_in c.args.drops.now.entries c.args.loss =
-    c.or_insert.ensures.value ∙ ap (λ o. unwrap_or o 0) c.in_ok-drops.ensures.value ∙ found _ c.loss_order.ensures c.args.drops.now.entries c.args.loss in
+    c.or_insert.ensures.value ∙ ap (λ o. unwrap_or o 0) c.in_ok-drops.ensures.value ∙ found _ c.loss_order_law.ensures c.args.drops.now.entries c.args.loss in
     omega (arith, c.requires)
 
 pub returns : goal.returns
 returns c =
     let counts = c.args.drops.now.entries in
     let e : c.or_insert.result.now ≡ count_in counts c.args.loss =
-    c.or_insert.ensures.value ∙ ap (λ o. unwrap_or o 0) c.in_ok-drops.ensures.value ∙ found _ c.loss_order.ensures counts c.args.loss in
+    c.or_insert.ensures.value ∙ ap (λ o. unwrap_or o 0) c.in_ok-drops.ensures.value ∙ found _ c.loss_order_law.ensures counts c.args.loss in
     let all : (map_with_value c.in_ok-drops.field-0 (c.or_insert.result.now + 1)).entries ≡ with_loss counts c.args.loss =
     c.in_ok-drops.ensures.update.1 (c.or_insert.result.now + 1)
-    ∙ put _ c.loss_order.ensures counts c.args.loss (c.or_insert.result.now + 1)
+    ∙ put _ c.loss_order_law.ensures counts c.args.loss (c.or_insert.result.now + 1)
     ∙ ap (λ n. insert_entry loss_cmp counts c.args.loss (n + 1)) e in
     grind (arith, all)

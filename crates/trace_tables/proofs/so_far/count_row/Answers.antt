@@ -1,7 +1,7 @@
 use Rattle.std.proofs.Common.{◌≤◌, [], ◌∷◌, cond, length, ap, sym, subst, ◌∙◌, arith}
 use Rattle.std.proofs.lemmas.Result.{on_ok_weaker}
 use Rattle.std.proofs.lemmas.Map.Keys.{sorted_from_strictly_increasing}
-use Rattle.netdesc.specs.Words.{ids_of}
+use Rattle.network.specs.Words.{ids_of}
 use Rattle.trace_tables.specs.declared.loss.Loss.{Loss}
 use Rattle.trace_tables.specs.Destinations.{counts_in, destination, destinations_in, with_latency_at}
 use Rattle.trace_tables.specs.Latencies.{latency_in}

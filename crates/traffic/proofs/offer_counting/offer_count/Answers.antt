@@ -10,7 +10,7 @@ overflow_add-count c =
 pub loop-vl-preserved : goal.loop-vl-preserved
 loop-vl-preserved c = record {
   count_is = ap (λ n. n + c.vl_offer_count-count.result) c.loop-vl.invariant.count_is
-      ∙ sym (offer_count_more c.args.network.now c.loop-vl.vl c.virtual_link-link.result c.vl_offer_count-count.result c.accepted.ensures c.virtual_link-link.ensures.value
+      ∙ sym (offer_count_more c.args.network.now c.loop-vl.vl c.virtual_link-link.result c.vl_offer_count-count.result c.accepted_law.ensures c.virtual_link-link.ensures.value
       (λ source. rw (← c.seed.ensures, ← c.until.ensures.value) (c.vl_offer_count-count.ensures.value source)));
   few = omega arith;
 }

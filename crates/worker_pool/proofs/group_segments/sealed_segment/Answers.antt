@@ -25,13 +25,13 @@ returns-clause-segment g c =
     let plan = g.J.NetworkRun.plan in
     let group = c.args.group.now in
     let owners = g.J.NetworkRun.owners in
-    let sealed = c.if-not-is_sealed_before.false in
-    let good = c.is_sealed_before.ensures.all.0 sealed in
+    let sealed = c.if-not-is_committed_before.false in
+    let good = c.is_committed_before.ensures.all.0 sealed in
     ok-weaker (λ (segment : Option SegmentRows). IfSome segment (λ p. p ≡ group_segment_of 0 c.number.result c.args.k c.args.until c.rows_between-rows.result.now))
     (λ segment. IfSome segment (IsGroupSegmentOfRun plan owners group.number c.args.k))
     (λ segment h. IfSome_then segment h (segment-at plan owners c.args.k c.args.until c.cut-from.result c.cut-to.result c.requires.until
     c.cut-from.ensures c.cut-to.ensures group.number c.number.result c.number.ensures.number c.rows_between-rows.result.now
-    (c.rows_between-rows.ensures.whole good.0 (c.is_sealed_before.ensures.each sealed))))
+    (c.rows_between-rows.ensures.whole good.0 (c.is_committed_before.ensures.each sealed))))
     c.of_group.result c.of_group.ensures.segment
 
 pub returns-clause-some : goal.returns-clause-some
@@ -39,7 +39,7 @@ returns-clause-some g c =
     let plan = g.J.NetworkRun.plan in
     let group = c.args.group.now in
     let owners = g.J.NetworkRun.owners in
-    let good = c.is_sealed_before.ensures.all.0 c.if-not-is_sealed_before.false in
+    let good = c.is_committed_before.ensures.all.0 c.if-not-is_committed_before.false in
     ok-weaker (λ (segment : Option SegmentRows). IsSome segment ↔ HasInterval c.args.until c.args.k) (λ segment. IsSome segment ↔ IsGroupIntervalSealed plan c.args.k group)
     (λ segment. some-at plan owners c.args.k c.args.until c.cut-from.result c.cut-to.result c.requires.until
     c.cut-from.ensures c.cut-to.ensures group c.requires.there good (IsSome segment))

@@ -1,5 +1,4 @@
-use Rattle.std.specs.Prelude.{true}
 use Rattle.worker_pool.proofs.running.run.Given as goal
 
 abbrev pub ghosts-run_named : goal.ghosts-run_named
-ghosts-run_named g a = record { plan = a.network.now; keeps = true; names = a.pairs; owners = a.grouping.owners.items }
+ghosts-run_named g a = record { plan = a.start.network.now; keeps = a.start.keeps; names = a.start.pairs; owners = a.start.grouping.owners.items }

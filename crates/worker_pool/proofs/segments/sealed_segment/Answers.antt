@@ -24,7 +24,7 @@ pub returns-clause-segment : goal.returns-clause-segment
 returns-clause-segment g c =
     let plan = g.J.NetworkRun.plan in
     let held = c.args.held.now in
-    let good = c.is_sealed_before.ensures.0 c.if-not-is_sealed_before.false in
+    let good = c.is_committed_before.ensures.0 c.if-not-is_committed_before.false in
     ok-weaker (λ (segment : Option SegmentRows). IfSome segment (λ p. p ≡ segment_of 0 c.number.result c.args.k c.args.until c.rows_between-rows.result.now))
     (λ segment. IfSome segment (IsSegmentOfRun plan held.number c.args.k))
     (λ segment h. IfSome_then segment h (segment-at plan c.args.k c.args.until c.cut-from.result c.cut-to.result c.requires.until
@@ -36,7 +36,7 @@ pub returns-clause-some : goal.returns-clause-some
 returns-clause-some g c =
     let plan = g.J.NetworkRun.plan in
     let held = c.args.held.now in
-    let good = c.is_sealed_before.ensures.0 c.if-not-is_sealed_before.false in
+    let good = c.is_committed_before.ensures.0 c.if-not-is_committed_before.false in
     ok-weaker (λ (segment : Option SegmentRows). IsSome segment ↔ HasInterval c.args.until c.args.k) (λ segment. IsSome segment ↔ IsIntervalSealed plan c.args.k held)
     (λ segment. some-at plan c.args.k c.args.until c.cut-from.result c.cut-to.result c.requires.until
     c.cut-from.ensures c.cut-to.ensures held c.requires.there good (IsSome segment))

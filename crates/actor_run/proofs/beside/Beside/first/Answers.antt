@@ -19,7 +19,7 @@ returns-then-is_offer_next-clause-first c =
     let last = subst (λ (xs : List Message). option_copied c.last.result ≡ slice_get xs (length xs - 1)) c.deref.ensures.value c.last.ensures.value in
     let next = subst (λ (xs : List Message). IsSomeAnd (slice_get xs (length xs - 1)) (λ m. NoneBefore m sent)) c.as_slice.ensures.value (c.if-is_offer_next.ensures.offer refl) in
     subst (λ (xs : List Message). IfSome c.last.result (λ m. NoneBefore m.now xs)) c.self.view_is
-    (last-of-all c.message_order.ensures.total sent offers c.last.result c.self.inside.falling last next)
+    (last-of-all c.message_order_law.ensures.total sent offers c.last.result c.self.inside.falling last next)
 
 pub returns-in_default-clause-none : goal.returns-in_default-clause-none
 returns-in_default-clause-none c =
@@ -44,5 +44,5 @@ returns-clause-first c =
     let some : 0 < length sent = search rules in
     subst (λ (m : Message). NoneBefore m c.args.self.now) (sym c.message.ensures)
     (subst (NoneBefore x) c.self.view_is
-    (sent-first c.message_order.ensures.total c.message_order.ensures.written sent offers x c.self.inside.falling (c.in-Some.ensures.greatest c.self.inside.ordered)
+    (sent-first c.message_order_law.ensures.total c.message_order_law.ensures.written sent offers x c.self.inside.falling (c.in-Some.ensures.greatest c.self.inside.ordered)
     some c.in-Some.ensures.lookup (subst (IsNotBeforeTop sent) c.as_slice.ensures.value (c.if-is_offer_next.ensures.sent refl))))

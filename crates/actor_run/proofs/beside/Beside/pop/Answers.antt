@@ -16,7 +16,7 @@ returns-then-is_offer_next-clause-first c =
     let sent = heap_items c.self.inside.sent in
     let next = subst (λ (xs : List Message). IsSomeAnd (slice_get xs (length xs - 1)) (λ m. NoneBefore m sent)) c.as_slice.ensures.value (c.if-is_offer_next.ensures.offer refl) in
     subst (λ (xs : List Message). IfSome c.pop.result (λ m. NoneBefore m xs)) c.self.view_is
-    (offer-first c.message_order.ensures.total sent c.self.inside.offers.items c.pop.new.self.items c.pop.result
+    (offer-first c.message_order_law.ensures.total sent c.self.inside.offers.items c.pop.new.self.items c.pop.result
     c.self.inside.falling c.pop.ensures.items next)
 
 pub returns-in_default-clause-none : goal.returns-in_default-clause-none
@@ -44,5 +44,5 @@ returns-clause-first c =
     let over = c.in-Some.ensures.heap_order c.self.inside.ordered in
     subst (λ (m : Message). NoneBefore m c.args.self.now) (sym c.message.ensures)
     (subst (NoneBefore x) c.self.view_is
-    (sent-first c.message_order.ensures.total c.message_order.ensures.written sent offers x c.self.inside.falling over.1
+    (sent-first c.message_order_law.ensures.total c.message_order_law.ensures.written sent offers x c.self.inside.falling over.1
     some c.in-Some.ensures.top (subst (IsNotBeforeTop sent) c.as_slice.ensures.value (c.if-is_offer_next.ensures.sent refl))))

@@ -13,7 +13,7 @@ returns-in_default-clause-one c =
 pub returns-in_default-clause-first : goal.returns-in_default-clause-first
 returns-in_default-clause-first c =
     subst (λ (xs : List Message). IfSome c.pop.result (λ m. NoneBefore m xs)) c.self.view_is
-    (first-in-second c.message_order.ensures.total c.self.inside.lists.messages c.pop_before.new.self.messages c.self.inside.beside c.pop.result c.first.result
+    (first-in-second c.message_order_law.ensures.total c.self.inside.lists.messages c.pop_before.new.self.messages c.self.inside.beside c.pop.result c.first.result
     c.pop.ensures.first c.first.ensures.among c.in_default.ensures.rival)
 
 pub returns-clause-one : goal.returns-clause-one
@@ -26,5 +26,5 @@ returns-clause-one c =
 pub returns-clause-first : goal.returns-clause-first
 returns-clause-first c =
     subst (NoneBefore c.in-Some.message) c.self.view_is
-    (first-in-first c.message_order.ensures.total c.self.inside.lists.messages c.self.inside.beside c.in-Some.message c.first.result
+    (first-in-first c.message_order_law.ensures.total c.self.inside.lists.messages c.self.inside.beside c.in-Some.message c.first.result
     c.in-Some.ensures.first c.in-Some.ensures.before c.first.ensures.first c.first.ensures.none)

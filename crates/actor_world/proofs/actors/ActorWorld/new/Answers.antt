@@ -8,7 +8,7 @@ use Rattle.actor_world.proofs.actors.ActorWorld.new.Goals as goal
 pub with_letters-requires : goal.with_letters-requires
 with_letters-requires g c =
     rw c.in_ok-letters.ensures
-    (offers-go (rules_of g.R.Reversible.plain) c.actor_rules.ensures.order g.R.Actor.number g.R.Actor.end g.R.Actor.is_placed g.R.Reversible.is_value
+    (offers-go (rules_of g.R.Reversible.plain) c.actor_rules_law.ensures.order g.R.Actor.number g.R.Actor.end g.R.Actor.is_placed g.R.Reversible.is_value
     c.args.actors.items c.args.offers.now c.args.until c.requires.layout _ (omega (arith, c.len-count.ensures, c.args.actors.ok.0)))
 
 pub returns-clause-opens : goal.returns-clause-opens

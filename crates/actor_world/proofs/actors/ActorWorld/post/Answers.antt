@@ -19,7 +19,7 @@ here g c =
     (rw (sym c.self.view_is) at c.requires.there) c.index_mut.ensures.value
 
 pub post-requires : goal.post-requires
-post-requires g c = outbox-goes _ _ _ _ _ _ _ _ (here g (goal.at.post-requires g c).After-index_mut) (λ x laid. c.actor_laws.ensures x laid) (rw (sym c.self.view_is) at c.requires.world)
+post-requires g c = outbox-goes _ _ _ _ _ _ _ _ (here g (goal.at.post-requires g c).After-index_mut) (λ x laid. c.actor_law.ensures x laid) (rw (sym c.self.view_is) at c.requires.world)
 
 pub returns-in_err-post : goal.returns-in_err-post
 returns-in_err-post g c =
@@ -44,7 +44,7 @@ returns g c =
     c.post.new.mail c.in_ok-post.ensures.processes
     c.set.new.self.floors c.set.ensures.processes c.set.ensures.others
     c.set.new.self.until c.set.ensures.until
-    (c.actor_laws.ensures c.requires.world.0 c.requires.world.1).order (λ s m. g.met.R.Actor.end_stays s m) c.in_ok-post.ensures.emptied
+    (c.actor_law.ensures c.requires.world.0 c.requires.world.1).order (λ s m. g.met.R.Actor.end_stays s m) c.in_ok-post.ensures.emptied
     (ap (λ (z : Queues g.row.R.Denot g.row.R-Record.Denot). z.left) c.in_ok-post.ensures.queues) c.in_ok-post.ensures.posted
     (ap (λ (z : Queues g.row.R.Denot g.row.R-Record.Denot). z.past) c.in_ok-post.ensures.queues)
     c.floor-floor.result floor c.set.ensures.here)

@@ -18,7 +18,7 @@ here g c =
 
 pub returns-in_err-_message : goal.returns-in_err-_message
 returns-in_err-_message g c =
-    let R = of-messages g.R.Reversible.plain c.actor_rules.ensures.order c.actor_rules.ensures.undoes in
+    let R = of-messages g.R.Reversible.plain c.actor_rules_law.ensures.order c.actor_rules_law.ensures.undoes in
     let e = err_from_is_err_and c.from_residual.result c.from_residual.ensures.1 in
     let unchanged = queues-same c.self.inside.processes.items c.from.result c.index_mut.result.now c.run_with.new.self c.index_mut.ensures.value c.in_err-_message.ensures.unchanged in
     rw (sym c.self.view_is)
@@ -37,7 +37,7 @@ returns-in_default g c =
 
 pub returns : goal.returns
 returns g c =
-    let R = of-messages g.R.Reversible.plain c.actor_rules.ensures.order c.actor_rules.ensures.undoes in
+    let R = of-messages g.R.Reversible.plain c.actor_rules_law.ensures.order c.actor_rules_law.ensures.undoes in
     let at = here g (goal.at.returns g c).After-index_mut in
     rw (sym c.self.view_is)
     (moved-did _ _ _ _ _ _ _ _ at Ran (has-numbers _ _ _ _ _ _ _ _ at R (λ n. let d = c.in_ok-_message.ensures.exhausted.1 n in cc))

@@ -14,7 +14,7 @@ pub returns-in-Post-clause-stands : goal.returns-in-Post-clause-stands
 returns-in-Post-clause-stands g c = stands-at _ _ _ _ _ _ _ _ _ c.in-Post.is _ c.post.ensures
 
 pub returns-in-Gvt-clause-stands : goal.returns-in-Gvt-clause-stands
-returns-in-Gvt-clause-stands g c = stands-at _ _ _ _ _ _ _ _ _ c.in-Gvt.is _ c.set_gvt.ensures.stepped
+returns-in-Gvt-clause-stands g c = stands-at _ _ _ _ _ _ _ _ _ c.in-Gvt.is _ c.publish.ensures.stepped
 
 pub returns-in-Commit-clause-stands : goal.returns-in-Commit-clause-stands
 returns-in-Commit-clause-stands g c = stands-at _ _ _ _ _ _ _ _ _ c.in-Commit.is _ c.commit.ensures

@@ -5,10 +5,10 @@ use Rattle.antimessages.proofs.tally.Tally.add.Goals as goal
 
 pub returns-then-branch-clause-count : goal.returns-then-branch-clause-count
 returns-then-branch-clause-count c =
-    (one-more message_order c.occurrence_order.ensures.messages c.args.letter (letters_of c.put_first.new.signs.entries) c.self.view_is
+    (one-more message_order c.occurrence_order_law.ensures.messages c.args.letter (letters_of c.put_first.new.signs.entries) c.self.view_is
     (c.in_ok-put_first.ensures.counts c.if-branch.true)).0
 
 pub returns-then-branch-clause-others : goal.returns-then-branch-clause-others
 returns-then-branch-clause-others c =
-    (one-more message_order c.occurrence_order.ensures.messages c.args.letter (letters_of c.put_first.new.signs.entries) c.self.view_is
+    (one-more message_order c.occurrence_order_law.ensures.messages c.args.letter (letters_of c.put_first.new.signs.entries) c.self.view_is
     (c.in_ok-put_first.ensures.counts c.if-branch.true)).1

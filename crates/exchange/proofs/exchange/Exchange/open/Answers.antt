@@ -12,7 +12,7 @@ use Rattle.exchange.proofs.exchange.Exchange.open.Goals as goal
 
 pub with_letters-requires : goal.with_letters-requires
 with_letters-requires g c =
-    let L = c.actor_laws.ensures g.J.ActorRun.setting c.requires.layout in
+    let L = c.actor_law.ensures g.J.ActorRun.setting c.requires.layout in
     let count = c.len-count.ensures ∙ (c.args.actors.ok.0 ∙ c.requires.opens.actors_open.count) in
     subst (λ ls. All (λ l. l.message.receiver < c.len-count.result) ls) (sym c.in_ok-letters.ensures)
     (offers-go c.requires.layout L.order c.args.offers.now c.requires.opens.offered c.len-count.result count)

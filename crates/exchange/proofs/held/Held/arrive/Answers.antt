@@ -10,7 +10,7 @@ pub invariant_of-self-in-Ok : goal.invariant_of-self-in-Ok
 invariant_of-self-in-Ok g c =
     let h = c.self.invariant.0 in
     let some = rw (sym c.self.view_is) at c.requires in (
-      holds-moved h (c.actor_laws.ensures g.J.ActorRun.setting h.laid) Arrived (lt-ltb 0 _ some) c.arrive.new.self.queues (c.in-Ok.ensures.arrived _ _ h.stands)
+      holds-moved h (c.actor_law.ensures g.J.ActorRun.setting h.laid) Arrived (lt-ltb 0 _ some) c.arrive.new.self.queues (c.in-Ok.ensures.arrived _ _ h.stands)
           c.arrive.ensures.left c.push.new.self c.in_ok-push.ensures.pushed,
       c.self.invariant.1,
     )

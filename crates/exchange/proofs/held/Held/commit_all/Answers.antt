@@ -9,4 +9,4 @@ pub loop-preserved : goal.loop-preserved
 loop-preserved g c =
     let f = simulation_of (rules_of g.R.Reversible.plain) g.J.ActorRun.setting in
     let i = c.loop.invariant in
-    (i.0 + 1, moved-more f i.0 Committed c.args.self.now c.loop.self c.commit_one.new.self i.1 (c.in_ok-commit_one.ensures.committed c.if-not-branch.false))
+    (i.0 + 1, moved-more f i.0 Committed c.args.self.now c.loop.self c.commit_oldest.new.self i.1 (c.in_ok-commit_oldest.ensures.committed c.if-not-branch.false))

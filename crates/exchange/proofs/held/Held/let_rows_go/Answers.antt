@@ -7,4 +7,4 @@ pub let_rows_go-requires : goal.let_rows_go-requires
 let_rows_go-requires g c =
     let h = c.self.invariant.0 in
     let f = simulation_of (rules_of g.R.Reversible.plain) g.J.ActorRun.setting in
-    (_, _, h.stands, committed-in-time f (c.actor_laws.ensures g.J.ActorRun.setting h.laid) c.self.inside.number c.self.inside.standing.seen _ h.safe)
+    (_, _, h.stands, committed-in-time f (c.actor_law.ensures g.J.ActorRun.setting h.laid) c.self.inside.number c.self.inside.standing.seen _ h.safe)

@@ -11,7 +11,7 @@ invariant_of-result g c =
     let r = rules_of g.R.Reversible.plain in
     let q = c.in-Ok.process.queues in
     let stands = subst (λ s. StandsFor r g.R.Reversible.is_value s (opened s) q) c.requires.actor c.in-Ok.ensures.stands in (
-      holds-opened c.requires.layout (c.actor_laws.ensures g.J.ActorRun.setting c.requires.layout) g.R.Reversible.is_value c.args.number c.requires.within
+      holds-opened c.requires.layout (c.actor_law.ensures g.J.ActorRun.setting c.requires.layout) g.R.Reversible.is_value c.args.number c.requires.within
           q stands c.in-Ok.ensures.left c.new-in-Ok.result c.new-in-Ok.ensures _ refl _ c.default.ensures c.default-in-Ok.result,
       record { name = c.requires.name; value = c.requires.blank ∙ (λ i. record { last = Opening; seen = sym c.default.ensures i }) },
     )

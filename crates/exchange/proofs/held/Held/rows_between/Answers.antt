@@ -10,7 +10,7 @@ pub rows_between-requires : goal.rows_between-requires
 rows_between-requires g c =
     let h = c.self.invariant.0 in
     let f = simulation_of (rules_of g.R.Reversible.plain) g.J.ActorRun.setting in
-    (_, _, h.stands, committed-in-time f (c.actor_laws.ensures g.J.ActorRun.setting h.laid) c.self.inside.number c.self.inside.standing.seen _ h.safe)
+    (_, _, h.stands, committed-in-time f (c.actor_law.ensures g.J.ActorRun.setting h.laid) c.self.inside.number c.self.inside.standing.seen _ h.safe)
 
 pub returns-clause-rows : goal.returns-clause-rows
 returns-clause-rows g c =
@@ -26,4 +26,4 @@ returns-clause-whole g c =
     let not_later = rw (sym c.self.view_is) at c.requires in
     let early = gone-later f.rules c.self.inside.gone c.args.from not_later c.self.inside.process.queues.left _ h.gone_early in
     rw (sym c.self.view_is) (λ low none event_count ended. c.rows_between.ensures.whole _ _ h.stands early
-    ∙ sym (early-rows f (c.actor_laws.ensures g.J.ActorRun.setting h.laid) c.self.inside.number c.self.inside.standing.seen c.args.from c.args.to _ h.safe low none event_count ended))
+    ∙ sym (early-rows f (c.actor_law.ensures g.J.ActorRun.setting h.laid) c.self.inside.number c.self.inside.standing.seen c.args.from c.args.to _ h.safe low none event_count ended))

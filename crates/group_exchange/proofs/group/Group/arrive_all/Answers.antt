@@ -6,7 +6,7 @@ use Rattle.group_exchange.proofs.group.Group.arrive_all.Goals as goal
 pub invariant_of-self : goal.invariant_of-self
 invariant_of-self g c =
     let h = c.self.invariant.0 in
-    let L = c.actor_laws.ensures g.J.GroupRun.setting h.laid in
+    let L = c.actor_law.ensures g.J.GroupRun.setting h.laid in
     let d = c.arrive_all.ensures.did in
     let t = does h L c.arrive_all.new.self d in (
       t.holds,
@@ -21,5 +21,5 @@ pub returns-clause-goes : goal.returns-clause-goes
 returns-clause-goes g c =
     let h = c.self.invariant.0 in
     let d = c.arrive_all.ensures.did in
-    let t = does h (c.actor_laws.ensures g.J.GroupRun.setting h.laid) c.arrive_all.new.self d in
+    let t = does h (c.actor_law.ensures g.J.GroupRun.setting h.laid) c.arrive_all.new.self d in
     rw (sym c.self.view_is) (record { did = d.did; went = t.went c.self.inside.gone })

@@ -15,7 +15,7 @@ pub invariant_of-self : goal.invariant_of-self
 invariant_of-self g c =
     let h = c.self.invariant.0 in
     let k = c.self.invariant.5 in
-    let L = c.actor_laws.ensures g.J.GroupRun.setting h.laid in
+    let L = c.actor_law.ensures g.J.GroupRun.setting h.laid in
     let d = c.commit.ensures.did in
     let new = c.commit.new.self in
     let t = commits h L new d in (
@@ -38,13 +38,13 @@ pub returns-clause-goes : goal.returns-clause-goes
 returns-clause-goes g c =
     let h = c.self.invariant.0 in
     let d = c.commit.ensures.did in
-    let t = commits h (c.actor_laws.ensures g.J.GroupRun.setting h.laid) c.commit.new.self d in
+    let t = commits h (c.actor_law.ensures g.J.GroupRun.setting h.laid) c.commit.new.self d in
     rw (sym c.self.view_is) (record { did = d.did; went = t.went c.self.inside.gone })
 
 pub returns-clause-below : goal.returns-clause-below
 returns-clause-below g c =
     let h = c.self.invariant.0 in
-    let L = c.actor_laws.ensures g.J.GroupRun.setting h.laid in
+    let L = c.actor_law.ensures g.J.GroupRun.setting h.laid in
     let t = commits h L c.commit.new.self c.commit.ensures.did in
     elim c.match-commit.branch [
       | in-Ok w ↦ rw (sym c.self.view_is) (subst (λ z. OnOk z (All (λ (m : Message). c.self.inside.standing.seen ≤ m.time) (messages_of c.commit.new.self.done))) (sym w.result-is)
@@ -56,7 +56,7 @@ returns-clause-below g c =
 pub returns-clause-in_time : goal.returns-clause-in_time
 returns-clause-in_time g c =
     let h = c.self.invariant.0 in
-    let L = c.actor_laws.ensures g.J.GroupRun.setting h.laid in
+    let L = c.actor_law.ensures g.J.GroupRun.setting h.laid in
     let t = commits h L c.commit.new.self c.commit.ensures.did in
     each-inside L.order (λ (m : Message). m.time ≤ g.J.GroupRun.setting.until) c.commit.new.self.flow.queue
     (λ y i. t.holds.stands.in_time y (let a = times-append message_order L.order y c.commit.new.self.flow.queue (messages_of c.commit.new.self.done) in omega arith))

@@ -14,7 +14,7 @@ pub invariant_of-self : goal.invariant_of-self
 invariant_of-self g c =
     let a = c.next.ensures.same in (
       holds-again c.self.invariant.0 c.next.new.self a.members (ap (λ (z : Flow). z.words) a.flow)
-          (λ v s. c.hand_laws.ensures.as_before c.self.inside.hand c.next.new.self a g.J.GroupRun.setting v s),
+          (λ v s. c.hand_law.ensures.as_before c.self.inside.hand c.next.new.self a g.J.GroupRun.setting v s),
       c.self.invariant.1,
       ap (λ (z : Flow). z.keeps) a.flow ∙ c.self.invariant.2,
       c.self.invariant.3,
@@ -27,7 +27,7 @@ returns-clause-stood g c = rw (sym c.self.view_is) (group-as-before _ c.next.new
 
 pub returns-clause-idle : goal.returns-clause-idle
 returns-clause-idle g c =
-    let L = c.actor_laws.ensures g.J.GroupRun.setting c.self.invariant.0.laid in
+    let L = c.actor_law.ensures g.J.GroupRun.setting c.self.invariant.0.laid in
     let P : Message → Type 0 = λ m. c.args.limit ≤ m.time in
     let old = c.self.inside.hand.flow.queue in
     let new = c.next.new.self.flow.queue in

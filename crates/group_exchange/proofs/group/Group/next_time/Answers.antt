@@ -8,7 +8,7 @@ pub invariant_of-self : goal.invariant_of-self
 invariant_of-self g c =
     let a = c.next_time.ensures.same in (
       holds-again c.self.invariant.0 c.next_time.new.self a.members (ap (λ (z : Flow). z.words) a.flow)
-          (λ v s. c.hand_laws.ensures.as_before c.self.inside.hand c.next_time.new.self a g.J.GroupRun.setting v s),
+          (λ v s. c.hand_law.ensures.as_before c.self.inside.hand c.next_time.new.self a g.J.GroupRun.setting v s),
       c.self.invariant.1,
       ap (λ (z : Flow). z.keeps) a.flow ∙ c.self.invariant.2,
       c.self.invariant.3,

@@ -27,9 +27,9 @@ invariant_of-result g c =
     let each = c.requires.grouped.each in
     let here = (goal.at.invariant_of-result g c).In-Ok in
     let its = members g here in (
-      holds-opened c.requires.layout c.requires.grouped (c.actor_laws.ensures x c.requires.layout) c.args.number c.requires.within hand
+      holds-opened c.requires.layout c.requires.grouped (c.actor_law.ensures x c.requires.layout) c.args.number c.requires.within hand
           (members-ours x owners each c.args.number hand.members its) told.words its.count (members-state x owners each c.args.number hand.members its)
-          (λ v opened. c.hand_laws.ensures.opens hand (nothing g here) x v opened) _ c.requires.blank.0 _ c.requires.blank.2,
+          (λ v opened. c.hand_law.ensures.opens hand (nothing g here) x v opened) _ c.requires.blank.0 _ c.requires.blank.2,
       record { name = c.requires.name; value = c.requires.told },
       told.keeps ∙ c.requires.keeps,
       c.requires.blank.1 ∙ sym (ap length c.requires.blank.0),

@@ -14,7 +14,7 @@ rows_in_time-requires g c =
     let h = c.self.invariant.0 in
     let k = c.self.invariant.5 in
     let rows = c.self.inside.hand.rows in
-    let L = c.actor_laws.ensures g.J.GroupRun.setting h.laid in
+    let L = c.actor_law.ensures g.J.GroupRun.setting h.laid in
     subst (IsNonDecreasingBy (λ (row : Row). row.message.time)) (sym c.rows.ensures)
     (IsNonDecreasingBy-drop (λ (row : Row). row.message.time) rows.left rows.all (ordered-times message_order L.order rows.all k.ordered))
 
@@ -28,7 +28,7 @@ returns-clause-rows g c =
     let number = c.self.inside.number in
     let not_later = rw (sym c.self.view_is) at c.requires in
     rw (sym c.self.view_is) (c.rows_in_time.ensures ∙ (ap (rows_within r c.args.from c.args.to) c.rows.ensures ∙
-    rows-left r g.R.Reversible.is_value x (c.actor_laws.ensures x h.laid) _ c.self.inside.hand h.stands owners number h.ours (λ p o. of-process h.grouped number p o)
+    rows-left r g.R.Reversible.is_value x (c.actor_law.ensures x h.laid) _ c.self.inside.hand h.stands owners number h.ours (λ p o. of-process h.grouped number p o)
     c.self.inside.standing.seen c.self.inside.gone h.safe k c.args.from c.args.to not_later))
 
 pub returns-clause-whole : goal.returns-clause-whole
@@ -39,7 +39,7 @@ returns-clause-whole g c =
     let x = g.J.GroupRun.setting in
     let owners = g.J.GroupRun.owners in
     let number = c.self.inside.number in
-    let L = c.actor_laws.ensures x h.laid in
+    let L = c.actor_law.ensures x h.laid in
     let not_later = rw (sym c.self.view_is) at c.requires in
     rw (sym c.self.view_is) (λ low none n ended.
     c.rows_in_time.ensures ∙ (ap (rows_within r c.args.from c.args.to) c.rows.ensures ∙

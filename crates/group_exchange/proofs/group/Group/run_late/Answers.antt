@@ -14,7 +14,7 @@ use Rattle.group_exchange.proofs.group.Group.run_late.Goals as goal
 pub invariant_of-self : goal.invariant_of-self
 invariant_of-self g c =
     let h = c.self.invariant.0 in
-    let L = c.actor_laws.ensures g.J.GroupRun.setting h.laid in
+    let L = c.actor_law.ensures g.J.GroupRun.setting h.laid in
     let d = c.run_next.ensures.did in
     let t = does h L c.run_next.new.self d in (
       t.holds,
@@ -32,7 +32,7 @@ pub returns-clause-goes : goal.returns-clause-goes
 returns-clause-goes g c =
     let h = c.self.invariant.0 in
     let d = c.run_next.ensures.did in
-    let t = does h (c.actor_laws.ensures g.J.GroupRun.setting h.laid) c.run_next.new.self d in
+    let t = does h (c.actor_law.ensures g.J.GroupRun.setting h.laid) c.run_next.new.self d in
     goes-later _ _ _ _ _ _ c.count_done.ensures.stood c.self.view_is (record { did = d.did; went = t.went c.self.inside.gone })
 
 -- where there was none, nothing changed
@@ -54,7 +54,7 @@ returns-clause-tray g c = λ e. ap (λ (z : Flow). z.tray) (still g c e).1.flow 
 pub returns-clause-short : goal.returns-clause-short
 returns-clause-short g c =
     let h = c.self.invariant.0 in
-    let L = c.actor_laws.ensures g.J.GroupRun.setting h.laid in
+    let L = c.actor_law.ensures g.J.GroupRun.setting h.laid in
     elim c.match-run_next.branch [
       | in-Ok w ↦ λ e. absurd (let k = sym e ∙ w.result-is in cc)
       | in-Err-Exhausted w ↦ λ e. is-short h L.order c.run_next.new.self w.in-Err-Exhausted.ensures.unchanged (w.in-Err-Exhausted.ensures.exhausted (λ j. Err (w.in-Err-Exhausted.field-0-is j))) c.self.inside.gone

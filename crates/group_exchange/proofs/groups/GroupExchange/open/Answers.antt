@@ -19,14 +19,14 @@ as-many g c =
 
 pub with_offers-requires-clause-receivers : goal.with_offers-requires-clause-receivers
 with_offers-requires-clause-receivers g c =
-    let L = c.actor_laws.ensures g.J.GroupRun.setting c.requires.layout in
+    let L = c.actor_law.ensures g.J.GroupRun.setting c.requires.layout in
     offers-home c.requires.layout c.requires.grouped L.order c.args.offers.now c.requires.opens.offered (length c.args.owners.items) (ap length c.requires.owners ∙ c.requires.grouped.each)
 
 pub invariant_of-exchange : goal.invariant_of-exchange
 invariant_of-exchange g c =
     let x = g.J.GroupRun.setting in
     let names = g.J.GroupRun.names in
-    let L = c.actor_laws.ensures x c.requires.layout in
+    let L = c.actor_law.ensures x c.requires.layout in
     let pairs = ap length (c.pairs.view_is ∙ c.requires.names) in
     let groups : c.len-count.result ≡ length names = omega (arith, c.len-count.ensures, c.pairs.inside.lefts.ok.0, length-map c.pairs.inside.lefts.items (λ (b : LeftHalf Standing). b.name), pairs) in
     let end : c.args.until + 1 ≡ suc x.until = omega (arith, c.requires.until) in

@@ -23,4 +23,4 @@ returns-then-not-is_before-clause-no g c = λ e up.
 pub returns-else-not-is_before-clause-no : goal.returns-else-not-is_before-clause-no
 returns-else-not-is_before-clause-no g c = λ e up.
     let after : is_after message_order (newest_of (messages_of c.args.self.now.deeds)) c.args.message.now ≡ true = search rules in
-    after-none c.lawful_order.ensures c.args.message.now (messages_of c.args.self.now.deeds) up after
+    after-none c.order_law.ensures c.args.message.now (messages_of c.args.self.now.deeds) up after

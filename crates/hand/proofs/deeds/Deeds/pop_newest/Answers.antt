@@ -1,4 +1,4 @@
-use Rattle.std.proofs.Common.{◌≡◌, ◌≤◌, ◌+◌, ◌-◌, ◌++◌, ◌∷◌, [], length, drop, reverse, refl, sym, ap, ◌∙◌, arith, length-append, length-drop, deque_len}
+use Rattle.std.proofs.Common.{◌≡◌, ◌≤◌, ◌+◌, ◌-◌, ◌++◌, ◌∷◌, [], length, drop, reverse, refl, sym, ap, ◌∙◌, arith, length-append, length-drop}
 use Rattle.std.proofs.lemmas.List.{length-take-le, length-reverse}
 use Rattle.hand.specs.Deeds.{Deed, deeds_in, all_sent, all_noted}
 use Rattle.hand.specs.Undoing.{sent_in}
@@ -59,7 +59,7 @@ invariant_of-self g c =
     let sends = c.self.inside.sends in
     let rows = c.self.inside.rows in (
       (let i = c.self.invariant.0 in let a = ap all_sent c.in-Some.ensures.items in let b = sent-more c.pop_back.new.self.items c.in-Some.event in let n = c.from-sent.ensures in
-          let t = ap length c.take_back.ensures.sends ∙ length-take-le (deque_len sends - c.from-sent.result) sends.items (omega arith) in omega arith),
+          let t = ap length c.take_back.ensures.sends ∙ length-take-le (length sends.items - c.from-sent.result) sends.items (omega arith) in omega arith),
       (let i = c.self.invariant.1 in let a = ap all_noted c.in-Some.ensures.items in let b = noted-more c.pop_back.new.self.items c.in-Some.event in let n = c.from-noted.ensures in
           let l = c.len.ensures in
           let t = ap length c.truncate.ensures.items ∙ length-take-le (c.len.result - c.from-noted.result) rows.items (omega arith) in omega arith),
@@ -70,7 +70,7 @@ newest : (g : Over) (c : After-truncate g) → Deed g.row.K.Denot
 newest g c = record {
   message = c.in-Some.event.message;
   kept = c.in-Some.event.kept;
-  sent = drop (deque_len c.self.inside.sends - c.from-sent.result) c.self.inside.sends.items;
+  sent = drop (length c.self.inside.sends.items - c.from-sent.result) c.self.inside.sends.items;
   rows = drop (c.len.result - c.from-noted.result) c.self.inside.rows.items;
 }
 
@@ -84,7 +84,7 @@ out g c =
     let m = c.from-noted.ensures in
     let l = c.len.ensures in
     sym (ap (λ z. z.deeds) c.self.view_is) ∙ (ap (λ es. deeds_in es inside.sends.items inside.rows.items) c.in-Some.ensures.items ∙
-    (newest-share c.pop_back.new.self.items c.in-Some.event inside.sends.items inside.rows.items (deque_len inside.sends - c.from-sent.result) (c.len.result - c.from-noted.result)
+    (newest-share c.pop_back.new.self.items c.in-Some.event inside.sends.items inside.rows.items (length inside.sends.items - c.from-sent.result) (c.len.result - c.from-noted.result)
     (c.self.invariant.0 ∙ ap all_sent c.in-Some.ensures.items) (c.self.invariant.1 ∙ ap all_noted c.in-Some.ensures.items) (omega arith) (omega arith) ∙
     (λ j. deeds_in c.pop_back.new.self.items (sym c.take_back.ensures.sends j) (sym c.truncate.ensures.items j) ++ newest g c ∷ [])))
 
@@ -101,7 +101,7 @@ returns-clause-room g c =
     let p = sent-part g at in
     let left = deeds_in c.pop_back.new.self.items c.take_back.new.sends.items c.truncate.new.self.items in
     let a = ap sent_in (out g at) ∙ sent_in-push left (newest g at) in
-    let d = length-drop (deque_len c.self.inside.sends - c.from-sent.result) c.self.inside.sends.items in
+    let d = length-drop (length c.self.inside.sends.items - c.from-sent.result) c.self.inside.sends.items in
     let b = ap length c.take_back.ensures.back ∙ (length-append c.args.back.now.items (reverse (newest g at).sent) ∙ ap (λ n. length c.args.back.now.items + n) (length-reverse (newest g at).sent)) in
     let k = c.take_back.ensures.capacity in
     let h = c.requires.room in

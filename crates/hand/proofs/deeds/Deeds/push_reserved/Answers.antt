@@ -30,7 +30,7 @@ returns-clause-left g c = λ ds h.
     let inside = c.self.inside in
     let k : length (rows_of message_order c.args.message.now c.args.notes.now) ≡ length c.args.notes.now = length-map c.args.notes.now (λ n. record { message = c.args.message.now; place = c.args.message.now.receiver; note = n }) in
     record {
-      events = let a = h.events in let r = ap (λ z. z.events_room) c.self.view_is in let l = c.push_back_reserved.ensures.len in let b = c.push_back_reserved.ensures.capacity in omega arith;
+      events = let a = h.events in let r = ap (λ z. z.events_room) c.self.view_is in let b = c.push_back_reserved.ensures.room in omega arith;
       sends = let a = h.sends in let r = ap (λ z. z.sends_room) c.self.view_is in let b = c.send_all.ensures.capacity in
           let l = ap length c.send_all.ensures.sends ∙ length-append inside.sends.items c.args.sends.now in omega arith;
       rows = let a = h.rows in let r = ap (λ z. z.rows_room) c.self.view_is in let b = c.note_all.ensures.capacity in

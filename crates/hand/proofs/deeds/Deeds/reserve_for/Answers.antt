@@ -8,9 +8,9 @@ returns-clause-room g c =
     let there = c.other.inside in
     record {
       events = let n = sym (ap (λ z. length z.deeds) c.other.view_is) ∙ how-many there.events.items there.sends.items there.rows.items in
-          let o = c.in_ok-reserve.ensures.ok in let l = c.in_ok-reserve.ensures.len in let e = c.len.ensures in omega arith;
+          let o = c.in_ok-reserve.ensures.room in let e = c.len.ensures in omega arith;
       sends = let s = sym (ap (λ z. sent_in z.deeds) c.other.view_is) ∙ how-much_sent there.events.items there.sends.items there.rows.items c.other.invariant.0 in
-          let o = c.in_ok-reserve-2.ensures.ok in let l = c.in_ok-reserve-2.ensures.len in let e = c.len-2.ensures in omega arith;
+          let o = c.in_ok-reserve-2.ensures.room in let e = c.len-2.ensures in omega arith;
       rows = let k = sym (ap (λ z. noted_in z.deeds) c.other.view_is) ∙ how-much_noted there.events.items there.sends.items there.rows.items c.other.invariant.1 in
-          let o = c.in_ok-reserve-3.ensures.ok in let l = c.in_ok-reserve-3.ensures.len in let e = c.len-3.ensures in omega arith;
+          let o = c.in_ok-reserve-3.ensures.room in let e = c.len-3.ensures in omega arith;
     }

@@ -7,7 +7,7 @@ use Rattle.hand.proofs.hand.Hand.arrive_all.Goals as goal
 pub returns-clause-did : goal.returns-clause-did
 returns-clause-did g c =
     does-both (rules_of g.R.Reversible.plain) g.R.Reversible.is_value c.args.self.now c.arrive_each.new.self c.sort_many.new.self [] [] [] c.arrive_each.ensures.did
-    (still g.R.Reversible.plain g.R.Reversible.is_value c.actor_rules.ensures.order c.actor_rules.ensures.undoes c.arrive_each.new.self c.sort_many.new.self c.sort_many.ensures)
+    (still g.R.Reversible.plain g.R.Reversible.is_value c.actor_rules_law.ensures.order c.actor_rules_law.ensures.undoes c.arrive_each.new.self c.sort_many.new.self c.sort_many.ensures)
 
 pub returns-clause-quiet : goal.returns-clause-quiet
 returns-clause-quiet g c = ap (λ f. f.tray) c.sort_many.ensures.flow ∙ c.in_ok-arrive_each.ensures.quiet

@@ -14,7 +14,7 @@ use Rattle.hand.proofs.hand.Hand.arrive_front.Goals as goal
 roomy : (g : Over) (c : After-reserve g) → DoesSent (rules_of g.R.Reversible.plain) g.R.Reversible.is_value c.args.self.now []
     (held c.self.inside.members.items c.self.inside.done.deeds c.self.inside.rows c.reserve.new.self) []
 roomy g c =
-    still g.R.Reversible.plain g.R.Reversible.is_value c.actor_rules.ensures.order c.actor_rules.ensures.undoes c.args.self.now
+    still g.R.Reversible.plain g.R.Reversible.is_value c.actor_rules_law.ensures.order c.actor_rules_law.ensures.undoes c.args.self.now
     (held c.self.inside.members.items c.self.inside.done.deeds c.self.inside.rows c.reserve.new.self)
     (subst (λ h. IsAsBefore h (held c.self.inside.members.items c.self.inside.done.deeds c.self.inside.rows c.reserve.new.self)) c.self.view_is
     (as-roomy c.self.inside.members.items c.self.inside.done.deeds c.self.inside.done.deeds c.self.inside.rows c.self.inside.letters c.reserve.new.self refl c.reserve.ensures.same))
@@ -38,7 +38,7 @@ returns-in_err-arrive-clause-did g c =
     let rows = c.self.inside.rows in
     subst (λ ms. DoesSent r V c.args.self.now [] (held ms c.arrive.new.done.deeds rows c.arrive.new.letters) [])
     (sym (with_items_is c.self.inside.members c.arrive.new.members (c.arrive.ensures.len ∙ c.deref_mut.ensures.len) ∙ (c.in_err-arrive.ensures.members ∙ c.deref_mut.ensures.value)))
-    (still g.R.Reversible.plain V c.actor_rules.ensures.order c.actor_rules.ensures.undoes c.args.self.now
+    (still g.R.Reversible.plain V c.actor_rules_law.ensures.order c.actor_rules_law.ensures.undoes c.args.self.now
     (held c.self.inside.members.items c.arrive.new.done.deeds rows c.arrive.new.letters)
     (subst (λ h. IsAsBefore h (held c.self.inside.members.items c.arrive.new.done.deeds rows c.arrive.new.letters)) c.self.view_is
     (as-roomy c.self.inside.members.items c.self.inside.done.deeds c.arrive.new.done.deeds rows c.self.inside.letters c.arrive.new.letters c.in_err-arrive.ensures.done

@@ -8,7 +8,7 @@ use Rattle.hand.specs.Hands.{IsAsBefore}
 use Rattle.hand.specs.Undoing.{CameTo}
 use Rattle.hand.specs.Passing.{held}
 use Rattle.hand.specs.Deeds.{messages_of}
-use Rattle.hand.specs.Sealing.{CanSeal, Stays, rows_in}
+use Rattle.hand.specs.Sealing.{CanCommit, Stays, rows_in}
 use Rattle.hand.proofs.Still.{as-first, as-both, as-roomy, first-again, on-err, told-after, waits-after}
 use Rattle.hand.proofs.Came.{dropped-came}
 use Rattle.hand.proofs.Forgetting.{of-messages, oldest-then}
@@ -37,18 +37,18 @@ refused g c done rows flow d r e =
     (held c.self.inside.members.items done c.self.inside.rows flow) (looked g c)
     (as-roomy c.self.inside.members.items c.self.inside.done.deeds done c.self.inside.rows c.first-first.new.self flow d e))
 
-pub returns-in_err-seal-clause-did : goal.returns-in_err-seal-clause-did
-returns-in_err-seal-clause-did g c =
-    commits-nothing g.R.Reversible.plain g.R.Reversible.is_value c.actor_rules.ensures.order c.actor_rules.ensures.undoes c.args.moment c.args.self.now
-    (held c.self.inside.members.items c.seal.new.done.deeds c.seal.new.sealed c.seal.new.self)
-    (refused g (goal.at.returns-in_err-seal-clause-did g c).After-first-first c.seal.new.done.deeds c.seal.new.sealed c.seal.new.self
-    c.in_err-seal.ensures.deeds_stay c.in_err-seal.ensures.rows_stay c.in_err-seal.ensures.letters_stay)
+pub returns-in_err-commit-clause-did : goal.returns-in_err-commit-clause-did
+returns-in_err-commit-clause-did g c =
+    commits-nothing g.R.Reversible.plain g.R.Reversible.is_value c.actor_rules_law.ensures.order c.actor_rules_law.ensures.undoes c.args.moment c.args.self.now
+    (held c.self.inside.members.items c.commit.new.done.deeds c.commit.new.sealed c.commit.new.self)
+    (refused g (goal.at.returns-in_err-commit-clause-did g c).After-first-first c.commit.new.done.deeds c.commit.new.sealed c.commit.new.self
+    c.in_err-commit.ensures.deeds_stay c.in_err-commit.ensures.rows_stay c.in_err-commit.ensures.letters_stay)
 
-pub returns-in_err-seal-clause-unchanged : goal.returns-in_err-seal-clause-unchanged
-returns-in_err-seal-clause-unchanged g c =
+pub returns-in_err-commit-clause-unchanged : goal.returns-in_err-commit-clause-unchanged
+returns-in_err-commit-clause-unchanged g c =
     on-err c.from_residual.result _
-    (refused g (goal.at.returns-in_err-seal-clause-unchanged g c).After-first-first c.seal.new.done.deeds c.seal.new.sealed c.seal.new.self
-    c.in_err-seal.ensures.deeds_stay c.in_err-seal.ensures.rows_stay c.in_err-seal.ensures.letters_stay)
+    (refused g (goal.at.returns-in_err-commit-clause-unchanged g c).After-first-first c.commit.new.done.deeds c.commit.new.sealed c.commit.new.self
+    c.in_err-commit.ensures.deeds_stay c.in_err-commit.ensures.rows_stay c.in_err-commit.ensures.letters_stay)
 
 pub returns-clause-did : goal.returns-clause-did
 returns-clause-did g c =
@@ -57,23 +57,23 @@ returns-clause-did g c =
     let n = c.count_early-count.result in
     let deeds = c.self.inside.done.deeds in
     let mid = held c.self.inside.members.items deeds c.self.inside.rows c.first-first.new.self in
-    let new = held c.self.inside.members.items c.seal.new.done.deeds c.seal.new.sealed c.seal.new.self in
+    let new = held c.self.inside.members.items c.commit.new.done.deeds c.commit.new.sealed c.commit.new.self in
     commits-both r V c.args.moment c.args.self.now mid new
-    (commits-nothing g.R.Reversible.plain V c.actor_rules.ensures.order c.actor_rules.ensures.undoes c.args.moment c.args.self.now mid (looked g (goal.at.returns-clause-did g c).After-first-first))
-    (commits-many g.R.Reversible.plain V c.actor_rules.ensures.order c.actor_rules.ensures.undoes c.args.moment (take n deeds) mid new (drop n deeds) refl (sym (take-append-drop n deeds))
-    c.in_ok-seal.ensures.deeds c.in_ok-seal.ensures.rows c.in_ok-seal.ensures.told
-    (of-messages (CanSeal c.args.moment c.first-first.new.self) n deeds c.count_early-count.ensures.early))
+    (commits-nothing g.R.Reversible.plain V c.actor_rules_law.ensures.order c.actor_rules_law.ensures.undoes c.args.moment c.args.self.now mid (looked g (goal.at.returns-clause-did g c).After-first-first))
+    (commits-many g.R.Reversible.plain V c.actor_rules_law.ensures.order c.actor_rules_law.ensures.undoes c.args.moment (take n deeds) mid new (drop n deeds) refl (sym (take-append-drop n deeds))
+    c.in_ok-commit.ensures.deeds c.in_ok-commit.ensures.rows c.in_ok-commit.ensures.told
+    (of-messages (CanCommit c.args.moment c.first-first.new.self) n deeds c.count_early-count.ensures.early))
 
 pub returns-clause-left : goal.returns-clause-left
 returns-clause-left g c =
-    subst (λ ds. IfSome (slice_get (messages_of ds) 0) (Stays c.args.moment c.seal.new.self)) (sym c.in_ok-seal.ensures.deeds)
-    (subst (λ f. IfSome (slice_get (messages_of (drop c.count_early-count.result c.self.inside.done.deeds)) 0) (Stays c.args.moment f)) (sym c.in_ok-seal.ensures.told)
+    subst (λ ds. IfSome (slice_get (messages_of ds) 0) (Stays c.args.moment c.commit.new.self)) (sym c.in_ok-commit.ensures.deeds)
+    (subst (λ f. IfSome (slice_get (messages_of (drop c.count_early-count.result c.self.inside.done.deeds)) 0) (Stays c.args.moment f)) (sym c.in_ok-commit.ensures.told)
     (oldest-then (Stays c.args.moment c.first-first.new.self) c.count_early-count.result c.self.inside.done.deeds c.count_early-count.ensures.left))
 
 pub invariant_of-self-2 : goal.invariant_of-self-2
 invariant_of-self-2 g c = (
-  subst (λ ds. (p : ℕ) → CameTo (rules_of g.R.Reversible.plain) g.R.Reversible.is_value c.self.inside.members.items ds p) (sym c.in_ok-seal.ensures.deeds)
-      (dropped-came (rules_of g.R.Reversible.plain) c.actor_rules.ensures.order g.R.Reversible.is_value c.self.inside.members.items c.count_early-count.result c.self.inside.done.deeds c.self.invariant.0),
+  subst (λ ds. (p : ℕ) → CameTo (rules_of g.R.Reversible.plain) g.R.Reversible.is_value c.self.inside.members.items ds p) (sym c.in_ok-commit.ensures.deeds)
+      (dropped-came (rules_of g.R.Reversible.plain) c.actor_rules_law.ensures.order g.R.Reversible.is_value c.self.inside.members.items c.count_early-count.result c.self.inside.done.deeds c.self.invariant.0),
   c.self.invariant.1,
   c.self.invariant.2,
 )
@@ -83,10 +83,10 @@ returns-clause-sealed g c =
     let n = c.count_early-count.result in
     let deeds = c.self.inside.done.deeds in
     let early : All (λ m. m.time < c.args.moment) (take n (messages_of deeds)) =
-    All-weaker (CanSeal c.args.moment c.first-first.new.self) (λ m. m.time < c.args.moment) (λ m k. k.early) (take n (messages_of deeds)) c.count_early-count.ensures.early in (
+    All-weaker (CanCommit c.args.moment c.first-first.new.self) (λ m. m.time < c.args.moment) (λ m k. k.early) (take n (messages_of deeds)) c.count_early-count.ensures.early in (
       take n deeds,
-      ap (λ h. h.done) (sym c.self.view_is) ∙ (sym (take-append-drop n deeds) ∙ ap (λ ds. take n deeds ++ ds) (sym c.in_ok-seal.ensures.deeds)),
-      c.in_ok-seal.ensures.rows ∙ ap (λ h. record h.rows { all = h.rows.all ++ rows_in (take n deeds) }) c.self.view_is,
+      ap (λ h. h.done) (sym c.self.view_is) ∙ (sym (take-append-drop n deeds) ∙ ap (λ ds. take n deeds ++ ds) (sym c.in_ok-commit.ensures.deeds)),
+      c.in_ok-commit.ensures.rows ∙ ap (λ h. record h.rows { all = h.rows.all ++ rows_in (take n deeds) }) c.self.view_is,
       subst (λ ms. All (λ m. m.time < c.args.moment) ms) (take-map (λ d. d.message) n deeds) early,
     )
 
@@ -101,16 +101,16 @@ waiting : (g : Over) (c : After-first-first g) (now : Flow) (ws : List Did) → 
 waiting g c now ws e =
     subst (λ h. IsPermutation h.flow.queue now.queue) c.self.view_is (waits-after c.self.inside.letters c.first-first.new.self now ws c.first-first.ensures.same e)
 
-pub returns-in_err-seal-clause-queue : goal.returns-in_err-seal-clause-queue
-returns-in_err-seal-clause-queue g c =
-    waiting g (goal.at.returns-in_err-seal-clause-queue g c).After-first-first c.seal.new.self c.first-first.new.self.words c.in_err-seal.ensures.letters_stay
+pub returns-in_err-commit-clause-queue : goal.returns-in_err-commit-clause-queue
+returns-in_err-commit-clause-queue g c =
+    waiting g (goal.at.returns-in_err-commit-clause-queue g c).After-first-first c.commit.new.self c.first-first.new.self.words c.in_err-commit.ensures.letters_stay
 
-pub returns-in_err-seal-clause-flow : goal.returns-in_err-seal-clause-flow
-returns-in_err-seal-clause-flow g c =
-    changed g (goal.at.returns-in_err-seal-clause-flow g c).After-first-first c.seal.new.self c.first-first.new.self.words c.in_err-seal.ensures.letters_stay
+pub returns-in_err-commit-clause-flow : goal.returns-in_err-commit-clause-flow
+returns-in_err-commit-clause-flow g c =
+    changed g (goal.at.returns-in_err-commit-clause-flow g c).After-first-first c.commit.new.self c.first-first.new.self.words c.in_err-commit.ensures.letters_stay
 
 pub returns-clause-queue : goal.returns-clause-queue
-returns-clause-queue g c = waiting g (goal.at.returns-clause-queue g c).After-first-first c.seal.new.self _ c.in_ok-seal.ensures.told
+returns-clause-queue g c = waiting g (goal.at.returns-clause-queue g c).After-first-first c.commit.new.self _ c.in_ok-commit.ensures.told
 
 pub returns-clause-flow : goal.returns-clause-flow
-returns-clause-flow g c = changed g (goal.at.returns-clause-flow g c).After-first-first c.seal.new.self _ c.in_ok-seal.ensures.told
+returns-clause-flow g c = changed g (goal.at.returns-clause-flow g c).After-first-first c.commit.new.self _ c.in_ok-commit.ensures.told

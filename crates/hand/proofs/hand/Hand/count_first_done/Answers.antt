@@ -20,7 +20,7 @@ use Rattle.hand.proofs.hand.Hand.count_first_done.Goals as goal
 looked : (g : Over) (c : After-first g) → CountedBeside (rules_of g.R.Reversible.plain) g.R.Reversible.is_value c.args.self.now
     (held c.self.inside.members.items c.self.inside.done.deeds c.self.inside.rows c.first.new.self)
 looked g c =
-    counted-as g.R.Reversible.plain g.R.Reversible.is_value c.actor_rules.ensures.order c.actor_rules.ensures.undoes c.args.self.now
+    counted-as g.R.Reversible.plain g.R.Reversible.is_value c.actor_rules_law.ensures.order c.actor_rules_law.ensures.undoes c.args.self.now
     (held c.self.inside.members.items c.self.inside.done.deeds c.self.inside.rows c.first.new.self)
     (subst (λ h. IsAsBefore h (held c.self.inside.members.items c.self.inside.done.deeds c.self.inside.rows c.first.new.self)) c.self.view_is
     (as-first c.self.inside.members.items c.self.inside.done.deeds c.self.inside.rows c.self.inside.letters c.first.new.self c.first.ensures.same c.first.ensures.others))
@@ -44,8 +44,8 @@ returns-then-not-has-clause-others g c = (looked g (goal.at.returns-then-not-has
 
 pub returns-then-not-has-clause-waits : goal.returns-then-not-has-clause-waits
 returns-then-not-has-clause-waits g c = λ e up.
-    front-waits c.actor_rules.ensures.order (held c.self.inside.members.items c.self.inside.done.deeds c.self.inside.rows c.first.new.self) c.in-Some.message
-    (first-least c.actor_rules.ensures.order c.in-Some.message c.self.inside.letters.queue c.first.new.self.queue c.first.ensures.same c.in-Some.ensures.among c.in-Some.ensures.first)
+    front-waits c.actor_rules_law.ensures.order (held c.self.inside.members.items c.self.inside.done.deeds c.self.inside.rows c.first.new.self) c.in-Some.message
+    (first-least c.actor_rules_law.ensures.order c.in-Some.message c.self.inside.letters.queue c.first.new.self.queue c.first.ensures.same c.in-Some.ensures.among c.in-Some.ensures.first)
     (c.if-not-has.ensures.no refl up)
 
 pub count_again-requires-clause-among : goal.count_again-requires-clause-among
@@ -78,9 +78,9 @@ counted : (g : Over) (c : After-first g) (m : Message) (now : Flow) → Contains
 counted g c m now there queue extra others =
     counted-both (rules_of g.R.Reversible.plain) g.R.Reversible.is_value c.args.self.now
     (held c.self.inside.members.items c.self.inside.done.deeds c.self.inside.rows c.first.new.self) (held c.self.inside.members.items c.self.inside.done.deeds c.self.inside.rows now) (looked g c)
-    (counted-again (rules_of g.R.Reversible.plain) g.R.Reversible.is_value c.actor_rules.ensures.order c.self.inside.members.items c.self.inside.done.deeds c.self.inside.rows m c.first.new.self now
+    (counted-again (rules_of g.R.Reversible.plain) g.R.Reversible.is_value c.actor_rules_law.ensures.order c.self.inside.members.items c.self.inside.done.deeds c.self.inside.rows m c.first.new.self now
     (record {
-      is_done = contains-in c.actor_rules.ensures.order (messages_of c.self.inside.done.deeds) m there;
+      is_done = contains-in c.actor_rules_law.ensures.order (messages_of c.self.inside.done.deeds) m there;
       queue = queue;
       extra = extra;
       tray = ap (λ z. z.tray) others;

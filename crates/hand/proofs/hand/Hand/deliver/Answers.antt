@@ -9,7 +9,7 @@ deliver_reserved-requires-clause-ours g c = ap (λ ms. is_ours ms c.args.letter.
 pub returns-clause-delivered : goal.returns-clause-delivered
 returns-clause-delivered g c = λ x v soon s.
     c.deliver_reserved.ensures.delivered x v soon
-    (stands-still g.R.Reversible.plain g.R.Reversible.is_value c.actor_rules.ensures.order c.actor_rules.ensures.undoes c.args.self.now c.reserve_letters.new.self c.reserve_letters.ensures.same x v s)
+    (stands-still g.R.Reversible.plain g.R.Reversible.is_value c.actor_rules_law.ensures.order c.actor_rules_law.ensures.undoes c.args.self.now c.reserve_letters.new.self c.reserve_letters.ensures.same x v s)
 
 pub returns-clause-members : goal.returns-clause-members
 returns-clause-members g c = ap (λ h. h.members) c.deliver_reserved.ensures.told ∙ c.reserve_letters.ensures.same.members

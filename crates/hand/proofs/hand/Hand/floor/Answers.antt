@@ -15,10 +15,10 @@ seen g c until e =
 pub returns-clause-bound : goal.returns-clause-bound
 returns-clause-bound g c = λ x v e s p t.
     subst (λ n. n ≤ v.floors p) (sym (seen g (goal.at.returns-clause-bound g c).After-floor x.until e))
-    (floor-bound (rules_of g.R.Reversible.plain) c.actor_rules.ensures.order g.R.Reversible.is_value x v c.args.self.now s p t)
+    (floor-bound (rules_of g.R.Reversible.plain) c.actor_rules_law.ensures.order g.R.Reversible.is_value x v c.args.self.now s p t)
 
 pub returns-clause-reached : goal.returns-clause-reached
 returns-clause-reached g c = λ x v e s none.
     subst (λ n. (c.floor.result ≡ n) ⊎ ((p : ℕ) × (is_ours c.args.self.now.members p ≡ true) × (v.floors p ≡ c.floor.result))) (sym e)
     (subst (λ n. (n ≡ suc x.until) ⊎ ((p : ℕ) × (is_ours c.args.self.now.members p ≡ true) × (v.floors p ≡ n))) (sym (seen g (goal.at.returns-clause-reached g c).After-floor x.until e))
-    (floor-reached (rules_of g.R.Reversible.plain) c.actor_rules.ensures.order g.R.Reversible.is_value x v c.args.self.now s none))
+    (floor-reached (rules_of g.R.Reversible.plain) c.actor_rules_law.ensures.order g.R.Reversible.is_value x v c.args.self.now s none))

@@ -17,11 +17,11 @@ returns-clause-yes g c = λ e.
 
 pub returns-clause-no : goal.returns-clause-no
 returns-clause-no g c = λ e up.
-    from-first c.actor_rules.ensures.order c.args.moment (messages_of c.args.self.now.done) up
+    from-first c.actor_rules_law.ensures.order c.args.moment (messages_of c.args.self.now.done) up
     (first-late c.args.moment (messages_of c.args.self.now.done) c.oldest.result (seen g (goal.at.returns-clause-no g c).After-oldest) (c.is_early.ensures.no e))
 
 pub returns-clause-members : goal.returns-clause-members
 returns-clause-members g c = λ e x v s p t.
-    none-of (rules_of g.R.Reversible.plain) c.actor_rules.ensures.order g.R.Reversible.is_value x v c.args.self.now c.args.moment
-    (from-first c.actor_rules.ensures.order c.args.moment (messages_of c.args.self.now.done) s.ascending
+    none-of (rules_of g.R.Reversible.plain) c.actor_rules_law.ensures.order g.R.Reversible.is_value x v c.args.self.now c.args.moment
+    (from-first c.actor_rules_law.ensures.order c.args.moment (messages_of c.args.self.now.done) s.ascending
     (first-late c.args.moment (messages_of c.args.self.now.done) c.oldest.result (seen g (goal.at.returns-clause-members g c).After-oldest) (c.is_early.ensures.no e))) s p t

@@ -35,7 +35,7 @@ stands g c x v s =
     let old = held c.self.inside.members.items c.self.inside.done.deeds c.self.inside.rows c.self.inside.letters in
     let new = held c.self.inside.members.items c.self.inside.done.deeds c.let_go.new.self c.self.inside.letters in
     let t = subst (StandsForGroup r V x v) (sym c.self.view_is) s in
-    stands-kept r c.actor_rules.ensures.order V c.actor_rules.ensures.undoes x v old new [] [] refl refl c.let_go.ensures.all (λ y. refl) refl refl (λ q. refl) t.elsewhere t
+    stands-kept r c.actor_rules_law.ensures.order V c.actor_rules_law.ensures.undoes x v old new [] [] refl refl c.let_go.ensures.all (λ y. refl) refl refl (λ q. refl) t.elsewhere t
 
 pub returns-in_err-let_go-clause-rows : goal.returns-in_err-let_go-clause-rows
 returns-in_err-let_go-clause-rows g c = kept g (goal.at.returns-in_err-let_go-clause-rows g c).After-let_go

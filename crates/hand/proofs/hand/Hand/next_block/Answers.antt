@@ -15,6 +15,6 @@ returns-clause-stands g c = λ x v s.
     let old = held c.self.inside.members.items c.self.inside.done.deeds c.self.inside.rows c.self.inside.letters in
     let new = held c.self.inside.members.items c.self.inside.done.deeds c.self.inside.rows c.next_block.new.self in
     let t = subst (StandsForGroup r V x v) (sym c.self.view_is) s in
-    stands-kept r c.actor_rules.ensures.order V c.actor_rules.ensures.undoes x v old new [] [] refl refl refl (λ y. ap (λ z. times_in message_order y z.queue) e)
+    stands-kept r c.actor_rules_law.ensures.order V c.actor_rules_law.ensures.undoes x v old new [] [] refl refl refl (λ y. ap (λ z. times_in message_order y z.queue) e)
     (ap (λ z. z.extra) e) (ap (λ z. z.tray) e) (λ q. ap (λ z. received_by message_order q (z.abroad ++ [])) (sym e))
     (subst (λ z. All (λ l. is_ours c.self.inside.members.items (message_order.receiver l.message) ≡ false) z.abroad) (sym e) t.elsewhere) t

@@ -22,14 +22,14 @@ roomy g c =
 
 pub returns-in_err-reserve-clause-did : goal.returns-in_err-reserve-clause-did
 returns-in_err-reserve-clause-did g c =
-    still g.R.Reversible.plain g.R.Reversible.is_value c.actor_rules.ensures.order c.actor_rules.ensures.undoes c.args.self.now
+    still g.R.Reversible.plain g.R.Reversible.is_value c.actor_rules_law.ensures.order c.actor_rules_law.ensures.undoes c.args.self.now
     (held c.self.inside.members.items c.self.inside.done.deeds c.self.inside.rows c.reserve.new.self)
     (subst (λ h. IsAsBefore h (held c.self.inside.members.items c.self.inside.done.deeds c.self.inside.rows c.reserve.new.self)) c.self.view_is
     (as-roomy c.self.inside.members.items c.self.inside.done.deeds c.self.inside.done.deeds c.self.inside.rows c.self.inside.letters c.reserve.new.self refl c.reserve.ensures.same))
 
 pub returns-in_err-reserve-2-clause-did : goal.returns-in_err-reserve-2-clause-did
 returns-in_err-reserve-2-clause-did g c =
-    still g.R.Reversible.plain g.R.Reversible.is_value c.actor_rules.ensures.order c.actor_rules.ensures.undoes c.args.self.now
+    still g.R.Reversible.plain g.R.Reversible.is_value c.actor_rules_law.ensures.order c.actor_rules_law.ensures.undoes c.args.self.now
     (held c.self.inside.members.items c.reserve-2.new.self.deeds c.self.inside.rows c.reserve.new.self) (roomy g (goal.at.returns-in_err-reserve-2-clause-did g c).After-reserve-2)
 
 pub returns-in_default-clause-did : goal.returns-in_default-clause-did
@@ -37,7 +37,7 @@ returns-in_default-clause-did g c =
     let members = c.self.inside.members.items in
     let deeds = c.reserve-2.new.self.deeds in
     let rows = c.self.inside.rows in
-    still g.R.Reversible.plain g.R.Reversible.is_value c.actor_rules.ensures.order c.actor_rules.ensures.undoes c.args.self.now (held members deeds rows c.pop.new.self)
+    still g.R.Reversible.plain g.R.Reversible.is_value c.actor_rules_law.ensures.order c.actor_rules_law.ensures.undoes c.args.self.now (held members deeds rows c.pop.new.self)
     (as-both c.args.self.now (held members deeds rows c.reserve.new.self) (held members deeds rows c.pop.new.self) (roomy g (goal.at.returns-in_default-clause-did g c).After-reserve-2)
     (as-empty members deeds rows c.reserve.new.self c.pop.new.self c.in_default.ensures.none c.in_default.ensures.empty c.pop.ensures.others))
 
@@ -61,7 +61,7 @@ first g c =
 pub returns-in_default-early-clause-did : goal.returns-in_default-early-clause-did
 returns-in_default-early-clause-did g c =
     let at = goal.at.returns-in_default-early-clause-did g c in
-    still g.R.Reversible.plain g.R.Reversible.is_value c.actor_rules.ensures.order c.actor_rules.ensures.undoes c.args.self.now
+    still g.R.Reversible.plain g.R.Reversible.is_value c.actor_rules_law.ensures.order c.actor_rules_law.ensures.undoes c.args.self.now
     (held c.self.inside.members.items c.reserve-2.new.self.deeds c.self.inside.rows c.wait_again.new.self) (back g at.After-wait_again (roomy g at.After-reserve-2))
 
 pub returns-in_default-early-clause-late : goal.returns-in_default-early-clause-late
@@ -81,7 +81,7 @@ returns-in_default-early-clause-exhausted g c = λ e.
       k.0,
       k.1,
       subst (λ ds. IsAscending message_order (messages_of ds) → All (λ x. x ≢ c.in-Some.message) (messages_of ds)) (c.reserve-2.ensures.same ∙ ap (λ h. h.done) c.self.view_is)
-          (λ up. after-none c.actor_rules.ensures.order c.in-Some.message (messages_of c.reserve-2.new.self.deeds) up (rw e at c.standing-early.ensures.after)),
+          (λ up. after-none c.actor_rules_law.ensures.order c.in-Some.message (messages_of c.reserve-2.new.self.deeds) up (rw e at c.standing-early.ensures.after)),
       λ s i. n s (subst (λ ms. slice_get ms c.in-Some.message.receiver ≡ Some (Some s)) (sym c.deref.ensures.value)
           (subst (λ h. slice_get h.members c.in-Some.message.receiver ≡ Some (Some s)) (sym c.self.view_is) i)),
     )

@@ -23,7 +23,7 @@ use Rattle.hand.proofs.hand.Hand.run_late.Goals as goal
 looked : (g : Over) (c : After-first g) → DoesSent (rules_of g.R.Reversible.plain) g.R.Reversible.is_value c.args.self.now []
     (held c.self.inside.members.items c.self.inside.done.deeds c.self.inside.rows c.first.new.self) []
 looked g c =
-    still g.R.Reversible.plain g.R.Reversible.is_value c.actor_rules.ensures.order c.actor_rules.ensures.undoes c.args.self.now
+    still g.R.Reversible.plain g.R.Reversible.is_value c.actor_rules_law.ensures.order c.actor_rules_law.ensures.undoes c.args.self.now
     (held c.self.inside.members.items c.self.inside.done.deeds c.self.inside.rows c.first.new.self)
     (subst (λ h. IsAsBefore h (held c.self.inside.members.items c.self.inside.done.deeds c.self.inside.rows c.first.new.self)) c.self.view_is
     (as-first c.self.inside.members.items c.self.inside.done.deeds c.self.inside.rows c.self.inside.letters c.first.new.self c.first.ensures.same c.first.ensures.others))
@@ -45,7 +45,7 @@ pub returns-then-has-clause-did : goal.returns-then-has-clause-did
 returns-then-has-clause-did g c =
     let r = rules_of g.R.Reversible.plain in
     let V = g.R.Reversible.is_value in
-    let O = c.actor_rules.ensures.order in
+    let O = c.actor_rules_law.ensures.order in
     let members = c.self.inside.members.items in
     let done = c.self.inside.done.deeds in
     let rows = c.self.inside.rows in
@@ -90,13 +90,13 @@ as-it-was g c later deeds same =
 roomy : (g : Over) (c : After-reserve g) → c.reserve.new.self ≡ record c.first.new.self { room = c.reserve.new.self.room } →
     DoesSent (rules_of g.R.Reversible.plain) g.R.Reversible.is_value c.args.self.now [] (held c.self.inside.members.items c.self.inside.done.deeds c.self.inside.rows c.reserve.new.self) []
 roomy g c same =
-    still g.R.Reversible.plain g.R.Reversible.is_value c.actor_rules.ensures.order c.actor_rules.ensures.undoes c.args.self.now
+    still g.R.Reversible.plain g.R.Reversible.is_value c.actor_rules_law.ensures.order c.actor_rules_law.ensures.undoes c.args.self.now
     (held c.self.inside.members.items c.self.inside.done.deeds c.self.inside.rows c.reserve.new.self) (as-it-was g c c.self.inside.done.deeds refl same)
 
 roomier : (g : Over) (c : After-reserve-2 g) (b : After-reserve g) → c.reserve-2.new.self.deeds ≡ b.self.inside.done.deeds → b.reserve.new.self ≡ record b.first.new.self { room = b.reserve.new.self.room } →
     DoesSent (rules_of g.R.Reversible.plain) g.R.Reversible.is_value b.args.self.now [] (held b.self.inside.members.items c.reserve-2.new.self.deeds b.self.inside.rows b.reserve.new.self) []
 roomier g c b deeds same =
-    still g.R.Reversible.plain g.R.Reversible.is_value b.actor_rules.ensures.order b.actor_rules.ensures.undoes b.args.self.now
+    still g.R.Reversible.plain g.R.Reversible.is_value b.actor_rules_law.ensures.order b.actor_rules_law.ensures.undoes b.args.self.now
     (held b.self.inside.members.items c.reserve-2.new.self.deeds b.self.inside.rows b.reserve.new.self) (as-it-was g b c.reserve-2.new.self.deeds deeds same)
 
 pub returns-in_err-reserve-clause-did : goal.returns-in_err-reserve-clause-did
@@ -168,7 +168,7 @@ returns-clause-ran g c = λ x v stands.
       k.1,
       elim c.handle_late.ensures.handled [
         | inl e ↦ inl (e ∙ ap (λ z. length z + 1) same)
-        | inr l ↦ absurd (not-later g.R.Reversible.plain g.R.Reversible.is_value c.actor_rules.ensures.order x v c.args.self.now m able.0 stands able.1 k.0 not_done
+        | inr l ↦ absurd (not-later g.R.Reversible.plain g.R.Reversible.is_value c.actor_rules_law.ensures.order x v c.args.self.now m able.0 stands able.1 k.0 not_done
             (subst (HasLater message_order m) same l))
       ],
     )

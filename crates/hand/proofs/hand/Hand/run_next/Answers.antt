@@ -5,6 +5,7 @@ use Rattle.reverse.specs.Rules.{rules_of}
 use Rattle.hand.proofs.Telling.{does-both}
 use Rattle.hand.proofs.Still.{as-both, exhausted-again, handled-soon, on-err, stands-still}
 use Rattle.hand.proofs.hand.Hand.run_next.Goals as goal
+use Rattle.reverse.specs.declared.sends.TheConstants.{MOST_SENT}
 
 pub returns-in_err-run_late-in-Late-clause-did : goal.returns-in_err-run_late-in-Late-clause-did
 returns-in_err-run_late-in-Late-clause-did g c =
@@ -21,7 +22,7 @@ returns-in_err-run_late-in-Late-clause-unchanged g c =
 
 pub returns-in_err-run_late-in-Late-clause-exhausted : goal.returns-in_err-run_late-in-Late-clause-exhausted
 returns-in_err-run_late-in-Late-clause-exhausted g c = λ e.
-    exhausted-again c.args.self.now c.run_early.new.self (λ s. greatest_number < g.R.Reversible.plain.counter s + 24)
+    exhausted-again c.args.self.now c.run_early.new.self (λ s. greatest_number < g.R.Reversible.plain.counter s + MOST_SENT)
     (c.in_ok-run_early.ensures.still (λ j. Ok (c.in-Late.is j))) (c.run_late.ensures.exhausted (search rules))
 
 pub run_late-requires : goal.run_late-requires
@@ -33,9 +34,9 @@ pub returns-in_ok-run_late-in-Late-clause-ran : goal.returns-in_ok-run_late-in-L
 returns-in_ok-run_late-in-Late-clause-ran g c = λ _ x v stands.
     let plain = g.R.Reversible.plain in
     let V = g.R.Reversible.is_value in
-    let O = c.actor_rules.ensures.order in
+    let O = c.actor_rules_law.ensures.order in
     let old = c.args.self.now in
     let mid = c.run_early.new.self in
     let still = c.in_ok-run_early.ensures.still (λ j. Ok (c.in-Late.is j)) in
     handled-soon O c.args.limit old mid c.run_late.new.self still (c.in_ok-run_early.ensures.soon (λ j. Ok (c.in-Late.is j)))
-    (c.in_ok-run_late-in-Late.ensures.ran x v (stands-still plain V O c.actor_rules.ensures.undoes old mid still x v stands))
+    (c.in_ok-run_late-in-Late.ensures.ran x v (stands-still plain V O c.actor_rules_law.ensures.undoes old mid still x v stands))

@@ -8,7 +8,7 @@ use Rattle.hand.proofs.letters.Letters.count_again.Goals as goal
 pub returns-clause-extra : goal.returns-clause-extra
 returns-clause-extra c =
     let m = c.args.message.now in
-    let law = c.lawful_order.ensures in
+    let law = c.order_law.ensures in
     subst (λ z. HaveSameCounts message_order c.add.new.self (plus_of m ∷ z)) (ap (λ z. z.extra) c.self.view_is)
     (added-same_counts message_order (record { irreflexive = law.irreflexive; transitive = law.transitive; total = law.total; by_time = law.by_time }) (plus_of m) c.add.new.self c.self.inside.extra
     c.in_ok-add.ensures.count c.in_ok-add.ensures.others)

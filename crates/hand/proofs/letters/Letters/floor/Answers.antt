@@ -7,7 +7,7 @@ use Rattle.hand.proofs.letters.Letters.floor.Goals as goal
 
 pub returns-clause-least : goal.returns-clause-least
 returns-clause-least c =
-    let law = c.lawful_order.ensures in
+    let law = c.order_law.ensures in
     let soonest = lowest-of (record { irreflexive = law.irreflexive; transitive = law.transitive; total = law.total; by_time = law.by_time }) c.first-first.result c.time_or.result c.args.end
     c.self.inside.queue.messages c.first-first.ensures.among c.first-first.ensures.first c.first-first.ensures.none c.time_or.ensures.some c.time_or.ensures.none in
     c.earliest_in.ensures ∙ (ap (λ n. lowest n (times_of message_order c.self.inside.tray.items)) (sym soonest) ∙ ap (floor_in message_order c.args.end) c.self.view_is)

@@ -23,7 +23,7 @@ returns-in_default-clause-first c =
     let last = subst (λ (xs : List Message). option_copied c.last-last.result ≡ slice_get xs (length xs - 1)) c.deref.ensures.value c.last-last.ensures.value in
     subst (λ o. IfSome o (λ m. NoneBefore m c.args.self.now.messages)) (sym c.copied.ensures)
     (subst (λ (xs : List Message). IfSome (option_copied c.last-last.result) (λ m. NoneBefore m xs)) (ap (λ z. z.messages) c.self.view_is)
-    (last-of-all c.message_order.ensures.total c.self.inside.lists.messages c.self.inside.offers.items c.self.inside.falling c.last-last.result last c.in_default.ensures.rival))
+    (last-of-all c.message_order_law.ensures.total c.self.inside.lists.messages c.self.inside.offers.items c.self.inside.falling c.last-last.result last c.in_default.ensures.rival))
 
 pub returns-clause-same : goal.returns-clause-same
 returns-clause-same c =
@@ -34,6 +34,6 @@ pub returns-clause-first : goal.returns-clause-first
 returns-clause-first c =
     let last = subst (λ (xs : List Message). option_copied c.last-last.result ≡ slice_get xs (length xs - 1)) c.deref.ensures.value c.last-last.ensures.value in
     subst (NoneBefore c.in-Some.message) (ap (λ z. z.messages) c.self.view_is)
-    (first-in-first c.message_order.ensures.total c.self.inside.lists.messages c.self.inside.offers.items c.in-Some.message c.last-last.result
-    c.in-Some.ensures.first c.in-Some.ensures.before (last-before c.message_order.ensures.total c.self.inside.offers.items c.self.inside.falling c.last-last.result last)
+    (first-in-first c.message_order_law.ensures.total c.self.inside.lists.messages c.self.inside.offers.items c.in-Some.message c.last-last.result
+    c.in-Some.ensures.first c.in-Some.ensures.before (last-before c.message_order_law.ensures.total c.self.inside.offers.items c.self.inside.falling c.last-last.result last)
     (last-none c.self.inside.offers.items c.last-last.result last))

@@ -16,8 +16,8 @@ pub returns-in_default-clause-first : goal.returns-in_default-clause-first
 returns-in_default-clause-first c =
     let last = subst (λ (xs : List Message). option_copied c.last.result ≡ slice_get xs (length xs - 1)) c.deref.ensures.value c.last.ensures.value in
     subst (λ (xs : List Message). IfSome c.pop.result (λ m. NoneBefore m xs)) (ap (λ z. z.messages) c.self.view_is)
-    (first-in-second c.message_order.ensures.total c.self.inside.lists.messages c.pop_before.new.self.messages c.self.inside.offers.items c.pop.result c.last.result
-    (last-out-before c.message_order.ensures.total c.self.inside.offers.items c.pop.new.self.items c.pop.result c.self.inside.falling c.pop.ensures.items)
+    (first-in-second c.message_order_law.ensures.total c.self.inside.lists.messages c.pop_before.new.self.messages c.self.inside.offers.items c.pop.result c.last.result
+    (last-out-before c.message_order_law.ensures.total c.self.inside.offers.items c.pop.new.self.items c.pop.result c.self.inside.falling c.pop.ensures.items)
     (last-in c.self.inside.offers.items c.last.result last) c.in_default.ensures.rival)
 
 pub returns-clause-one : goal.returns-clause-one
@@ -31,6 +31,6 @@ pub returns-clause-first : goal.returns-clause-first
 returns-clause-first c =
     let last = subst (λ (xs : List Message). option_copied c.last.result ≡ slice_get xs (length xs - 1)) c.deref.ensures.value c.last.ensures.value in
     subst (NoneBefore c.in-Some.message) (ap (λ z. z.messages) c.self.view_is)
-    (first-in-first c.message_order.ensures.total c.self.inside.lists.messages c.self.inside.offers.items c.in-Some.message c.last.result
-    c.in-Some.ensures.first c.in-Some.ensures.before (last-before c.message_order.ensures.total c.self.inside.offers.items c.self.inside.falling c.last.result last)
+    (first-in-first c.message_order_law.ensures.total c.self.inside.lists.messages c.self.inside.offers.items c.in-Some.message c.last.result
+    c.in-Some.ensures.first c.in-Some.ensures.before (last-before c.message_order_law.ensures.total c.self.inside.offers.items c.self.inside.falling c.last.result last)
     (last-none c.self.inside.offers.items c.last.result last))

@@ -1,7 +1,7 @@
 use Rattle.std.proofs.Common.{◌≡◌, true, false, ◌==◌, ◌||◌, refl, ap, sym, ◌∙◌, inr, Some}
 use Rattle.std.specs.List.{list_any}
 use Rattle.network_rows.specs.declared.fault.DescFault.TheVariants.{DoubleName}
-use Rattle.netdesc.proofs.EachLemmas.{list_any-push}
+use Rattle.network.proofs.EachLemmas.{list_any-push}
 use Rattle.netdesc.proofs.DoubleLemmas.{contains-put}
 use Rattle.netdesc.proofs.double.IdsReview.review.Goals as goal
 

@@ -1,7 +1,7 @@
 use Rattle.std.proofs.Common.{◌≡◌, ◌+◌, ◌<◌, [], ◌∷◌, ◌++◌, length, take, get_or, arith, sym, ◌∙◌}
 use Rattle.std.proofs.lemmas.List.{take_more}
 use Rattle.netdesc.proofs.JoinLemmas.{AreJoined-put, AreJoined-kept, no_link}
-use Rattle.netdesc.proofs.EachLemmas.{length-before}
+use Rattle.network.proofs.EachLemmas.{length-before}
 use Rattle.netdesc.proofs.links.Joined.new.Goals as goal
 use Rattle.netdesc.proofs.links.Joined.new.Goals.{then-not-contains_key+in_ok-put+in_ok-put-2, else-not-contains_key}
 

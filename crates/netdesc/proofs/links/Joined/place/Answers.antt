@@ -1,6 +1,6 @@
 use Rattle.std.proofs.Common.{◌≡◌, ap, ◌∙◌, is_some}
-use Rattle.netdesc.specs.Words.{joins, link_between}
-use Rattle.netdesc.proofs.PlaceLemmas.{is_some-place_by}
+use Rattle.network.specs.Words.{joins, link_between}
+use Rattle.network.proofs.PlaceLemmas.{is_some-place_by}
 use Rattle.netdesc.proofs.links.Joined.place.Goals as goal
 
 pub returns : goal.returns

@@ -1,5 +1,5 @@
 use Rattle.std.proofs.Common.{◌≡◌, ◌+◌, ◌<◌, [], ◌∷◌, ◌++◌, length, take, get_or, arith, ap, sym, ◌∙◌}
-use Rattle.netdesc.specs.Words.{names_of}
+use Rattle.network.specs.Words.{names_of}
 use Rattle.netdesc.proofs.NameLemmas.{names_of-more, length-names_of, AreNumbers-kept, AreNumbers-put}
 use Rattle.netdesc.proofs.names.Names.new.Goals as goal
 use Rattle.netdesc.proofs.names.Names.new.Goals.{then-not-contains_key+in_ok-insert, else-not-contains_key}

@@ -1,5 +1,6 @@
 use Rattle.std.proofs.Common.{take}
-use Rattle.netdesc.specs.Words.{names_of, AreNumbers}
+use Rattle.network.specs.Words.{names_of}
+use Rattle.netdesc.specs.Words.{AreNumbers}
 use Rattle.netdesc.proofs.names.Names.new.Given as goal
 
 abbrev pub invariant-loop-i : goal.invariant-loop-i

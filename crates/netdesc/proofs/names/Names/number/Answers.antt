@@ -1,6 +1,6 @@
 use Rattle.std.proofs.Common.{◌≡◌, ap, ◌∙◌, is_some, bytes_eq}
-use Rattle.netdesc.specs.Words.{names_of, place_among}
-use Rattle.netdesc.proofs.PlaceLemmas.{is_some-place_by}
+use Rattle.network.specs.Words.{names_of, place_among}
+use Rattle.network.proofs.PlaceLemmas.{is_some-place_by}
 use Rattle.netdesc.proofs.NameLemmas.{number_of-place}
 use Rattle.netdesc.proofs.names.Names.number.Goals as goal
 

@@ -1,8 +1,8 @@
 use Rattle.std.proofs.Common.{◌≡◌, ◌||◌, true, false, map, ap, sym, ◌∙◌, refl, inr, Some}
 use Rattle.vlink.specs.declared.frame.Net.TheVariants.{A, B}
 use Rattle.network_rows.specs.declared.fault.DescFault.TheVariants.{NotALink}
-use Rattle.netdesc.specs.Words.{node_plan, leads, is_no_link}
-use Rattle.netdesc.proofs.EachLemmas.{list_any-push}
+use Rattle.network.specs.Words.{node_plan, leads, is_no_link}
+use Rattle.network.proofs.EachLemmas.{list_any-push}
 use Rattle.netdesc.proofs.no_link.LinksReview.review.Goals as goal
 
 pub returns-then-is_no_link : goal.returns-then-is_no_link

@@ -2,7 +2,7 @@ use Rattle.std.proofs.Common.{◌≡◌, ◌≤◌, false, nat_lt, length, ap, a
 use Rattle.std.proofs.lemmas.Bool.Decides.{nat_tests}
 use Rattle.network_rows.specs.declared.key.Section.TheVariants.{Vl}
 use Rattle.network_rows.specs.declared.fault.DescFault.TheVariants.{TooMany}
-use Rattle.netdesc.specs.Words.{greatest_destinations, when, row_at, destinations_of}
+use Rattle.network.specs.Words.{greatest_destinations, when, row_at, destinations_of}
 use Rattle.netdesc.proofs.OrderLemmas.{few-destinations}
 use Rattle.netdesc.proofs.too_many.VlsReview.review.Goals as goal
 

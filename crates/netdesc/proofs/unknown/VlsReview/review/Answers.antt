@@ -1,5 +1,5 @@
-use Rattle.netdesc.specs.Words.{names_of, vl_plan}
-use Rattle.netdesc.proofs.EachLemmas.{map-push}
+use Rattle.network.specs.Words.{names_of, vl_plan}
+use Rattle.network.proofs.EachLemmas.{map-push}
 use Rattle.netdesc.proofs.unknown.VlsReview.review.Goals as goal
 
 pub returns : goal.returns

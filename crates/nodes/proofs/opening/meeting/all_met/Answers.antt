@@ -1,6 +1,6 @@
 use Rattle.std.proofs.Common.{◌<◌, sym, ◌∙◌, subst, All}
 use Rattle.std.proofs.lemmas.List.Elements.{All-drop}
-use Rattle.netdesc.specs.declared.too_many.TheConstants.{GREATEST_PORTS}
+use Rattle.network.specs.declared.limits.TheConstants.{GREATEST_PORTS}
 use Rattle.nodes.proofs.VlLemmas.{all_met-more}
 use Rattle.nodes.proofs.opening.meeting.all_met.Goals as goal
 

@@ -1,6 +1,6 @@
 use Rattle.std.proofs.Common.{◌≡◌, ◌<◌, ◌++◌, length, All}
-use Rattle.netdesc.specs.declared.too_many.TheConstants.{GREATEST_PORTS}
-use Rattle.netdesc.specs.Words.{IsLinkInLimits}
+use Rattle.network.specs.declared.limits.TheConstants.{GREATEST_PORTS}
+use Rattle.network.specs.Words.{IsLinkInLimits}
 use Rattle.nodes.specs.Words.{all_met}
 use Rattle.nodes.proofs.opening.meeting.all_met.Given as goal
 

@@ -1,6 +1,6 @@
 use Rattle.std.proofs.Common.{false, arith, ap, ◌∙◌, take_all}
 use Rattle.std.proofs.lemmas.List.FromFn.{fill_by_all}
-use Rattle.netdesc.specs.declared.too_many.TheConstants.{GREATEST_PORTS}
+use Rattle.network.specs.declared.limits.TheConstants.{GREATEST_PORTS}
 use Rattle.nodes.specs.Words.{is_by, ports_by}
 use Rattle.nodes.proofs.opening.meeting.ports_by.Goals as goal
 

@@ -1,5 +1,5 @@
 use Rattle.std.proofs.Common.{◌≡◌, ℕ, ◌<◌, false, length, take, get_or}
-use Rattle.netdesc.specs.declared.too_many.TheConstants.{GREATEST_PORTS}
+use Rattle.network.specs.declared.limits.TheConstants.{GREATEST_PORTS}
 use Rattle.nodes.specs.Words.{is_by}
 use Rattle.nodes.proofs.opening.meeting.ports_by.Given as goal
 

@@ -1,6 +1,6 @@
 use Rattle.std.proofs.Common.{◌≡◌, None, length, take, get_or, arith, ap, ◌∙◌, take_all}
 use Rattle.std.proofs.lemmas.List.FromFn.{fill_by_all}
-use Rattle.netdesc.specs.Words.{lines_of}
+use Rattle.network.specs.Words.{lines_of}
 use Rattle.nodes.specs.Words.{wire_among, wires_of}
 use Rattle.nodes.proofs.WireLemmas.{wire_among-more}
 use Rattle.nodes.proofs.opening.wiring.wires_of.Goals as goal

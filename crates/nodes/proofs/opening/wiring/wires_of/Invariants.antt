@@ -1,5 +1,5 @@
 use Rattle.std.proofs.Common.{◌≡◌, ℕ, ◌<◌, None, length, take, get_or, vec_len}
-use Rattle.netdesc.specs.Words.{lines_of}
+use Rattle.network.specs.Words.{lines_of}
 use Rattle.nodes.specs.Words.{wire_among}
 use Rattle.nodes.proofs.opening.wiring.wires_of.Given as goal
 

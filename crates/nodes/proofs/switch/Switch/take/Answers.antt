@@ -1,6 +1,6 @@
 use Rattle.std.proofs.Common.{◌≡◌, Some, ap, ◌∙◌, sym, subst, slice_get, slice_set}
 use Rattle.reverse.specs.Sending.{replied}
-use Rattle.nodes.specs.rules.Switch.{taken, transit_change}
+use Rattle.nodes.specs.rules.Switch.{taken_in, transit_change}
 use Rattle.nodes.specs.Words.{SwitchState, entered, entered_reply, found-there, transit-last, transit_at, transit_number, IsLastOfSwitch}
 use Rattle.nodes.proofs.NumberLemmas.{found-read}
 use Rattle.nodes.proofs.switch.Switch.take.Goals as goal
@@ -20,7 +20,7 @@ returns-clause-state c =
     record { latency = i.latency_ns; transits = slice_set i.transits.items place c.enter.new.transit; ports = i.ports }
     ≡ record s { transits = slice_set s.transits place (entered c.args.at c.args.port frame transit) }) c.self.view_is
     (λ t. record { latency = i.latency_ns; transits = slice_set i.transits.items place (c.enter.ensures.transit t); ports = i.ports })
-    ∙ ap (λ found. (taken c.args.out.now.sender.number c.args.at c.args.port frame c.args.self.now found).state) (sym (found c))
+    ∙ ap (λ found. (taken_in c.args.out.now.sender.number c.args.at c.args.port frame c.args.self.now found).state) (sym (found c))
 
 pub returns-clause-reply : goal.returns-clause-reply
 returns-clause-reply c =
@@ -29,12 +29,12 @@ returns-clause-reply c =
     let frame = c.args.frame.now in
     let transit = c.index_mut-transit.result.now in
     subst (λ (s : SwitchState). c.enter.new.out ≡ replied out (entered_reply number c.args.at s.latency c.args.port frame transit)) c.self.view_is c.enter.ensures.reply
-    ∙ ap (λ found. replied out (taken number c.args.at c.args.port frame c.args.self.now found).reply) (sym (found c))
+    ∙ ap (λ found. replied out (taken_in number c.args.at c.args.port frame c.args.self.now found).reply) (sym (found c))
 
 pub returns-clause-change : goal.returns-clause-change
 returns-clause-change c =
     c.of_transit.ensures ∙ ap (transit_change c.in-Some.place) c.enter.ensures.kept
-    ∙ ap (λ found. (taken c.args.out.now.sender.number c.args.at c.args.port c.args.frame.now c.args.self.now found).change) (sym (found c))
+    ∙ ap (λ found. (taken_in c.args.out.now.sender.number c.args.at c.args.port c.args.frame.now c.args.self.now found).change) (sym (found c))
 
 pub returns-clause-last : goal.returns-clause-last
 returns-clause-last c =

@@ -9,7 +9,7 @@ use Rattle.process_queues.proofs.past.Past.count_again.Goals as goal
 
 pub returns-in-Ok-clause-counts : goal.returns-in-Ok-clause-counts
 returns-in-Ok-clause-counts g c = λ m.
-    let R = of-messages g.R.Reversible.plain c.actor_rules.ensures.order c.actor_rules.ensures.undoes in
+    let R = of-messages g.R.Reversible.plain c.actor_rules_law.ensures.order c.actor_rules_law.ensures.undoes in
     let l = c.args.letter in
     let old = c.count_back-tallied.new.tally in
     let t = c.if-tallied-place.true in
@@ -25,4 +25,4 @@ returns-clause-unchanged g c =
       | then-tallied-place+in-Err w ↦ subst (λ t. HaveSameCounts message_order t all) (sym (w.tally-is ∙ w.in-Err.ensures.unchanged)) c.count_back-tallied.ensures.counts
       | else-tallied-place w ↦ subst (λ t. HaveSameCounts message_order t all) (sym w.tally-is) c.count_back-tallied.ensures.counts
     ] in
-    c.told_by_counts-2.ensures.told c.args.tally.now c.told_by_counts.ensures.tally (c.take_out.ensures c.args.tally.now counts c.requires.not_owed)
+    c.counts_law-2.ensures.told c.args.tally.now c.counts_law.ensures.tally (c.take_out.ensures c.args.tally.now counts c.requires.not_owed)

@@ -17,7 +17,7 @@ loop-tallied-init g c = λ m.
 
 pub loop-tallied-preserved : goal.loop-tallied-preserved
 loop-tallied-preserved g c = λ m.
-    let R = of-messages g.R.Reversible.plain c.actor_rules.ensures.order c.actor_rules.ensures.undoes in
+    let R = of-messages g.R.Reversible.plain c.actor_rules_law.ensures.order c.actor_rules_law.ensures.undoes in
     let done = c.args.self.now.done in
     let e = c.index.result.now in
     let letter : Letter = record { message = e.message; sign = Plus } in

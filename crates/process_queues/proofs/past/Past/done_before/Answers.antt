@@ -13,6 +13,6 @@ returns-then-is_before g c =
     let t = c.loop-late-test.true in
     let i = c.loop-late.invariant in
     let at = subst (λ (p : Past g.row.R.Denot g.row.R-Record.Denot). e ≡ slice_index_or p.done (c.len-events.result - 1 - c.loop-late.late) e) c.self.view_is c.index.ensures in
-    let all = before-all r c.actor_rules.ensures.order c.args.message.now c.args.self.now.done (c.len-events.result - c.loop-late.late) (c.len-events.result - 1 - c.loop-late.late)
+    let all = before-all r c.actor_rules_law.ensures.order c.args.message.now c.args.self.now.done (c.len-events.result - c.loop-late.late) (c.len-events.result - 1 - c.loop-late.late)
     e (omega arith) (omega arith) at c.requires (sym c.if-is_before.ensures) in
     omega arith

@@ -15,7 +15,7 @@ times g c =
     let d = ap (λ p. length p.done) c.self.view_is in
     let within = c.in-Some.ensures.variant.0 refl in
     let at = subst (λ (p : Past g.row.R.Denot g.row.R-Record.Denot). e ≡ slice_index_or p.done c.done_before-place.result e) c.self.view_is c.in-Some.ensures.lookup in
-    done-once (rules_of g.R.Reversible.plain) c.actor_rules.ensures.order (map (λ x. x.message) done) c.requires c.args.message.now (Some e.message)
+    done-once (rules_of g.R.Reversible.plain) c.actor_rules_law.ensures.order (map (λ x. x.message) done) c.requires c.args.message.now (Some e.message)
     (ap (slice_get (map (λ x. x.message) done)) (sym c.done_before-place.ensures) ∙ at-get done c.done_before-place.result e (omega arith) at) ∙
     ap (λ b. one_if (not b)) (sym c.is_before.ensures)
 
@@ -29,6 +29,6 @@ pub returns-in-None-clause-not_done : goal.returns-in-None-clause-not_done
 returns-in-None-clause-not_done g c = λ _.
     let done = c.args.self.now.done in
     let d = ap (λ p. length p.done) c.self.view_is in
-    done-once (rules_of g.R.Reversible.plain) c.actor_rules.ensures.order (map (λ x. x.message) done) c.requires c.args.message.now None
+    done-once (rules_of g.R.Reversible.plain) c.actor_rules_law.ensures.order (map (λ x. x.message) done) c.requires c.args.message.now None
     (ap (slice_get (map (λ x. x.message) done)) (sym c.done_before-place.ensures) ∙
     none-get done c.done_before-place.result (λ h. let bad = c.in-None.ensures.variant.1 (omega arith) in cc))

@@ -19,14 +19,14 @@ pub undo_newest-requires-clause-some : goal.undo_newest-requires-clause-some
 undo_newest-requires-clause-some g c =
     let i = c.loop-self.invariant.some in
     let h = c.loop-self.invariant.rolls i.0 i.1 i.2 i.3 in
-    late-last (is-late c.actor_rules.ensures.order h.belongs (sym c.is_before.ensures ∙ c.loop-self-test.true))
+    late-last (is-late c.actor_rules_law.ensures.order h.belongs (sym c.is_before.ensures ∙ c.loop-self-test.true))
 
 pub loop-self-preserved : goal.loop-self-preserved
 loop-self-preserved g c = record {
   rolls = λ opening there part b.
       let h = c.loop-self.invariant.rolls opening there part b in
-      let l = is-late c.actor_rules.ensures.order h.belongs (sym c.is_before.ensures ∙ c.loop-self-test.true) in
-      rolls-more c.actor_rules.ensures.order c.actor_rules.ensures.undoes h l
+      let l = is-late c.actor_rules_law.ensures.order h.belongs (sym c.is_before.ensures ∙ c.loop-self-test.true) in
+      rolls-more c.actor_rules_law.ensures.order c.actor_rules_law.ensures.undoes h l
       (c.undo_newest.ensures.undone _ l.front l.event _ l.past_of) (c.undo_newest.ensures.sent _ l.front l.event _ l.past_of);
   some = c.loop-self.invariant.some;
   room =
@@ -43,14 +43,14 @@ loop-self-preserved g c = record {
 pub returns-clause-rolled : goal.returns-clause-rolled
 returns-clause-rolled g c opening there part b =
     let h = c.loop-self.invariant.rolls opening there part b in
-    let e = rolls-end c.actor_rules.ensures.order h (sym c.is_before.ensures ∙ c.loop-self-test.false) in
+    let e = rolls-end c.actor_rules_law.ensures.order h (sym c.is_before.ensures ∙ c.loop-self-test.false) in
     let k = subst (λ p. BelongsTo (rules_of g.R.Reversible.plain) g.R.Reversible.is_value opening there p c.loop-self.self) e h.belongs in
     record { past_of = k.past_of; state = k.state; ascending = k.ascending }
 
 pub returns-clause-posted : goal.returns-clause-posted
 returns-clause-posted g c opening there part b o =
     let h = c.loop-self.invariant.rolls opening there part b in
-    let e = rolls-end c.actor_rules.ensures.order h (sym c.is_before.ensures ∙ c.loop-self-test.false) in
+    let e = rolls-end c.actor_rules_law.ensures.order h (sym c.is_before.ensures ∙ c.loop-self-test.false) in
     h.outbox ∙ (ap (λ p. p.outbox) e ∙
     ap (λ ls. (rolled_back (rules_of g.R.Reversible.plain) opening c.args.message.now (record part { outbox = ls })).outbox) o)
 

@@ -10,7 +10,7 @@ use Rattle.process_queues.proofs.past.Past.take_out.Goals as goal
 
 pub loop-taken-preserved : goal.loop-taken-preserved
 loop-taken-preserved g c = λ before counts not_owed.
-    let R = of-messages g.R.Reversible.plain c.actor_rules.ensures.order c.actor_rules.ensures.undoes in
+    let R = of-messages g.R.Reversible.plain c.actor_rules_law.ensures.order c.actor_rules_law.ensures.undoes in
     let l = c.len-taken-end.ensures in
     let d = ap (λ p. length p.done) c.self.view_is in
     let t = c.loop-taken-test.true in

@@ -21,7 +21,7 @@ loop-event-preserved g c = record {
   left = λ start ms earlier h.
       let k = c.loop-event.invariant.left start ms earlier h in
       let l = has-last c.pop_back.new.self.items c.in-Some.event c.in-Some.ensures.items k.1 in
-      (l.0, left-less l.2 (λ z. c.actor_rules.ensures.undoes z l.1) c.undo.new.self c.undo.ensures);
+      (l.0, left-less l.2 (λ z. c.actor_rules_law.ensures.undoes z l.1) c.undo.new.self c.undo.ensures);
   some = c.loop-event.invariant.some;
 }
 

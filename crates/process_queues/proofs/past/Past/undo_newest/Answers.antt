@@ -40,7 +40,7 @@ returns-in-Some-clause-undone g c start ms e earlier h =
     let k : c.len.result ≡ vec_len c.self.inside.rows = c.len.ensures in
     let n : c.from-in-Some.result ≡ c.in-Some.event.noted = c.from-in-Some.ensures in
     let s : c.from.result ≡ c.in-Some.event.sent = c.from.ensures in
-    past-less (came-last ms e c.pop_back.new.self.items c.in-Some.event c.in-Some.ensures.items past) (λ z. c.actor_rules.ensures.undoes z e) _ c.undo.ensures _ _
+    past-less (came-last ms e c.pop_back.new.self.items c.in-Some.event c.in-Some.ensures.items past) (λ z. c.actor_rules_law.ensures.undoes z e) _ c.undo.ensures _ _
     (c.take_back.ensures.sends ∙ ap (λ x. take x c.self.inside.sends.items) (omega arith))
     (c.truncate.ensures.items ∙ ap (λ x. take x c.self.inside.rows.items) (omega arith))
 

@@ -1,5 +1,5 @@
 use Rattle.std.proofs.Common.{rules, ◌≡◌, inl, inr, false, ◌∷◌, map, drop, slice_get, Some, refl, sym, ap, ◌∙◌, subst, ◌≢◌}
-use Rattle.virtual_time.specs.Law.{rowed, arrive}
+use Rattle.virtual_time.specs.Law.{rowed}
 use Rattle.reverse.specs.Rules.{rules_of}
 use Rattle.vlink.specs.Order.{message_order}
 use Rattle.antimessages.specs.Counting.{change_by, is_after, present_after}
@@ -8,12 +8,13 @@ use Rattle.antimessages.proofs.Agreeing.{added-same_counts}
 use Rattle.antimessages.proofs.Following.{next-same}
 use Rattle.process_queues.specs.Past.{newest_of}
 use Rattle.process_queues.specs.Queues.{with_done}
-use Rattle.process_queues.proofs.Arriving.{tallied-belongs, still-stands, still-answer, back-stands, back-answer}
+use Rattle.process_queues.proofs.Arrivals.{tallied-belongs, still-stands, still-answer, back-stands, back-answer}
 use Rattle.process_queues.proofs.Beside.{with_done-same}
 use Rattle.process_queues.proofs.Counting.{of-messages}
 use Rattle.process_queues.proofs.Done.{before-within}
-use Rattle.process_queues.proofs.Stragglers.{next-beside, not-owed}
+use Rattle.process_queues.proofs.Stragglers.{next-beside, found-beside, not-owed}
 use Rattle.process_queues.proofs.Rolls.{done-ascending}
+use Rattle.process_queues.proofs.Standing.{keeps}
 use Rattle.process_queues.proofs.process.Process.arrive.Given.{Over}
 use Rattle.process_queues.proofs.process.Process.arrive.Goals as goal
 
@@ -33,7 +34,7 @@ invariant_of-self-in_err-count_again g c = rw (c.in_ok-reserve.ensures.same, c.i
 
 pub returns-then-is_before-clause-arrived : goal.returns-then-is_before-clause-arrived
 returns-then-is_before-clause-arrived g c opening part h =
-    let R = of-messages g.R.Reversible.plain c.actor_rules.ensures.order c.actor_rules.ensures.undoes in
+    let R = of-messages g.R.Reversible.plain c.actor_rules_law.ensures.order c.actor_rules_law.ensures.undoes in
     let k = rw (← c.self.view_is) at h in
     still-stands R k c.in-Some.letter (search rules) (inr (sym c.if-is_before.ensures)) c.self.inside.tally c.add.new.self _ refl
     (added-same_counts message_order R.messages c.in-Some.letter c.add.new.self c.self.inside.tally c.in_ok-change.ensures.count c.in_ok-change.ensures.others)
@@ -41,26 +42,20 @@ returns-then-is_before-clause-arrived g c opening part h =
 
 pub returns-then-is_before-clause-answer : goal.returns-then-is_before-clause-answer
 returns-then-is_before-clause-answer g c opening part h =
-    let R = of-messages g.R.Reversible.plain c.actor_rules.ensures.order c.actor_rules.ensures.undoes in
+    let R = of-messages g.R.Reversible.plain c.actor_rules_law.ensures.order c.actor_rules_law.ensures.undoes in
     still-answer R (rw (← c.self.view_is) at h) c.in-Some.letter (search rules) (inr (sym c.if-is_before.ensures))
 
 pub invariant_of-self-then-is_before : goal.invariant_of-self-then-is_before
 invariant_of-self-then-is_before g c =
-    let R = of-messages g.R.Reversible.plain c.actor_rules.ensures.order c.actor_rules.ensures.undoes in
-    let i = c.self.invariant in
+    let R = of-messages g.R.Reversible.plain c.actor_rules_law.ensures.order c.actor_rules_law.ensures.undoes in
     let l = c.in-Some.letter in
     let t = c.self.inside.tally in
     let newest = c.newest.ensures in
-    let stands = returns-then-is_before-clause-arrived g c i.0 i.1 (rw (← c.self.view_is) i.2) in (
-      i.0,
-      arrive (rules_of g.R.Reversible.plain) i.0 i.1,
-      stands,
-      c.next_with-self-inside.ensures t
-          (added-same_counts message_order R.messages l c.add.new.self t c.in_ok-change.ensures.count c.in_ok-change.ensures.others) c.in_ok-change.ensures.change
-          (λ n. ap (λ o. is_after message_order o l.message) newest ∙ sym c.if-is_before.ensures)
-          (i.3 ∙ (next-beside R i.2 t refl ∙ ap (λ o. present_after message_order o t) (sym newest))) ∙
-          (ap (λ o. present_after message_order o c.add.new.self) newest ∙ sym (next-beside R stands c.add.new.self refl)),
-    )
+    keeps c.self.view_is c.self.invariant (returns-then-is_before-clause-arrived g c) (λ opening part h s. found-beside R s c.add.new.self refl
+    (c.next_with-self-inside.ensures t
+    (added-same_counts message_order R.messages l c.add.new.self t c.in_ok-change.ensures.count c.in_ok-change.ensures.others) c.in_ok-change.ensures.change
+    (λ n. ap (λ o. is_after message_order o l.message) newest ∙ sym c.if-is_before.ensures)
+    (c.self.invariant.3 ∙ (next-beside R h t refl ∙ ap (λ o. present_after message_order o t) (sym newest)))) newest)
 
 -- it comes late
 
@@ -76,7 +71,7 @@ same g c = subst (λ q. change_by message_order c.in-Some.letter q.queues.tally 
 
 pub returns-then-not-is_toggled-clause-arrived : goal.returns-then-not-is_toggled-clause-arrived
 returns-then-not-is_toggled-clause-arrived g c opening part h =
-    let R = of-messages g.R.Reversible.plain c.actor_rules.ensures.order c.actor_rules.ensures.undoes in
+    let R = of-messages g.R.Reversible.plain c.actor_rules_law.ensures.order c.actor_rules_law.ensures.undoes in
     let k = rw (← c.self.view_is) at h in
     still-stands R k c.in-Some.letter (search rules) (inl (same g c)) c.self.inside.tally c.add-then-not-is_toggled.new.self _ refl
     (added-same_counts message_order R.messages c.in-Some.letter c.add-then-not-is_toggled.new.self c.self.inside.tally c.in_ok-add.ensures.count c.in_ok-add.ensures.others)
@@ -84,23 +79,19 @@ returns-then-not-is_toggled-clause-arrived g c opening part h =
 
 pub returns-then-not-is_toggled-clause-answer : goal.returns-then-not-is_toggled-clause-answer
 returns-then-not-is_toggled-clause-answer g c opening part h =
-    let R = of-messages g.R.Reversible.plain c.actor_rules.ensures.order c.actor_rules.ensures.undoes in
+    let R = of-messages g.R.Reversible.plain c.actor_rules_law.ensures.order c.actor_rules_law.ensures.undoes in
     still-answer R (rw (← c.self.view_is) at h) c.in-Some.letter (search rules) (inl (same g c))
 
 pub invariant_of-self-then-not-is_toggled : goal.invariant_of-self-then-not-is_toggled
 invariant_of-self-then-not-is_toggled g c =
-    let O = c.actor_rules.ensures.order in
-    let i = c.self.invariant in
+    let O = c.actor_rules_law.ensures.order in
     let l = c.in-Some.letter in
     let done = c.self.inside.past.done in
     let new = c.add-then-not-is_toggled.new.self in
     let counts = with_done-same O new (l ∷ c.self.inside.tally) done
-    (added-same_counts message_order O l new c.self.inside.tally c.in_ok-add.ensures.count c.in_ok-add.ensures.others) in (
-      i.0,
-      arrive (rules_of g.R.Reversible.plain) i.0 i.1,
-      returns-then-not-is_toggled-clause-arrived g c i.0 i.1 (rw (← c.self.view_is) i.2),
-      i.3 ∙ next-same message_order O (newest_of (map (λ e. e.message) done)) l (with_done c.self.inside.tally done) (with_done new done) counts (same g c),
-    )
+    (added-same_counts message_order O l new c.self.inside.tally c.in_ok-add.ensures.count c.in_ok-add.ensures.others) in
+    keeps c.self.view_is c.self.invariant (returns-then-not-is_toggled-clause-arrived g c) (λ opening part h s. c.self.invariant.3 ∙
+    next-same message_order O (newest_of (map (λ e. e.message) done)) l (with_done c.self.inside.tally done) (with_done new done) counts (same g c))
 
 -- it toggles its message, and events are undone
 
@@ -118,7 +109,7 @@ count_again-requires-clause-within g c =
 
 pub count_again-requires-clause-not_owed : goal.count_again-requires-clause-not_owed
 count_again-requires-clause-not_owed g c m j =
-    let R = of-messages g.R.Reversible.plain c.actor_rules.ensures.order c.actor_rules.ensures.undoes in
+    let R = of-messages g.R.Reversible.plain c.actor_rules_law.ensures.order c.actor_rules_law.ensures.undoes in
     not-owed R c.self.invariant.2 m c.self.inside.tally refl j
 
 pub roll_back-undone-requires-clause-some : goal.roll_back-undone-requires-clause-some
@@ -131,7 +122,7 @@ toggled g c = subst (λ q. change_by message_order c.in-Some.letter q.queues.tal
 
 pub returns-clause-arrived : goal.returns-clause-arrived
 returns-clause-arrived g c opening part h =
-    let R = of-messages g.R.Reversible.plain c.actor_rules.ensures.order c.actor_rules.ensures.undoes in
+    let R = of-messages g.R.Reversible.plain c.actor_rules_law.ensures.order c.actor_rules_law.ensures.undoes in
     let k = rw (← c.self.view_is) at h in
     let first : slice_get c.self.inside.tray.items 0 ≡ Some c.in-Some.letter = search rules in
     let b = tallied-belongs R k c.in-Some.letter first in
@@ -141,7 +132,7 @@ returns-clause-arrived g c opening part h =
 
 pub returns-clause-answer : goal.returns-clause-answer
 returns-clause-answer g c opening part h =
-    let R = of-messages g.R.Reversible.plain c.actor_rules.ensures.order c.actor_rules.ensures.undoes in
+    let R = of-messages g.R.Reversible.plain c.actor_rules_law.ensures.order c.actor_rules_law.ensures.undoes in
     let k = rw (← c.self.view_is) at h in
     let first : slice_get c.self.inside.tray.items 0 ≡ Some c.in-Some.letter = search rules in
     let b = tallied-belongs R k c.in-Some.letter first in
@@ -149,12 +140,6 @@ returns-clause-answer g c opening part h =
 
 pub invariant_of-self-2 : goal.invariant_of-self-2
 invariant_of-self-2 g c =
-    let R = of-messages g.R.Reversible.plain c.actor_rules.ensures.order c.actor_rules.ensures.undoes in
-    let i = c.self.invariant in
-    let stands = returns-clause-arrived g c i.0 i.1 (rw (← c.self.view_is) i.2) in (
-      i.0,
-      arrive (rules_of g.R.Reversible.plain) i.0 i.1,
-      stands,
-      c.next_after-self-inside.ensures ∙ (ap (λ o. present_after message_order o c.count_again.new.tally) c.newest-2.ensures ∙
-          sym (next-beside R stands c.count_again.new.tally refl)),
-    )
+    let R = of-messages g.R.Reversible.plain c.actor_rules_law.ensures.order c.actor_rules_law.ensures.undoes in
+    keeps c.self.view_is c.self.invariant (returns-clause-arrived g c)
+    (λ opening part h s. found-beside R s c.count_again.new.tally refl c.next_after-self-inside.ensures c.newest-2.ensures)

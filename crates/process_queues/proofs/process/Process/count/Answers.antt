@@ -11,7 +11,7 @@ has_done-requires g c = done-ascending c.self.invariant.2.past
 
 pub returns : goal.returns
 returns g c = λ opening part h.
-    let R = of-messages g.R.Reversible.plain c.actor_rules.ensures.order c.actor_rules.ensures.undoes in
+    let R = of-messages g.R.Reversible.plain c.actor_rules_law.ensures.order c.actor_rules_law.ensures.undoes in
     let k = rw (← c.self.view_is) at h in
     let count : c.count_with.result ≡ signed_count message_order c.args.message.now part.tally =
     count-stands R k c.self.inside.tally refl c.args.message.now c.has_done.result c.count_with.result

@@ -28,19 +28,19 @@ apart g c = elim c.match-letter.branch [
 
 pub returns-then-is_other-clause-toggled : goal.returns-then-is_other-clause-toggled
 returns-then-is_other-clause-toggled g c = λ zero same.
-    let R = of-messages g.R.Reversible.plain c.actor_rules.ensures.order c.actor_rules.ensures.undoes in
+    let R = of-messages g.R.Reversible.plain c.actor_rules_law.ensures.order c.actor_rules_law.ensures.undoes in
     toggles-it R c.self.invariant.2 c.args.letter.now c.self.inside.tally refl (apart g c) (c.is_zero.ensures.0 zero)
     (subst (λ q. change_by message_order c.args.letter.now q.queues.tally ≡ Same) (sym c.self.view_is) same)
 
 pub returns-then-is_other-clause-same : goal.returns-then-is_other-clause-same
 returns-then-is_other-clause-same g c = λ some.
-    let R = of-messages g.R.Reversible.plain c.actor_rules.ensures.order c.actor_rules.ensures.undoes in
+    let R = of-messages g.R.Reversible.plain c.actor_rules_law.ensures.order c.actor_rules_law.ensures.undoes in
     subst (λ q. change_by message_order c.args.letter.now q.queues.tally ≡ Same) c.self.view_is
     (keeps-it R c.self.invariant.2 c.args.letter.now c.self.inside.tally refl (apart g c) (λ z. let t = c.is_zero.ensures.1 z in cc))
 
 pub returns-else-is_other-clause-same : goal.returns-else-is_other-clause-same
 returns-else-is_other-clause-same g c = λ other.
-    let R = of-messages g.R.Reversible.plain c.actor_rules.ensures.order c.actor_rules.ensures.undoes in
+    let R = of-messages g.R.Reversible.plain c.actor_rules_law.ensures.order c.actor_rules_law.ensures.undoes in
     let l = c.args.letter.now in
     let times : times_in message_order l.message (map (λ e. e.message) c.self.inside.past.done) ≡ one_if (is_plus l.sign) = elim c.match-letter.branch [
       | in-Plus w ↦ w.has_done.ensures.done (not-false _ (sym w.is_other-is ∙ other)) ∙ sym (ap (λ s. one_if (is_plus s)) w.in-Plus.is)

@@ -1,6 +1,6 @@
 use Rattle.std.proofs.Common.{refl, arith}
 use Rattle.process_queues.proofs.Reading.{sealed-within}
-use Rattle.process_queues.proofs.Standing.{gone-stands}
+use Rattle.process_queues.proofs.Standing.{gone-stands, keeps}
 use Rattle.process_queues.proofs.process.Process.let_rows_go.Goals as goal
 
 pub forget_rows-requires : goal.forget_rows-requires
@@ -12,6 +12,4 @@ returns-clause-stands g c = λ opening part h.
     gone-stands k c.min-gone.result (omega arith) (rw c.forget_rows.ensures refl)
 
 pub invariant_of-self : goal.invariant_of-self
-invariant_of-self g c =
-    let i = c.self.invariant in
-    (i.0, i.1, gone-stands i.2 c.min-gone.result (omega arith) (rw c.forget_rows.ensures refl), rw c.forget_rows.ensures i.3)
+invariant_of-self g c = keeps c.self.view_is c.self.invariant (returns-clause-stands g c) (λ opening part h s. rw c.forget_rows.ensures c.self.invariant.3)

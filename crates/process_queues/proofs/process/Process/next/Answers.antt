@@ -11,5 +11,5 @@ returns-clause-next g c = let i = c.self.invariant in i.3 ∙ ap (λ q. next_in 
 pub returns-clause-stands : goal.returns-clause-stands
 returns-clause-stands g c = λ opening part h.
     let r = rules_of g.R.Reversible.plain in
-    let R = of-messages g.R.Reversible.plain c.actor_rules.ensures.order c.actor_rules.ensures.undoes in
+    let R = of-messages g.R.Reversible.plain c.actor_rules_law.ensures.order c.actor_rules_law.ensures.undoes in
     returns-clause-next g c ∙ sym (next-stands r R g.R.Reversible.is_value opening part _ h)

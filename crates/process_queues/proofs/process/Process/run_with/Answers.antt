@@ -1,14 +1,12 @@
 use Rattle.std.proofs.Common.{◌≡◌, None, Some, refl, sym, ap, ◌∙◌, subst, IsSome}
-use Rattle.virtual_time.specs.Law.{run_one, handled, next_of}
+use Rattle.virtual_time.specs.Law.{handled, next_of}
 use Rattle.reverse.specs.Rules.{rules_of}
-use Rattle.vlink.specs.Order.{message_order}
-use Rattle.antimessages.specs.Counting.{present_after}
 use Rattle.process_queues.specs.Queues.{StandsFor, with_done}
 use Rattle.process_queues.proofs.Beside.{with_done-handled}
 use Rattle.process_queues.proofs.Counting.{of-messages}
-use Rattle.process_queues.proofs.Stragglers.{next-beside, beside-present}
+use Rattle.process_queues.proofs.Stragglers.{beside-present, found-beside}
 use Rattle.process_queues.proofs.Next.{next-stands}
-use Rattle.process_queues.proofs.Standing.{ran-stands, retallied-stands}
+use Rattle.process_queues.proofs.Standing.{keeps, ran-stands, retallied-stands}
 use Rattle.process_queues.proofs.Taking.{err-gives}
 use Rattle.process_queues.proofs.process.Process.run_with.Goals as goal
 
@@ -34,7 +32,7 @@ returns-clause-handled g c = λ opening part h. sym c.in-Some.is ∙ c.next.ensu
 pub returns-clause-ran : goal.returns-clause-ran
 returns-clause-ran g c = λ opening part h.
     let r = rules_of g.R.Reversible.plain in
-    let R = of-messages g.R.Reversible.plain c.actor_rules.ensures.order c.actor_rules.ensures.undoes in
+    let R = of-messages g.R.Reversible.plain c.actor_rules_law.ensures.order c.actor_rules_law.ensures.undoes in
     let k = rw (← c.self.view_is) at h in
     let m = c.in-Some.message in
     let t = c.self.inside.tally in
@@ -50,12 +48,6 @@ invariant_of-self g c = rw (c.in_err-handle.ensures.unchanged, c.in_err-handle.e
 
 pub invariant_of-self-2 : goal.invariant_of-self-2
 invariant_of-self-2 g c =
-    let R = of-messages g.R.Reversible.plain c.actor_rules.ensures.order c.actor_rules.ensures.undoes in
-    let i = c.self.invariant in
-    let stands = returns-clause-ran g c i.0 i.1 (rw (← c.self.view_is) i.2) in (
-      i.0,
-      run_one (rules_of g.R.Reversible.plain) i.1,
-      stands,
-      c.next_after-self-inside.ensures ∙ (ap (λ o. present_after message_order o c.take_present.new.self) c.newest.ensures ∙
-          sym (next-beside R stands c.take_present.new.self refl)),
-    )
+    let R = of-messages g.R.Reversible.plain c.actor_rules_law.ensures.order c.actor_rules_law.ensures.undoes in
+    keeps c.self.view_is c.self.invariant (returns-clause-ran g c)
+    (λ opening part h s. found-beside R s c.take_present.new.self refl c.next_after-self-inside.ensures c.newest.ensures)

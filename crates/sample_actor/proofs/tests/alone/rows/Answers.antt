@@ -10,5 +10,5 @@ run_actors-requires c =
     let offer : Message = record { time = c.default.result; receiver = 0; sender = 1; number = 0; body = PortFree 0 } in (
       setting actor offer,
       opens actor offer _ _ (c.deref_mut.ensures.value ∙ (c.in_ok-push.ensures.items ∙ ap (λ xs. xs ++ actor ∷ []) c.new-actors.ensures.items)) refl,
-      c.actor_laws.ensures (setting actor offer) (laid-out c.actor_rules.ensures.order actor c.requires offer refl refl c.default.ensures),
+      c.actor_law.ensures (setting actor offer) (laid-out c.actor_rules_law.ensures.order actor c.requires offer refl refl c.default.ensures),
     )

@@ -2,7 +2,7 @@ use Rattle.std.proofs.Common.{◌≡◌, ◌++◌, ◌+◌, ℕ, List, [], map, 
 use Rattle.vlink.specs.Letters.{Row}
 use Rattle.virtual_time.specs.Law.{rowed, Laws}
 use Rattle.virtual_time.specs.declared.step.Step.{Step}
-use Rattle.netdesc.specs.Words.{Plan, process_count}
+use Rattle.network.specs.Words.{Plan, process_count}
 use Rattle.nodes.specs.Words.{IsNodeValue, IsPlaced, simulation_of}
 use Rattle.trace_tables.specs.SoFar.{SoFarLists, IsSoFar}
 use Rattle.trace_tables.specs.Tables.{TableLists, tables_of}
@@ -60,7 +60,7 @@ loop-process-preserved c =
     let now = c.loop-process.invariant in (
       now.0 ++ c.sealed.result.now,
       counted w c.args.self.now c.self.view_is _ (now.0 ++ c.sealed.result.now) (c.in_ok-count.ensures now.0 (counting w c.args.self.now c.self.view_is c.loop-process.tables now.0 now.1)),
-      next w c.args.self.now c.self.view_is c.network_layout.ensures c.network_laws.ensures c.loop-process.process now.0 c.sealed.result.now c.sealed.ensures now.2,
+      next w c.args.self.now c.self.view_is c.layout_law.ensures c.network_law.ensures c.loop-process.process now.0 c.sealed.result.now c.sealed.ensures now.2,
     )
 
 pub tables-requires : goal.tables-requires
@@ -85,6 +85,6 @@ returns c =
     ok-weaker (AreOfCounted w.plan c.loop-process.tables) (AreOfCommitted c.args.self.now) (λ tables are. (
       now.0,
       told w c.args.self.now c.self.view_is tables now.0 (are now.0 (counting w c.args.self.now c.self.view_is c.loop-process.tables now.0 now.1)),
-      last w c.args.self.now c.self.view_is c.network_laws.ensures c.loop-process.process now.0 k now.2,
+      last w c.args.self.now c.self.view_is c.network_law.ensures c.loop-process.process now.0 k now.2,
     ))
     c.tables-2.result c.tables-2.ensures

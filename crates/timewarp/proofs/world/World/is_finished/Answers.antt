@@ -27,4 +27,4 @@ returns-then-is_over c =
     let beyond : c.gvt.result ≡ c.self.inside.network.until + 1 =
     let a = c.if-is_over.true in let b = c.ns.ensures.value in let d = c.ns-2.ensures.value in let e = c.until.ensures.value in omega arith in
     over w c.args.self.now c.self.view_is c.gvt.result beyond c.all_committed.result
-    (λ steps h. c.all_committed.ensures (setting_of c.self.inside.network) c.network_layout.ensures steps h) c.gvt.ensures
+    (λ steps h. c.all_committed.ensures (setting_of c.self.inside.network) c.layout_law.ensures steps h) c.gvt.ensures

@@ -2,7 +2,7 @@ use Rattle.std.proofs.Common.{◌≡◌, ◌∙◌, List, [], sym}
 use Rattle.vlink.specs.declared.message.Message.{Message}
 use Rattle.virtual_time.specs.Law.{run, start}
 use Rattle.reverse.specs.Setting.{AreInStates, Opens}
-use Rattle.netdesc.specs.Words.{process_count, Plan}
+use Rattle.network.specs.Words.{process_count, Plan}
 use Rattle.traffic.specs.Offers.{offers_of}
 use Rattle.nodes.specs.declared.node.NodeRecord.{NodeRecord}
 use Rattle.nodes.specs.Words.{NodeState, IsNodeValue, opening, simulation_of}

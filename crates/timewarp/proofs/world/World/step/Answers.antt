@@ -13,36 +13,36 @@ use Rattle.timewarp.proofs.world.World.step.Goals as goal
 
 pub invariant_of-self : goal.invariant_of-self
 invariant_of-self c =
-    step-some c.self.inside.network c.network_layout.ensures c.args.step c.self.inside.actors c.step.new.self
+    step-some c.self.inside.network c.layout_law.ensures c.args.step c.self.inside.actors c.step.new.self
     c.step.result c.step.ensures.stands c.step.ensures.unchanged c.self.invariant
 
 pub returns-clause-after : goal.returns-clause-after
 returns-clause-after c =
     subst (λ (old : NetworkWorld). OnOk c.step.result ((steps : List Step) → IsAfter old steps →
     IsAfter (world c.self.inside.network c.step.new.self) (steps ++ c.args.step ∷ []))) c.self.view_is
-    (step-after c.self.inside.network c.network_layout.ensures c.args.step c.self.inside.actors c.step.new.self
+    (step-after c.self.inside.network c.layout_law.ensures c.args.step c.self.inside.actors c.step.new.self
     c.step.result c.step.ensures.stands)
 
 pub returns-clause-refused : goal.returns-clause-refused
 returns-clause-refused c =
     subst (λ (old : NetworkWorld). OnErr c.step.result ((steps : List Step) → IsAfter old steps → IsAfter (world c.self.inside.network c.step.new.self) steps)) c.self.view_is
-    (step-refused c.self.inside.network c.network_layout.ensures c.args.step c.self.inside.actors c.step.new.self
+    (step-refused c.self.inside.network c.layout_law.ensures c.args.step c.self.inside.actors c.step.new.self
     c.step.result c.step.ensures.unchanged)
 
 pub returns-clause-enabled : goal.returns-clause-enabled
 returns-clause-enabled c =
     subst (λ (old : NetworkWorld). IfOk c.step.result (λ done. (steps : List Step) → IsAfter old steps →
     (done ≡ Did) ↔ (is_enabled (simulation_of old.plan) c.args.step (after old.plan steps) ≡ true))) c.self.view_is
-    (step-enabled c.self.inside.network c.network_layout.ensures c.args.step c.self.inside.actors c.step.new.self
+    (step-enabled c.self.inside.network c.layout_law.ensures c.args.step c.self.inside.actors c.step.new.self
     c.step.result c.step.ensures.enabled)
 
 pub returns-clause-exhausted : goal.returns-clause-exhausted
 returns-clause-exhausted c =
     subst (λ (old : NetworkWorld). (steps : List Step) → IsAfter old steps →
     (c.step.result ≡ Err Exhausted) ↔ IsExhausted (simulation_of old.plan) c.args.step (after old.plan steps)) c.self.view_is
-    (λ steps h. c.step.ensures.exhausted (setting_of c.self.inside.network) c.network_layout.ensures steps h)
+    (λ steps h. c.step.ensures.exhausted (setting_of c.self.inside.network) c.layout_law.ensures steps h)
 
 pub returns-clause-memory : goal.returns-clause-memory
 returns-clause-memory c = λ e.
     subst (λ (old : NetworkWorld). (steps : List Step) → IsAfter old steps → is_enabled (simulation_of old.plan) c.args.step (after old.plan steps) ≡ true) c.self.view_is
-    (λ steps h. c.step.ensures.memory e (setting_of c.self.inside.network) c.network_layout.ensures steps h)
+    (λ steps h. c.step.ensures.memory e (setting_of c.self.inside.network) c.layout_law.ensures steps h)

@@ -22,7 +22,7 @@ pub returns-clause-sealed : goal.returns-clause-sealed
 returns-clause-sealed c = λ steps h rows a.
     let plan = c.args.self.now.plan in
     let found = c.in_ok-committed_tables.ensures in
-    found.1 ∙ c.tables_by_place.ensures.by_place plan found.0 rows (λ p. found.2 steps h p ∙ sym (a p))
+    found.1 ∙ c.tables_by_place_law.ensures.by_place plan found.0 rows (λ p. found.2 steps h p ∙ sym (a p))
 
 pub returns-clause-rows : goal.returns-clause-rows
 returns-clause-rows c = λ steps h.
@@ -32,4 +32,4 @@ returns-clause-rows c = λ steps h.
 pub returns-clause-whole : goal.returns-clause-whole
 returns-clause-whole c = λ steps h d rows r.
     let w : NetworkWorld = record { plan = c.self.inside.network; held = c.self.inside.actors } in
-    returns-clause-sealed c steps h rows (subst AreWhole c.self.view_is (whole w c.network_laws.ensures c.world_laws.ensures.whole) steps d rows r)
+    returns-clause-sealed c steps h rows (subst AreWhole c.self.view_is (whole w c.network_law.ensures c.world_law.ensures.whole) steps d rows r)

@@ -1,16 +1,17 @@
 use Rattle.std.proofs.Common.{◌∙◌, ◌≢◌, ◌<◌, ℕ, rules, sym, subst, Option, Result, IfSome, IfErr, length}
 use mathlib.Core.Logic.{∥∥₁_elim, ∥∥₁_map, ∥∥₁_map₂}
 use Rattle.std.proofs.Props.{props}
-use Rattle.netdesc.specs.Words.{process_count}
+use Rattle.network.specs.Words.{process_count}
 use Rattle.group_exchange.specs.Rows.{rows_of_group}
 use Rattle.group_exchange.specs.Views.{is_of}
 use Rattle.trace_segments.specs.declared.segment_fault.SegmentFault.{SegmentFault}
 use Rattle.trace_segments.specs.declared.segment_fault.SegmentFault.TheVariants.{OutOfMemory}
 use Rattle.trace_segments.specs.Words.{gathered, segment_fault, Gives, rows_within, IsInOrder, BatchRows}
 use Rattle.worker_pool.proofs.GroupSegments.{one-group}
-use Rattle.worker_pool.proofs.GatheredRun.{none-of, own-rows, segment-gathered, given-batch}
-use Rattle.worker_pool.specs.Written.{IsPlaceFault}
-use Rattle.worker_pool.proofs.Written.{segment-told}
+use Rattle.run_rows.proofs.Nothing.{none-of}
+use Rattle.worker_pool.proofs.GatheredRun.{own-rows, segment-gathered, given-batch}
+use Rattle.run_rows.specs.Written.{IsPlaceFault}
+use Rattle.run_rows.proofs.Written.{segment-told}
 use Rattle.worker_pool.proofs.desk.Desk.gathered.Goals as goal
 
 pub invariant_of-self : goal.invariant_of-self
@@ -19,7 +20,7 @@ invariant_of-self g c =
     let owners = g.J.NetworkRun.owners in
     let groups = length g.J.NetworkRun.names in
     let own = own-rows plan owners groups c.args.segment c.requires.of_run in
-    let law = c.segments_of_rows.ensures in
+    let law = c.segments_of_rows_law.ensures in
     let said = c.take.ensures in
     record {
       of_run = ∥∥₁_map c.args.self.now.of_run (λ G. segment-gathered plan owners groups c.args.self.now.gather c.take.new.self c.args.segment G c.take.result
@@ -43,11 +44,11 @@ new-requires g c =
     let none = none-of (segment_fault old segment) (λ fault e. let f = c.in_ok-batch.ensures.refused fault e in absurd (cc)) in
     ∥∥₁_map₂ c.args.self.now.of_run c.args.self.now.lawful (λ G lawful. given-batch plan owners groups old new segment G batch gives (λ rows r.
     let at = λ (n : ℕ). rows_of_group owners n rows in
-    c.batches_in_order.ensures.batch groups batch.from batch.to at rows batch.rows
-    (c.batches_in_order.ensures.by_group (is_of owners) groups (process_count plan) rows (lawful rows r).received (lawful rows r).ordered (lawful rows r).none_outside
+    c.batches_in_order_law.ensures.batch groups batch.from batch.to at rows batch.rows
+    (c.batches_in_order_law.ensures.by_group (is_of owners) groups (process_count plan) rows (lawful rows r).received (lawful rows r).ordered (lawful rows r).none_outside
     (one-group (process_count plan) groups owners G.grouped))
     (subst (λ n. IsInOrder (gathered n (λ g. rows_within batch.from batch.to (at g))) batch.rows) G.count
-    (c.segments_of_rows.ensures.batch old new segment batch at (G.rows_are rows r) none (own-rows plan owners groups segment c.requires.of_run rows r) gives))))
+    (c.segments_of_rows_law.ensures.batch old new segment batch at (G.rows_are rows r) none (own-rows plan owners groups segment c.requires.of_run rows r) gives))))
 
 pub returns-in_err-batch-clause-place : goal.returns-in_err-batch-clause-place
 returns-in_err-batch-clause-place g c =

@@ -1,5 +1,5 @@
-use Rattle.std.proofs.Common.{subst, arith, length}
-use Rattle.netdesc.specs.Words.{process_count}
+use Rattle.std.proofs.Common.{subst, arith}
+use Rattle.network.specs.Words.{process_count}
 use Rattle.group_exchange.specs.Keeps.{AreGrouped}
 use Rattle.group_exchange.specs.Views.{Ledger}
 use Rattle.worker_pool.specs.Runs.{IsOfWorld}

@@ -27,6 +27,6 @@ loop-place-preserved g c =
 pub returns : goal.returns
 returns g c =
     let plan = g.J.NetworkRun.plan in
-    let L = subst (λ z. Laws (simulation_of z)) c.requires.network c.network_laws.ensures in
+    let L = subst (λ z. Laws (simulation_of z)) c.args.self.now.planned c.network_law.ensures in
     rows-complete plan g.J.NetworkRun.owners c.args.self.now.exchange.steps c.args.self.now.groups.items c.requires.ended L c.loop-place.place
     (omega arith) c.loop-place.rows.items c.loop-place.invariant

@@ -1,8 +1,12 @@
-use Rattle.std.proofs.Common.{◌≡◌, subst, arith}
+use Rattle.std.proofs.Common.{◌≡◌, ◌∙◌, ap, subst, arith}
+use Rattle.network.specs.Words.{Plan}
 use Rattle.group_exchange.specs.Views.{Ledger}
 use Rattle.seqsim.specs.Committed.{after}
 use Rattle.worker_pool.proofs.Ended.{ended}
 use Rattle.worker_pool.proofs.ending.Unlocked.is_ended.Goals as goal
+
+pub are_of_world-requires : goal.are_of_world-requires
+are_of_world-requires g c = c.until-until.ensures.value ∙ ap (λ (z : Plan). z.until) c.args.self.now.planned
 
 pub returns : goal.returns
 returns g c = λ yes.
@@ -10,4 +14,5 @@ returns g c = λ yes.
     let steps = c.args.self.now.exchange.steps in
     let items = c.args.self.now.groups.items in
     let reached = subst (λ (ledger : Ledger). c.gvt.result ≡ (after plan ledger.steps).gvt) c.lent.ensures c.gvt.ensures in
+    let end : c.until-until.result ≡ plan.until = c.until-until.ensures.value ∙ ap (λ (z : Plan). z.until) c.args.self.now.planned in
     ended plan g.J.NetworkRun.owners steps items c.gvt.result reached (omega arith) (c.are_of_world.ensures.grouped cc) (c.are_of_world.ensures.each cc) (c.all_committed.ensures cc)

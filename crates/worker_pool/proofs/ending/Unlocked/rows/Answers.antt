@@ -3,7 +3,7 @@ use Rattle.vlink.specs.declared.message.Message.{Message}
 use Rattle.vlink.specs.Letters.{Row}
 use Rattle.virtual_time.specs.Law.{IsFinished}
 use Rattle.virtual_time.specs.declared.step.Step.{Step}
-use Rattle.netdesc.specs.Words.{Plan}
+use Rattle.network.specs.Words.{Plan}
 use Rattle.nodes.specs.Words.{simulation_of}
 use Rattle.trace_segments.specs.Words.{AreInMessageOrder, rows_of_event}
 use Rattle.seqsim.specs.Committed.{after, AreCommittedRows}
@@ -18,5 +18,5 @@ AreOrdered plan =
 
 pub returns : goal.returns
 returns g c =
-    subst AreOrdered c.requires.network c.rows_by_process.ensures.finished c.args.self.now.exchange.steps c.requires.ended.finished
+    subst AreOrdered c.args.self.now.planned c.rows_by_process_law.ensures.finished c.args.self.now.exchange.steps c.requires.ended.finished
     _ _ c.in_ok-rows.ensures c.in_ok-put_in_message_order.ensures.ascending c.put_in_message_order.ensures.each_event

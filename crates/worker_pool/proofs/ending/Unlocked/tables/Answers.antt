@@ -1,14 +1,14 @@
-use Rattle.std.proofs.Common.{◌≡◌, ◌∙◌, ◌≤◌, ℕ, ◌+◌, List, length, refl, sym, ap, subst, arith, Option, IfSome}
+use Rattle.std.proofs.Common.{◌≡◌, ◌∙◌, ℕ, ◌+◌, List, length, sym, ap, subst, arith, Option, IfSome}
 use Rattle.vlink.specs.Letters.{Row}
 use Rattle.virtual_time.specs.Law.{Laws}
-use Rattle.netdesc.specs.Words.{Plan, process_count}
+use Rattle.network.specs.Words.{Plan, process_count}
 use Rattle.group_exchange.specs.Keeps.{AreGrouped}
 use Rattle.actor_run.proofs.Errors.{ok-weaker}
 use Rattle.trace_tables.specs.Tables.{TableLists, tables_of}
 use Rattle.seqsim.specs.Networks.{AreRowsOf}
 use Rattle.nodes.specs.Words.{simulation_of}
 use Rattle.worker_pool.specs.Counts.{moment_at, moment_of, AreCountedBefore}
-use Rattle.worker_pool.specs.Traces.{HasLawfulRows}
+use Rattle.run_rows.specs.Traces.{HasLawfulRows}
 use Rattle.worker_pool.proofs.Ended.{in-run, some-rows}
 use Rattle.worker_pool.proofs.EndedTables.{AreCountedOf, none-of-groups, one-of-groups, all-of-groups}
 use Rattle.worker_pool.proofs.GroupRows.{AreOfGroup}
@@ -45,9 +45,9 @@ loop-place-preserved g c =
     let rows = c.rows_between.result.now in
     let from : c.moment_of-from.result ≡ moment_of own end n = c.moment_of-from.ensures ∙ ap (λ z. moment_of z end n) c.as_slice.ensures.value in
     let at = read-at items n group (omega arith) c.index-group.ensures in
-    let behind : c.known-behind.result ≡ plan.until + 1 = (let until = ap (λ (p : Plan). p.until) c.requires.network in omega arith) in
+    let behind : c.known-behind.result ≡ plan.until + 1 = (let until = ap (λ (p : Plan). p.until) c.args.self.now.planned in omega arith) in
     subst (AreCountedOf plan owners own end (n + 1)) (sym c.in_ok-tables.ensures)
-    (one-of-groups plan owners own end (subst HasLawfulRows c.requires.network c.lawful_rows.ensures) c.batches_in_order.ensures.beginning n
+    (one-of-groups plan owners own end (subst HasLawfulRows c.args.self.now.planned c.rows_law.ensures) c.batches_in_order_law.ensures.beginning n
     c.loop-place.tables c.loop-place.invariant rows
     (subst (λ (z : ℕ). AreOfGroup plan owners n z (plan.until + 1) rows) from
     (subst (λ (to : ℕ). AreOfGroup plan owners n c.moment_of-from.result to rows) behind
@@ -61,12 +61,12 @@ returns g c =
     let end = c.args.counted.end in
     let steps = c.args.self.now.exchange.steps in
     let items = c.args.self.now.groups.items in
-    let L = subst (λ z. Laws (simulation_of z)) c.requires.network c.network_laws.ensures in
-    let W = c.headline.ensures.whole (simulation_of plan) L steps c.requires.ended.finished in
+    let L = subst (λ z. Laws (simulation_of z)) c.args.self.now.planned c.network_law.ensures in
+    let W = c.headline_law.ensures.whole (simulation_of plan) L steps c.requires.ended.finished in
     let some = some-rows plan owners steps items c.requires.ended W in
     let rows = c.loop-place.tables in
-    let each = all-of-groups plan owners own end (subst HasLawfulRows c.requires.network c.lawful_rows.ensures)
-    (c.tables_by_place.ensures.by_place plan) c.loop-place.place
+    let each = all-of-groups plan owners own end (subst HasLawfulRows c.args.self.now.planned c.rows_law.ensures)
+    (c.tables_by_place_law.ensures.by_place plan) c.loop-place.place
     (subst (λ n. AreGrouped (process_count plan) n owners) (let e : length items ≡ c.loop-place.place = omega arith in e) c.requires.ended.grouped) c.loop-place.tables c.loop-place.invariant in
     record {
       whole = ok-weaker (λ (t : TableLists). t ≡ tables_of plan rows) (λ t. (run : List Row) × AreRowsOf plan run × (t ≡ tables_of plan run))

@@ -1,12 +1,13 @@
 use contract.Lifetimes.{Lfts}
 use denote.Param.Send.{IsSend, IsSync, param_send, sendable}
+use Rattle.std.proofs.Common.{rules}
 use Rattle.std.proofs.Crossing.{crosses}
 use Rattle.crossbeam_channel.proofs.channel.Receiver.TheSendSync as receiver
-use Rattle.netdesc.proofs.network.Network.TheSendSync as network
+use Rattle.network.proofs.network.Network.TheSendSync as network
 use Rattle.worker_pool.proofs.Crossing.{counted-send}
 use Rattle.worker_pool.specs.contracts.tracing.fn.traced_named.scope.{S-row, T-row}
-use Rattle.worker_pool.proofs.run_batch.RunBatch.TheSendSync as batch
-use Rattle.worker_pool.proofs.writing.Writing.TheSendSync as writing
+use Rattle.run_rows.proofs.run_batch.RunBatch.TheSendSync as batch
+use Rattle.run_rows.proofs.writing.Writing.TheSendSync as writing
 use Rattle.worker_pool.proofs.tracing.fn.traced_named.scope.Given.{Over}
 use Rattle.worker_pool.proofs.tracing.fn.traced_named.scope.Goals as goal
 use Rattle.worker_pool.proofs.tracing.fn.traced_named.scope.Lts.{arg-0-1, arg-0-2}
@@ -23,7 +24,7 @@ given-send g κs sink = search (counted-send, writing.the_send, sendable, crosse
 
 pub spawn-requires-send-F : goal.spawn-requires-send-F
 spawn-requires-send-F g c κs within =
-    param_send 1 _ (captures-send g κs c.requires-raw.1.1.1.1.1.1.1.1.0 c.requires-raw.1.1.1.1.1.1.1.1.1.1.1.1.0)
+    param_send 1 _ (captures-send g κs (search (rules, c.requires-raw) parts 20) (search (rules, c.requires-raw) parts 20))
 
 pub spawn-requires-send-T : goal.spawn-requires-send-T
-spawn-requires-send-T g c κs within = param_send 2 _ (given-send g κs c.requires-raw.1.1.1.1.1.1.1.1.0)
+spawn-requires-send-T g c κs within = param_send 2 _ (given-send g κs (search (rules, c.requires-raw) parts 20))

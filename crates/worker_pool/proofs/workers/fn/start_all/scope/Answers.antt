@@ -2,21 +2,15 @@ use contract.Lifetimes.{Lfts}
 use denote.Param.Send.{IsSend, IsSync, param_send, sendable}
 use Rattle.std.proofs.Common.{rules}
 use Rattle.std.proofs.Crossing.{crosses}
-use Rattle.std.proofs.sync.atomic.AtomicBool.TheSendSync as flag
-use Rattle.netdesc.proofs.network.Network.TheSendSync as network
-use Rattle.worker_pool.proofs.Crossing.{leaving-sync, row-sync, shared-send}
-use Rattle.worker_pool.proofs.pace.Pace.TheSendSync as pace
-use Rattle.worker_pool.proofs.rounds.apart.Apart.TheSendSync as apart
-use Rattle.worker_pool.proofs.rounds.moments.Moments.TheSendSync as moments
+use Rattle.worker_pool.proofs.Crossing.{common-sync}
 use Rattle.worker_pool.proofs.workers.fn.start_all.scope.Given.{Over}
 use Rattle.worker_pool.proofs.workers.fn.start_all.scope.Goals as goal
 use Rattle.worker_pool.proofs.workers.fn.start_all.scope.Lts.{arg-5-1}
 
--- what the closure captures may be sent: the row, the moments, the exchange and what becomes of rows by their types, the runtime and the gate by
--- their bounds
-captures-send : (g : Over) (κs : Lfts 14) → IsSync g.row.T → IsSync g.row.G
+-- what the closure captures may be sent: what the workers have in common by its type, the runtime and the gate by their bounds
+captures-send : (g : Over) (κs : Lfts 9) → IsSync g.row.T → IsSync g.row.G
     → IsSend (arg-5-1 g.row.J g.row.G g.row.T g.row.W g.J.laws g.G.laws g.T.laws g.W.laws g.J.NetworkRun g.J.NetworkRun-dict g.G.Gate g.G.Gate-dict g.T.Threads g.T.Threads-dict g.T.Wait g.T.Wait-dict g.W.Watch g.W.Watch-dict g.W.Destruct-dict κs)
-captures-send g κs runtime gate = search (row-sync, leaving-sync, shared-send, network.the_sync, apart.the_send, moments.the_sync, pace.the_sync, flag.the_sync, sendable, crosses) depth 20
+captures-send g κs runtime gate = search (common-sync, sendable, crosses) depth 20
 
 pub spawn-requires-send-F : goal.spawn-requires-send-F
 spawn-requires-send-F g c = λ κs ls.

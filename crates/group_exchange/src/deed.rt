@@ -1,0 +1,15 @@
+//! What a journal of groups is told at one go.
+use crate::boxes::Boxes;
+use hand::Words;
+use std::snapshot::Snapshot;
+
+/// What the journal is told at one go. It stands for steps of the law of virtual time.
+#[derive(Drop)]
+pub enum GroupDeed {
+    /// All letters for the group of this number were taken, where these letters were on their way.
+    Collected(u16, Snapshot<Boxes>),
+    /// A group did what these words tell, where these letters were on their way.
+    Posted(Snapshot<Words>, Snapshot<Boxes>),
+    /// GVT was set.
+    Published,
+}

@@ -1,0 +1,12 @@
+use Rattle.std.proofs.Common.{◌≡◌, length, sym, ap, ◌∙◌, arith}
+use Rattle.hand.specs.Sealing.{rows_in}
+use Rattle.hand.proofs.Forgetting.{rows-all}
+use Rattle.hand.proofs.letters.Letters.commit.Goals as goal
+
+pub forget_early-requires-clause-rows : goal.forget_early-requires-clause-rows
+forget_early-requires-clause-rows g c =
+    let all : length (rows_in c.args.done.now.deeds) ≡ length c.done.inside.rows.items =
+    ap (λ z. length (rows_in z.deeds)) (sym c.done.view_is) ∙ ap length (rows-all c.done.inside.events.items c.done.inside.sends.items c.done.inside.rows.items c.done.invariant.1) in
+    let counted = c.len.ensures in
+    let room = c.in_ok-reserve-2.ensures.ok in
+    omega (arith, all, counted, room)

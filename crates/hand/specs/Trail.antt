@@ -1,0 +1,6 @@
+-- Items in the order in which they came, and for how many more there is room.
+use Rattle.std.specs.Prelude.{ℕ, List}
+
+pub record Items (T : Type 0) : Type 0 where
+  pub items : List T
+  pub room : ℕ

@@ -1,7 +1,0 @@
-use Rattle.std.proofs.Common.{subst}
-use Rattle.netdesc.specs.Words.{IsAccepted}
-use Rattle.netdesc.proofs.RisingLemmas.{ids-rise}
-use Rattle.netdesc.proofs.network.Network.vl_count.Goals as goal
-
-pub returns-clause-rising : goal.returns-clause-rising
-returns-clause-rising c = ids-rise c.args.self.now (subst IsAccepted c.self.view_is c.self.invariant.0)

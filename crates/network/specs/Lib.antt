@@ -1,0 +1,11 @@
+pub mod Rows
+pub mod Names
+pub mod Plan
+pub mod Wiring
+pub mod Trees
+pub mod Faults
+pub mod Lines
+pub mod Accepted
+pub mod Limits
+pub mod Code
+pub mod Words

@@ -1,0 +1,13 @@
+//! How large a network is at most.
+
+/// The greatest number of processes: the nodes, and two for each link.
+pub const GREATEST_PROCESSES: usize = 4096;
+
+/// The greatest number of ports of a switch.
+pub const GREATEST_PORTS: usize = 24;
+
+/// The greatest number of outages.
+pub const GREATEST_OUTAGES: usize = 1024;
+
+/// The greatest number of destinations of a virtual link.
+pub const GREATEST_DESTINATIONS: usize = 64;

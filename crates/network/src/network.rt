@@ -1,0 +1,239 @@
+//! The network that an accepted description gives.
+ghost use Rattle.std.specs.Prelude.{◌≡◌, ◌*◌, ◌<◌, ◌≤◌, true, Some, length, slice_get};
+ghost use Rattle.std.specs.List.Sorted.{IsStrictlyIncreasing};
+ghost use Rattle.std.specs.Option.{option_map, option_and_then};
+ghost use Rattle.vlink.specs.declared.time.TheConstants.{LATEST_NS};
+ghost use Rattle.network_rows.specs.declared.table.TheConstants.{SECOND_NS};
+ghost use Rattle.network.specs.declared.limits.TheConstants.{GREATEST_PROCESSES, GREATEST_PORTS};
+ghost use Rattle.network.specs.Accepted.{ids_of};
+ghost use Rattle.network.specs.Limits.{IsLinkInLimits, IsKindInLimits};
+ghost use Rattle.network.specs.Wiring.{is_end_system};
+ghost use Rattle.network.specs.Trees.{source_of, destinations_of};
+ghost use Rattle.network.specs.Faults.{process_count};
+ghost use Rattle.network.specs.Lines.{lines_of, node_name, line_name, outages_of, departures_of, arrivals_of, place_of_vl};
+ghost use Rattle.network.specs.Code.Tables.{plan_with};
+
+use crate::plan::Numbered;
+use crate::tables::Tables;
+use crate::wiring::{LinePlan, Outage, Way};
+use network_rows::{NodeKind, NodeRow, VirtualLink};
+use std::marker::Model;
+use vlink::{Time, VlId};
+
+/// A network: end systems, switches, the links between them, and virtual links with their paths.
+///
+/// Clauses see it as its plan. Its virtual links are in rising number.
+#[derive(Debug, Drop)]
+pub struct Network {
+    until: Time,
+    seed: u64,
+    nodes: Vec<NodeRow>,
+    numbered: Numbered,
+    tables: Tables,
+}
+
+impl Model for Network {
+    ghost use Rattle.network.specs.Plan.{Plan};
+    ghost use Rattle.network.specs.Accepted.{IsAccepted};
+    ghost use Rattle.network.specs.Code.Tables.{plan_with, AreTables};
+
+    ghost Value = { Plan };
+
+    ghost view = { λ n. plan_with n.until n.seed n.nodes.items n.numbered };
+
+    ghost invariant = { λ n. let plan = plan_with n.until n.seed n.nodes.items n.numbered in IsAccepted plan × AreTables plan n.tables };
+}
+
+impl Network {
+    ghost use Rattle.network.specs.Accepted.{IsAccepted};
+    ghost use Rattle.network.specs.Code.Tables.{plan_with, AreTables};
+
+    /// A network of these parts: rows without a fault, and the tables that follow from them.
+    pub fn new(
+        until: Time,
+        seed: u64,
+        nodes: Vec<NodeRow>,
+        numbered: Numbered,
+        tables: Tables,
+    ) -> Self
+        requires accepted { IsAccepted (plan_with until seed nodes.items numbered) }
+        requires tables { AreTables (plan_with until seed nodes.items numbered) tables }
+        ensures { result ≡ plan_with until seed nodes.items numbered }
+    {
+        Network {
+            until,
+            seed,
+            nodes,
+            numbered,
+            tables,
+        }
+    }
+
+    /// Every network is that of rows without a fault, within the limits of their keys.
+    pub fn accepted_law(&self)
+        ensures { IsAccepted self.now }
+    {
+        let _fields = &self.numbered;
+    }
+
+    /// The end of a run: its last moment.
+    pub fn until(&self) -> Time
+        ensures value { result ≡ self.now.until }
+        ensures least { 1 ≤ result }
+        ensures greatest { result ≤ LATEST_NS }
+    {
+        self.until
+    }
+
+    /// The seed of the drawn numbers.
+    pub fn seed(&self) -> u64
+        ensures { result ≡ self.now.seed }
+    {
+        self.seed
+    }
+
+    /// How many nodes there are. They are the processes 0, 1, ..
+    pub fn node_count(&self) -> usize
+        ensures { result ≡ length self.now.nodes }
+    {
+        self.nodes.len()
+    }
+
+    /// How many lines there are: two for each link. Line `k` is process `k` behind the nodes.
+    pub fn line_count(&self) -> usize
+        ensures value { result ≡ length (lines_of self.now) }
+        ensures links { length (lines_of self.now) ≡ 2 * length self.now.links }
+    {
+        self.tables.lines.len()
+    }
+
+    /// How many processes there are: the nodes, and behind them the lines.
+    pub fn process_count(&self) -> usize
+        ensures value { result ≡ process_count self.now }
+        ensures few { process_count self.now ≤ GREATEST_PROCESSES }
+    {
+        self.nodes.len() + 2 * self.numbered.links.len()
+    }
+
+    /// What a node is.
+    pub fn kind(&self, node: usize) -> NodeKind
+        requires { node < length self.now.nodes }
+        ensures value { option_map (λ node. node.kind) (slice_get self.now.nodes node) ≡ Some result }
+        ensures limits { IsKindInLimits result }
+    {
+        self.nodes[node].kind
+    }
+
+    /// How many bytes may wait at each port of a node.
+    pub fn port_bytes(&self, node: usize) -> u32
+        requires { node < length self.now.nodes }
+        ensures { option_map (λ node. node.port_bytes) (slice_get self.now.nodes node) ≡ Some result }
+    {
+        self.nodes[node].port_bytes
+    }
+
+    /// The name of a node.
+    pub fn node_name(&self, node: usize) -> &str
+        requires { node < length self.now.nodes }
+        ensures { result.now ≡ node_name self.now.nodes node }
+    {
+        self.nodes[node].name.as_str()
+    }
+
+    /// The name of a line: those of its nodes with > between.
+    pub fn line_name(&self, line: usize) -> &str
+        requires { line < length (lines_of self.now) }
+        ensures { option_map (line_name self.now.nodes) (slice_get (lines_of self.now) line) ≡ Some result.now }
+    {
+        self.tables.line_names[line].as_str()
+    }
+
+    /// A line: its nodes, its ports there, and its times.
+    pub fn line(&self, line: usize) -> LinePlan
+        requires { line < length (lines_of self.now) }
+        ensures value { slice_get (lines_of self.now) line ≡ Some result }
+        ensures from { result.from < length self.now.nodes }
+        ensures to { result.to < length self.now.nodes }
+        ensures from_port { result.from_port < GREATEST_PORTS }
+        ensures to_port { result.to_port < GREATEST_PORTS }
+        ensures byte { 1 ≤ result.byte_ns }
+        ensures greatest_byte { result.byte_ns ≤ 800 }
+        ensures propagation { 1 ≤ result.propagation_ns }
+        ensures greatest_propagation { result.propagation_ns ≤ SECOND_NS }
+    {
+        self.tables.lines[line]
+    }
+
+    /// The outages of a line, in the order of their rows.
+    pub fn outages(&self, line: usize) -> &[Outage]
+        requires { line < length (lines_of self.now) }
+        ensures { result.now ≡ outages_of self.now line }
+    {
+        self.tables.outages[line].as_slice()
+    }
+
+    /// How many virtual links there are. They have the places 0, 1, .. in the order of their numbers.
+    pub fn vl_count(&self) -> usize
+        ensures value { result ≡ length self.now.vls }
+        ensures rising { IsStrictlyIncreasing (ids_of self.now.vls) }
+    {
+        self.numbered.vls.len()
+    }
+
+    /// The place of the virtual link with this number, or none where no virtual link has it.
+    pub fn place_of(&self, id: VlId) -> Option<usize>
+        ensures { result ≡ place_of_vl self.now.vls id.0 }
+    {
+        match self.tables.places.get(usize::from(id.0)) {
+            Some(place) => *place,
+            None => None,
+        }
+    }
+
+    /// What is agreed of the frames of the virtual link with this place.
+    pub fn virtual_link(&self, vl: usize) -> VirtualLink
+        requires { vl < length self.now.vls }
+        ensures value { option_map (λ vl. vl.link) (slice_get self.now.vls vl) ≡ Some result }
+        ensures limits { IsLinkInLimits result }
+    {
+        self.numbered.vls[vl].link()
+    }
+
+    /// Where the frames of a virtual link begin: an end system.
+    pub fn source(&self, vl: usize) -> usize
+        requires { vl < length self.now.vls }
+        ensures value { option_and_then source_of (slice_get self.now.vls vl) ≡ Some result }
+        ensures node { result < length self.now.nodes }
+        ensures end_system { is_end_system self.now.nodes result ≡ true }
+    {
+        self.numbered.vls[vl].source().unwrap()
+    }
+
+    /// Where the frames of a virtual link end, rising.
+    pub fn destinations(&self, vl: usize) -> &[usize]
+        requires { vl < length self.now.vls }
+        ensures { option_map destinations_of (slice_get self.now.vls vl) ≡ Some result.now }
+    {
+        self.tables.destinations[vl].as_slice()
+    }
+
+    /// The ports by which virtual links leave a node: by the number of the virtual link, then rising.
+    ///
+    /// At a switch these are the output ports of each virtual link; at an end system the networks that its own ones go out on.
+    pub fn departures(&self, node: usize) -> &[Way]
+        requires { node < length self.now.nodes }
+        ensures { result.now ≡ departures_of self.now node }
+    {
+        self.tables.meetings.departures[node].as_slice()
+    }
+
+    /// The ports by which virtual links come in at a node: by the number of the virtual link.
+    ///
+    /// At a switch this is the input port of each virtual link; at an end system the networks on which it is a destination.
+    pub fn arrivals(&self, node: usize) -> &[Way]
+        requires { node < length self.now.nodes }
+        ensures { result.now ≡ arrivals_of self.now node }
+    {
+        self.tables.meetings.arrivals[node].as_slice()
+    }
+}

@@ -1,0 +1,83 @@
+//! What rows say beside their nodes, with numbers in place of names.
+ghost use Rattle.std.specs.Prelude.{◌≡◌, map};
+ghost use Rattle.network.specs.Trees.{source_among, source_of};
+ghost use Rattle.network.specs.Code.Views.{items_of, lists_of};
+
+use crate::wiring::{Link, Outage};
+use network_rows::VirtualLink;
+use std::marker::Model;
+
+/// A virtual link with its paths on the networks A and B. A path is a list of nodes.
+///
+/// Clauses see it as its plan.
+#[derive(Debug, Drop)]
+pub struct Routed {
+    link: VirtualLink,
+    a: Vec<Vec<usize>>,
+    b: Vec<Vec<usize>>,
+}
+
+impl Model for Routed {
+    ghost use Rattle.network.specs.Plan.{VlPlan};
+    ghost use Rattle.network.specs.Code.Views.{lists_of};
+
+    ghost Value = { VlPlan };
+
+    ghost view = { λ vl. record { link = vl.link; a = lists_of vl.a; b = lists_of vl.b } };
+}
+
+impl Routed {
+    /// A virtual link with these paths.
+    pub fn new(link: VirtualLink, a: Vec<Vec<usize>>, b: Vec<Vec<usize>>) -> Self
+        ensures { result ≡ record { link = link; a = lists_of a; b = lists_of b } }
+    {
+        Routed { link, a, b }
+    }
+
+    /// What is agreed of its frames.
+    pub fn link(&self) -> VirtualLink
+        ensures { result ≡ self.now.link }
+    {
+        self.link
+    }
+
+    /// Its paths on network A.
+    pub fn a(&self) -> &[Vec<usize>]
+        ensures { map items_of result.now ≡ self.now.a }
+    {
+        self.a.as_slice()
+    }
+
+    /// Its paths on network B.
+    pub fn b(&self) -> &[Vec<usize>]
+        ensures { map items_of result.now ≡ self.now.b }
+    {
+        self.b.as_slice()
+    }
+
+    /// Where its frames begin, if it has a path.
+    pub fn source(&self) -> Option<usize>
+        ensures { result ≡ source_of self.now }
+    {
+        if self.a.is_empty() {
+            source_among(self.b.as_slice())
+        } else {
+            source_among(self.a.as_slice())
+        }
+    }
+}
+
+/// Where the first path begins.
+pub fn source_among(paths: &[Vec<usize>]) -> Option<usize>
+    ensures { result ≡ source_among (map items_of paths.now) }
+{
+    paths.first()?.first().copied()
+}
+
+/// What rows say beside their nodes.
+#[derive(Debug, Drop)]
+pub struct Numbered {
+    pub links: Vec<Link>,
+    pub outages: Vec<Outage>,
+    pub vls: Vec<Routed>,
+}

@@ -1,0 +1,25 @@
+//! What is looked up in a network by number.
+
+use crate::wiring::{LinePlan, Outage, Way};
+
+/// What is looked up in a network by number.
+#[derive(Debug, Drop)]
+pub struct Tables {
+    pub lines: Vec<LinePlan>,
+    pub line_names: Vec<String>,
+    /// The outages of each line.
+    pub outages: Vec<Vec<Outage>>,
+    /// For each node the ports by which virtual links leave it and come in.
+    pub meetings: Meetings,
+    /// The destinations of each virtual link.
+    pub destinations: Vec<Vec<usize>>,
+    /// For each number the place of the virtual link that has it.
+    pub places: Vec<Option<usize>>,
+}
+
+/// For each node the ports by which virtual links leave it, and by which they come in.
+#[derive(Debug, Drop)]
+pub struct Meetings {
+    pub departures: Vec<Vec<Way>>,
+    pub arrivals: Vec<Vec<Way>>,
+}

@@ -1,0 +1,54 @@
+//! What joins nodes: links, lines and hops, and the ports at which virtual links meet them.
+
+use vlink::VlId;
+
+/// A link between two nodes, which are given by their numbers. It carries frames in both directions.
+#[derive(Clone, Copy, Debug, PartialEq, Eq)]
+pub struct Link {
+    pub a: usize,
+    pub b: usize,
+    /// How long a byte takes, in ns.
+    pub byte_ns: u16,
+    /// How long a frame is on the way, in ns.
+    pub propagation_ns: u32,
+}
+
+/// A time in which the direction of a link from one node to another loses frames.
+#[derive(Clone, Copy, Debug, PartialEq, Eq)]
+pub struct Outage {
+    pub from: usize,
+    pub to: usize,
+    /// Its first moment, in ns.
+    pub from_ns: u64,
+    /// The moment after its last one, in ns.
+    pub to_ns: u64,
+}
+
+/// From one node of a path to the next.
+#[derive(Clone, Copy, Debug, PartialEq, Eq)]
+pub struct Hop {
+    pub from: usize,
+    pub to: usize,
+}
+
+/// One direction of a link.
+#[derive(Clone, Copy, Debug, PartialEq, Eq)]
+pub struct LinePlan {
+    /// The node that it leads out of, and its port there.
+    pub from: u16,
+    pub from_port: u16,
+    /// The node that it leads to, and its port there.
+    pub to: u16,
+    pub to_port: u16,
+    /// How long a byte takes, in ns.
+    pub byte_ns: u16,
+    /// How long a frame is on the way, in ns.
+    pub propagation_ns: u32,
+}
+
+/// A virtual link at a port of a node.
+#[derive(Clone, Copy, Debug, PartialEq, Eq)]
+pub struct Way {
+    pub vl: VlId,
+    pub port: u16,
+}

@@ -1,7 +1,0 @@
-use Rattle.process_queues.proofs.process.Process.reserve_rows.Goals as goal
-
-pub invariant_of-self : goal.invariant_of-self
-invariant_of-self g c = rw c.reserve.ensures.items c.self.invariant
-
-pub invariant_of-self-2 : goal.invariant_of-self-2
-invariant_of-self-2 g c = rw c.reserve.ensures.items c.self.invariant

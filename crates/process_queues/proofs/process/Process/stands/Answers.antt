@@ -1,4 +1,0 @@
-use Rattle.process_queues.proofs.process.Process.stands.Goals as goal
-
-pub returns : goal.returns
-returns g c = let i = c.self.invariant in (i.0, i.1, rw (← c.self.view_is) i.2)

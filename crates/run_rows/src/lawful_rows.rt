@@ -1,0 +1,16 @@
+//! What a trace rests on: the rows of a run are lawful.
+ghost use Rattle.vlink.specs.Order.{message_order};
+ghost use Rattle.run_rows.specs.Traces.{HasLawfulRows};
+
+use network::Network;
+use seqsim::network_law;
+use vlink::message_order_law;
+
+/// The rows of the one-thread run of a network are in message order, each of the process that received its message, none of another process
+/// than the network's, and none later than the end.
+pub fn rows_law(network: &Network)
+    ensures { HasLawfulRows network.now }
+{
+    network_law(network);
+    message_order_law();
+}

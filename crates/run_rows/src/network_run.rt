@@ -1,0 +1,34 @@
+//! Of which run of a network something is.
+use std::marker::Brand;
+
+/// A run of a network, known by its type: which network it is of, whether its journal is kept, which marks it has,
+/// and which groups. It has no bytes, and who calls at `Brand` picks all of them.
+pub trait NetworkRun {
+    ghost use Rattle.std.specs.Prelude.{ℕ, Bool, List};
+    ghost use Rattle.network.specs.Words.{Plan};
+
+    /// The network that is simulated.
+    ghost plan: { Plan };
+
+    /// Whether the entries of its journal are kept, to be listed at its end.
+    ghost keeps: { Bool };
+
+    /// The names of the marks, one for each process of an exchange of processes, and one for each group of a run.
+    ghost names: { List ℕ };
+
+    /// For each process the number of its group.
+    ghost owners: { List ℕ };
+}
+
+impl NetworkRun for Brand {
+    ghost use Rattle.std.specs.Prelude.{[], false};
+    ghost use Rattle.run_rows.specs.Traces.{empty_plan};
+
+    ghost plan = { empty_plan };
+
+    ghost keeps = { false };
+
+    ghost names = { [] };
+
+    ghost owners = { [] };
+}

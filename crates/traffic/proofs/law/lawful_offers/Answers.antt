@@ -1,9 +1,0 @@
-use Rattle.traffic.proofs.DrawingLemmas.{due_count-due}
-use Rattle.traffic.proofs.LawLemmas.{lawful}
-use Rattle.traffic.proofs.law.lawful_offers.Goals as goal
-
-pub returns : goal.returns
-returns g c = record {
-  laws = λ f. lawful c.args.network.now f c.accepted.ensures c.process_count-few.ensures.few;
-  due = λ link limits k. due_count-due c.args.network.now.until link k limits;
-}

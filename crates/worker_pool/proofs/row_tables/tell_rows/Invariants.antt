@@ -1,5 +1,0 @@
-use Rattle.std.proofs.Common.{◌≡◌, ◌++◌, map, take}
-use Rattle.worker_pool.proofs.row_tables.tell_rows.Given as goal
-
-abbrev pub invariant-loop-row : goal.invariant-loop-row
-invariant-loop-row l = map (λ s. s.value) l.all.items ≡ map (λ s. s.value) l.initial.all.items ++ take l.row-index l.rows

@@ -1,0 +1,29 @@
+//! What the writer's thread does.
+ghost use Rattle.std.specs.Prelude.{◌≡◌};
+
+use crate::counted::Counted;
+use crossbeam_channel::Receiver;
+use network::Network;
+use run_rows::{NetworkRun, RunBatch, TraceRun, Writing};
+use std::sync::Wait;
+use trace_tables::Sink;
+
+/// Counts the rows of batches and writes their lines, in the order in which the batches come, until no more can come. Rows are counted after a
+/// fault too.
+pub(crate) fn write_batches<'a, J: NetworkRun, K: TraceRun, S: Sink, T: Wait>(
+    rt: &T,
+    network: &Network,
+    writing: Writing<'a, J, K, S>,
+    counted: Counted<J>,
+    batches: Receiver<RunBatch<J>>,
+) -> (Writing<'a, J, K, S>, Counted<J>)
+    requires { network.now ≡ J.plan }
+{
+    let mut writing = writing;
+    let mut counted = counted;
+    for batch in batches.iter(rt) {
+        counted.take(network, &batch);
+        writing.take(batch);
+    }
+    (writing, counted)
+}
