@@ -130,7 +130,7 @@ TESTS = (
     Test(
         "sample_actor",
         "tests::scripts_tell_what_their_lines_say",
-        {"deliver": 1, "arrive": 1, "arrive?": 6, "run": 1, "seal": 1, "commit": 1, "post": 1},
+        {"deliver": 1, "arrive": 1, "arrive?": 6, "run": 1, "commit": 1, "post": 1},
         False,
     ),
     Test(
