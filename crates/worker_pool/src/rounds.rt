@@ -37,10 +37,10 @@ const LOOKS_PER_GVT: u64 = 16;
 const LOOKS_BEFORE_POST: u64 = 32;
 
 /// After so many looks in vain a worker gives groups of others a turn, unless that served before: then sooner.
-const LOOKS_BEFORE_HELP: u64 = 1024;
+const LOOKS_BEFORE_HELP: u64 = 256;
 
 /// After so many looks in vain a worker lets other threads run in between, each time.
-const LOOKS_BEFORE_YIELD: u64 = 64;
+const LOOKS_BEFORE_YIELD: u64 = 256;
 
 /// After so many looks in vain a worker rests. It is long, 2 ms or so: to be woken takes 50 us where the machine is its own, and 1 ms where it is not.
 const LOOKS_BEFORE_REST: u64 = 4096;
