@@ -190,7 +190,9 @@ class Gate(unittest.TestCase):
         lines, last, status = self.ended(WORKS.replace("{python}", sys.executable))
         self.assertEqual((last, status), ("53 passed, 0 failed", 0))
         row = next(line for line in lines if line.startswith("test:   low "))
-        self.assertRegex(row, r"^test:   low +[23] +[12] +[12] +0$")
+        # Each of the two works for a second, and longer where the machine gives its time away.
+        both, proof, tests, edits = map(int, row.split()[2:])
+        self.assertTrue(proof >= 1 and tests >= 1 and edits == 0 and abs(proof + tests - both) <= 1, row)
         self.assertTrue(any(re.match(r"test:   test_it.py +[0-9]+$", line) for line in lines))
         self.assertRegex(lines[lines.index(last) - 1], "^test: proofs and edits .*, tools .*, all .*$")
 
