@@ -1,5 +1,5 @@
 -- The oldest done events are looked at, and forgotten.
-use Rattle.std.proofs.Common.{◌≡◌, ℕ, zero, suc, ◌+◌, ◌<◌, ◌≤◌, take, drop, List, [], ◌∷◌, ◌++◌, length, IfSome, Some, All, slice_get, get_or, option_map, refl, sym, ap, ◌∙◌, subst, arith, append_assoc, length-drop, drop-drop, take-add, drop-cons, add-one}
+use Rattle.std.proofs.Common.{◌≡◌, ℕ, zero, suc, ◌+◌, ◌<◌, ◌≤◌, take, drop, List, [], ◌∷◌, ◌++◌, length, IfSome, Some, All, slice_get, get_or, option_map, refl, sym, ap, ◌∙◌, subst, arith, length-drop, drop-drop, take-add, add-one}
 use Rattle.std.proofs.lemmas.List.{length-take-le, take-append-drop, take_more}
 use Rattle.std.proofs.lemmas.List.Elements.{All-nil, All-cons, All-head, All-tail, All-push}
 use Rattle.std.proofs.lemmas.Option.{slice_get-map, slice_get-get_or, slice_get_within, slice_get_past, get_or_from_slice_get}

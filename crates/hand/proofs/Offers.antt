@@ -1,5 +1,5 @@
 -- The offers beside the lists: the last of them is first.
-use Rattle.std.proofs.Common.{◌≡◌, ◌<◌, ◌-◌, ◌++◌, ℕ, List, ◌∷◌, [], false, Option, Some, None, length, slice_get, IfSome, IfNone, IsPermutation, MatchOption, subst, sym, refl, ap, ◌∙◌, append-nil, arith, Bor, Contains, option_to_list, option_copied, IsSortedBy}
+use Rattle.std.proofs.Common.{◌≡◌, ◌-◌, ◌++◌, List, ◌∷◌, [], false, Option, Some, None, length, slice_get, IfSome, IfNone, IsPermutation, MatchOption, subst, sym, refl, ap, ◌∙◌, append-nil, arith, Bor, Contains, option_to_list, option_copied, IsSortedBy}
 use Rattle.std.specs.Cmp.{IsTotalOrder}
 use Rattle.std.proofs.lemmas.List.Elements.{All-append, All-contains, Contains-append_right}
 use Rattle.std.proofs.lemmas.List.Sorted.{IsPermutation-append_right, IsPermutation-to_front, IsPermutation-sym, IsPermutation-trans, Contains-permutation}

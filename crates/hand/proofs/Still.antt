@@ -1,5 +1,5 @@
 -- Where nothing changed but the order of the queue, the group stands for what it stood for.
-use Rattle.std.proofs.Common.{◌≡◌, ◌≢◌, ℕ, ◌+◌, ◌<◌, ◌≤◌, inl, inr, false, Option, Some, None, IfSome, IfNone, List, [], ◌∷◌, ◌++◌, length, All, Contains, IsPermutation, Result, Ok, Err, OnErr, slice_get, refl, sym, ap, ◌∙◌, subst, append-nil, arith}
+use Rattle.std.proofs.Common.{◌≡◌, ◌≢◌, ℕ, ◌+◌, ◌<◌, inl, inr, false, Option, Some, None, IfSome, IfNone, List, [], ◌∷◌, ◌++◌, length, All, Contains, IsPermutation, Result, Ok, Err, OnErr, slice_get, refl, sym, ap, ◌∙◌, subst, append-nil, arith}
 use Rattle.std.proofs.lemmas.List.{nil_from_length}
 use Rattle.std.proofs.lemmas.List.Sorted.{IsPermutation-refl, IsPermutation-sym, IsPermutation-trans, length_permutation, Contains-permutation, All-permutation}
 use Rattle.std.proofs.lemmas.List.Elements.{All-contains}

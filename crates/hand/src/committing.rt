@@ -23,6 +23,7 @@ impl<K: Copy> Deeds<K> {
         ensures noted { result.1 ≡ noted_in (take count self.now.deeds) }
     {
         let events = self.events.as_slice();
+        // No sum is more than there are in all, which these numbers tell.
         let _most = (self.sends.len(), self.rows.len());
         let mut sent = 0;
         let mut noted = 0;

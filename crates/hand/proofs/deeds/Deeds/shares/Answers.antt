@@ -1,17 +1,17 @@
-use Rattle.std.proofs.Common.{◌≡◌, ◌<◌, ◌+◌, length, take, get_or, subst, ap, ◌∙◌, arith}
+use Rattle.std.proofs.Common.{◌<◌, ◌+◌, length, get_or, subst, ap, ◌∙◌, arith}
 use Rattle.hand.proofs.Forgetting.{as-seen, sent-seen, sent-next, sent-split, noted-seen, noted-next, noted-split}
 use Rattle.hand.proofs.deeds.Deeds.shares.Goals as goal
 
 pub offset_bounds-events-place : goal.offset_bounds-events-place
 offset_bounds-events-place g c =
     let all = as-seen c.self.inside.events.items c.self.inside.sends.items c.self.inside.rows.items c.args.self.now.deeds c.as_slice-events.result.now (ap (λ z. z.deeds) c.self.view_is)
-        c.as_slice-events.ensures in
+    c.as_slice-events.ensures in
     omega (arith, all, c.loop-place-test.true, c.requires)
 
 pub bounds-events-place : goal.bounds-events-place
 bounds-events-place g c =
     let all = as-seen c.self.inside.events.items c.self.inside.sends.items c.self.inside.rows.items c.args.self.now.deeds c.as_slice-events.result.now (ap (λ z. z.deeds) c.self.view_is)
-        c.as_slice-events.ensures in
+    c.as_slice-events.ensures in
     omega (arith, all, c.loop-place-test.true, c.requires)
 
 pub overflow_add-sent : goal.overflow_add-sent

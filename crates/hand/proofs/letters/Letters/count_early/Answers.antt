@@ -41,12 +41,12 @@ loop-place-preserved g c =
 pub returns-clause-within : goal.returns-clause-within
 returns-clause-within g c =
     let all = as-seen c.done.inside.events.items c.done.inside.sends.items c.done.inside.rows.items c.args.done.now.deeds c.as_slice-events.result.now (ap (λ z. z.deeds) c.done.view_is)
-        c.as_slice-events.ensures in
+    c.as_slice-events.ensures in
     omega (arith, all)
 
 pub returns-clause-left : goal.returns-clause-left
 returns-clause-left g c =
     let all = as-seen c.done.inside.events.items c.done.inside.sends.items c.done.inside.rows.items c.args.done.now.deeds c.as_slice-events.result.now (ap (λ z. z.deeds) c.done.view_is)
-        c.as_slice-events.ensures in
+    c.as_slice-events.ensures in
     let messages = length-map c.args.done.now.deeds (λ d. d.message) in
     none-past (Stays c.args.moment c.args.self.now) (length c.as_slice-events.result.now) (messages_of c.args.done.now.deeds) (omega (arith, all, messages))
