@@ -3,8 +3,8 @@
 
     benchmark.py PROGRAM [--sizes small,aircraft,limit] [--reps 5] [--workers 1,2,4]
 
-PROGRAM is the built program: crates/afdxsim/out/afdxsim, once `rt run` was called in crates/afdxsim. A table goes to
-standard output, one line for each network and command:
+PROGRAM is the built program: crates/afdxsim/out/afdxsim, as ./test and `./afdx build` leave it. A table goes to standard
+output, one line for each network and command:
 
   network    small     16 end systems, 2 x 2 switches, 60 virtual links, 1 simulated second
              aircraft  120 end systems, 2 x 8 switches, 1,000 virtual links, 1 simulated second

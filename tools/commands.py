@@ -205,7 +205,6 @@ def by_program(name, words):
     it = chosen(by, path)
     if it.how in ("proved", "given"):
         tell(it.says)
-        warn_of_load(name)
         return subprocess.run([it.path, name, *words]).returncode
     read, written = files_of(name, words)
     if it.how == "second opinion":
@@ -250,16 +249,6 @@ def write(stream, found):
     stream.flush()
     stream.buffer.write(found)
     stream.buffer.flush()
-
-
-def warn_of_load(name):
-    """Says that `run` is slow where the machine has other work."""
-    cores = len(os.sched_getaffinity(0))
-    if name == "run" and os.getloadavg()[0] > cores / 2:
-        tell(
-            f"this machine has other work (load {os.getloadavg()[0]:.1f} on {cores} processors): run may take many times as "
-            "long as seq, which gives the same tables"
-        )
 
 
 # ---- tools ----

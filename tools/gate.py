@@ -202,10 +202,11 @@ class Counts:
 def prove(counts, last, times):
     """Runs `rt ci`, and writes down what the program that it leaves was built of."""
     kit_line = program.kit(os.getcwd())
-    sources = program.sum_of_sources(kit_line, os.getcwd())
+    before = program.sum_of_judged(kit_line, os.getcwd())
     said, status = said_by(["rt", "ci"], Progress(last), times)
     counts.add(counts_of_rt(said), status)
-    if not counts.failed and os.path.isfile(program.BUILT) and program.sum_of_sources(kit_line, os.getcwd()) == sources:
+    if not counts.failed and os.path.isfile(program.BUILT) and program.sum_of_judged(kit_line, os.getcwd()) == before:
+        sources = program.sum_of_sources(kit_line, os.getcwd())
         program.write_record(kit_line, sources, f"{counts.passed} passed, 0 failed", os.getcwd())
 
 

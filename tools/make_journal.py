@@ -7,7 +7,7 @@ The processes take turns. In a turn a process commits its done events that are e
 arrive, handles messages, the first of them first, and posts what it sends. It handles so many messages at most, and only those that are
 earlier than GVT plus the window. Once no process has such a message left, GVT is set anew. At the end GVT is beyond the end, and every event
 is committed, so that the run is finished. The two words mean what they are to mean for `afdxsim run`, where
-the window is longer unless told.
+both are greater unless told.
 
 No letter comes late: a process handles a message only once all earlier ones were handled there. So no event is undone. The events are
 found by tools/second_opinion.py, which shares no code with the product.

@@ -64,6 +64,8 @@ def what_is_packed(root=ROOT):
     record = program.record_of(it.path)
     if not record.get("gate"):
         raise NoProgram("the record of the program has no line of `rt ci`: ./test proves all, and writes it down")
+    if record.get("judged") != program.sum_of_judged(record.get("kit"), root):
+        raise NoProgram("the line of `rt ci` in the record is of other edits or data of tests than this commit has: ./test tries them")
     return it.path, record | {"commit": commit}, int(git("show", "-s", "--format=%ct", "HEAD", root=root))
 
 

@@ -88,12 +88,31 @@ def sum_of_file(path):
         return hashlib.file_digest(file, "sha256").hexdigest()
 
 
-def sum_of_sources(kit_line, root=ROOT):
-    """The checksum of the sources, and of the line of the kit that they are proved with."""
-    found = hashlib.sha256((kit_line or "").encode() + b"\n")
-    for name in source_files(root):
+def judged_files(root=ROOT):
+    """What `rt ci` judges: the sources, and the edits and data of tests beside them; paths from the top, in order."""
+    found = ["crates.txt", "HANDLES"]
+    for folder, folders, names in os.walk(os.path.join(root, "crates")):
+        folders[:] = sorted(name for name in folders if name != "out")
+        found += (os.path.relpath(os.path.join(folder, name), root) for name in sorted(names) if name != "BUILD.bazel")
+    return [name for name in found if os.path.isfile(os.path.join(root, name))]
+
+
+def sum_of(names, first, root):
+    """The checksum of a line and of files with their names."""
+    found = hashlib.sha256((first or "").encode() + b"\n")
+    for name in names:
         found.update(f"{name}\0{sum_of_file(os.path.join(root, name))}\n".encode())
     return found.hexdigest()
+
+
+def sum_of_sources(kit_line, root=ROOT):
+    """The checksum of the sources, and of the line of the kit that they are proved with."""
+    return sum_of(source_files(root), kit_line, root)
+
+
+def sum_of_judged(kit_line, root=ROOT):
+    """The same of all that `rt ci` judges."""
+    return sum_of(judged_files(root), kit_line, root)
 
 
 # ---- records ----
@@ -111,11 +130,11 @@ def record_of(path):
 
 def write_record(kit_line, sources, gate=None, root=ROOT):
     """Writes down beside the program of this clone what it was built of. `gate` is the line by which all proofs and tests
-    passed, where they did."""
+    passed, where they did; then `judged` is the checksum of what that line is of."""
     path = os.path.join(root, BUILT)
     found = {
         "version": version(root), "commit": commit(root), "kit": kit_line, "sources": sources,
-        "program": sum_of_file(path), "gate": gate,
+        "program": sum_of_file(path), "gate": gate, "judged": sum_of_judged(kit_line, root) if gate else None,
     }
     with open(path + RECORD, "w", encoding="utf-8") as out:
         json.dump(found, out, indent=1)

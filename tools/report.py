@@ -79,8 +79,9 @@ what the numbers are:
               greatest latency, amber one below the bound, or where there is none
   ten frames  what fewer tell is little. For such a destination the page tells how long the run must be for ten
 
-status: 0, or 2 where a word is wrong, a file cannot be read or written, or a file is not what it has to be. One line on
-error output then names the file and the line. The page is written to a file beside it, which takes its name once it is
+status: 0; 1 where a latency is above its bound, or a limit is broken (with --strict also where one is below its bound, or
+has none); 2 where a word is wrong, a file cannot be read or written, or a file is not what it has to be. One line on error
+output then names the file and the line. The page is written to a file beside it, which takes its name once it is
 whole; so an earlier page stays until then.
 """
 

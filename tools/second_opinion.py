@@ -2,8 +2,8 @@
 """A second opinion on the tables of a network: a plain simulator of one thread, which shares no code with the program.
 
 It follows the rules of docs/TRAFFIC.md message by message, and prints the tables as `afdxsim seq` does; with --trace it
-writes the trace too, and with --hops what it has measured on the way. It needs nothing but Python, so it also serves where a table is wanted within a second and the
-program is not built yet. It handles some 60,000 messages a second.
+writes the trace too, and with --hops what it has measured on the way. It needs nothing but Python, so it also serves where a
+table is wanted within a second and the program is not built yet. It handles some 60,000 messages a second.
 """
 import argparse
 import heapq

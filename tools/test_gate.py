@@ -88,7 +88,8 @@ class Gate(unittest.TestCase):
             "PATH": self.folder + (":/usr/bin:/bin" if rt is not None else ""),
             "PYTHONPATH": os.path.join(self.folder, "modules"), "XDG_CACHE_HOME": os.path.join(self.folder, "cache"),
         }
-        words = [sys.executable, os.path.join(self.folder, "test")]
+        # Another user may not be let to the interpreter that runs this.
+        words = [gate.DEBIAN if "user" in more else sys.executable, os.path.join(self.folder, "test")]
         run = subprocess.run(words, env=env | more.pop("env", {}), capture_output=True, text=True, **more)
         return run.stdout.splitlines() + run.stderr.splitlines(), run.stdout.splitlines()[-1], run.returncode
 

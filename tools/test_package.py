@@ -131,7 +131,7 @@ class Packages(unittest.TestCase):
         self.assertEqual(record, {
             "version": program.version(TOP), "commit": self.git("rev-parse", "HEAD").strip(), "kit": KIT,
             "gate": "7 passed, 0 failed", "sources": program.sum_of_sources(KIT, self.clone),
-            "program": program.sum_of_file(self.built),
+            "program": program.sum_of_file(self.built), "judged": program.sum_of_judged(KIT, self.clone),
         })
 
     def test_the_same_bytes_from_the_same_commit(self):
@@ -155,6 +155,12 @@ class Packages(unittest.TestCase):
         os.unlink(os.path.join(self.clone, "docs/new.md"))
         self.record(None)
         refused("the record of the program has no line of `rt ci`: ./test proves all, and writes it down")
+        self.record("7 passed, 0 failed")
+        # An edit is no source of the program, but the line is of it too.
+        self.write("clone/crates/low/must-fail/it.edit", "")
+        self.commit()
+        refused("the line of `rt ci` in the record is of other edits or data of tests than this commit has: ./test tries them")
+        self.git("reset", "-q", "--hard", "HEAD~1")
         self.write("clone/" + program.BUILT + program.RECORD, "{}")
         refused(f"{program.BUILT} is there, and no record says which sources it was built of")
         self.record("7 passed, 0 failed")
