@@ -1,6 +1,4 @@
 -- The start of a run.
-use mir.Syntax.{w16}
-use mir.Val.{Fits}
 use Rattle.std.proofs.Common.{◌≡◌, ℕ, suc, ◌+◌, ◌<◌, ◌≤◌, inl, inr, All, List, [], ◌∷◌, ◌++◌, map, length, replicate, slice_get, get_or, Some, refl, sym, ap, ◌∙◌, subst, arith}
 use Rattle.std.proofs.lemmas.Bool.{cases_eq}
 use Rattle.std.proofs.lemmas.List.{length-replicate, length_push, get_or-replicate}
@@ -24,7 +22,7 @@ use Rattle.exchange.proofs.Gone.{gone-none}
 use Rattle.exchange.proofs.Lists.{slice_get-last, slice_get-more}
 
 -- the number of a process is small
-pub fits-few : (n l h y a p : ℕ) → n ≡ l → l ≡ h → h ≡ y → y < a → a ≡ p → p ≤ 4096 → Fits w16 n
+pub fits-few : (n l h y a p : ℕ) → n ≡ l → l ≡ h → h ≡ y → y < a → a ≡ p → p ≤ 4096 → n < 65536
 fits-few n l h y a p e₁ e₂ e₃ i e₄ few = omega arith
 
 -- the moment after the end

@@ -12,16 +12,16 @@ use Rattle.exchange.proofs.exchange.Exchange.open.Goals as goal
 pub with_letters-requires : goal.with_letters-requires
 with_letters-requires g c =
     let L = c.actor_law.ensures g.J.ActorRun.setting c.requires.layout in
-    let count = c.len-count.ensures ∙ (c.args.actors.ok.0 ∙ c.requires.opens.actors_open.count) in
-    subst (λ ls. All (λ l. l.message.receiver < c.len-count.result) ls) (sym c.in_ok-letters.ensures)
-    (offers-go c.requires.layout L.order c.args.offers.now c.requires.opens.offered c.len-count.result count)
+    let count = c.process_number-count.ensures ∙ c.len.ensures ∙ (c.args.actors.ok.0 ∙ c.requires.opens.actors_open.count) in
+    subst (λ ls. All (λ l. l.message.receiver < c.process_number-count.result) ls) (sym c.in_ok-letters.ensures)
+    (offers-go c.requires.layout L.order c.args.offers.now c.requires.opens.offered c.process_number-count.result count)
 
 pub invariant_of-exchange : goal.invariant_of-exchange
 invariant_of-exchange g c =
     let r = rules_of g.R.Reversible.plain in
     let x = g.J.ActorRun.setting in
     let actors = c.args.actors.ok.0 ∙ c.requires.opens.actors_open.count in
-    let count = c.len-count.ensures ∙ actors in
+    let count = c.process_number-count.ensures ∙ c.len.ensures ∙ actors in
     let many = sym (length-map c.pairs.inside.lefts.items (λ (b : LeftHalf Standing). b.name)) ∙ (ap length (c.pairs.view_is ∙ c.requires.names) ∙ c.requires.each) in
     let marks = c.pairs.invariant.1 ∙ ap (λ n. replicate n unplaced) many in (
       omega arith,
