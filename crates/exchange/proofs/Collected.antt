@@ -76,7 +76,6 @@ module _ {S K : Type 0} {r : Rules Message S K Note} {number end : S → ℕ} {i
       IsRecorded r number end is_placed x es mail' floors gvt count standings'
   kept-as mail' boxes letters standings' marked = record {
     laid = k.laid;
-    within_mail = k.within_mail;
     boxes = boxes ∙ k.boxes;
     floor_count = k.floor_count;
     until = k.until;

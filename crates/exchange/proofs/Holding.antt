@@ -35,10 +35,10 @@ module _ {S K : Type 0} (f : Simulation Message S K Note) where
   may-move g Committed part e = (and_parts _ _ e).0
 
 -- what is in hand is the process of the world and then its block, of which each step can be done there
-pub record Joined {S K : Type 0} (f : Simulation Message S K Note) (es : List (Entry Message)) (p : ℕ) (block : List Move) (own : List (Act Message)) : Type 0 where
-  pub part : after_moves f.rules (f.opening p) block (after_own f p own) ≡ after_moves f.rules (f.opening p) block ((reach f es).parts p)
+pub record Joined {S K : Type 0} (f : Simulation Message S K Note) (es : List (Entry Message)) (p : ℕ) (block : List Move) (acts : List (Act Message)) : Type 0 where
+  pub part : after_moves f.rules (f.opening p) block (after_own f p acts) ≡ after_moves f.rules (f.opening p) block ((reach f es).parts p)
   pub enabled : AreEnabled f (f.opening p) (reach f es).gvt block ((reach f es).parts p)
-  pub own : own ≡ own_in p es
+  pub own : acts ≡ own_in p es
 
 module _ {S K : Type 0} {r : Rules Message S K Note} {number end : S → ℕ} {is_placed : S → Type 0} {x : Setting S} where
   module _ {is_value : S → Message → Type 0} {p seen gone : ℕ} {block : List Move} {own : List (Act Message)} {q : Queues S K}

@@ -94,7 +94,7 @@ module _ {S K : Type 0} {r : Rules Message S K Note} {number end : S → ℕ} {i
       (block : List Move) → block ≡ [] → (own : List (Act Message)) → own ≡ [] → (seen : ℕ) → seen ≡ 0 →
       (gone : ℕ) → Holds r number end is_placed x is_value p seen gone block own q
   unfolding run
-  holds-opened L is_value p i q stands whole block none last nothing seen zero-is gone =
+  holds-opened L is_value p i q stands whole block none own nothing seen zero-is gone =
       subst (λ b. Holds r number end is_placed x is_value p seen gone b own q) (sym none)
       (subst (λ l. Holds r number end is_placed x is_value p seen gone [] l q) (sym nothing)
       (subst (λ s. Holds r number end is_placed x is_value p s gone [] [] q) (sym zero-is) (record {

@@ -66,17 +66,18 @@ module _ {S K : Type 0} {r : Rules Message S K Note} {number end : S → ℕ} {i
     -- what the Held keeps
     pub holds-taken : {mail' : List Store} {floors' : Floors} {count' : ℕ} → IsRecorded r number end is_placed x es' mail' floors' gvt count' standings' → Laws (simulation_of r x) →
         (q₁ q' : Queues S K) → q₁ ≡ q → Does r is_value (λ opening. delivered_all (take n (letters_for p mail))) q₁ q' → q'.left ≡ q₁.left →
-        Holds r number end is_placed x is_value p gvt gone block (own_of p now.last) q'
+        Holds r number end is_placed x is_value p now.seen gone block (own_of p now.last) q'
     holds-taken kept L q₁ q' same does left =
         let f = simulation_of r x in
         let xs = take n (letters_for p mail) in
-        holds-seen kept L is_value p h.number_is (own_of p now.last) w.told q'
+        subst (λ g. Holds r number end is_placed x is_value p g gone block (own_of p now.last) q') (sym sees)
+        (holds-seen kept L is_value p h.number_is (own_of p now.last) w.told q'
         (stands-collected f is_value p own (own_of p now.last) block xs q q' none (own-more w) h.stands
         (subst (λ z. Does r is_value (λ opening. delivered_all xs) z q') same does))
         gone
         (gone-stays r (x.opening p) (after_moves r (x.opening p) block (after_own f p own)) q h.stands gone h.gone_early (acts_of (Collected xs)) _
         (part-collected f p own (own_of p now.last) block xs none (own-more w)) q' (left ∙ ap (λ (z : Queues S K). z.left) same))
-        block none
+        block none)
 
     -- what was done
     pub collects-taken : (most limit : ℕ) → n ≡ min most (length (letters_for p mail)) →

@@ -28,7 +28,7 @@ entered : (g : Over) (c : After-tell_both g) →
     c.push_reserved.new.self.entries (map (λ (b : LeftHalf Standing). b.value) c.tell_both.new.marks.items) c.standing_at.result
 entered g c =
     let mine = rw (sym c.held.view_is, sym c.exchange.view_is) at c.join_law.ensures.own in
-    let prior = rw (sym c.held.view_is) at c.mark.ensures in
+    let prior = rw (sym c.held.view_is) at c.mark-prior.ensures in
     let letters = take c.min-count.result (letters_for c.held.inside.number c.exchange.inside.mail) in
     let journal = c.push_reserved.ensures.entries ∙
     (λ i. c.reserve.ensures.entries i ++ (c.collected-entry.ensures ∙ (λ j. entry_by c.held.inside.number (prior j).place (Collected letters))) i ∷ []) in
