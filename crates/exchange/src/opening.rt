@@ -14,7 +14,7 @@ use crate::run_of::ActorRun;
 use antimessages::{Mail, plus_letters};
 use gvt::Floors;
 use halves::RightHalf;
-use journal::{Block, Entries, PoolFault, Prior, Table};
+use journal::{Block, Entries, PoolFault, Table};
 use process_queues::Process;
 use reverse::{Actor, Outbound, actor_law};
 use std::alloc::Global;
@@ -123,7 +123,7 @@ impl<R: Actor, J: ActorRun<R>> Held<R, J> {
                 runs: 0,
                 block: Block::new(),
                 standing: Standing {
-                    last: Prior::Opening,
+                    last: None,
                     seen: Time::default(),
                 },
                 mark,

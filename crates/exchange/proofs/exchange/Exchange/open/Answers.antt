@@ -5,7 +5,6 @@ use Rattle.std.proofs.lemmas.List.{length-map}
 use Rattle.halves.specs.declared.LeftHalf.{LeftHalf}
 use Rattle.exchange.specs.declared.mark.Standing.{Standing}
 use Rattle.exchange.specs.Views.{blank, unplaced, marks_in}
-use Rattle.exchange.specs.Keeps.{entries_of}
 use Rattle.exchange.proofs.Marks.{marks-blank}
 use Rattle.exchange.proofs.Opened.{until-next, offers-go, kept-opened}
 use Rattle.exchange.proofs.exchange.Exchange.open.Goals as goal
@@ -41,4 +40,4 @@ returns-clause-exchange g c =
     let actors = c.args.actors.ok.0 ∙ c.requires.opens.actors_open.count in
     let many = sym (length-map c.pairs.inside.lefts.items (λ (b : LeftHalf Standing). b.name)) ∙ (ap length (c.pairs.view_is ∙ c.requires.names) ∙ c.requires.each) in
     let marks = c.pairs.invariant.1 ∙ ap (λ n. replicate n unplaced) many in
-    λ i. record { entries = entries_of (c.new-2.ensures.entries i); marks = (ap marks_in marks ∙ marks-blank g.J.ActorRun.setting.processes) i; limit = c.args.limit }
+    λ i. record { entries = c.new-2.ensures.entries i; marks = (ap marks_in marks ∙ marks-blank g.J.ActorRun.setting.processes) i; limit = c.args.limit }
