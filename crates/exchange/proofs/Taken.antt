@@ -1,5 +1,5 @@
 -- All that a call gives which collects letters for a process without a block: what the Exchange and the Held keep, and what it did.
-use Rattle.std.proofs.Common.{◌≡◌, ℕ, ◌+◌, ◌<◌, ◌≤◌, ◌^◌, min, List, [], ◌∷◌, ◌++◌, set, length, take, drop, slice_get, Option, Some, Result, Ok, Err, refl, sym, ap, ◌∙◌, subst, arith, length-append, option_map, IfOk, OnErr, take-append-drop, length-take}
+use Rattle.std.proofs.Common.{◌≡◌, ℕ, ◌+◌, ◌<◌, ◌≤◌, min, List, [], ◌∷◌, ◌++◌, set, length, take, drop, slice_get, Option, Some, Result, Ok, Err, refl, sym, ap, ◌∙◌, subst, arith, option_map, IfOk, OnErr, take-append-drop, length-take}
 use Rattle.std.proofs.lemmas.List.{length-replicate, take_min}
 use Rattle.vlink.specs.declared.message.Message.{Message}
 use Rattle.vlink.specs.declared.note.Note.{Note}

@@ -1,10 +1,10 @@
-use Rattle.std.proofs.Common.{◌≡◌, suc, ◌+◌, ◌<◌, All, length, map, replicate, Some, sym, ap, ◌∙◌, subst, arith}
+use Rattle.std.proofs.Common.{◌<◌, All, length, map, replicate, Some, sym, ap, ◌∙◌, subst, arith}
 use Rattle.virtual_time.specs.Law.{plus_of, received_by}
 use Rattle.reverse.specs.Rules.{rules_of}
 use Rattle.std.proofs.lemmas.List.{length-map}
 use Rattle.halves.specs.declared.LeftHalf.{LeftHalf}
 use Rattle.exchange.specs.declared.mark.Standing.{Standing}
-use Rattle.exchange.specs.Views.{blank, unplaced, marks_in}
+use Rattle.exchange.specs.Views.{unplaced, marks_in}
 use Rattle.exchange.proofs.Marks.{marks-blank}
 use Rattle.exchange.proofs.Opened.{until-next, offers-go, kept-opened}
 use Rattle.exchange.proofs.exchange.Exchange.open.Goals as goal
