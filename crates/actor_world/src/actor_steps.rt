@@ -41,12 +41,12 @@ impl<R: Actor> ActorWorld<R> {
             return Err(StepFault::NoProcess);
         }
         match step {
-            Step::Take { process, place } => self.take(process as u16, place),
-            Step::Arrive { process } => self.arrive(process as u16),
-            Step::Run { process } => self.run(process as u16),
-            Step::Post { process } => self.post(process as u16),
+            Step::Take { process, place } => self.take(number_of(process), place),
+            Step::Arrive { process } => self.arrive(number_of(process)),
+            Step::Run { process } => self.run(number_of(process)),
+            Step::Post { process } => self.post(number_of(process)),
             Step::Gvt => Ok(self.publish()),
-            Step::Commit { process } => self.commit(process as u16),
+            Step::Commit { process } => self.commit(number_of(process)),
         }
     }
 
@@ -150,6 +150,14 @@ impl<R: Actor> ActorWorld<R> {
         }
         Ok(Done::Did)
     }
+}
+
+/// The number of a process, as calls have it: a step has it in 32 bits.
+fn number_of(process: u32) -> u16
+    requires { process < 65536 }
+    ensures { result ≡ process }
+{
+    process as u16
 }
 
 /// The time of the letter's message.

@@ -7,7 +7,7 @@ ghost use Rattle.reverse.specs.Rules.{rules_of};
 ghost use Rattle.reverse.specs.Setting.{Setting, simulation_of, Opens, IsLaidOut};
 ghost use Rattle.antimessages.specs.Mailing.{letters_for};
 ghost use Rattle.actor_world.specs.declared.fault.StepFault.TheVariants.{OutOfMemory};
-ghost use Rattle.actor_world.specs.Worlds.{AreOpened, StandsForWorld, AtEachWorld, IsAWorld, CanOpen};
+ghost use Rattle.actor_world.specs.Worlds.{AreOpened, StandsForWorld, AtEachWorld, CanOpen};
 
 use crate::fault::StepFault;
 use antimessages::{Mail, plus_letters};
@@ -16,7 +16,7 @@ use process_queues::Process;
 use reverse::{Actor, Outbound, actor_rules_law};
 use std::alloc::Global;
 use std::marker::Model;
-use vlink::{Letter, Message, Row, Time};
+use vlink::{Letter, Message, Row, Time, process_number};
 
 /// Processes of these actors, process p in place p, with their mail, their floors and GVT.
 ///
@@ -63,7 +63,7 @@ impl<R: Actor + Drop> ActorWorld<R> {
         ensures memory { IfErr result (λ fault. fault ≡ OutOfMemory) }
     {
         actor_rules_law::<R>();
-        let count = actors.len() as u16;
+        let count = process_number(actors.len());
         let letters = plus_letters(alloc, offers)?;
         let mail = Mail::with_letters(alloc, count, &letters)?;
         let floors = Floors::new(alloc, count, until)?;
@@ -86,14 +86,10 @@ impl<R: Actor + Drop> ActorWorld<R> {
 
     /// The letter number `place`, from 0, of the mail of process `process`: the one that the step Take would take. None where there is
     /// none, or no such process.
-    pub fn look(&self, process: u32, place: u32) -> Option<Letter>
-        requires { IsAWorld (rules_of R.plain) R.number R.end R.is_placed R.is_value self.now }
+    pub fn look(&self, process: u16, place: usize) -> Option<Letter>
         ensures { result ≡ slice_get (letters_for process self.now.mail) place }
     {
-        if process >= u32::from(self.floors.processes()) {
-            return None;
-        }
-        self.mail.look(process as u16, place as usize)
+        self.mail.look(process, place)
     }
 
     /// Whether every done event of every process is committed.
@@ -110,17 +106,17 @@ impl<R: Actor + Drop> ActorWorld<R> {
     }
 
     /// The rows of the committed events of process `process`, in their order.
-    pub fn sealed(&self, process: usize) -> &[Row]
+    pub fn sealed(&self, process: u16) -> &[Row]
         requires { process < length self.now.processes }
         ensures { AtEachWorld (rules_of R.plain) R.number R.end R.is_placed R.is_value self.now
             (λ f w. result.now ≡ rowed f.rules (f.opening process) (w.parts process).committed) }
     {
-        self.processes[process].sealed()
+        self.processes[usize::from(process)].sealed()
     }
 
     /// Undoes all done events of process `process`, the newest first, each by its record, and gives the actor back; none where there is
     /// no such process. Nothing is sent.
-    pub fn undo_all(self, process: u32) -> Option<R>
+    pub fn undo_all(self, process: u16) -> Option<R>
         ensures none { IsNone result ↔ (length self.processes ≤ process) }
         ensures undone { IfSome result (λ actor. AtEachWorld (rules_of R.plain) R.number R.end R.is_placed R.is_value self
             (λ f w. actor ≡ undo_all f.rules (f.opening process) (w.parts process))) }
@@ -128,10 +124,11 @@ impl<R: Actor + Drop> ActorWorld<R> {
             (λ f w. actor ≡ reached f.rules (f.opening process) (w.parts process).committed)) }
     {
         let ActorWorld { mut processes, .. } = self;
-        if process as usize >= processes.len() {
+        let place = usize::from(process);
+        if place >= processes.len() {
             return None;
         }
-        Some(processes.swap_remove(process as usize).undo_all())
+        Some(processes.swap_remove(place).undo_all())
     }
 }
 

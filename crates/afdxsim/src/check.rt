@@ -14,12 +14,7 @@ use trace_tables::{Sink, write_all};
 use traffic::offer_count;
 
 /// How many processes, virtual links and offers there are.
-fn counts_line(
-    alloc: Global,
-    processes: usize,
-    vls: usize,
-    offers: u64,
-) -> Result<String, AllocError>
+fn counts_line(alloc: Global, processes: u16, vls: usize, offers: u64) -> Result<String, AllocError>
     ensures { IfOk result (λ line. string_bytes line ≡ counts_text processes vls offers) }
 {
     format!(in alloc; "ok: {processes} processes, {vls} virtual links, {offers} offers\n")

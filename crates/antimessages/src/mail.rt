@@ -13,7 +13,7 @@ use std::alloc::Global;
 use std::collections::VecDeque;
 use std::marker::Model;
 use std::mem;
-use vlink::Letter;
+use vlink::{Letter, process_number};
 
 /// The letters that were posted and not taken, of each process those that it receives, in the order in which they were posted.
 /// Processes are numbered from 0.
@@ -66,7 +66,7 @@ impl Mail {
     pub fn processes(&self) -> u16
         ensures { result ≡ length self.now }
     {
-        self.boxes.len() as u16
+        process_number(self.boxes.len())
     }
 
     /// How many letters there are for this process; 0 where there is no such process.

@@ -15,12 +15,11 @@ use Rattle.vlink.specs.Letters.{Letter}
 use Rattle.antimessages.specs.Mailing.{letters_for}
 use Rattle.gvt.specs.Horizon.{Floors}
 use Rattle.process_queues.specs.Queues.{Queues, StandsFor, Does, delivered_all}
-use Rattle.journal.specs.Deeds.{prior_own, place_of}
-use Rattle.journal.specs.declared.entry.Entry.{Entry as Told}
+use Rattle.journal.specs.Deeds.{entry_by}
 use Rattle.exchange.specs.declared.mark.Standing.{Standing}
-use Rattle.exchange.specs.Views.{Ledger, HeldState, unplaced, standing_of}
-use Rattle.exchange.specs.Keeps.{entries_of, AreMarked, IsRecorded}
-use Rattle.exchange.specs.Effects.{entry_by, mark_at, collects}
+use Rattle.exchange.specs.Views.{Ledger, HeldState, unplaced, standing_of, place_of, own_of}
+use Rattle.exchange.specs.Keeps.{AreMarked, IsRecorded}
+use Rattle.exchange.specs.Effects.{mark_at, collects}
 
 -- the deliveries of these letters
 delivered-local : {S K : Type 0} (r : Rules Message S K Note) (o : S) (ls : List Letter) (part : Part Message S) → delivered_all ls part ≡ local r o (map (λ l. Deliver l) ls) part
@@ -47,7 +46,7 @@ floor-more ls i l h e (Some d) now new a b = b ∙ (ap (option_map (min l.messag
 
 -- one process saw a GVT that is not later
 pub marks-seen : {processes gvt : ℕ} {es : List (Entry Message)} {standings : List Standing} → AreMarked processes es gvt standings → (p : ℕ) → p < processes → (s : Standing) →
-    place_of s.last ≡ last_place p es → prior_own s.last ≡ own_in p es → s.seen ≤ gvt → AreMarked processes es gvt (set standings p s)
+    place_of s.last ≡ last_place p es → own_of p s.last ≡ own_in p es → s.seen ≤ gvt → AreMarked processes es gvt (set standings p s)
 marks-seen {processes = processes} {gvt = gvt} {es = es} {standings = standings} old p i s place tells low = record {
   count = length-set standings p s ∙ old.count;
   place_is = λ q j. elim (cases_eq q p) [
@@ -55,8 +54,8 @@ marks-seen {processes = processes} {gvt = gvt} {es = es} {standings = standings}
     | inr n ↦ ap (λ (z : Standing). place_of z.last) (elsewhere q n) ∙ old.place_is q j
   ];
   told = λ q j. elim (cases_eq q p) [
-    | inl d ↦ ap (λ (z : Standing). prior_own z.last) (at-here q d) ∙ (tells ∙ ap (λ z. own_in z es) (sym d))
-    | inr n ↦ ap (λ (z : Standing). prior_own z.last) (elsewhere q n) ∙ old.told q j
+    | inl d ↦ ap (λ (z : Standing). own_of q z.last) (at-here q d) ∙ (ap (λ z. own_of z s.last) d ∙ (tells ∙ ap (λ z. own_in z es) (sym d)))
+    | inr n ↦ ap (λ (z : Standing). own_of q z.last) (elsewhere q n) ∙ old.told q j
   ];
   seen_low = λ q j. elim (cases_eq q p) [
     | inl d ↦ subst (λ (z : Standing). z.seen ≤ gvt) (sym (at-here q d)) low
@@ -70,14 +69,13 @@ marks-seen {processes = processes} {gvt = gvt} {es = es} {standings = standings}
     elsewhere : (q : ℕ) → (q ≡ p → ⊥) → standing_of (set standings p s) q ≡ standing_of standings q
     elsewhere q n = get_or-set_other standings p q s unplaced n
 
-module _ {S K : Type 0} {r : Rules Message S K Note} {number end : S → ℕ} {is_placed : S → Type 0} {x : Setting S} {ts : List Told} {mail : List Store} {floors : Floors}
-    {gvt count : ℕ} {standings : List Standing} (k : IsRecorded r number end is_placed x ts mail floors gvt count standings) where
+module _ {S K : Type 0} {r : Rules Message S K Note} {number end : S → ℕ} {is_placed : S → Type 0} {x : Setting S} {es : List (Entry Message)} {mail : List Store} {floors : Floors}
+    {gvt count : ℕ} {standings : List Standing} (k : IsRecorded r number end is_placed x es mail floors gvt count standings) where
   -- other standings, and room in the mail
-  pub kept-as : (mail' : List Store) → length mail' ≡ length mail → ((q : ℕ) → letters_for q mail' ≡ letters_for q mail) → (standings' : List Standing) → AreMarked x.processes (entries_of ts) gvt standings' →
-      IsRecorded r number end is_placed x ts mail' floors gvt count standings'
+  pub kept-as : (mail' : List Store) → length mail' ≡ length mail → ((q : ℕ) → letters_for q mail' ≡ letters_for q mail) → (standings' : List Standing) → AreMarked x.processes es gvt standings' →
+      IsRecorded r number end is_placed x es mail' floors gvt count standings'
   kept-as mail' boxes letters standings' marked = record {
     laid = k.laid;
-    within_mail = k.within_mail;
     boxes = boxes ∙ k.boxes;
     floor_count = k.floor_count;
     until = k.until;
@@ -91,9 +89,9 @@ module _ {S K : Type 0} {r : Rules Message S K Note} {number end : S → ℕ} {i
   }
 
   -- a refusal leaves room in the mail at most
-  pub kept-refused : (ts' : List Told) → ts' ≡ ts → (mail' : List Store) → length mail' ≡ length mail → ((q : ℕ) → letters_for q mail' ≡ letters_for q mail) →
-      IsRecorded r number end is_placed x ts' mail' floors gvt count standings
-  kept-refused ts' same mail' boxes letters =
+  pub kept-refused : (es' : List (Entry Message)) → es' ≡ es → (mail' : List Store) → length mail' ≡ length mail → ((q : ℕ) → letters_for q mail' ≡ letters_for q mail) →
+      IsRecorded r number end is_placed x es' mail' floors gvt count standings
+  kept-refused es' same mail' boxes letters =
       subst (λ us. IsRecorded r number end is_placed x us mail' floors gvt count standings) (sym same) (kept-as mail' boxes letters standings k.marked)
 
 -- a process without a block, after these letters were collected for it

@@ -4,7 +4,7 @@ use Rattle.std.proofs.lemmas.Bool.{and_parts}
 use Rattle.std.proofs.lemmas.List.{map-append}
 use Rattle.vlink.specs.declared.message.Message.{Message}
 use Rattle.vlink.specs.declared.note.Note.{Note}
-use Rattle.virtual_time.specs.Law.{Rules, rowed, Simulation, Laws, Part, acted, local, after_moves, Moves, IsSafePart, MayAct, steps, own_in, reach, after_own, can_move, AreEnabled}
+use Rattle.virtual_time.specs.Law.{Rules, rowed, Simulation, Laws, Part, acted, local, after_moves, Act, Moves, IsSafePart, MayAct, Entry, steps, own_in, reach, after_own, can_move, AreEnabled}
 use Rattle.virtual_time.specs.declared.moved.Move.{Move}
 use Rattle.virtual_time.specs.declared.moved.Move.TheVariants.{Arrived, Ran, Committed}
 use Rattle.virtual_time.proofs.Journal.{local-append, enabled-later}
@@ -14,11 +14,8 @@ use Rattle.antimessages.specs.Letters.{Store}
 use Rattle.gvt.specs.Horizon.{Floors}
 use Rattle.process_queues.specs.Queues.{Queues, StandsFor}
 use Rattle.fossil.specs.Within.{AreFirstBefore}
-use Rattle.journal.specs.Deeds.{prior_own}
-use Rattle.journal.specs.declared.entry.Entry.{Entry as Told}
-use Rattle.journal.specs.declared.entry.Prior.{Prior}
 use Rattle.exchange.specs.declared.mark.Standing.{Standing}
-use Rattle.exchange.specs.Keeps.{entries_of, IsRecorded, Holds}
+use Rattle.exchange.specs.Keeps.{IsRecorded, Holds}
 use Rattle.exchange.proofs.Gone.{gone-stays}
 
 module _ {S K : Type 0} (f : Simulation Message S K Note) where
@@ -38,24 +35,24 @@ module _ {S K : Type 0} (f : Simulation Message S K Note) where
   may-move g Committed part e = (and_parts _ _ e).0
 
 -- what is in hand is the process of the world and then its block, of which each step can be done there
-pub record Joined {S K : Type 0} (f : Simulation Message S K Note) (ts : List Told) (p : ℕ) (block : List Move) (last : Prior) : Type 0 where
-  pub part : after_moves f.rules (f.opening p) block (after_own f p (prior_own last)) ≡ after_moves f.rules (f.opening p) block ((reach f (entries_of ts)).parts p)
-  pub enabled : AreEnabled f (f.opening p) (reach f (entries_of ts)).gvt block ((reach f (entries_of ts)).parts p)
-  pub own : prior_own last ≡ own_in p (entries_of ts)
+pub record Joined {S K : Type 0} (f : Simulation Message S K Note) (es : List (Entry Message)) (p : ℕ) (block : List Move) (acts : List (Act Message)) : Type 0 where
+  pub part : after_moves f.rules (f.opening p) block (after_own f p acts) ≡ after_moves f.rules (f.opening p) block ((reach f es).parts p)
+  pub enabled : AreEnabled f (f.opening p) (reach f es).gvt block ((reach f es).parts p)
+  pub own : acts ≡ own_in p es
 
 module _ {S K : Type 0} {r : Rules Message S K Note} {number end : S → ℕ} {is_placed : S → Type 0} {x : Setting S} where
-  module _ {is_value : S → Message → Type 0} {p seen gone : ℕ} {block : List Move} {last : Prior} {q : Queues S K}
-      (h : Holds r number end is_placed x is_value p seen gone block last q) (L : Laws (simulation_of r x)) where
+  module _ {is_value : S → Message → Type 0} {p seen gone : ℕ} {block : List Move} {own : List (Act Message)} {q : Queues S K}
+      (h : Holds r number end is_placed x is_value p seen gone block own q) (L : Laws (simulation_of r x)) where
     -- it does one step more
-    pub holds-moved : (m : Move) → can_move (simulation_of r x) seen m (after_moves r (x.opening p) block (after_own (simulation_of r x) p (prior_own last))) ≡ true →
-        (q' : Queues S K) → StandsFor r is_value (x.opening p) (acted r (x.opening p) (Moves m) (after_moves r (x.opening p) block (after_own (simulation_of r x) p (prior_own last)))) q' → q'.left ≡ q.left →
-        (block' : List Move) → block' ≡ block ++ m ∷ [] → Holds r number end is_placed x is_value p seen gone block' last q'
+    pub holds-moved : (m : Move) → can_move (simulation_of r x) seen m (after_moves r (x.opening p) block (after_own (simulation_of r x) p own)) ≡ true →
+        (q' : Queues S K) → StandsFor r is_value (x.opening p) (acted r (x.opening p) (Moves m) (after_moves r (x.opening p) block (after_own (simulation_of r x) p own))) q' → q'.left ≡ q.left →
+        (block' : List Move) → block' ≡ block ++ m ∷ [] → Holds r number end is_placed x is_value p seen gone block' own q'
     holds-moved m can q' stands kept block' longer =
         let f = simulation_of r x in
-        let base = after_own f p (prior_own last) in
+        let base = after_own f p own in
         let part = after_moves r (x.opening p) block base in
         let next : after_moves r (x.opening p) (block ++ m ∷ []) base ≡ acted r (x.opening p) (Moves m) part = moved-then f (x.opening p) block (m ∷ []) base in
-        subst (λ b. Holds r number end is_placed x is_value p seen gone b last q') (sym longer) (record {
+        subst (λ b. Holds r number end is_placed x is_value p seen gone b own q') (sym longer) (record {
           laid = h.laid;
           number_is = h.number_is;
           stands = subst (λ z. StandsFor r is_value (x.opening p) z q') (sym next) stands;
@@ -64,40 +61,40 @@ module _ {S K : Type 0} {r : Rules Message S K Note} {number end : S → ℕ} {i
           enabled = enabled-push f (x.opening p) seen block m base h.enabled can;
         })
 
-  module _ {ts : List Told} {mail : List Store} {floors : Floors} {gvt count : ℕ} {standings : List Standing}
-      (k : IsRecorded r number end is_placed x ts mail floors gvt count standings) where
+  module _ {es : List (Entry Message)} {mail : List Store} {floors : Floors} {gvt count : ℕ} {standings : List Standing}
+      (k : IsRecorded r number end is_placed x es mail floors gvt count standings) where
     -- what a process's own entries make of it is the process of the world
-    world-part : (p : ℕ) (last : Prior) → prior_own last ≡ own_in p (entries_of ts) →
-        after_own (simulation_of r x) p (prior_own last) ≡ (reach (simulation_of r x) (entries_of ts)).parts p
-    world-part p last mine = ap (after_own (simulation_of r x) p) mine ∙ sym (k.parts_is p)
+    world-part : (p : ℕ) (own : List (Act Message)) → own ≡ own_in p es →
+        after_own (simulation_of r x) p own ≡ (reach (simulation_of r x) es).parts p
+    world-part p own mine = ap (after_own (simulation_of r x) p) mine ∙ sym (k.parts_is p)
 
     -- it saw the GVT of the journal, and has no block
-    pub holds-seen : Laws (simulation_of r x) → (is_value : S → Message → Type 0) (p : ℕ) → p < x.processes → (last : Prior) →
-        prior_own last ≡ own_in p (entries_of ts) → (q : Queues S K) → StandsFor r is_value (x.opening p) (after_own (simulation_of r x) p (prior_own last)) q →
-        (gone : ℕ) → AreFirstBefore r gone q.left (rowed r (x.opening p) (after_own (simulation_of r x) p (prior_own last)).committed) →
-        (block : List Move) → block ≡ [] → Holds r number end is_placed x is_value p gvt gone block last q
-    holds-seen L is_value p i last mine q stands gone early block none =
+    pub holds-seen : Laws (simulation_of r x) → (is_value : S → Message → Type 0) (p : ℕ) → p < x.processes → (own : List (Act Message)) →
+        own ≡ own_in p es → (q : Queues S K) → StandsFor r is_value (x.opening p) (after_own (simulation_of r x) p own) q →
+        (gone : ℕ) → AreFirstBefore r gone q.left (rowed r (x.opening p) (after_own (simulation_of r x) p own).committed) →
+        (block : List Move) → block ≡ [] → Holds r number end is_placed x is_value p gvt gone block own q
+    holds-seen L is_value p i own mine q stands gone early block none =
         let f = simulation_of r x in
-        subst (λ b. Holds r number end is_placed x is_value p gvt gone b last q) (sym none) (record {
+        subst (λ b. Holds r number end is_placed x is_value p gvt gone b own q) (sym none) (record {
           laid = k.laid;
           number_is = i;
           stands = stands;
-          safe = subst (λ z. IsSafePart f p gvt z) (sym (world-part p last mine))
-              (subst (λ g. IsSafePart f p g ((reach f (entries_of ts)).parts p)) (sym k.gvt_is) (world-safe f L (steps (entries_of ts)) p i));
+          safe = subst (λ z. IsSafePart f p gvt z) (sym (world-part p own mine))
+              (subst (λ g. IsSafePart f p g ((reach f es).parts p)) (sym k.gvt_is) (world-safe f L (steps es) p i));
           gone_early = early;
           enabled = tt;
         })
 
     -- what saw no later GVT, and whose last entry tells all that the journal tells of the process, is joined
-    pub joined : {is_value : S → Message → Type 0} {p seen gone : ℕ} {block : List Move} {last : Prior} {q : Queues S K} →
-        Holds r number end is_placed x is_value p seen gone block last q → seen ≤ gvt → prior_own last ≡ own_in p (entries_of ts) →
-        Joined (simulation_of r x) ts p block last
-    joined {p = p} {seen = seen} {block = block} {last = last} h low mine =
+    pub joined : {is_value : S → Message → Type 0} {p seen gone : ℕ} {block : List Move} {own : List (Act Message)} {q : Queues S K} →
+        Holds r number end is_placed x is_value p seen gone block own q → seen ≤ gvt → own ≡ own_in p es →
+        Joined (simulation_of r x) es p block own
+    joined {p = p} {seen = seen} {block = block} {own = own} h low mine =
         let f = simulation_of r x in
-        let same = world-part p last mine in
+        let same = world-part p own mine in
         record {
           part = ap (after_moves r (x.opening p) block) same;
-          enabled = subst (λ g. AreEnabled f (x.opening p) g block ((reach f (entries_of ts)).parts p)) k.gvt_is
-              (subst (λ z. AreEnabled f (x.opening p) gvt block z) same (enabled-later f (x.opening p) seen gvt low block (after_own f p (prior_own last)) h.enabled));
+          enabled = subst (λ g. AreEnabled f (x.opening p) g block ((reach f es).parts p)) k.gvt_is
+              (subst (λ z. AreEnabled f (x.opening p) gvt block z) same (enabled-later f (x.opening p) seen gvt low block (after_own f p own) h.enabled));
           own = mine;
         }

@@ -1,19 +1,12 @@
 -- The steps of a journal, entry by entry.
-use Rattle.std.proofs.Common.{◌≡◌, ℕ, zero, suc, ◌+◌, ◌<◌, ◌≤◌, List, [], ◌∷◌, ◌++◌, length, take, drop, slice_get, Some, None, sym, ap, ◌∙◌, arith, drop-cons, length-append, append-nil, append_assoc, option_map}
+use Rattle.std.proofs.Common.{◌≡◌, ℕ, zero, suc, ◌+◌, ◌<◌, ◌≤◌, List, [], ◌∷◌, ◌++◌, length, take, drop, slice_get, Some, None, sym, ap, ◌∙◌, arith, drop-cons, length-append, append-nil, append_assoc}
 use Rattle.std.proofs.lemmas.List.{take_more}
-use Rattle.std.proofs.lemmas.Option.{slice_get-map, slice_get_within, get_or_from_slice_get}
+use Rattle.std.proofs.lemmas.Option.{slice_get_within, get_or_from_slice_get}
 use Rattle.vlink.specs.declared.message.Message.{Message}
 use Rattle.virtual_time.specs.declared.step.Step.{Step}
 use Rattle.virtual_time.specs.Law.{Entry, steps_of, steps}
 use Rattle.virtual_time.proofs.Journal.{steps-append}
-use Rattle.journal.specs.Deeds.{seen_entry}
-use Rattle.journal.specs.declared.entry.Entry.{Entry as Told}
-use Rattle.exchange.specs.Keeps.{entries_of}
 use Rattle.exchange.proofs.Lists.{slice_get-first, slice_get-rest}
-
--- the entry that one tells
-pub entry-there : (ts : List Told) (i : ℕ) (t : Told) → slice_get ts i ≡ Some t → slice_get (entries_of ts) i ≡ Some (seen_entry t)
-entry-there ts i t found = slice_get-map seen_entry ts i ∙ ap (option_map seen_entry) found
 
 -- the entries from place i on
 steps-drop : (es : List (Entry Message)) (i : ℕ) (e : Entry Message) → slice_get es i ≡ Some e → steps (drop i es) ≡ steps_of e.process e.deed ++ steps (drop (i + 1) es)

@@ -1,5 +1,5 @@
 -- Elements of lists by their places.
-use Rattle.std.proofs.Common.{◌≡◌, ◌≤◌, ◌<◌, ◌+◌, ℕ, zero, suc, ◌⊎◌, inl, inr, List, [], ◌∷◌, ◌++◌, length, slice_get, Some, None, refl, ap, arith}
+use Rattle.std.proofs.Common.{◌≡◌, ◌≤◌, ◌<◌, ◌+◌, ℕ, zero, suc, List, [], ◌∷◌, ◌++◌, length, slice_get, Some, None, refl, ap, arith}
 
 pub slice_get-last : {X : Type 0} (xs : List X) (x : X) → slice_get (xs ++ x ∷ []) (length xs) ≡ Some x
 slice_get-last [] x = refl
@@ -19,12 +19,6 @@ pub slice_get-rest : {X : Type 0} (xs ys : List X) (n k : ℕ) → n ≡ length 
 slice_get-rest [] ys n k e = ap (slice_get ys) (let a : n ≡ k = omega arith in a)
 slice_get-rest (x ∷ xs) ys zero k e = absurd (omega arith)
 slice_get-rest (x ∷ xs) ys (suc n) k e = slice_get-rest xs ys n k (omega arith)
-
-pub slice_get-push : {X : Type 0} (xs : List X) (x y : X) (k : ℕ) → slice_get (xs ++ x ∷ []) k ≡ Some y → (slice_get xs k ≡ Some y) ⊎ ((k ≡ length xs) × (x ≡ y))
-slice_get-push [] x y zero h = inr (refl, cc)
-slice_get-push [] x y (suc k) h = cc
-slice_get-push (z ∷ xs) x y zero h = inl h
-slice_get-push (z ∷ xs) x y (suc k) h = elim (slice_get-push xs x y k h) [ inl e ↦ inl e | inr e ↦ inr (ap suc e.0, e.1) ]
 
 pub slice_get-none : {X : Type 0} (xs : List X) (k : ℕ) → slice_get xs k ≡ None → length xs ≤ k
 slice_get-none [] k h = omega arith

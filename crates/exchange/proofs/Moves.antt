@@ -5,13 +5,11 @@ use Rattle.std.proofs.lemmas.List.{replicate_more}
 use Rattle.vlink.specs.declared.message.Message.{Message}
 use Rattle.vlink.specs.declared.note.Note.{Note}
 use Rattle.vlink.specs.Letters.{Letter}
-use Rattle.virtual_time.specs.Law.{IsIn, pluses, minuses, Simulation, Laws, Part, next_of, can_commit, oldest_committed, tallied, is_toggled, rolled_back, arrived, is_early, after_moves, IsSafePart, after_own, can_move}
+use Rattle.virtual_time.specs.Law.{IsIn, pluses, minuses, Simulation, Laws, Part, Act, next_of, can_commit, oldest_committed, tallied, is_toggled, rolled_back, arrived, is_early, after_moves, IsSafePart, after_own, can_move}
 use Rattle.virtual_time.specs.declared.moved.Move.{Move}
 use Rattle.virtual_time.specs.declared.moved.Move.TheVariants.{Arrived, Ran, Committed}
 use Rattle.virtual_time.proofs.Lists.{in-head}
 use Rattle.fossil.specs.Committed.{is_moment_before}
-use Rattle.journal.specs.Deeds.{prior_own, place_of}
-use Rattle.journal.specs.declared.entry.Prior.{Prior}
 use Rattle.exchange.specs.Views.{HeldState}
 use Rattle.exchange.specs.Effects.{moved_by, mark_at, RanEarly}
 use Rattle.exchange.proofs.Holding.{moved-then}
@@ -28,26 +26,26 @@ module _ {S K : Type 0} (f : Simulation Message S K Note) where
   moved-more k m h h' h'' a b =
       b ∙ (ap (moved_by f (m ∷ [])) a ∙ (moved-chain (replicate k m) (m ∷ []) h ∙ ap (λ ms. moved_by f ms h) (replicate_more k m)))
 
-  -- what contracts see of a process in hand, of which the journal tells last in this entry
-  abbrev pub in_hand : ℕ → Prior → ℕ → ℕ → List Move → HeldState S
-  in_hand p last seen gone ms =
+  -- what contracts see of a process in hand
+  abbrev pub in_hand : ℕ → List (Act Message) → Option ℕ → ℕ → ℕ → List Move → HeldState S
+  in_hand p own place seen gone ms =
       record {
         number = p;
-        part = after_moves f.rules (f.opening p) ms (after_own f p (prior_own last));
+        part = after_moves f.rules (f.opening p) ms (after_own f p own);
         block = ms;
-        own = prior_own last;
-        mark = mark_at (place_of last) seen;
+        own = own;
+        mark = mark_at place seen;
         gone = gone;
       }
 
   -- and after one step more
-  pub moved-view : (p : ℕ) (last : Prior) (seen gone : ℕ) (ms : List Move) (m : Move) (h : HeldState S) → in_hand p last seen gone ms ≡ h → (ms' : List Move) → ms' ≡ ms ++ m ∷ [] →
-      in_hand p last seen gone ms' ≡ moved_by f (m ∷ []) h
-  moved-view p last seen gone ms m h is ms' e = one ∙ ap (moved_by f (m ∷ [])) is
+  pub moved-view : (p : ℕ) (own : List (Act Message)) (place : Option ℕ) (seen gone : ℕ) (ms : List Move) (m : Move) (h : HeldState S) → in_hand p own place seen gone ms ≡ h → (ms' : List Move) → ms' ≡ ms ++ m ∷ [] →
+      in_hand p own place seen gone ms' ≡ moved_by f (m ∷ []) h
+  moved-view p own place seen gone ms m h is ms' e = one ∙ ap (moved_by f (m ∷ [])) is
     where
-      one : in_hand p last seen gone ms' ≡ moved_by f (m ∷ []) (in_hand p last seen gone ms)
-      one = λ i. record (in_hand p last seen gone ms) {
-        part = (ap (λ b. after_moves f.rules (f.opening p) b (after_own f p (prior_own last))) e ∙ moved-then f (f.opening p) ms (m ∷ []) (after_own f p (prior_own last))) i;
+      one : in_hand p own place seen gone ms' ≡ moved_by f (m ∷ []) (in_hand p own place seen gone ms)
+      one = λ i. record (in_hand p own place seen gone ms) {
+        part = (ap (λ b. after_moves f.rules (f.opening p) b (after_own f p own)) e ∙ moved-then f (f.opening p) ms (m ∷ []) (after_own f p own)) i;
         block = e i;
       }
 

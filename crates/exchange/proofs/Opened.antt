@@ -1,6 +1,4 @@
 -- The start of a run.
-use mir.Syntax.{w16}
-use mir.Val.{Fits}
 use Rattle.std.proofs.Common.{◌≡◌, ℕ, suc, ◌+◌, ◌<◌, ◌≤◌, inl, inr, All, List, [], ◌∷◌, ◌++◌, map, length, replicate, slice_get, get_or, Some, refl, sym, ap, ◌∙◌, subst, arith}
 use Rattle.std.proofs.lemmas.Bool.{cases_eq}
 use Rattle.std.proofs.lemmas.List.{length-replicate, length_push, get_or-replicate}
@@ -8,7 +6,7 @@ use Rattle.std.proofs.lemmas.List.Elements.{All-nil, All-cons}
 use Rattle.std.proofs.lemmas.Option.{slice_get_read}
 use Rattle.vlink.specs.declared.message.Message.{Message}
 use Rattle.vlink.specs.declared.note.Note.{Note}
-use Rattle.virtual_time.specs.Law.{Rules, IsOrder, IsIn, plus_of, received_by, Laws, opened, run}
+use Rattle.virtual_time.specs.Law.{Rules, IsOrder, IsIn, plus_of, received_by, Laws, opened, run, Act, Entry}
 use Rattle.virtual_time.specs.declared.moved.Move.{Move}
 use Rattle.virtual_time.proofs.Lists.{in-head}
 use Rattle.virtual_time.proofs.SafePart.{world-safe}
@@ -17,17 +15,14 @@ use Rattle.antimessages.specs.Letters.{Store}
 use Rattle.antimessages.specs.Mailing.{letters_for}
 use Rattle.gvt.specs.Horizon.{Floors}
 use Rattle.process_queues.specs.Queues.{Queues, StandsFor}
-use Rattle.journal.specs.Deeds.{prior_own, place_of}
-use Rattle.journal.specs.declared.entry.Entry.{Entry as Told}
-use Rattle.journal.specs.declared.entry.Prior.{Prior, Opening}
 use Rattle.exchange.specs.declared.mark.Standing.{Standing}
-use Rattle.exchange.specs.Views.{HeldState, unplaced, standing_of, opened_held}
+use Rattle.exchange.specs.Views.{HeldState, unplaced, standing_of, opened_held, place_of, own_of}
 use Rattle.exchange.specs.Keeps.{IsRecorded, Holds}
 use Rattle.exchange.proofs.Gone.{gone-none}
 use Rattle.exchange.proofs.Lists.{slice_get-last, slice_get-more}
 
 -- the number of a process is small
-pub fits-few : (n l h y a p : ℕ) → n ≡ l → l ≡ h → h ≡ y → y < a → a ≡ p → p ≤ 4096 → Fits w16 n
+pub fits-few : (n l h y a p : ℕ) → n ≡ l → l ≡ h → h ≡ y → y < a → a ≡ p → p ≤ 4096 → n < 65536
 fits-few n l h y a p e₁ e₂ e₃ i e₄ few = omega arith
 
 -- the moment after the end
@@ -70,12 +65,11 @@ module _ {S K : Type 0} {r : Rules Message S K Note} {number end : S → ℕ} {i
 
   pub kept-opened : (mail : List Store) → length mail ≡ x.processes → ((p : ℕ) → letters_for p mail ≡ received_by r.order p (map plus_of x.offers)) →
       (floors : Floors) → length floors.floors ≡ x.processes → floors.until ≡ x.until → ((p : ℕ) → p < x.processes → slice_get floors.floors p ≡ Some (suc x.until)) →
-      (standings : List Standing) → standings ≡ replicate x.processes unplaced → (ts : List Told) → ts ≡ [] → (gvt : ℕ) → gvt ≡ 0 → IsRecorded r number end is_placed x ts mail floors gvt 0 standings
+      (standings : List Standing) → standings ≡ replicate x.processes unplaced → (es : List (Entry Message)) → es ≡ [] → (gvt : ℕ) → gvt ≡ 0 → IsRecorded r number end is_placed x es mail floors gvt 0 standings
   unfolding run
-  kept-opened mail boxes letters floors floor_count until each standings blanks ts none gvt zero-is =
+  kept-opened mail boxes letters floors floor_count until each standings blanks es none gvt zero-is =
       subst (λ us. IsRecorded r number end is_placed x us mail floors gvt 0 standings) (sym none) (record {
         laid = laid;
-        within_mail = λ k t h. absurd (cc);
         boxes = boxes;
         floor_count = floor_count;
         until = until;
@@ -88,7 +82,7 @@ module _ {S K : Type 0} {r : Rules Message S K Note} {number end : S → ℕ} {i
         marked = record {
           count = ap length blanks ∙ length-replicate x.processes unplaced;
           place_is = λ p i. ap (λ (s : Standing). place_of s.last) (at p i);
-          told = λ p i. ap (λ (s : Standing). prior_own s.last) (at p i);
+          told = λ p i. ap (λ (s : Standing). own_of p s.last) (at p i);
           seen_low = λ p i. subst (λ (s : Standing). s.seen ≤ gvt) (sym (at p i)) (omega arith);
         };
       })
@@ -97,13 +91,13 @@ module _ {S K : Type 0} {r : Rules Message S K Note} {number end : S → ℕ} {i
       at p i = ap (λ bs. standing_of bs p) blanks ∙ get_or-replicate x.processes p unplaced unplaced i
 
   pub holds-opened : Laws (simulation_of r x) → (is_value : S → Message → Type 0) (p : ℕ) → p < x.processes → (q : Queues S K) → StandsFor r is_value (x.opening p) (opened (x.opening p)) q → q.left ≡ 0 →
-      (block : List Move) → block ≡ [] → (last : Prior) → last ≡ Opening → (seen : ℕ) → seen ≡ 0 →
-      (gone : ℕ) → Holds r number end is_placed x is_value p seen gone block last q
+      (block : List Move) → block ≡ [] → (own : List (Act Message)) → own ≡ [] → (seen : ℕ) → seen ≡ 0 →
+      (gone : ℕ) → Holds r number end is_placed x is_value p seen gone block own q
   unfolding run
-  holds-opened L is_value p i q stands whole block none last nothing seen zero-is gone =
-      subst (λ b. Holds r number end is_placed x is_value p seen gone b last q) (sym none)
+  holds-opened L is_value p i q stands whole block none own nothing seen zero-is gone =
+      subst (λ b. Holds r number end is_placed x is_value p seen gone b own q) (sym none)
       (subst (λ l. Holds r number end is_placed x is_value p seen gone [] l q) (sym nothing)
-      (subst (λ s. Holds r number end is_placed x is_value p s gone [] Opening q) (sym zero-is) (record {
+      (subst (λ s. Holds r number end is_placed x is_value p s gone [] [] q) (sym zero-is) (record {
         laid = laid;
         number_is = i;
         stands = stands;

@@ -1,11 +1,11 @@
 -- A block goes to the journal, and an outbox to the mail.
-use Rattle.std.proofs.Common.{◌≡◌, ℕ, ◌+◌, ◌<◌, ◌≤◌, All, List, [], ◌∷◌, ◌++◌, map, length, slice_get, Some, refl, sym, ap, ◌∙◌, subst, arith, length-append, set}
+use Rattle.std.proofs.Common.{◌≡◌, ℕ, ◌+◌, ◌<◌, ◌≤◌, All, List, [], ◌∷◌, ◌++◌, map, length, slice_get, Option, Some, refl, sym, ap, ◌∙◌, subst, arith, length-append, set}
 use Rattle.std.proofs.lemmas.List.{length-map}
 use Rattle.std.proofs.lemmas.List.Elements.{All-nil, All-cons}
 use Rattle.vlink.specs.declared.message.Message.{Message}
 use Rattle.vlink.specs.declared.note.Note.{Note}
 use Rattle.vlink.specs.Letters.{Letter}
-use Rattle.virtual_time.specs.Law.{Rules, IsOrder, Simulation, Laws, put, IsNamed, received_by, Part, opened, emptied, floor_of, World, start, run, Act, after_moves, Emptying, IsSafePart, Posted, step_by, acts_of, steps_of, steps, reach, after_own, delivered_block}
+use Rattle.virtual_time.specs.Law.{Rules, IsOrder, Simulation, Laws, put, IsNamed, received_by, Part, opened, emptied, floor_of, World, start, run, Act, after_moves, Emptying, IsSafePart, Posted, Entry, own_in, step_by, acts_of, steps_of, steps, reach, after_own, delivered_block}
 use Rattle.virtual_time.specs.declared.step.Step.{Step}
 use Rattle.virtual_time.specs.declared.moved.Move.{Move}
 use Rattle.virtual_time.proofs.Letters.{named-head}
@@ -19,17 +19,16 @@ use Rattle.antimessages.specs.Letters.{Store}
 use Rattle.antimessages.specs.Mailing.{letters_for}
 use Rattle.gvt.specs.Horizon.{Floors}
 use Rattle.process_queues.specs.Queues.{Queues, StandsFor, Does}
-use Rattle.journal.specs.Deeds.{prior_own}
-use Rattle.journal.specs.declared.entry.Entry.{Entry as Told}
-use Rattle.journal.specs.declared.entry.Prior.{Prior}
+use Rattle.journal.specs.Deeds.{entry_by}
 use Rattle.exchange.specs.declared.mark.Standing.{Standing}
-use Rattle.exchange.specs.Views.{Ledger, HeldState, marks_in}
-use Rattle.exchange.specs.Keeps.{entries_of, IsRecorded, Holds}
-use Rattle.exchange.specs.Effects.{entry_by, mark_at, posts as posts-effect}
+use Rattle.exchange.specs.Views.{Ledger, HeldState, marks_in, place_of, own_of}
+use Rattle.exchange.specs.Keeps.{IsRecorded, Holds}
+use Rattle.exchange.specs.Effects.{mark_at, posts as posts-effect}
 use Rattle.exchange.proofs.Gone.{gone-stays}
 use Rattle.exchange.proofs.Growth.{marks-set, kept-more}
 use Rattle.exchange.proofs.Holding.{Joined}
-use Rattle.exchange.proofs.Entered.{Entered, held_as, own-more, ledger-now, held-now}
+use Rattle.exchange.proofs.Moves.{in_hand}
+use Rattle.exchange.proofs.Entered.{Entered, own-more, ledger-now, held-now}
 
 -- letters to processes of which there are so many
 letters-go : {S K : Type 0} (r : Rules Message S K Note) (O : IsOrder r.order) (n : ℕ) (ls : List Letter) → ((m : Message) → IsNamed r.order m ls → r.order.receiver m < n) →
@@ -51,60 +50,60 @@ part-posted : {S K : Type 0} (f : Simulation Message S K Note) (p : ℕ) (own ow
 part-posted f p own own' block more =
     ap (after_own f p) more ∙ (local-append f (f.opening p) own (acts_of (Posted block)) (opened (f.opening p)) ∙ emptied-last f (f.opening p) block (after_own f p own))
 
-module _ {S K : Type 0} {r : Rules Message S K Note} {number end : S → ℕ} {is_placed : S → Type 0} {x : Setting S} {ts : List Told} {mail : List Store} {floors : Floors}
-    {gvt count : ℕ} {standings : List Standing} (k : IsRecorded r number end is_placed x ts mail floors gvt count standings)
-    {is_value : S → Message → Type 0} {p seen gone : ℕ} {block : List Move} {last : Prior} {q : Queues S K}
-    (h : Holds r number end is_placed x is_value p seen gone block last q) (L : Laws (simulation_of r x)) where
-  module _ (j : Joined (simulation_of r x) ts p block last) where
+module _ {S K : Type 0} {r : Rules Message S K Note} {number end : S → ℕ} {is_placed : S → Type 0} {x : Setting S} {es : List (Entry Message)} {mail : List Store} {floors : Floors}
+    {gvt count : ℕ} {standings : List Standing} (k : IsRecorded r number end is_placed x es mail floors gvt count standings)
+    {is_value : S → Message → Type 0} {p seen gone : ℕ} {block : List Move} {own : List (Act Message)} {q : Queues S K}
+    (h : Holds r number end is_placed x is_value p seen gone block own q) (L : Laws (simulation_of r x)) where
+  module _ (j : Joined (simulation_of r x) es p block own) where
     -- what is in its outbox goes to processes
     pub outbox-goes : All (λ l. r.order.receiver l.message < length mail) q.outbox
     outbox-goes =
         let f = simulation_of r x in
-        let w = reach f (entries_of ts) in
-        let xs = steps (entries_of ts) ++ map (step_by p) block in
+        let w = reach f es in
+        let xs = steps es ++ map (step_by p) block in
         let done = after_moves r (x.opening p) block (w.parts p) in
         let there : (run f xs (start f)).parts p ≡ done =
-        ap (λ (z : World Message S). z.parts p) (run-then f (steps (entries_of ts)) (map (step_by p) block) (start f) ∙ moves f p h.number_is block w j.enabled) ∙ put_here p done w.parts in
+        ap (λ (z : World Message S). z.parts p) (run-then f (steps es) (map (step_by p) block) (start f) ∙ moves f p h.number_is block w j.enabled) ∙ put_here p done w.parts in
         let same : q.outbox ≡ ((run f xs (start f)).parts p).outbox = h.stands.outbox ∙ ap (λ (z : Part Message S). z.outbox) (j.part ∙ sym there) in
         letters-go r L.order (length mail) q.outbox (λ m n. subst (λ b. r.order.receiver m < b) (sym k.boxes) (outboxes f L xs p m (subst (λ z. IsNamed r.order m z) same n)))
 
-  module _ {ts' : List Told} {standings' : List Standing} {now : Standing} (w : Entered ts standings p last (Posted block) ts' standings' now) (sees : now.seen ≡ seen)
+  module _ {prior : Option ℕ} {es' : List (Entry Message)} {standings' : List Standing} {now : Standing} (w : Entered es standings p prior own (Posted block) es' standings' now) (sees : now.seen ≡ seen)
       {q' : Queues S K} (does : Does r is_value (λ opening. emptied) q q') where
     -- what the Exchange keeps
-    pub kept-posted : Joined (simulation_of r x) ts p block last → seen ≤ gvt → ((s : S) (m : Message) → end (r.after s m) ≡ end s) →
+    pub kept-posted : Joined (simulation_of r x) es p block own → seen ≤ gvt → ((s : S) (m : Message) → end (r.after s m) ≡ end s) →
         (mail' : List Store) → length mail' ≡ length mail → ((n : ℕ) → letters_for n mail' ≡ letters_for n mail ++ received_by r.order n q.outbox) →
         (floors' : Floors) → length floors'.floors ≡ length floors.floors → floors'.until ≡ floors.until →
         (floor : ℕ) → ((opening : S) (part : Part Message S) → StandsFor r is_value opening part q' → floor ≡ floor_of r.order (end q'.past.state) part) →
         slice_get floors'.floors p ≡ Some floor → ((n : ℕ) → (n ≡ p → ⊥) → slice_get floors'.floors n ≡ slice_get floors.floors n) →
-        (count' : ℕ) → count' ≡ count + (length block + 1) → IsRecorded r number end is_placed x ts' mail' floors' gvt count' standings'
+        (count' : ℕ) → count' ≡ count + (length block + 1) → IsRecorded r number end is_placed x es' mail' floors' gvt count' standings'
     kept-posted j low stays mail' boxes letters floors' floor_count until floor floor-is here others count' counts =
         let f = simulation_of r x in
         let i = h.number_is in
-        let world = reach f (entries_of ts) in
-        let part = after_moves r (x.opening p) block (after_own f p (prior_own last)) in
+        let world = reach f es in
+        let part = after_moves r (x.opening p) block (after_own f p own) in
         let stands = does (x.opening p) part h.stands in
         let end-is = end-told r is_value (x.opening p) (emptied part) q' stands L.order end stays x.until (k.laid.end_is p i) in
         let at-end : floor ≡ floor_of r.order x.until part = floor-is (x.opening p) (emptied part) stands ∙ ap (λ n. floor_of r.order n (emptied part)) end-is in
         let many : length (steps_of {M = Message} p (Posted block)) ≡ length block + 1 =
         length-append (map (step_by p) block) (Step.Post p ∷ []) ∙ ap (λ n. n + 1) (length-map block (step_by p)) in
         subst (λ us. IsRecorded r number end is_placed x us mail' floors' gvt count' standings') (sym w.journal)
-        (subst (λ bs. IsRecorded r number end is_placed x (ts ++ w.entry ∷ []) mail' floors' gvt count' bs) (sym w.marked)
-        (kept-more k w.fresh (delivered_block f p block world) (posts f p i block world j.enabled) (ap (λ z. put p z world.parts) (sym (emptied-last f (x.opening p) block (world.parts p))))
+        (subst (λ bs. IsRecorded r number end is_placed x (es ++ entry_by p prior (Posted block) ∷ []) mail' floors' gvt count' bs) (sym w.marked)
+        (kept-more k (entry_by p prior (Posted block)) (delivered_block f p block world) (posts f p i block world j.enabled) (ap (λ z. put p z world.parts) (sym (emptied-last f (x.opening p) block (world.parts p))))
         mail' boxes (λ n b. letters n ∙ (λ m. k.mail_is n b m ++ received_by r.order n ((h.stands.outbox ∙ ap (λ (z : Part Message S). z.outbox) j.part) m)))
         floors' floor_count until
         (put_elim (λ n d. n < x.processes → slice_get floors'.floors n ≡ Some d) p (floor_of r.order x.until (after_moves r (x.opening p) block (world.parts p))) world.floors
         (λ b. here ∙ ap (λ z. Some z) (at-end ∙ ap (floor_of r.order x.until) j.part)) (λ n other b. others n other ∙ k.floors_is n b))
         gvt k.gvt_is count' (counts ∙ ap (λ n. count + n) (sym many)) (omega arith)
-        (set standings p now) (marks-set ts w.fresh k.marked (λ n. refl) i refl now w.place w.own (subst (λ n. n ≤ gvt) (sym sees) low))))
+        (set standings p now) (marks-set es (entry_by p prior (Posted block)) k.marked (λ n. refl) i now w.place (w.told ∙ ap (own_in p) w.journal) (subst (λ n. n ≤ gvt) (sym sees) low))))
 
     -- what the Held keeps
     pub holds-posted : q'.left ≡ q.left → (block' : List Move) → block' ≡ [] →
-        Holds r number end is_placed x is_value p now.seen gone block' now.last q'
+        Holds r number end is_placed x is_value p now.seen gone block' (own_of p now.last) q'
     holds-posted left block' none =
         let f = simulation_of r x in
-        let part = after_moves r (x.opening p) block (after_own f p (prior_own last)) in
-        let next = part-posted f p (prior_own last) (prior_own now.last) block (own-more w) in
-        subst (λ b. Holds r number end is_placed x is_value p now.seen gone b now.last q') (sym none) (subst (λ n. Holds r number end is_placed x is_value p n gone [] now.last q') (sym sees) (record {
+        let part = after_moves r (x.opening p) block (after_own f p own) in
+        let next = part-posted f p own (own_of p now.last) block (own-more w) in
+        subst (λ b. Holds r number end is_placed x is_value p now.seen gone b (own_of p now.last) q') (sym none) (subst (λ n. Holds r number end is_placed x is_value p n gone [] (own_of p now.last) q') (sym sees) (record {
           laid = h.laid;
           number_is = h.number_is;
           stands = subst (λ z. StandsFor r is_value (x.opening p) z q') (sym next) (does (x.opening p) part h.stands);
@@ -122,11 +121,11 @@ module _ {S K : Type 0} (f : Simulation Message S K Note) (x : Ledger) (h : Held
   posts-some (m ∷ ms) some a b = (a, b)
 
 -- what was done
-pub block-posted : {S K : Type 0} (f : Simulation Message S K Note) {ts : List Told} {standings : List Standing} {p seen : ℕ} {last : Prior} {block : List Move} {ts' : List Told}
-    {standings' : List Standing} {now : Standing} → Entered ts standings p last (Posted block) ts' standings' now → now.seen ≡ seen → 0 < length block → (limit gone : ℕ) (block' : List Move) → block' ≡ [] →
+pub block-posted : {S K : Type 0} (f : Simulation Message S K Note) {es : List (Entry Message)} {standings : List Standing} {p seen : ℕ} {own : List (Act Message)} {prior : Option ℕ} {block : List Move} {es' : List (Entry Message)}
+    {standings' : List Standing} {now : Standing} → Entered es standings p prior own (Posted block) es' standings' now → now.seen ≡ seen → 0 < length block → (limit gone : ℕ) (block' : List Move) → block' ≡ [] →
     posts-effect f block
-    (record { entries = entries_of ts; marks = marks_in standings; limit = limit }) (held_as f p block last seen gone)
-    (record { entries = entries_of ts'; marks = marks_in standings'; limit = limit }) (held_as f p block' now.last now.seen gone)
-block-posted f {p = p} {seen = seen} {last = last} {block = block} {now = now} w sees some limit gone block' none =
-    let part-is = part-posted f p (prior_own last) (prior_own now.last) block (own-more w) in
+    (record { entries = es; marks = marks_in standings; limit = limit }) (in_hand f p own prior seen gone block)
+    (record { entries = es'; marks = marks_in standings'; limit = limit }) (in_hand f p (own_of p now.last) (place_of now.last) now.seen gone block')
+block-posted f {p = p} {seen = seen} {own = own} {block = block} {now = now} w sees some limit gone block' none =
+    let part-is = part-posted f p own (own_of p now.last) block (own-more w) in
     posts-some f _ _ _ _ block some (ledger-now w seen sees limit) (held-now w seen sees f _ part-is block' none gone)

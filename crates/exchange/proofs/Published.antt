@@ -2,53 +2,52 @@
 use Rattle.std.proofs.Common.{◌≡◌, ℕ, ◌+◌, ◌<◌, ◌≤◌, Bool, true, false, List, [], ◌∷◌, ◌++◌, length, slice_get, Some, None, refl, sym, ◌∙◌, subst, arith}
 use Rattle.vlink.specs.declared.message.Message.{Message}
 use Rattle.vlink.specs.declared.note.Note.{Note}
-use Rattle.virtual_time.specs.Law.{Rules, Simulation, Laws, World, start, run, gvt_over, Act, Published, steps_of, steps, reach}
+use Rattle.virtual_time.specs.Law.{Rules, Simulation, Laws, World, start, run, gvt_over, Published, Entry, steps_of, steps, reach}
 use Rattle.virtual_time.proofs.Journal.{put_kept, run-then, publishes}
 use Rattle.virtual_time.proofs.Safety.{rises}
 use Rattle.reverse.specs.Setting.{Setting, simulation_of}
 use Rattle.antimessages.specs.Letters.{Store}
 use Rattle.antimessages.specs.Mailing.{letters_for}
 use Rattle.gvt.specs.Horizon.{Floors, horizon_over}
-use Rattle.journal.specs.declared.entry.Entry.{Entry as Told}
+use Rattle.journal.specs.Deeds.{entry_by}
 use Rattle.exchange.specs.declared.mark.Standing.{Standing}
 use Rattle.exchange.specs.Views.{Ledger}
-use Rattle.exchange.specs.Keeps.{entries_of, IsRecorded}
-use Rattle.exchange.specs.Effects.{entry_by, publishes as publishes-effect}
-use Rattle.exchange.proofs.Growth.{Fresh, marks-stay, kept-more}
+use Rattle.exchange.specs.Keeps.{IsRecorded}
+use Rattle.exchange.specs.Effects.{publishes as publishes-effect}
+use Rattle.exchange.proofs.Growth.{marks-stay, kept-more}
 
-module _ {S K : Type 0} {r : Rules Message S K Note} {number end : S → ℕ} {is_placed : S → Type 0} {x : Setting S} {ts : List Told} {mail : List Store} {floors : Floors}
-    {gvt count : ℕ} {standings : List Standing} (k : IsRecorded r number end is_placed x ts mail floors gvt count standings) where
+module _ {S K : Type 0} {r : Rules Message S K Note} {number end : S → ℕ} {is_placed : S → Type 0} {x : Setting S} {es : List (Entry Message)} {mail : List Store} {floors : Floors}
+    {gvt count : ℕ} {standings : List Standing} (k : IsRecorded r number end is_placed x es mail floors gvt count standings) where
   -- the horizon of floors and mail is GVT of the world after the journal
   pub gvt-told : ((f : Simulation Message S K Note) → ((m : Message) → f.rules.order.time m ≡ m.time) → (w : World Message S) (fs : Floors) (ms : List Store) →
       f.processes ≡ length fs.floors → f.processes ≡ length ms → f.until ≡ fs.until → ((p : ℕ) → p < f.processes → slice_get fs.floors p ≡ Some (w.floors p)) →
       ((p : ℕ) → p < f.processes → letters_for p ms ≡ w.mail p) → horizon_over fs ms ≡ gvt_over f f.processes w) → ((m : Message) → r.order.time m ≡ m.time) →
-      horizon_over floors mail ≡ gvt_over (simulation_of r x) x.processes (reach (simulation_of r x) (entries_of ts))
+      horizon_over floors mail ≡ gvt_over (simulation_of r x) x.processes (reach (simulation_of r x) es)
   gvt-told law time =
-      law (simulation_of r x) time (reach (simulation_of r x) (entries_of ts)) floors mail (sym k.floor_count) (sym k.boxes) (sym k.until) k.floors_is k.mail_is
+      law (simulation_of r x) time (reach (simulation_of r x) es) floors mail (sym k.floor_count) (sym k.boxes) (sym k.until) k.floors_is k.mail_is
 
   module _ (L : Laws (simulation_of r x)) where
     -- GVT does not fall
-    gvt-rises : gvt ≤ gvt_over (simulation_of r x) x.processes (reach (simulation_of r x) (entries_of ts))
+    gvt-rises : gvt ≤ gvt_over (simulation_of r x) x.processes (reach (simulation_of r x) es)
     gvt-rises =
         let f = simulation_of r x in
-        let w = reach f (entries_of ts) in
-        let xs = steps (entries_of ts) in
+        let w = reach f es in
+        let xs = steps es in
         let later : run f (xs ++ steps_of {M = Message} 0 Published) (start f) ≡ record { parts = w.parts; mail = w.mail; floors = w.floors; gvt = gvt_over f x.processes w } =
         run-then f xs (steps_of {M = Message} 0 Published) (start f) ∙ publishes f w in
         let rise : (run f xs (start f)).gvt ≤ (run f (xs ++ steps_of {M = Message} 0 Published) (start f)).gvt = rises f L xs (steps_of {M = Message} 0 Published) in
         subst (λ g. g ≤ gvt_over f x.processes w) (sym k.gvt_is) (subst (λ (z : World Message S). w.gvt ≤ z.gvt) later rise)
 
-    pub kept-published : {own : List (Act Message)} {t : Told} → Fresh (entry_by 0 None Published) own t →
-        (gvt' : ℕ) → gvt' ≡ gvt_over (simulation_of r x) x.processes (reach (simulation_of r x) (entries_of ts)) →
-        (ts' : List Told) → ts' ≡ ts ++ t ∷ [] → (count' : ℕ) → count' ≡ count + 1 →
-        IsRecorded r number end is_placed x ts' mail floors gvt' count' standings
-    kept-published {t = t} new gvt' gvt-is ts' more count' counts =
+    pub kept-published : (gvt' : ℕ) → gvt' ≡ gvt_over (simulation_of r x) x.processes (reach (simulation_of r x) es) →
+        (es' : List (Entry Message)) → es' ≡ es ++ entry_by 0 None Published ∷ [] → (count' : ℕ) → count' ≡ count + 1 →
+        IsRecorded r number end is_placed x es' mail floors gvt' count' standings
+    kept-published gvt' gvt-is es' more count' counts =
         let f = simulation_of r x in
-        let w = reach f (entries_of ts) in
+        let w = reach f es in
         subst (λ us. IsRecorded r number end is_placed x us mail floors gvt' count' standings) (sym more)
-        (kept-more k new (record { parts = w.parts; mail = w.mail; floors = w.floors; gvt = gvt_over f x.processes w }) (publishes f w) (sym (put_kept 0 w.parts))
+        (kept-more k (entry_by 0 None Published) (record { parts = w.parts; mail = w.mail; floors = w.floors; gvt = gvt_over f x.processes w }) (publishes f w) (sym (put_kept 0 w.parts))
         mail refl k.mail_is floors refl refl k.floors_is gvt' gvt-is count' counts (omega arith) standings
-        (marks-stay ts new k.marked (λ q. refl) refl gvt' (subst (λ g. gvt ≤ g) (sym gvt-is) gvt-rises)))
+        (marks-stay es (entry_by 0 None Published) k.marked (λ q. refl) refl gvt' (subst (λ g. gvt ≤ g) (sym gvt-is) gvt-rises)))
 
 -- GVT is another one than before
 pub publishes-more : {S K : Type 0} (f : Simulation Message S K Note) (b : Bool) (x y : Ledger) → b ≡ false → y ≡ record { entries = x.entries ++ entry_by 0 None Published ∷ []; marks = x.marks; limit = x.limit } →

@@ -1,9 +1,9 @@
 -- All that a call gives which collects letters for a process without a block: what the Exchange and the Held keep, and what it did.
-use Rattle.std.proofs.Common.{◌≡◌, ℕ, ◌+◌, ◌<◌, ◌≤◌, ◌^◌, min, List, [], ◌∷◌, ◌++◌, set, length, take, drop, slice_get, Option, Some, Result, Ok, Err, refl, sym, ap, ◌∙◌, subst, arith, length-append, option_map, IfOk, OnErr, take-append-drop, length-take}
+use Rattle.std.proofs.Common.{◌≡◌, ℕ, ◌+◌, ◌<◌, ◌≤◌, min, List, [], ◌∷◌, ◌++◌, set, length, take, drop, slice_get, Option, Some, Result, Ok, Err, refl, sym, ap, ◌∙◌, subst, arith, option_map, IfOk, OnErr, take-append-drop, length-take}
 use Rattle.std.proofs.lemmas.List.{length-replicate, take_min}
 use Rattle.vlink.specs.declared.message.Message.{Message}
 use Rattle.vlink.specs.declared.note.Note.{Note}
-use Rattle.virtual_time.specs.Law.{Rules, Laws, lowest, times_of, after_moves, Collected, acts_of, steps_of, own_in, reach, after_own, fetched}
+use Rattle.virtual_time.specs.Law.{Rules, Laws, lowest, times_of, after_moves, Act, Collected, Entry, acts_of, steps_of, own_in, reach, after_own, fetched}
 use Rattle.virtual_time.specs.declared.step.Step.{Step}
 use Rattle.virtual_time.specs.declared.moved.Move.{Move}
 use Rattle.virtual_time.proofs.Kept.{put_elim}
@@ -13,16 +13,15 @@ use Rattle.antimessages.specs.Letters.{Store}
 use Rattle.antimessages.specs.Mailing.{letters_for}
 use Rattle.gvt.specs.Horizon.{Floors}
 use Rattle.process_queues.specs.Queues.{Queues, Does, delivered_all}
-use Rattle.journal.specs.Deeds.{prior_own}
-use Rattle.journal.specs.declared.entry.Entry.{Entry as Told}
-use Rattle.journal.specs.declared.entry.Prior.{Prior}
+use Rattle.journal.specs.Deeds.{entry_by}
 use Rattle.exchange.specs.declared.mark.Standing.{Standing}
-use Rattle.exchange.specs.Views.{marks_in}
-use Rattle.exchange.specs.Keeps.{entries_of, IsRecorded, Holds}
+use Rattle.exchange.specs.Views.{marks_in, place_of, own_of}
+use Rattle.exchange.specs.Keeps.{IsRecorded, Holds}
 use Rattle.exchange.specs.Effects.{Collects}
-use Rattle.exchange.proofs.Growth.{own-now, marks-set, kept-more}
-use Rattle.exchange.proofs.Entered.{Entered, held_as, own-more, ledger-now, held-now}
+use Rattle.exchange.proofs.Growth.{marks-set, kept-more}
+use Rattle.exchange.proofs.Entered.{Entered, own-more, ledger-now, held-now}
 use Rattle.exchange.proofs.Holding.{holds-seen}
+use Rattle.exchange.proofs.Moves.{in_hand}
 use Rattle.exchange.proofs.Gone.{gone-stays}
 use Rattle.exchange.proofs.Collected.{stands-collected, part-collected, collects-some}
 
@@ -31,11 +30,11 @@ pub all-taken : {E : Type 0} {room n count : ℕ} (r : Result ℕ E) → OnErr r
 all-taken (Ok k) a b c d = ap (λ z. Ok z) (omega arith)
 all-taken (Err e) a b c d = absurd (omega arith)
 
-module _ {S K : Type 0} {r : Rules Message S K Note} {number end : S → ℕ} {is_placed : S → Type 0} {x : Setting S} {ts : List Told} {mail : List Store} {floors : Floors}
-    {gvt count : ℕ} {standings : List Standing} (k : IsRecorded r number end is_placed x ts mail floors gvt count standings)
-    {is_value : S → Message → Type 0} {p seen gone : ℕ} {block : List Move} {last : Prior} {q : Queues S K}
-    (h : Holds r number end is_placed x is_value p seen gone block last q) (n : ℕ) (within : n ≤ length (letters_for p mail)) (some : 0 < n)
-    {ts' : List Told} {standings' : List Standing} {now : Standing} (w : Entered ts standings p last (Collected (take n (letters_for p mail))) ts' standings' now) (sees : now.seen ≡ gvt) where
+module _ {S K : Type 0} {r : Rules Message S K Note} {number end : S → ℕ} {is_placed : S → Type 0} {x : Setting S} {es : List (Entry Message)} {mail : List Store} {floors : Floors}
+    {gvt count : ℕ} {standings : List Standing} (k : IsRecorded r number end is_placed x es mail floors gvt count standings)
+    {is_value : S → Message → Type 0} {p seen gone : ℕ} {block : List Move} {own : List (Act Message)} {q : Queues S K}
+    (h : Holds r number end is_placed x is_value p seen gone block own q) (n : ℕ) (within : n ≤ length (letters_for p mail)) (some : 0 < n)
+    {prior : Option ℕ} {es' : List (Entry Message)} {standings' : List Standing} {now : Standing} (w : Entered es standings p prior own (Collected (take n (letters_for p mail))) es' standings' now) (sees : now.seen ≡ gvt) where
   many : length (take n (letters_for p mail)) ≡ n
   many = omega (arith, length-take n (letters_for p mail))
 
@@ -44,54 +43,54 @@ module _ {S K : Type 0} {r : Rules Message S K Note} {number end : S → ℕ} {i
       (floors' : Floors) → length floors'.floors ≡ length floors.floors → floors'.until ≡ floors.until →
       slice_get floors'.floors p ≡ option_map (λ d. lowest d (times_of r.order (take n (letters_for p mail)))) (slice_get floors.floors p) →
       ((q : ℕ) → (q ≡ p → ⊥) → slice_get floors'.floors q ≡ slice_get floors.floors q) →
-      IsRecorded r number end is_placed x ts' mail' floors' gvt (count + n) standings'
+      IsRecorded r number end is_placed x es' mail' floors' gvt (count + n) standings'
   kept-taken mail' boxes left others floors' floor_count until here elsewhere =
       let f = simulation_of r x in
       let i = h.number_is in
       let xs = take n (letters_for p mail) in
       let rest = drop n (letters_for p mail) in
-      let world = reach f (entries_of ts) in
+      let world = reach f es in
       let taken : length (steps_of {M = Message} p (Collected xs)) ≡ n = length-replicate (length xs) (Step.Take p 0) ∙ many in
       subst (λ us. IsRecorded r number end is_placed x us mail' floors' gvt (count + n) standings') (sym w.journal)
-      (subst (λ bs. IsRecorded r number end is_placed x (ts ++ w.entry ∷ []) mail' floors' gvt (count + n) bs) (sym w.marked)
-      (kept-more k w.fresh (fetched f p xs rest world) (takes f p i xs rest world (sym (k.mail_is p i) ∙ sym (take-append-drop n (letters_for p mail)))) refl
+      (subst (λ bs. IsRecorded r number end is_placed x (es ++ entry_by p prior (Collected xs) ∷ []) mail' floors' gvt (count + n) bs) (sym w.marked)
+      (kept-more k (entry_by p prior (Collected xs)) (fetched f p xs rest world) (takes f p i xs rest world (sym (k.mail_is p i) ∙ sym (take-append-drop n (letters_for p mail)))) refl
       mail' boxes
       (put_elim (λ q ls. q < x.processes → letters_for q mail' ≡ ls) p rest world.mail (λ j. left) (λ q n j. others q n ∙ k.mail_is q j))
       floors' floor_count until
       (put_elim (λ q n. q < x.processes → slice_get floors'.floors q ≡ Some n) p (lowest (world.floors p) (times_of r.order xs)) world.floors
       (λ j. here ∙ ap (option_map (λ d. lowest d (times_of r.order xs))) (k.floors_is p j)) (λ q n j. elsewhere q n ∙ k.floors_is q j))
       gvt k.gvt_is (count + n) (ap (λ m. count + m) (sym taken)) (subst (λ m. 0 < m) (sym taken) some)
-      (set standings p now) (marks-set ts w.fresh k.marked (λ q. refl) i refl now w.place w.own (omega arith))))
+      (set standings p now) (marks-set es (entry_by p prior (Collected xs)) k.marked (λ q. refl) i now w.place (w.told ∙ ap (own_in p) w.journal) (omega arith))))
 
   module _ (none : block ≡ []) where
     -- what the Held keeps
-    pub holds-taken : {mail' : List Store} {floors' : Floors} {count' : ℕ} → IsRecorded r number end is_placed x ts' mail' floors' gvt count' standings' → Laws (simulation_of r x) →
+    pub holds-taken : {mail' : List Store} {floors' : Floors} {count' : ℕ} → IsRecorded r number end is_placed x es' mail' floors' gvt count' standings' → Laws (simulation_of r x) →
         (q₁ q' : Queues S K) → q₁ ≡ q → Does r is_value (λ opening. delivered_all (take n (letters_for p mail))) q₁ q' → q'.left ≡ q₁.left →
-        Holds r number end is_placed x is_value p gvt gone block now.last q'
+        Holds r number end is_placed x is_value p now.seen gone block (own_of p now.last) q'
     holds-taken kept L q₁ q' same does left =
         let f = simulation_of r x in
         let xs = take n (letters_for p mail) in
-        holds-seen kept L is_value p h.number_is now.last
-        (w.own ∙ own-now ts w.fresh refl ∙ ap (λ us. own_in p (entries_of us)) (sym w.journal)) q'
-        (stands-collected f is_value p (prior_own last) (prior_own now.last) block xs q q' none (own-more w) h.stands
+        subst (λ g. Holds r number end is_placed x is_value p g gone block (own_of p now.last) q') (sym sees)
+        (holds-seen kept L is_value p h.number_is (own_of p now.last) w.told q'
+        (stands-collected f is_value p own (own_of p now.last) block xs q q' none (own-more w) h.stands
         (subst (λ z. Does r is_value (λ opening. delivered_all xs) z q') same does))
         gone
-        (gone-stays r (x.opening p) (after_moves r (x.opening p) block (after_own f p (prior_own last))) q h.stands gone h.gone_early (acts_of (Collected xs)) _
-        (part-collected f p (prior_own last) (prior_own now.last) block xs none (own-more w)) q' (left ∙ ap (λ (z : Queues S K). z.left) same))
-        block none
+        (gone-stays r (x.opening p) (after_moves r (x.opening p) block (after_own f p own)) q h.stands gone h.gone_early (acts_of (Collected xs)) _
+        (part-collected f p own (own_of p now.last) block xs none (own-more w)) q' (left ∙ ap (λ (z : Queues S K). z.left) same))
+        block none)
 
     -- what was done
     pub collects-taken : (most limit : ℕ) → n ≡ min most (length (letters_for p mail)) →
         Collects (simulation_of r x) most
-        (record { entries = entries_of ts; marks = marks_in standings; limit = limit }) (held_as (simulation_of r x) p block last seen gone)
-        (record { entries = entries_of ts'; marks = marks_in standings'; limit = limit }) (held_as (simulation_of r x) p block now.last now.seen gone)
+        (record { entries = es; marks = marks_in standings; limit = limit }) (in_hand (simulation_of r x) p own prior seen gone block)
+        (record { entries = es'; marks = marks_in standings'; limit = limit }) (in_hand (simulation_of r x) p (own_of p now.last) (place_of now.last) now.seen gone block)
         n
     collects-taken most limit n-is =
         let f = simulation_of r x in
         let xs = take n (letters_for p mail) in
-        let world = reach f (entries_of ts) in
+        let world = reach f es in
         let same : xs ≡ take most (world.mail p) = ap (λ m. take m (letters_for p mail)) n-is ∙ (take_min most (letters_for p mail) ∙ ap (take most) (k.mail_is p h.number_is)) in
-        let part-is = part-collected f p (prior_own last) (prior_own now.last) block xs none (own-more w) in (
+        let part-is = part-collected f p own (own_of p now.last) block xs none (own-more w) in (
           sym many ∙ ap length same,
           collects-some f _ _ _ _ (take most (world.mail p)) xs same (subst (λ m. 0 < m) (sym many) some)
               (ledger-now w world.gvt (sees ∙ k.gvt_is) limit) (held-now w world.gvt (sees ∙ k.gvt_is) f _ part-is block none gone),

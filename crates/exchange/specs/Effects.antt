@@ -4,18 +4,15 @@ use Rattle.vlink.specs.declared.message.Message.{Message}
 use Rattle.vlink.specs.declared.note.Note.{Note}
 use Rattle.vlink.specs.Numbering.{greatest_number}
 use Rattle.vlink.specs.Letters.{Letter}
-use Rattle.virtual_time.specs.Law.{earlier, Part, emptied, next_of, run_one, Simulation, gvt_over, local, after_moves, Deed, Collected, Posted, Published, Entry, acts_of, reach}
+use Rattle.virtual_time.specs.Law.{earlier, Part, emptied, next_of, run_one, Simulation, gvt_over, local, after_moves, Collected, Posted, Published, acts_of, reach}
 use Rattle.virtual_time.specs.declared.moved.Move.{Move}
 use Rattle.virtual_time.specs.declared.moved.Move.TheVariants.{Arrived, Ran, Committed}
+use Rattle.journal.specs.Deeds.{entry_by}
 use Rattle.journal.specs.declared.fault.PoolFault.{PoolFault}
 use Rattle.journal.specs.declared.fault.PoolFault.TheVariants.{OutOfMemory, Exhausted}
 use Rattle.exchange.specs.declared.mark.Mark.{Mark}
 use Rattle.exchange.specs.Views.{Ledger, HeldState}
 use Rattle.reverse.specs.declared.sends.TheConstants.{MOST_SENT}
-
--- process p tells this, and its entry before that stands at this place
-abbrev pub entry_by : ℕ → Option ℕ → Deed Message → Entry Message
-entry_by p prior deed = record { process = p; prior = prior; deed = deed }
 
 -- the last entry stands here, and GVT was seen at this moment
 abbrev pub mark_at : Option ℕ → ℕ → Mark

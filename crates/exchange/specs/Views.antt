@@ -1,10 +1,9 @@
 -- What contracts see of an Exchange and of a Held.
-use Rattle.std.specs.Prelude.{ℕ, List, [], None, map, get_or}
+use Rattle.std.specs.Prelude.{ℕ, List, [], Option, None, Some, map, get_or}
 use Rattle.vlink.specs.declared.message.Message.{Message}
-use Rattle.virtual_time.specs.Law.{Part, opened, Act, Entry}
+use Rattle.virtual_time.specs.Law.{Part, opened, Act, Entry, own_in}
 use Rattle.virtual_time.specs.declared.moved.Move.{Move}
-use Rattle.journal.specs.declared.entry.Prior.{Opening}
-use Rattle.journal.specs.Deeds.{place_of}
+use Rattle.exchange.specs.declared.mark.Last.{Last}
 use Rattle.exchange.specs.declared.mark.Mark.{Mark}
 use Rattle.exchange.specs.declared.mark.Standing.{Standing}
 
@@ -28,6 +27,16 @@ pub record HeldState (S : Type 0) : Type 0 where
 abbrev pub blank : Mark
 blank = record { place = None; seen = 0 }
 
+-- where the last entry of a process stands
+abbrev pub place_of : Option Last → Option ℕ
+place_of None = None
+place_of (Some last) = Some last.place
+
+-- what the journal tells of process p, up to its last entry
+abbrev pub own_of : ℕ → Option Last → List (Act Message)
+own_of p None = []
+own_of p (Some last) = own_in p last.journal.value.entries
+
 -- the mark of a process that stands there
 abbrev pub mark_in : Standing → Mark
 mark_in s = record { place = place_of s.last; seen = s.seen }
@@ -36,7 +45,7 @@ abbrev pub marks_in : List Standing → List Mark
 marks_in = map mark_in
 
 abbrev pub unplaced : Standing
-unplaced = record { last = Opening; seen = 0 }
+unplaced = record { last = None; seen = 0 }
 
 -- where process p stands
 abbrev pub standing_of : List Standing → ℕ → Standing

@@ -1,26 +1,22 @@
 //! A process takes letters from the mail.
 ghost use Rattle.std.specs.Prelude.{◌≡◌, ◌≢◌, ◌<◌, ◌≤◌, ◌+◌, ◌⊎◌, ℕ, [], map, min, set, take, length, slice_get, IfOk, OnErr, IfErr, Err, true};
 ghost use Rattle.std.specs.Option.{option_map};
-ghost use Rattle.virtual_time.specs.Law.{lowest, times_of, Collected, reach, steps};
+ghost use Rattle.virtual_time.specs.Law.{lowest, times_of, reach, steps};
 ghost use Rattle.reverse.specs.Rules.{rules_of};
 ghost use Rattle.reverse.specs.Setting.{simulation_of};
 ghost use Rattle.vlink.specs.Order.{message_order};
 ghost use Rattle.antimessages.specs.Mailing.{letters_for};
 ghost use Rattle.journal.specs.declared.fault.PoolFault.TheVariants.{OutOfMemory, JournalFull, Torn};
-ghost use Rattle.journal.specs.Deeds.{seen_deed};
-ghost use Rattle.exchange.specs.Keeps.{IsDeedWithinMail};
 ghost use Rattle.exchange.specs.Effects.{Collects, mark_at};
 
 use crate::exchange::Exchange;
 use crate::held::Held;
-use crate::mark::{Standing, tell_both};
+use crate::mark::{standing_at, tell_both};
 use crate::run_of::ActorRun;
 use antimessages::Mail;
 use gvt::Floors;
-use journal::{Deed, Entry, PoolFault, Prior};
+use journal::{Entry, PoolFault};
 use reverse::{Actor, actor_law};
-use std::mem;
-use std::snapshot::Snapshot;
 
 /// The first letters of the mail of a process, `most` or all where there are fewer, go to its tray, with one entry in the journal
 /// where there are any. Both marks note the GVT of the exchange. The answer is how many letters were taken.
@@ -48,6 +44,7 @@ pub fn collect<R: Actor, J: ActorRun<R>>(
         return Ok(0);
     }
     exchange.join_law(held);
+    let prior = held.mark().place;
     if exchange.limit - exchange.steps < count as u64 {
         return Err(PoolFault::JournalFull);
     }
@@ -57,14 +54,10 @@ pub fn collect<R: Actor, J: ActorRun<R>>(
     if let Err(fault) = exchange.journal.reserve() {
         return Err(fault);
     }
-    let prior = mem::replace(&mut held.standing.last, Prior::Opening);
-    let entry = entry_of(prior, held.number, &exchange.mail, count as u32);
     let place = exchange.journal.len() as u64;
-    held.standing = Standing {
-        last: Prior::after(place, &entry),
-        seen: exchange.gvt,
-    };
+    let entry = Entry::collected(held.number, prior, &exchange.mail, count as u32);
     exchange.journal.push_reserved(entry);
+    held.standing = standing_at(place, &exchange.journal, exchange.gvt);
     lower_floor(&mut exchange.floors, &exchange.mail, held.number, count);
     let _taken = held.process.collect(&mut exchange.mail, held.number, count);
     exchange.steps += count as u64;
@@ -99,21 +92,6 @@ fn see<R: Actor, J: ActorRun<R>>(held: &mut Held<R, J>, exchange: &mut Exchange<
         held.number,
         &held.standing,
     );
-}
-
-/// The entry by which a process takes the first letters of its mail, so many. It takes no memory.
-fn entry_of(prior: Prior, process: u16, mail: &Mail, count: u32) -> Entry
-    requires enough { count ≤ length (letters_for process mail.now) }
-    ensures prior { result.prior ≡ prior }
-    ensures process { result.process ≡ process }
-    ensures deed { seen_deed process result.deed ≡ Collected (take count (letters_for process mail.now)) }
-    ensures within_mail { IsDeedWithinMail process result.deed }
-{
-    Entry {
-        prior,
-        deed: Deed::Collect(count, Snapshot::of(mail)),
-        process,
-    }
 }
 
 /// The floor of a process falls to the least time of the first letters in its mail, so many.

@@ -34,11 +34,11 @@ impl<R: Actor, J: ActorRun<R>> Model for Exchange<R, J> {
     ghost use Rattle.std.specs.Prelude.{◌≡◌, ◌≤◌, ◌^◌, map};
     ghost use Rattle.reverse.specs.Rules.{rules_of};
     ghost use Rattle.exchange.specs.Views.{Ledger, marks_in};
-    ghost use Rattle.exchange.specs.Keeps.{IsRecorded, entries_of};
+    ghost use Rattle.exchange.specs.Keeps.{IsRecorded};
 
     ghost Value = { Ledger };
 
-    ghost view = { λ x. record { entries = entries_of x.journal.entries; marks = marks_in (map (λ b. b.value) x.marks.items); limit = x.limit } };
+    ghost view = { λ x. record { entries = x.journal.entries; marks = marks_in (map (λ b. b.value) x.marks.items); limit = x.limit } };
 
     ghost invariant = { λ x. (x.steps ≤ x.limit) × (x.limit ≤ 2 ^ 62) ×
         IsRecorded (rules_of R.plain) R.number R.end R.is_placed J.setting

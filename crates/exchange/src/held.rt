@@ -4,7 +4,7 @@ ghost use Rattle.std.specs.Prelude.{◌≡◌, ◌<◌, length};
 use crate::mark::{Mark, Standing};
 use crate::run_of::ActorRun;
 use halves::RightHalf;
-use journal::{Block, Prior};
+use journal::Block;
 use process_queues::Process;
 use reverse::{Actor, Outbound};
 use std::alloc::Global;
@@ -36,8 +36,7 @@ impl<R: Actor, J: ActorRun<R>> Model for Held<R, J> {
     ghost use Rattle.virtual_time.specs.Law.{local, after_moves, after_own};
     ghost use Rattle.reverse.specs.Rules.{rules_of};
     ghost use Rattle.reverse.specs.Setting.{simulation_of};
-    ghost use Rattle.journal.specs.Deeds.{prior_own};
-    ghost use Rattle.exchange.specs.Views.{HeldState, mark_in};
+    ghost use Rattle.exchange.specs.Views.{HeldState, mark_in, own_of};
     ghost use Rattle.exchange.specs.Keeps.{Holds, Tells};
 
     ghost Value = { HeldState R };
@@ -45,15 +44,15 @@ impl<R: Actor, J: ActorRun<R>> Model for Held<R, J> {
     ghost view = { λ h. record {
       number = h.number;
       part = after_moves (rules_of R.plain) (J.setting.opening h.number) h.block
-          (after_own (simulation_of (rules_of R.plain) J.setting) h.number (prior_own h.standing.last));
+          (after_own (simulation_of (rules_of R.plain) J.setting) h.number (own_of h.number h.standing.last));
       block = h.block;
-      own = prior_own h.standing.last;
+      own = own_of h.number h.standing.last;
       mark = mark_in h.standing;
       gone = h.gone;
     } };
 
     ghost invariant = { λ h. Holds (rules_of R.plain) R.number R.end R.is_placed J.setting R.is_value
-        h.number h.standing.seen h.gone h.block h.standing.last h.process.queues × Tells J.names h.number h.mark h.standing };
+        h.number h.standing.seen h.gone h.block (own_of h.number h.standing.last) h.process.queues × Tells J.names h.number h.mark h.standing };
 }
 
 impl<R: Actor, J: ActorRun<R>> Held<R, J> {
@@ -77,8 +76,8 @@ impl<R: Actor, J: ActorRun<R>> Held<R, J> {
         ensures { result ≡ self.now.mark }
     {
         let place = match &self.standing.last {
-            Prior::After(place, _entry) => Some(*place),
-            Prior::Opening => None,
+            Some(last) => Some(last.place),
+            None => None,
         };
         Mark {
             place,

@@ -14,12 +14,12 @@ use crate::run_of::ActorRun;
 use antimessages::{Mail, plus_letters};
 use gvt::Floors;
 use halves::RightHalf;
-use journal::{Block, Entries, PoolFault, Prior, Table};
+use journal::{Block, Entries, PoolFault, Table};
 use process_queues::Process;
 use reverse::{Actor, Outbound, actor_law};
 use std::alloc::Global;
 use std::marker::PhantomData;
-use vlink::{Message, Time};
+use vlink::{Message, Time, process_number};
 
 impl<R: Actor + Drop, J: ActorRun<R>> Exchange<R, J> {
     /// An exchange with no entry, and a process in hand for each actor, in order: each actor is in its opening state, the offers are in the
@@ -50,7 +50,7 @@ impl<R: Actor + Drop, J: ActorRun<R>> Exchange<R, J> {
         ensures memory { IfErr result (λ fault. fault ≡ OutOfMemory) }
     {
         actor_law::<R>();
-        let count = actors.len() as u16;
+        let count = process_number(actors.len());
         let letters = plus_letters(alloc, offers)?;
         let mail = Mail::with_letters(alloc, count, &letters)?;
         let floors = Floors::new(alloc, count, until)?;
@@ -90,7 +90,7 @@ fn helds_of<R: Actor + Drop, J: ActorRun<R>>(
 {
     let mut helds = Vec::with_capacity(alloc, actors.len())?;
     for actor in actors {
-        let number = helds.len() as u16;
+        let number = process_number(helds.len());
         let mark = marks.remove(0);
         let held = Held::open(alloc, number, actor, mark, until)?;
         helds.push_reserved(held);
@@ -123,7 +123,7 @@ impl<R: Actor, J: ActorRun<R>> Held<R, J> {
                 runs: 0,
                 block: Block::new(),
                 standing: Standing {
-                    last: Prior::Opening,
+                    last: None,
                     seen: Time::default(),
                 },
                 mark,

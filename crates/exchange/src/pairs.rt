@@ -5,7 +5,7 @@ ghost use Rattle.exchange.specs.Views.{unplaced};
 
 use crate::mark::Standing;
 use halves::{LeftHalf, RightHalf, pair};
-use journal::{PoolFault, Prior};
+use journal::PoolFault;
 use std::alloc::Global;
 use std::marker::Model;
 use vlink::Time;
@@ -37,7 +37,7 @@ impl Pairs {
         ensures memory { IfErr result (λ fault. fault ≡ OutOfMemory) }
     {
         let blank = Standing {
-            last: Prior::Opening,
+            last: None,
             seen: Time::default(),
         };
         let mut pairs = Pairs {

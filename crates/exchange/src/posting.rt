@@ -8,9 +8,9 @@ ghost use Rattle.exchange.specs.Effects.{Posts};
 
 use crate::exchange::Exchange;
 use crate::held::Held;
-use crate::mark::tell_both;
+use crate::mark::{standing_at, tell_both};
 use crate::run_of::ActorRun;
-use journal::{Block, Deed, Entry, PoolFault, Prior};
+use journal::{Block, Entry, PoolFault};
 use reverse::{Actor, actor_law};
 use std::mem;
 
@@ -37,6 +37,7 @@ pub fn post<R: Actor, J: ActorRun<R>>(
         return Ok(());
     }
     exchange.join_law(held);
+    let prior = held.mark().place;
     if moves >= exchange.limit - exchange.steps {
         return Err(PoolFault::JournalFull);
     }
@@ -46,12 +47,10 @@ pub fn post<R: Actor, J: ActorRun<R>>(
     if let Err(fault) = exchange.journal.reserve() {
         return Err(fault);
     }
-    let prior = mem::replace(&mut held.standing.last, Prior::Opening);
-    let block = mem::replace(&mut held.block, Block::new());
-    let entry = Entry::new(prior, Deed::Post(block), held.number);
     let place = exchange.journal.len() as u64;
-    held.standing.last = Prior::after(place, &entry);
-    exchange.journal.push_reserved(entry);
+    let block = mem::replace(&mut held.block, Block::new());
+    exchange.journal.push_reserved(Entry::posted(held.number, prior, block));
+    held.standing = standing_at(place, &exchange.journal, held.standing.seen);
     let _posted = held.process.post(&mut exchange.mail);
     exchange.floors.set(held.number, held.process.floor());
     exchange.steps += moves + 1;

@@ -9,7 +9,7 @@ ghost use Rattle.exchange.specs.Effects.{Publishes, IsHeldBack};
 use crate::exchange::Exchange;
 use crate::run_of::ActorRun;
 use gvt::{gvt_law, horizon};
-use journal::{Deed, Entry, PoolFault, Prior};
+use journal::{Entry, PoolFault};
 use reverse::{Actor, actor_law};
 use vlink::{Note, Time};
 
@@ -37,8 +37,7 @@ pub fn publish<R: Actor, J: ActorRun<R>>(exchange: &mut Exchange<R, J>) -> Resul
     if let Err(fault) = exchange.journal.reserve() {
         return Err(fault);
     }
-    let entry = Entry::new(Prior::Opening, Deed::Publish, 0);
-    exchange.journal.push_reserved(entry);
+    exchange.journal.push_reserved(Entry::published());
     exchange.gvt = gvt;
     exchange.steps += 1;
     Ok(gvt)

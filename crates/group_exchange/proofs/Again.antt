@@ -6,9 +6,6 @@ use Rattle.group_exchange.specs.Views.{GroupState}
 use Rattle.group_exchange.specs.Effects.{IsGroupAsBefore, LeftBlock}
 
 module _ {S K : Type 0} where
-  pub group-same : (g : GroupState S K) → IsGroupAsBefore g g
-  group-same g = record { members = refl; done = refl; rows = refl; flow = refl; others = refl }
-
   -- the order of the queue changed, and the room
   pub group-as-before : (g : GroupState S K) (new : Held S K) → IsAsBefore g.held new → IsGroupAsBefore g (record g { held = new })
   group-as-before g new a = record {
@@ -25,17 +22,6 @@ module _ {S K : Type 0} where
 
   pub same-keeps : (h new : Held S K) → IsAsBefore h new → new.flow.keeps ≡ h.flow.keeps
   same-keeps h new a = ap (λ (z : Flow). z.keeps) a.flow
-
-  -- messages that are done count beside
-  pub group-counted : (g : GroupState S K) (new : Held S K) →
-      new ≡ record g.held { flow = record g.held.flow { queue = new.flow.queue; extra = new.flow.extra; room = new.flow.room } } → IsGroupAsBefore g (record g { held = new })
-  group-counted g new e = record {
-    members = ap (λ (z : Held S K). z.members) e;
-    done = ap (λ (z : Held S K). z.done) e;
-    rows = ap (λ (z : Held S K). z.rows) e;
-    flow = ap (λ (z : Held S K). z.flow) e;
-    others = refl;
-  }
 
   -- messages that are done count beside, the floor was looked up, the block and the letters to others left
   pub left-block : (h counted floored new : Held S K) →

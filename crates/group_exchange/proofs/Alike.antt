@@ -5,7 +5,7 @@ use Rattle.std.proofs.lemmas.Bool.{both_ways}
 use Rattle.vlink.specs.declared.message.Message.{Message}
 use Rattle.vlink.specs.declared.note.Note.{Note}
 use Rattle.vlink.specs.Letters.{Letter}
-use Rattle.virtual_time.specs.Law.{Rules, Simulation, World, Part, AreAlike, AreBy, AreDone, IsNamed, IsSafeGroup, IsSafePart, can_commit, done_by, effect, floor_of, in_hand, is_by, is_early, is_enabled, next_of, taken}
+use Rattle.virtual_time.specs.Law.{Rules, Simulation, World, Part, AreAlike, AreBy, AreDone, can_commit, done_by, effect, floor_of, in_hand, is_by, is_early, is_enabled, next_of, taken}
 use Rattle.virtual_time.specs.declared.step.Step.{Step}
 use Rattle.virtual_time.specs.declared.step.Step.TheVariants.{Take, Arrive, Run, Post, Gvt, Commit}
 use Rattle.virtual_time.proofs.Kept.{put_elim₂}
@@ -22,13 +22,6 @@ pub record IsSame {S K : Type 0} (f : Simulation Message S K Note) (ours : ℕ �
   pub gvt : v.gvt ≡ w.gvt
 
 module _ {S K : Type 0} (f : Simulation Message S K Note) (ours : ℕ → Bool) where
-  pub same-back : (v w : World Message S) → IsSame f ours v w → IsSame f ours w v
-  same-back v w a = record {
-    alike = record { parts = λ q o. sym (a.alike.parts q o); mail = λ q. sym (a.alike.mail q) };
-    floors = λ q o. sym (a.floors q o);
-    gvt = sym a.gvt;
-  }
-
   -- a group in hand, which has no letter on its way
   pub in-hand-same : (g : ℕ) (v w : World Message S) → AreAsIn ours v w → IsSame f ours (in_hand f g v) (in_hand f g w)
   in-hand-same g v w a = record { alike = record { parts = a.parts; mail = λ q. refl }; floors = a.floors; gvt = refl }
@@ -80,15 +73,6 @@ module _ {S K : Type 0} (f : Simulation Message S K Note) (ours : ℕ → Bool) 
         subst (λ z. AreDone f xs z) (sym (step-does f ours x w e))
             (are-done-same xs (effect f x v) (effect f x w) (effect-same x v w a o.0) o.1 (subst (λ z. AreDone f xs z) (step-does f ours x v d.0) d.1)),
       )
-
-  -- and the group is as safe
-  pub safe-same : (g : ℕ) (v w : World Message S) → IsSame f ours v w → IsSafeGroup f ours g v → IsSafeGroup f ours g w
-  safe-same g v w a s = record {
-    parts = λ p o. subst (λ z. IsSafePart f p g z) (a.alike.parts p o) (s.parts p o);
-    outboxes = λ p o m h. s.outboxes p o m (subst (λ (z : Part Message S). IsNamed f.rules.order m z.outbox) (sym (a.alike.parts p o)) h);
-    mail = λ p m h. s.mail p m (subst (λ ls. IsNamed f.rules.order m ls) (sym (a.alike.mail p)) h);
-    seen = sym a.gvt ∙ s.seen;
-  }
 
 -- what is held of one stands for the other; GVT plays no part
 pub stands-alike : {S K : Type 0} (r : Rules Message S K Note) (V : S → Message → Type 0) (x : Setting S) (ours : ℕ → Bool) (v w : World Message S) (h : Held S K) →

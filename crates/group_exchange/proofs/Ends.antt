@@ -1,5 +1,5 @@
 -- What an exchange and a group show once the group stands anew.
-use Rattle.std.proofs.Common.{◌≡◌, ℕ, ◌<◌, List, [], ◌∷◌, ◌++◌, set, length, Result, Ok, Err, OnOk, is_err, false, refl, sym, ap, ◌∙◌, subst, arith, append-nil}
+use Rattle.std.proofs.Common.{◌≡◌, ℕ, ◌<◌, List, [], ◌∷◌, ◌++◌, set, length, refl, sym, ap, ◌∙◌, arith, append-nil}
 use Rattle.vlink.specs.declared.message.Message.{Message}
 use Rattle.vlink.specs.Letters.{Letter}
 use Rattle.vlink.specs.declared.note.Note.{Note}
@@ -11,7 +11,7 @@ use Rattle.hand.specs.Block.{steps_told}
 use Rattle.hand.specs.Hands.{Held}
 use Rattle.group_exchange.specs.declared.mark.Standing.{Standing}
 use Rattle.group_exchange.specs.Views.{GroupState, Ledger, last_in, marks_in}
-use Rattle.group_exchange.specs.Effects.{IsGroupAsBefore, PostsBlock, posts, takes_of}
+use Rattle.group_exchange.specs.Effects.{PostsBlock, posts, takes_of}
 use Rattle.group_exchange.proofs.Marks.{marks-told}
 
 abbrev pub shown : List Step → List Standing → ℕ → Ledger
@@ -45,14 +45,6 @@ no-words (Arrived p ∷ ws) e = absurd (omega arith)
 no-words (Committed p ∷ ws) e = absurd (omega arith)
 
 module _ {S K : Type 0} (f : Simulation Message S K Note) (owners : List ℕ) where
-  pub posts-none : (ws : List Did) (x : Ledger) (h : GroupState S K) (y : Ledger) (k : GroupState S K) → length (steps_told ws) ≡ 0 → (y ≡ x) → IsGroupAsBefore h k → posts f owners ws x h y k
-  posts-none ws x h y k e a b = subst (λ z. posts f owners z x h y k) (sym (no-words ws e)) (a, b)
-
   pub posts-some : (ws : List Did) (x : Ledger) (h : GroupState S K) (y : Ledger) (k : GroupState S K) → 0 < length (steps_told ws) → PostsBlock f owners x h y k → posts f owners ws x h y k
   posts-some [] x h y k n b = absurd (omega arith)
   posts-some (d ∷ ds) x h y k n b = b
-
--- what a call gives that is not refused
-pub when-no-err : {T E P : Type 0} (r : Result T E) → is_err r ≡ false → OnOk r P → P
-when-no-err (Ok v) e h = h
-when-no-err (Err d) e h = absurd (cc)

@@ -1,6 +1,6 @@
 -- The halves of marks, in lists; and that both halves of a group's mark tell one thing.
-use Rattle.std.proofs.Common.{◌≡◌, ℕ, zero, suc, ◌+◌, ◌<◌, ◌≤◌, true, ◌++◌, List, [], ◌∷◌, All, map, set, drop, remove, replicate, length, slice_get, slice_index, get_or, length-drop, drop-cons, Some, refl, sym, ap, ◌∙◌, subst, arith}
-use Rattle.std.proofs.lemmas.List.{map-set, length-map, get_or-map, drop-map}
+use Rattle.std.proofs.Common.{◌≡◌, ℕ, zero, suc, ◌+◌, ◌<◌, ◌≤◌, true, ◌++◌, List, [], ◌∷◌, All, map, set, drop, remove, replicate, length, slice_get, get_or, drop-cons, Some, refl, sym, ap, ◌∙◌, subst, arith}
+use Rattle.std.proofs.lemmas.List.{map-set, drop-map}
 use Rattle.std.proofs.Math.Seq.{map-set_same}
 use Rattle.vlink.specs.declared.message.Message.{Message}
 use Rattle.vlink.specs.declared.note.Note.{Note}
@@ -81,14 +81,6 @@ recorded-as {r = r} {number = number} {end = end} {is_placed = is_placed} {x = x
 
 -- the marks that are left when those before place i have gone
 module _ (names : List ℕ) (marks : List (RightHalf Standing)) (i : ℕ) (left : map (λ s. s.name) marks ≡ drop i names) (within : i < length names) where
-  pub some-left : 0 < length marks
-  some-left = omega (arith, length-map marks (λ (z : RightHalf Standing). z.name), ap length left, length-drop i names)
-
-  pub first-name : (s : RightHalf Standing) → s ≡ get_or marks 0 s → s.name ≡ slice_index names i
-  first-name s at =
-      ap (λ z. z.name) at ∙ (sym (get_or-map (λ (z : RightHalf Standing). z.name) marks 0 s 0 some-left) ∙
-      (ap (λ ns. get_or ns 0 0) left ∙ ap (λ ns. get_or ns 0 0) (drop-cons names i 0 within)))
-
   pub names-left : (rest : List (RightHalf Standing)) → rest ≡ remove marks 0 → map (λ s. s.name) rest ≡ drop (i + 1) names
   names-left rest gone =
       ap (map (λ (z : RightHalf Standing). z.name)) gone ∙ (sym (drop-map (λ (z : RightHalf Standing). z.name) 1 marks) ∙

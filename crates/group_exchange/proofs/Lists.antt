@@ -1,5 +1,5 @@
 -- Boxes of letters, one of them changed; and the letters that go to a group.
-use Rattle.std.proofs.Common.{◌≡◌, ◌≢◌, ℕ, zero, suc, ◌+◌, ◌<◌, ◌≤◌, ◌^◌, ◌==◌, inl, inr, cond, min, List, [], ◌∷◌, ◌++◌, map, flat_map, set, get_or, length, take, slice_get, slice_index, All, IfSome, Option, Some, None, option_map, refl, sym, ap, ◌∙◌, subst, arith, append_assoc, append-nil, eq-eqb, ne_eqb}
+use Rattle.std.proofs.Common.{◌≡◌, ◌≢◌, ℕ, zero, suc, ◌+◌, ◌<◌, ◌≤◌, ◌^◌, ◌==◌, inl, inr, cond, min, List, [], ◌∷◌, ◌++◌, map, flat_map, set, get_or, length, take, slice_get, All, IfSome, Option, Some, None, option_map, refl, sym, ap, ◌∙◌, subst, arith, append_assoc, append-nil, eq-eqb, ne_eqb}
 use Rattle.std.proofs.lemmas.Bool.{cases_eq}
 use Rattle.std.proofs.lemmas.Grind.{flat_map-append}
 use Rattle.std.proofs.lemmas.List.{take_more, map-append}
@@ -77,10 +77,6 @@ module _ {X : Type 0} (r : X → ℕ) where
   room-less (y ∷ ys) (suc i) x m n less h room zero d w = let a = room 0 d (omega arith) in omega arith
   room-less (y ∷ ys) (suc i) x m n less h room (suc k) d w = room-less ys i x m n less h (λ j e v. room (suc j) e (omega arith)) k d (omega arith)
 
--- the number of the group of a process
-pub owner-at : (owners : List ℕ) (p : ℕ) → p < length owners → slice_get owners p ≡ Some (slice_index owners p)
-owner-at owners p h = slice_get-get_or owners p 0 h
-
 module _ (owners : List ℕ) (l : Letter) (i : ℕ) (owned : slice_get owners l.message.receiver ≡ Some i) where
   -- of one letter more
   pub for-more : (g : ℕ) (before : List Letter) →
@@ -141,12 +137,6 @@ boxes-more f d xs i x h e =
     ap (flat_map (λ (box : List Letter). box)) taken ∙ (flat_map-append (λ (box : List Letter). box) (map f (take i xs)) (f x ∷ []) ∙
     ap (λ z. flat_map (λ (box : List Letter). box) (map f (take i xs)) ++ z) (append-nil (f x))) in
     ap (λ z. lowest d (times_of message_order z)) all ∙ times-append d (flat_map (λ box. box) (map f (take i xs))) (f x)
-
--- an element of a list of values
-pub value-at : {X Y : Type 0} (f : X → Y) (xs : List X) (i : ℕ) (x : X) (d : Y) → i < length xs → x ≡ get_or xs i x → get_or (map f xs) i d ≡ f x
-value-at f [] i x d h e = absurd (omega arith)
-value-at f (y ∷ ys) zero x d h e = ap f (sym e)
-value-at f (y ∷ ys) (suc i) x d h e = value-at f ys i x d (omega arith) e
 
 -- the number of the group of process p, read at q, which is p
 pub owner-of : (owners : List ℕ) (n p q i : ℕ) → All (λ o. o < n) owners → p < length owners → q ≡ p → i ≡ get_or owners q 0 → (slice_get owners p ≡ Some i) × (i < n)

@@ -26,9 +26,6 @@ module _ {S : Type 0} (ours : ℕ → Bool) where
   pub as-then : (u v w : World Message S) → AreAsIn ours u v → AreAsIn ours v w → AreAsIn ours u w
   as-then u v w a b = record { parts = λ p o. a.parts p o ∙ b.parts p o; floors = λ p o. a.floors p o ∙ b.floors p o }
 
-  pub as-back : (v w : World Message S) → AreAsIn ours v w → AreAsIn ours w v
-  as-back v w a = record { parts = λ p o. sym (a.parts p o); floors = λ p o. sym (a.floors p o) }
-
 -- what the marks tell when one of them is told anew
 pub marks-told : (standings standings' : List Standing) (g : ℕ) (now : Standing) → standings' ≡ set standings g now → now.steps ≡ length (last_in now) →
     marks_in standings' ≡ set (marks_in standings) g (record { steps = length (last_in now); seen = now.seen })

@@ -1,5 +1,5 @@
 -- Actors that are parted into groups: lists that grow, and slots that are emptied.
-use Rattle.std.proofs.Common.{◌≡◌, ◌≢◌, ℕ, zero, suc, ◌+◌, ◌<◌, ◌≤◌, ◌==◌, inl, inr, Bool, true, false, List, [], ◌∷◌, ◌++◌, set, get_or, length, map, slice_get, Option, Some, None, refl, sym, ap, ◌∙◌, subst, arith}
+use Rattle.std.proofs.Common.{◌≡◌, ◌≢◌, ℕ, zero, suc, ◌+◌, ◌<◌, ◌≤◌, ◌==◌, inl, inr, Bool, true, false, List, [], ◌∷◌, ◌++◌, set, get_or, length, slice_get, Option, Some, None, refl, sym, ap, ◌∙◌, subst, arith}
 use Rattle.std.proofs.lemmas.Bool.{cases_lt}
 use Rattle.std.proofs.lemmas.Option.{slice_get-get_or, slice_get_past, slice_get_within}
 use Rattle.reverse.specs.Setting.{Setting}
@@ -37,11 +37,6 @@ module _ {X : Type 0} where
 
   pub slot-at : (xs : List X) (i : ℕ) (y : X) → i < length xs → y ≡ get_or xs i y → slice_get xs i ≡ Some y
   slot-at xs i y h e = slice_get-get_or xs i y h ∙ ap (λ u. Some u) (sym e)
-
-  pub slot-some : (xs : List X) (p : ℕ) (x : X) → slice_get xs p ≡ Some x → slice_get (map (λ z. Some z) xs) p ≡ Some (Some x)
-  slot-some [] p x e = absurd (let k : ⊥ = cc in k)
-  slot-some (y ∷ ys) zero x e = ap (λ z. Some z) e
-  slot-some (y ∷ ys) (suc p) x e = slot-some ys p x e
 
   -- what is there of each, and one more
   pub pushed-each : (P : ℕ → X → Type 0) (xs more : List X) (y : X) (n : ℕ) → length xs ≡ n → more ≡ xs ++ y ∷ [] → ((i : ℕ) → i < n → (x : X) × (slice_get xs i ≡ Some x) × P i x) → P n y →
@@ -81,18 +76,6 @@ module _ {S : Type 0} (x : Setting S) (owners : List ℕ) (each : length owners 
       go false o = absurd (let k : Some (Some s) ≡ Some None = sym e ∙ m.others p within o in cc)
 
 module _ {S : Type 0} (x : Setting S) (owners : List ℕ) (own : List ℕ) (is : own ≡ owners) (each : length owners ≡ x.processes) (g : ℕ) (slots left members : List (Option S)) where
-  -- those that leave the slots for a group are its members
-  pub are-members : length members ≡ length own → ((p : ℕ) → p < length own → is_of own g p ≡ true → slice_get members p ≡ slice_get slots p) →
-      ((p : ℕ) → p < length own → is_of own g p ≡ false → slice_get members p ≡ Some None) →
-      ((p : ℕ) → p < x.processes → (h : ℕ) → is_of owners h p ≡ true → g ≤ h → slice_get slots p ≡ Some (Some (x.opening p))) → AreMembersOf x owners g members
-  are-members count ours others there =
-      let many : length own ≡ x.processes = ap length is ∙ each in
-      record {
-        count = count ∙ many;
-        ours = λ p h o. ours p (omega arith) (ap (λ z. is_of z g p) is ∙ o) ∙ there p h g o (omega arith);
-        others = λ p h o. others p (omega arith) (ap (λ z. is_of z g p) is ∙ o);
-      }
-
   -- those of later groups are still there
   pub still-there : ((p : ℕ) → is_of own g p ≡ false → slice_get left p ≡ slice_get slots p) →
       ((p : ℕ) → p < x.processes → (h : ℕ) → is_of owners h p ≡ true → g ≤ h → slice_get slots p ≡ Some (Some (x.opening p))) →

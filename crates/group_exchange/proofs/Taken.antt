@@ -42,10 +42,6 @@ module _ {S : Type 0} (o : Order Message) where
   with-mail [] v = refl
   with-mail (l ∷ ls) v = with-mail ls (with_letter o l v)
 
-  pub with-gvt : (ls : List Letter) (v : World Message S) → (with_letters o ls v).gvt ≡ v.gvt
-  with-gvt [] v = refl
-  with-gvt (l ∷ ls) v = with-gvt ls (with_letter o l v)
-
   module _ (ours : ℕ → Bool) where
     one-alike : (l : Letter) (v w : World Message S) → AreAsIn ours v w → AreAsIn ours (with_letter o l v) (with_letter o l w)
     one-alike l v w a = record {

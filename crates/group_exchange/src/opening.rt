@@ -24,7 +24,7 @@ use reverse::{Actor, actor_law};
 use std::alloc::Global;
 use std::marker::PhantomData;
 use std::snapshot::Snapshot;
-use vlink::{Message, Time};
+use vlink::{Message, Time, process_number};
 
 impl<R: Actor + Drop, J: GroupRun<R>> GroupExchange<R, J> {
     /// An exchange with no step, and a group in hand for each pair of marks, in order: `owners` has for each actor the number of its group. Each actor is
@@ -60,7 +60,7 @@ impl<R: Actor + Drop, J: GroupRun<R>> GroupExchange<R, J> {
         let keeps = table.is_some();
         let end = Time::known(until.ns() + 1);
         let Pairs { lefts, rights } = pairs;
-        let count = lefts.len() as u16;
+        let count = process_number(lefts.len());
         let mut lefts = lefts;
         let groups = groups_of(alloc, actors, &owners, &mut lefts, rights, end, keeps)?;
         let boxes = Boxes::with_offers(alloc, count, owners, offers)?;
@@ -109,18 +109,18 @@ fn groups_of<R: Actor + Drop, J: GroupRun<R>>(
 {
     let none = Steps::new(alloc, None);
     let mut slots = some_of(alloc, actors)?;
-    let count = marks.len();
-    let mut groups = Vec::with_capacity(alloc, count)?;
+    let count = process_number(marks.len());
+    let mut groups = Vec::with_capacity(alloc, usize::from(count))?;
     for made in 0..count {
-        let members = members_of(alloc, &mut slots, owners, made as u16)?;
+        let members = members_of(alloc, &mut slots, owners, made)?;
         let mut mark = marks.remove(0);
         let standing = Standing {
             last: Snapshot::of(&none),
             steps: 0,
             seen: Time::default(),
         };
-        tell_both(lefts, &mut mark, made as u16, &standing);
-        let group = Group::open(alloc, made as u16, members, standing, mark, end, keeps)?;
+        tell_both(lefts, &mut mark, made, &standing);
+        let group = Group::open(alloc, made, members, standing, mark, end, keeps)?;
         groups.push_reserved(group);
     }
     Ok(groups)

@@ -6,7 +6,7 @@ ghost use Rattle.vlink.specs.declared.time.TheConstants.{GREATEST_NS};
 use antimessages::OutOfMemory;
 use std::alloc::Global;
 use std::marker::Model;
-use vlink::Time;
+use vlink::{Time, process_number};
 
 /// For each process a floor: a moment, in ns, that all it has in hand, and has not posted, is not earlier than. Processes are numbered from 0.
 #[derive(Drop)]
@@ -50,7 +50,7 @@ impl Floors {
     pub fn processes(&self) -> u16
         ensures { result ≡ length self.now.floors }
     {
-        self.floors.len() as u16
+        process_number(self.floors.len())
     }
 
     /// The floor of this process; none where there is no such process.

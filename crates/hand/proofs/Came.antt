@@ -12,9 +12,6 @@ use Rattle.hand.proofs.FirstEvent.{set-here, set-there}
 use Rattle.hand.proofs.Running.{values-more, deeds-push, mine-push, kept-push}
 
 module _ {S K : Type 0} (r : Rules Message S K Note) (O : IsOrder r.order) (V : S → Message → Type 0) where
-  came-none : (s : S) → CameBy r V s []
-  came-none s = record { base = s; messages = []; deeds = refl; values = tt; state = refl }
-
   -- one event more
   came-more : (s : S) (ds : List (Deed K)) (m : Message) → V s m → CameBy r V s ds → CameBy r V (r.after s m) (ds ++ deed_of r s m ∷ [])
   came-more s ds m v c = record {
@@ -32,10 +29,6 @@ module _ {S K : Type 0} (r : Rules Message S K Note) (O : IsOrder r.order) (V : 
       go : (ms : List Message) → d ∷ ds ≡ deeds_of r c.base ms → AreValues r V c.base ms → s ≡ reached r c.base ms → CameBy r V s ds
       go [] e v t = cc
       go (m ∷ ms) e v t = record { base = r.after c.base m; messages = ms; deeds = (let k : ds ≡ deeds_of r (r.after c.base m) ms = cc in k); values = v.1; state = t }
-
-  -- nothing was done
-  pub none-came : (members : List (Option S)) (p : ℕ) → CameTo r V members [] p
-  none-came members p s e = came-none s
 
   -- the receiver of m handled it, and its event is the last of its own
   pub handled-came : (members later : List (Option S)) (done new : List (Deed K)) (m : Message) (s : S) → slice_get members (r.order.receiver m) ≡ Some (Some s) →

@@ -1,14 +1,16 @@
 -- The oldest done events are looked at, and forgotten.
-use Rattle.std.proofs.Common.{◌≡◌, ℕ, zero, suc, ◌+◌, ◌<◌, ◌≤◌, take, drop, List, [], ◌∷◌, ◌++◌, length, IfSome, Some, All, slice_get, get_or, option_map, refl, sym, ap, ◌∙◌, subst, arith, append_assoc, length-drop, drop-cons, add-one}
-use Rattle.std.proofs.lemmas.List.{take-append-drop, take_more}
+use Rattle.std.proofs.Common.{◌≡◌, ℕ, zero, suc, ◌+◌, ◌<◌, ◌≤◌, take, drop, List, [], ◌∷◌, ◌++◌, length, IfSome, Some, All, slice_get, get_or, option_map, refl, sym, ap, ◌∙◌, subst, arith, length-drop, drop-drop, take-add, add-one}
+use Rattle.std.proofs.lemmas.List.{length-take-le, take-append-drop, take_more}
 use Rattle.std.proofs.lemmas.List.Elements.{All-nil, All-cons, All-head, All-tail, All-push}
 use Rattle.std.proofs.lemmas.Option.{slice_get-map, slice_get-get_or, slice_get_within, slice_get_past, get_or_from_slice_get}
 use Rattle.vlink.specs.declared.message.Message.{Message}
 use Rattle.vlink.specs.Letters.{Row}
 use Rattle.hand.specs.declared.deeds.Event.{Event}
-use Rattle.hand.specs.Deeds.{Deed, deeds_in, all_noted, messages_of}
-use Rattle.hand.specs.Sealing.{rows_in}
-use Rattle.hand.proofs.Shares.{messages-in}
+use Rattle.hand.specs.declared.block.Did.TheVariants.{Committed}
+use Rattle.hand.specs.Deeds.{Deed, deeds_in, all_sent, all_noted, messages_of}
+use Rattle.hand.specs.Undoing.{sent_in, noted_in}
+use Rattle.hand.specs.Sealing.{rows_in, words_of}
+use Rattle.hand.proofs.Shares.{messages-in, sent-more, noted-more}
 
 module _ {K : Type 0} where
   -- the rows of all events are all rows
@@ -20,26 +22,91 @@ module _ {K : Type 0} where
       let i = length-drop d.noted rows in
       ap (λ z. take d.noted rows ++ z) (rows-all es (drop d.sent sends) (drop d.noted rows) (omega (arith, e, i))) ∙ take-append-drop d.noted rows
 
-  pub rows-append : (xs ys : List (Deed K)) → rows_in (xs ++ ys) ≡ rows_in xs ++ rows_in ys
-  rows-append [] ys = refl
-  rows-append (d ∷ ds) ys = ap (λ z. d.rows ++ z) (rows-append ds ys) ∙ sym (append_assoc d.rows (rows_in ds) (rows_in ys))
-
-  pub message-at : (es : List (Event K)) (sends : List Message) (rows : List Row) (k : ℕ) (e : Event K) → k < length es → e ≡ get_or es k e →
-      slice_get (messages_of (deeds_in es sends rows)) k ≡ Some e.message
-  message-at es sends rows k e l h =
-      ap (λ ms. slice_get ms k) (messages-in es sends rows) ∙
-      (slice_get-map (λ (e : Event K). e.message) es k ∙ ap (option_map (λ (e : Event K). e.message)) (slice_get-get_or es k e l ∙ ap (λ z. Some z) (sym h)))
-
-  pub as-many : (es : List (Event K)) (sends : List Message) (rows : List Row) → length (deeds_in es sends rows) ≡ length es
+  as-many : (es : List (Event K)) (sends : List Message) (rows : List Row) → length (deeds_in es sends rows) ≡ length es
   as-many [] sends rows = refl
   as-many (e ∷ es) sends rows = let h = as-many es (drop e.sent sends) (drop e.noted rows) in omega arith
 
-  -- the oldest is gone, with what it sent and its rows
-  pub oldest-out : (es rest : List (Event K)) (e : Event K) (sends left : List Message) (rows fewer : List Row) → es ≡ e ∷ rest → left ≡ drop e.sent sends → fewer ≡ drop e.noted rows →
-      deeds_in es sends rows ≡ record { message = e.message; kept = e.kept; sent = take e.sent sends; rows = take e.noted rows } ∷ deeds_in rest left fewer
-  oldest-out es rest e sends left rows fewer split s n =
-      (λ j. deeds_in (split j) sends rows) ∙
-      (λ j. record { message = e.message; kept = e.kept; sent = take e.sent sends; rows = take e.noted rows } ∷ deeds_in rest (sym s j) (sym n j))
+  -- how many events are seen, and the message of each
+  pub as-seen : (es : List (Event K)) (sends : List Message) (rows : List Row) (ds : List (Deed K)) (xs : List (Event K)) → deeds_in es sends rows ≡ ds → xs ≡ es → length xs ≡ length ds
+  as-seen es sends rows ds xs v e = ap length e ∙ (sym (as-many es sends rows) ∙ ap length v)
+
+  pub seen-at : (es : List (Event K)) (sends : List Message) (rows : List Row) (ds : List (Deed K)) (xs : List (Event K)) (k : ℕ) (d : Event K) → deeds_in es sends rows ≡ ds → xs ≡ es →
+      k < length xs → slice_get (messages_of ds) k ≡ Some (get_or xs k d).message
+  seen-at es sends rows ds xs k d v e l =
+      ap (λ z. slice_get (messages_of z) k) (sym v) ∙
+      (ap (λ ms. slice_get ms k) (messages-in es sends rows) ∙
+      (slice_get-map (λ (e : Event K). e.message) es k ∙ ap (option_map (λ (e : Event K). e.message)) (ap (λ z. slice_get z k) (sym e) ∙ slice_get-get_or xs k d l)))
+
+  -- the first events are gone, with what they sent and their rows
+  pub oldest-out : (n : ℕ) (es : List (Event K)) (sends : List Message) (rows : List Row) →
+      deeds_in (drop n es) (drop (all_sent (take n es)) sends) (drop (all_noted (take n es)) rows) ≡ drop n (deeds_in es sends rows)
+  oldest-out zero es sends rows = refl
+  oldest-out (suc n) [] sends rows = refl
+  oldest-out (suc n) (e ∷ es) sends rows =
+      (λ j. deeds_in (drop n es) (sym (drop-drop (all_sent (take n es)) e.sent sends) j) (sym (drop-drop (all_noted (take n es)) e.noted rows) j)) ∙
+      oldest-out n es (drop e.sent sends) (drop e.noted rows)
+
+  -- their rows are the first rows
+  pub rows-out : (n : ℕ) (es : List (Event K)) (sends : List Message) (rows : List Row) → rows_in (take n (deeds_in es sends rows)) ≡ take (all_noted (take n es)) rows
+  rows-out zero es sends rows = refl
+  rows-out (suc n) [] sends rows = refl
+  rows-out (suc n) (e ∷ es) sends rows =
+      ap (λ z. take e.noted rows ++ z) (rows-out n es (drop e.sent sends) (drop e.noted rows)) ∙ sym (take-add e.noted (all_noted (take n es)) rows)
+
+  -- how many messages they sent, and how many rows they gave
+  sent-out : (n : ℕ) (es : List (Event K)) (sends : List Message) (rows : List Row) → length sends ≡ all_sent es → sent_in (take n (deeds_in es sends rows)) ≡ all_sent (take n es)
+  sent-out zero es sends rows s = refl
+  sent-out (suc n) [] sends rows s = refl
+  sent-out (suc n) (e ∷ es) sends rows s =
+      let a = length-take-le e.sent sends (omega (arith, s)) in
+      let b = length-drop e.sent sends in
+      let c = sent-out n es (drop e.sent sends) (drop e.noted rows) (omega (arith, s, b)) in
+      omega (arith, a, c)
+
+  noted-out : (n : ℕ) (es : List (Event K)) (sends : List Message) (rows : List Row) → length rows ≡ all_noted es → noted_in (take n (deeds_in es sends rows)) ≡ all_noted (take n es)
+  noted-out zero es sends rows s = refl
+  noted-out (suc n) [] sends rows s = refl
+  noted-out (suc n) (e ∷ es) sends rows s =
+      let a = length-take-le e.noted rows (omega (arith, s)) in
+      let b = length-drop e.noted rows in
+      let c = noted-out n es (drop e.sent sends) (drop e.noted rows) (omega (arith, s, b)) in
+      omega (arith, a, c)
+
+  pub sent-seen : (n : ℕ) (es : List (Event K)) (sends : List Message) (rows : List Row) (ds : List (Deed K)) → deeds_in es sends rows ≡ ds → length sends ≡ all_sent es →
+      sent_in (take n ds) ≡ all_sent (take n es)
+  sent-seen n es sends rows ds v s = ap (λ z. sent_in (take n z)) (sym v) ∙ sent-out n es sends rows s
+
+  pub noted-seen : (n : ℕ) (es : List (Event K)) (sends : List Message) (rows : List Row) (ds : List (Deed K)) → deeds_in es sends rows ≡ ds → length rows ≡ all_noted es →
+      noted_in (take n ds) ≡ all_noted (take n es)
+  noted-seen n es sends rows ds v s = ap (λ z. noted_in (take n z)) (sym v) ∙ noted-out n es sends rows s
+
+  -- what the first events sent and noted is a part of all, and what is left belongs to the others
+  pub sent-split : (n : ℕ) (es : List (Event K)) → all_sent (take n es) + all_sent (drop n es) ≡ all_sent es
+  sent-split zero es = omega arith
+  sent-split (suc n) [] = refl
+  sent-split (suc n) (e ∷ es) = let h = sent-split n es in omega arith
+
+  pub noted-split : (n : ℕ) (es : List (Event K)) → all_noted (take n es) + all_noted (drop n es) ≡ all_noted es
+  noted-split zero es = omega arith
+  noted-split (suc n) [] = refl
+  noted-split (suc n) (e ∷ es) = let h = noted-split n es in omega arith
+
+  -- one more of the first events
+  pub sent-next : (k : ℕ) (es : List (Event K)) (d : Event K) → k < length es → all_sent (take (k + 1) es) ≡ all_sent (take k es) + (get_or es k d).sent
+  sent-next k es d l = ap all_sent (take_more es k d l) ∙ sent-more (take k es) (get_or es k d)
+
+  pub noted-next : (k : ℕ) (es : List (Event K)) (d : Event K) → k < length es → all_noted (take (k + 1) es) ≡ all_noted (take k es) + (get_or es k d).noted
+  noted-next k es d l = ap all_noted (take_more es k d l) ∙ noted-more (take k es) (get_or es k d)
+
+  -- and its word
+  word-after : (k : ℕ) (ds : List (Deed K)) (m : Message) → slice_get (messages_of ds) k ≡ Some m → words_of (take (suc k) ds) ≡ words_of (take k ds) ++ Committed m.receiver ∷ []
+  word-after zero [] m h = cc
+  word-after (suc k) [] m h = cc
+  word-after zero (d ∷ ds) m h = let e : d.message ≡ m = cc in ap (λ z. Committed z.receiver ∷ []) e
+  word-after (suc k) (d ∷ ds) m h = ap (λ z. Committed d.message.receiver ∷ z) (word-after k ds m h)
+
+  pub word-next : (k : ℕ) (ds : List (Deed K)) (m : Message) → slice_get (messages_of ds) k ≡ Some m → words_of (take (k + 1) ds) ≡ words_of (take k ds) ++ Committed m.receiver ∷ []
+  word-next k ds m h = ap (λ n. words_of (take n ds)) (add-one k) ∙ word-after k ds m h
 
   -- what holds of the messages of the first events
   pub of-messages : (P : Message → Type 0) (n : ℕ) (ds : List (Deed K)) → All P (take n (messages_of ds)) → All (λ d. P d.message) (take n ds)
@@ -53,14 +120,6 @@ module _ {K : Type 0} where
   oldest-then P zero ds h = h
   oldest-then P (suc n) [] h = tt
   oldest-then P (suc n) (d ∷ ds) h = oldest-then P n ds h
-
--- the next of a list, where those before it are gone
-pub next-out : {X : Type 0} (xs : List X) (k : ℕ) (x : X) (rest : List X) → k < length xs → drop k xs ≡ x ∷ rest → (rest ≡ drop (k + 1) xs) × (take (k + 1) xs ≡ take k xs ++ x ∷ [])
-next-out xs k x rest l e =
-    let split : x ∷ rest ≡ get_or xs k x ∷ drop (suc k) xs = sym e ∙ drop-cons xs k x l in
-    let here : x ≡ get_or xs k x = cc in
-    let left : rest ≡ drop (suc k) xs = cc in
-    (left ∙ ap (λ n. drop n xs) (sym (add-one k)), take_more xs k x l ∙ ap (λ z. take k xs ++ z ∷ []) (sym here))
 
 -- what holds of the first of a list and of the next holds of one more
 pub one-more : {X : Type 0} (P : X → Type 0) (k : ℕ) (xs : List X) (x : X) → slice_get xs k ≡ Some x → P x → All P (take k xs) → All P (take (k + 1) xs)

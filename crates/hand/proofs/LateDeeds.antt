@@ -1,5 +1,5 @@
 -- Done events of one member in two parts, of which the second is undone.
-use Rattle.std.proofs.Common.{◌≡◌, List, [], ◌∷◌, ◌++◌, refl, sym, ap, ◌∙◌, append_assoc}
+use Rattle.std.proofs.Common.{◌≡◌, List, [], ◌∷◌, ◌++◌, refl, sym, ap, ◌∙◌}
 use Rattle.vlink.specs.declared.message.Message.{Message}
 use Rattle.vlink.specs.declared.note.Note.{Note}
 use Rattle.virtual_time.specs.Law.{Rules, reached, sent, undone}
@@ -11,10 +11,6 @@ use Rattle.hand.specs.Arriving.{sent_by, undone_deeds}
 pub messages-append : {K : Type 0} (xs ys : List (Deed K)) → messages_of (xs ++ ys) ≡ messages_of xs ++ messages_of ys
 messages-append [] ys = refl
 messages-append (x ∷ xs) ys = ap (λ z. x.message ∷ z) (messages-append xs ys)
-
-pub sent_by-append : {K : Type 0} (xs ys : List (Deed K)) → sent_by (xs ++ ys) ≡ sent_by xs ++ sent_by ys
-sent_by-append [] ys = refl
-sent_by-append (x ∷ xs) ys = ap (λ z. x.sent ++ z) (sent_by-append xs ys) ∙ sym (append_assoc x.sent (sent_by xs) (sent_by ys))
 
 module _ {S K : Type 0} (r : Rules Message S K Note) where
   -- the events handled from the state s on are these, and then those

@@ -1,7 +1,7 @@
 -- An event that is handled late: newer ones of other members are set aside, and come back behind it.
-use Rattle.std.proofs.Common.{◌≡◌, ℕ, ◌==◌, true, false, cond, Option, List, [], ◌∷◌, ◌++◌, map, reverse, Some, All, IsPermutation, refl, sym, ap, ◌∙◌, subst, append_assoc, append-nil, slice_get, set, length-set}
+use Rattle.std.proofs.Common.{◌≡◌, ℕ, ◌==◌, true, false, cond, Option, List, [], ◌∷◌, ◌++◌, map, reverse, Some, All, IsPermutation, refl, sym, ap, ◌∙◌, subst, append_assoc, slice_get, set, length-set}
 use Rattle.std.proofs.lemmas.List.{reverse-append, reverse-reverse}
-use Rattle.std.proofs.lemmas.List.Elements.{All-nil, All-cons, All-head, All-tail}
+use Rattle.std.proofs.lemmas.List.Elements.{All-cons, All-head, All-tail}
 use Rattle.vlink.specs.declared.message.Message.{Message}
 use Rattle.vlink.specs.Order.{message_order}
 use Rattle.virtual_time.specs.Law.{Order, IsOrder, IsAscending, times_in, plus_of}
@@ -26,15 +26,6 @@ use Rattle.hand.proofs.Parted.{between-mine, between-kept}
 use Rattle.hand.proofs.WentOn.{to_members-same, to_others-same}
 
 module _ {K : Type 0} (o : Order Message) (m : Message) where
-  pub aside-none : (done : List (Deed K)) → SetAside o m done done []
-  aside-none done = record {
-    behind = [];
-    was = sym (append-nil done);
-    late = All-nil (λ y. o.less y m ≡ false);
-    others = All-nil (λ y. (o.receiver y == o.receiver m) ≡ false);
-    is_aside = refl;
-  }
-
   -- the newest goes there too
   pub aside-more : (done front aside : List (Deed K)) (d : Deed K) → o.less d.message m ≡ false → (o.receiver d.message == o.receiver m) ≡ false →
       SetAside o m done (front ++ d ∷ []) aside → SetAside o m done front (aside ++ d ∷ [])

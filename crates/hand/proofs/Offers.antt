@@ -1,5 +1,5 @@
 -- The offers beside the lists: the last of them is first.
-use Rattle.std.proofs.Common.{◌≡◌, ◌<◌, ◌-◌, ◌++◌, ℕ, List, ◌∷◌, [], Bool, true, false, Option, Some, None, length, slice_get, IfSome, IfNone, IsPermutation, MatchOption, subst, sym, refl, ap, ◌∙◌, append-nil, arith, Bor, Contains, option_to_list, option_copied, IsSortedBy}
+use Rattle.std.proofs.Common.{◌≡◌, ◌-◌, ◌++◌, List, ◌∷◌, [], false, Option, Some, None, length, slice_get, IfSome, IfNone, IsPermutation, MatchOption, subst, sym, refl, ap, ◌∙◌, append-nil, arith, Bor, Contains, option_to_list, option_copied, IsSortedBy}
 use Rattle.std.specs.Cmp.{IsTotalOrder}
 use Rattle.std.proofs.lemmas.List.Elements.{All-append, All-contains, Contains-append_right}
 use Rattle.std.proofs.lemmas.List.Sorted.{IsPermutation-append_right, IsPermutation-to_front, IsPermutation-sym, IsPermutation-trans, Contains-permutation}
@@ -9,11 +9,6 @@ use Rattle.vlink.specs.Order.{message_cmp, message_order}
 use Rattle.virtual_time.specs.Law.{IsOrder}
 use Rattle.reverse.specs.Rules.{is_before}
 use Rattle.two_lists.proofs.Firsts.{NoneBefore, last-first, last-is}
-
--- where there is room there is a place
-pub took : (b : Bool) (n : ℕ) → 0 < n → (b ≡ false → n ≡ 0) → b ≡ true
-took true n l f = refl
-took false n l f = absurd (let e = f refl in omega arith)
 
 pub last-before : IsTotalOrder message_cmp → (offers : List Message) → IsSortedBy (λ x y. is_before y x) offers → (last : Option (Bor Message)) →
     option_copied last ≡ slice_get offers (length offers - 1) → IfSome last (λ m. NoneBefore m.now offers)
@@ -50,9 +45,6 @@ pub last-among : (lists offers : List Message) (last : Option (Bor Message)) →
     IfSome (option_copied last) (Contains (lists ++ offers))
 last-among lists offers None e = tt
 last-among lists offers (Some m) e = Contains-append_right lists offers m.now (last-in offers (Some m) e)
-
-pub room-then : (n k : ℕ) → n ≡ k → 0 < k → 0 < n
-room-then n k e l = omega arith
 
 -- two that are first of a list are one
 pub first-out : IsOrder message_order → (old new : List Message) (m : Message) (taken : Option Message) → Contains old m → NoneBefore m old →

@@ -1,5 +1,5 @@
 -- Done events are committed one after another.
-use Rattle.std.proofs.Common.{◌≡◌, ℕ, ◌<◌, ◌≤◌, true, false, List, [], ◌∷◌, ◌++◌, Option, Some, None, IfSome, All, Contains, IsPermutation, pos, refl, sym, ap, ◌∙◌, subst, append_assoc, append-nil, arith}
+use Rattle.std.proofs.Common.{◌≡◌, ℕ, ◌<◌, ◌≤◌, true, false, List, [], ◌∷◌, ◌++◌, Option, Some, None, IfSome, All, IsPermutation, pos, refl, sym, ap, ◌∙◌, subst, append_assoc, append-nil, arith}
 use Rattle.std.proofs.lemmas.Bool.{both_ways}
 use Rattle.std.proofs.lemmas.List.Elements.{All-head, All-tail, All-weaker}
 use Rattle.std.proofs.lemmas.List.Sorted.{IsPermutation-refl}
@@ -36,11 +36,6 @@ pub none-in : IsOrder message_order → (m : Message) (first : Option Message) (
     times_in message_order m queue ≡ 0
 none-in O m None queue e b = ap (times_in message_order m) e
 none-in O m (Some f) queue i b = none-before O m f queue b i.1
-
--- the first message of the queue, where it does not come before that
-pub not-after : (m : Message) (first : Option Message) (queue : List Message) → IsFirst first queue → (f : Message) × (first ≡ Some f) × (message_order.less m f ≡ false) →
-    (x : Message) × Contains queue x × (message_order.less m x ≡ false)
-not-after m first queue i n = (n.0, (subst (λ o. IsFirst o queue) n.1 i).0, n.2)
 
 commit-gvt : {M S K N : Type 0} (f : Simulation M S K N) (p : ℕ) (v : World M S) → (effect f (Commit p) v).gvt ≡ v.gvt
 unfolding effect

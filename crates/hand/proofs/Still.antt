@@ -1,8 +1,8 @@
 -- Where nothing changed but the order of the queue, the group stands for what it stood for.
-use Rattle.std.proofs.Common.{◌≡◌, ◌≢◌, ℕ, ◌+◌, ◌<◌, ◌≤◌, inl, inr, false, Option, Some, None, IfSome, IfNone, List, [], ◌∷◌, ◌++◌, length, All, Contains, IsPermutation, Result, Ok, Err, OnErr, slice_get, refl, sym, ap, ◌∙◌, subst, append-nil, arith}
+use Rattle.std.proofs.Common.{◌≡◌, ◌≢◌, ℕ, ◌+◌, ◌<◌, inl, inr, false, Option, Some, None, IfSome, IfNone, List, [], ◌∷◌, ◌++◌, length, All, Contains, IsPermutation, Result, Ok, Err, OnErr, slice_get, refl, sym, ap, ◌∙◌, subst, append-nil, arith}
 use Rattle.std.proofs.lemmas.List.{nil_from_length}
 use Rattle.std.proofs.lemmas.List.Sorted.{IsPermutation-refl, IsPermutation-sym, IsPermutation-trans, length_permutation, Contains-permutation, All-permutation}
-use Rattle.std.proofs.lemmas.List.Elements.{All-contains, All-weaker}
+use Rattle.std.proofs.lemmas.List.Elements.{All-contains}
 use Rattle.vlink.specs.declared.message.Message.{Message}
 use Rattle.vlink.specs.Order.{message_order}
 use Rattle.virtual_time.specs.Law.{IsOrder, IsAscending, World, received_by}
@@ -105,10 +105,6 @@ pub first-again : (o : Option Message) (old new : List Message) → IsPermutatio
 first-again None old new p among first none = nil_from_length new (length_permutation old new p ∙ ap length none)
 first-again (Some m) old new p among first none =
     (Contains-permutation old new m p among, All-permutation (λ x. is_before x m ≡ false) old new p first)
-
--- what is not before the first message is not earlier
-pub not-earlier : IsOrder message_order → (limit : ℕ) (m : Message) (xs : List Message) → limit ≤ m.time → All (λ x. is_before x m ≡ false) xs → All (λ x. limit ≤ x.time) xs
-not-earlier O limit m xs l a = All-weaker (λ x. is_before x m ≡ false) (λ x. limit ≤ x.time) (λ x e. let k = not_less-time message_order O x m e in omega arith) xs a
 
 -- the first message was handled, where only the order of the queue and the room had changed before; some message is earlier than the limit, so the first is
 pub handled-soon : {S K : Type 0} → IsOrder message_order → (limit : ℕ) (h mid new : Held S K) → IsAsBefore h mid → ((y : Message) × Contains h.flow.queue y × (y.time < limit)) →

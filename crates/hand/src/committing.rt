@@ -2,10 +2,10 @@
 ghost use Rattle.std.specs.Prelude.{◌≡◌, ℕ, ◌+◌, ◌<◌, ◌≤◌, ◌++◌, ◌∷◌, [], true, false, All, IfSome, Some, OnOk, OnErr, length, take, drop, slice_get, vec_len, vec_capacity};
 ghost use Rattle.vlink.specs.Order.{message_order};
 ghost use Rattle.vlink.specs.declared.message.Message.{Message};
-ghost use Rattle.hand.specs.declared.block.Did.TheVariants.{Committed};
 ghost use Rattle.hand.specs.Deeds.{Deed, messages_of};
 ghost use Rattle.hand.specs.Flow.{IsFirst};
 ghost use Rattle.hand.specs.Sealing.{CanCommit, Stays, rows_in, words_of};
+ghost use Rattle.hand.specs.Undoing.{noted_in, sent_in};
 
 use crate::block::{Did, Words};
 use crate::deeds::{Deeds, precedes};
@@ -14,6 +14,40 @@ use crate::rows::Rows;
 use crate::trail::Trail;
 use std::alloc::AllocError;
 use vlink::{Message, Row, Time, order_law};
+
+impl<K: Copy> Deeds<K> {
+    /// How many messages the oldest events, so many, sent in all, and how many rows they gave.
+    fn shares(&self, count: usize) -> (usize, usize)
+        requires { count ≤ length self.now.deeds }
+        ensures sent { result.0 ≡ sent_in (take count self.now.deeds) }
+        ensures noted { result.1 ≡ noted_in (take count self.now.deeds) }
+    {
+        let events = self.events.as_slice();
+        // No sum is more than there are in all, which these numbers tell.
+        let _most = (self.sends.len(), self.rows.len());
+        let mut sent = 0;
+        let mut noted = 0;
+        for place in 0..count {
+            let event = &events[place];
+            sent += event.sent as usize;
+            noted += event.noted as usize;
+        }
+        (sent, noted)
+    }
+
+    /// The oldest events, so many, are forgotten. Their rows go to the end of `taken`, which has room for them.
+    fn forget(&mut self, count: usize, taken: &mut Vec<Row>)
+        requires enough { count ≤ length self.old.deeds }
+        requires room { vec_len taken.old + length (rows_in self.old.deeds) ≤ vec_capacity taken.old }
+        ensures deeds { self.new.deeds ≡ drop count self.old.deeds }
+        ensures rows { taken.new.items ≡ taken.old.items ++ rows_in (take count self.old.deeds) }
+    {
+        let (sent, noted) = self.shares(count);
+        self.events.forget(count);
+        self.sends.forget(sent);
+        move_first(&mut self.rows, noted, taken);
+    }
+}
 
 impl Letters {
     /// Whether a done event with this message can be committed below the moment; `first` is the first message of the queue, if there is one.
@@ -45,12 +79,13 @@ impl Letters {
         ensures early { All (CanCommit moment self.now) (take result (messages_of done.now.deeds)) }
         ensures left { IfSome (slice_get (messages_of done.now.deeds) result) (Stays moment self.now) }
     {
-        for place in 0..done.events.len() {
-            if !self.can_commit(&done.events.item(place).message, moment, first) {
+        let events = done.events.as_slice();
+        for place in 0..events.len() {
+            if !self.can_commit(&events[place].message, moment, first) {
                 return place;
             }
         }
-        done.events.len()
+        events.len()
     }
 
     /// The oldest done events, so many, are committed: they are forgotten, and their rows go to the end of `sealed`. A refusal changes nothing.
@@ -71,7 +106,8 @@ impl Letters {
         self.room = 0;
         self.block.reserve(count)?;
         sealed.there.reserve(done.rows.len())?;
-        forget_early(done, &mut self.block, &mut sealed.there, count);
+        tell_committed(done, &mut self.block, count);
+        done.forget(count, &mut sealed.there);
         done.close_up();
         Ok(())
     }
@@ -89,46 +125,19 @@ fn comes_before(message: &Message, first: &Option<Message>) -> bool
     }
 }
 
-/// The oldest events, so many, are forgotten: their rows go to the end of `sealed`, and their words to the block, which have room for them.
-fn forget_early<K: Copy>(
-    done: &mut Deeds<K>,
-    block: &mut Words,
-    sealed: &mut Vec<Row>,
-    count: usize,
-)
-    requires enough { count ≤ length done.old.deeds }
-    requires words { count ≤ block.old.room }
-    requires rows { vec_len sealed.old + length (rows_in done.old.deeds) ≤ vec_capacity sealed.old }
-    ensures deeds { done.new.deeds ≡ drop count done.old.deeds }
-    ensures rows { sealed.new.items ≡ sealed.old.items ++ rows_in (take count done.old.deeds) }
-    ensures words { block.new.words ≡ block.old.words ++ words_of (take count done.old.deeds) }
+/// That the oldest events, so many, are committed is told in the block, which has room for it.
+fn tell_committed<K: Copy>(done: &Deeds<K>, block: &mut Words, count: usize)
+    requires enough { count ≤ length done.now.deeds }
+    requires room { count ≤ block.old.room }
+    ensures words { block.new.words ≡ block.old.words ++ words_of (take count done.now.deeds) }
     ensures keeps { block.new.keeps ≡ block.old.keeps }
 {
-    for forgotten in 0..count {
-        forget_oldest(done, block, sealed);
+    let events = done.events.as_slice();
+    for place in 0..count {
+        block.push_reserved(Did::Committed {
+            process: events[place].message.receiver,
+        });
     }
-}
-
-/// The oldest event, which there is, is forgotten.
-#[inline(always)]
-fn forget_oldest<K: Copy>(done: &mut Deeds<K>, block: &mut Words, sealed: &mut Vec<Row>)
-    requires some { 0 < length done.old.deeds }
-    requires words { 0 < block.old.room }
-    requires rows { vec_len sealed.old + length (rows_in done.old.deeds) ≤ vec_capacity sealed.old }
-    ensures forgotten { (d : Deed K) × (done.old.deeds ≡ d ∷ done.new.deeds) × (sealed.new.items ≡ sealed.old.items ++ d.rows)
-        × (block.new.words ≡ block.old.words ++ Committed d.message.receiver ∷ []) }
-    ensures keeps { block.new.keeps ≡ block.old.keeps }
-    ensures words { block.old.room ≤ block.new.room + 1 }
-    ensures rows { vec_len sealed.new + length (rows_in done.new.deeds) ≤ vec_capacity sealed.new }
-{
-    let Some(event) = done.events.pop_front() else {
-        return;
-    };
-    done.sends.forget(usize::from(event.sent));
-    move_first(&mut done.rows, usize::from(event.noted), sealed);
-    block.push_reserved(Did::Committed {
-        process: event.message.receiver,
-    });
 }
 
 /// The first items, so many, go to the end of `taken`, which has room for them. It has a type parameter so that the borrow checker follows it.
@@ -137,8 +146,8 @@ fn move_first<T: Copy + Drop>(items: &mut Trail<T>, count: usize, taken: &mut Ve
     requires enough { count ≤ length items.old.items }
     requires room { vec_len taken.old + count ≤ vec_capacity taken.old }
     ensures items { items.new.items ≡ drop count items.old.items }
+    ensures left { items.new.room ≡ items.old.room }
     ensures taken { taken.new.items ≡ taken.old.items ++ take count items.old.items }
-    ensures room { (more : ℕ) → vec_len taken.old + (count + more) ≤ vec_capacity taken.old → vec_len taken.new + more ≤ vec_capacity taken.new }
 {
     for place in 0..count {
         taken.push_reserved(*items.item(place));

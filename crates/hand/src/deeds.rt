@@ -14,12 +14,20 @@ use std::alloc::{AllocError, Global};
 use std::marker::Model;
 use vlink::{Message, Note, Row, compare, message_order_law, order_law};
 
+/// For so many events there is made room at one go.
+const AHEAD: usize = 64;
+
+/// The most rows that one event gives.
+const MOST_ROWS: usize = 2;
+
 /// What is kept of a done event: its message, how many messages it sent, how many rows it gave, and the record by which it is undone.
+///
+/// Its fields lie here so that there is no room between them: then the record is copied at one go.
 #[derive(Clone, Copy)]
 pub(crate) struct Event<K: Copy> {
     pub(crate) message: Message,
-    pub(crate) sent: u8,
-    pub(crate) noted: u8,
+    pub(crate) sent: u32,
+    pub(crate) noted: u32,
     pub(crate) kept: K,
 }
 
@@ -31,11 +39,14 @@ pub(crate) struct Deeds<K: Copy> {
     pub(crate) events: Trail<Event<K>>,
     pub(crate) sends: Trail<Message>,
     pub(crate) rows: Trail<Row>,
+    /// For how many events more there is room in each of these, whatever they send and note, at the least: so one look tells it.
+    pub(crate) room: usize,
 }
 
 impl<K: Copy> Model for Deeds<K> {
-    ghost use Rattle.std.specs.Prelude.{◌≡◌, length};
+    ghost use Rattle.std.specs.Prelude.{◌≡◌, ◌≤◌, ◌*◌, length};
     ghost use Rattle.hand.specs.Deeds.{Done, deeds_in, all_sent, all_noted};
+    ghost use Rattle.reverse.specs.declared.sends.TheConstants.{MOST_SENT};
 
     ghost Value = { Done K };
 
@@ -46,7 +57,8 @@ impl<K: Copy> Model for Deeds<K> {
       rows_room = d.rows.room;
     } };
 
-    ghost invariant = { λ d. (length d.sends.items ≡ all_sent d.events.items) × (length d.rows.items ≡ all_noted d.events.items) };
+    ghost invariant = { λ d. (length d.sends.items ≡ all_sent d.events.items) × (length d.rows.items ≡ all_noted d.events.items)
+        × (d.room ≤ d.events.room) × (MOST_SENT * d.room ≤ d.sends.room) × (2 * d.room ≤ d.rows.room) };
 }
 
 impl<K: Copy> Deeds<K> {
@@ -58,6 +70,7 @@ impl<K: Copy> Deeds<K> {
             events: Trail::new(alloc),
             sends: Trail::new(alloc),
             rows: Trail::new(alloc),
+            room: 0,
         }
     }
 
@@ -69,23 +82,13 @@ impl<K: Copy> Deeds<K> {
         ensures rows { OnOk result (2 ≤ self.new.rows_room) }
         ensures same { self.new.deeds ≡ self.old.deeds }
     {
-        if self.has_room() {
+        if 0 < self.room {
             return Ok(());
         }
         self.grow()
     }
 
-    /// Whether there is room for one event more, whatever it sends and notes.
-    #[inline(always)]
-    fn has_room(&self) -> bool
-        ensures events { result ≡ true → 1 ≤ self.now.events_room }
-        ensures sends { result ≡ true → MOST_SENT ≤ self.now.sends_room }
-        ensures rows { result ≡ true → 2 ≤ self.now.rows_room }
-    {
-        1 <= self.events.room() && MOST_SENT <= self.sends.room() && 2 <= self.rows.room()
-    }
-
-    /// Makes room for one event more, whatever it sends and notes, where some of it is missing.
+    /// Makes room for events more, whatever they send and note.
     #[inline(never)]
     fn grow(&mut self) -> Result<(), AllocError>
         ensures events { OnOk result (1 ≤ self.new.events_room) }
@@ -93,9 +96,11 @@ impl<K: Copy> Deeds<K> {
         ensures rows { OnOk result (2 ≤ self.new.rows_room) }
         ensures same { self.new.deeds ≡ self.old.deeds }
     {
-        self.events.reserve(1)?;
-        self.sends.reserve(MOST_SENT)?;
-        self.rows.reserve(2)?;
+        self.room = 0;
+        self.events.reserve(AHEAD)?;
+        self.sends.reserve(MOST_SENT * AHEAD)?;
+        self.rows.reserve(MOST_ROWS * AHEAD)?;
+        self.room = AHEAD;
         Ok(())
     }
 
@@ -116,12 +121,13 @@ impl<K: Copy> Deeds<K> {
     {
         self.events.push_back_reserved(Event {
             message: *message,
-            sent: sends.len() as u8,
-            noted: notes.len() as u8,
+            sent: sends.len() as u32,
+            noted: notes.len() as u32,
             kept,
         });
         send_all(&mut self.sends, sends);
         note_all(&mut self.rows, message, notes);
+        self.room = self.room.saturating_sub(1);
     }
 
     /// Where no more are there than have left, they take the place of those.

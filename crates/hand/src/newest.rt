@@ -63,6 +63,7 @@ impl<K: Copy> Deeds<K> {
         ensures room { OnOk result (HasRoomFor other.now.deeds self.new) }
         ensures same { self.new.deeds ≡ self.old.deeds }
     {
+        self.room = 0;
         self.events.reserve(other.events.len())?;
         self.sends.reserve(other.sends.len())?;
         self.rows.reserve(other.rows.len())?;
@@ -81,8 +82,9 @@ impl<K: Copy> Deeds<K> {
         let Some(event) = self.events.pop_back() else {
             unreachable!()
         };
-        let sent = usize::from(event.sent);
-        let noted = usize::from(event.noted);
+        let sent = event.sent as usize;
+        let noted = event.noted as usize;
+        other.room = 0;
         other.events.push_back_reserved(event);
         move_last(&mut self.sends, sent, &mut other.sends);
         move_last(&mut self.rows, noted, &mut other.rows);
@@ -100,8 +102,8 @@ impl<K: Copy> Deeds<K> {
         let Some(event) = self.events.pop_back() else {
             unreachable!()
         };
-        let sent = usize::from(event.sent);
-        let noted = usize::from(event.noted);
+        let sent = event.sent as usize;
+        let noted = event.noted as usize;
         take_back(&mut self.sends, sent, back);
         let left = self.rows.len() - noted;
         self.rows.truncate(left);

@@ -122,7 +122,7 @@ impl Queue {
         ensures more { IsPermutation (message.now ∷ self.old.messages) self.new.messages }
         ensures room { self.old.room ≤ self.new.room + 1 }
     {
-        let _taken = self.lists.push(message);
+        self.lists.push_reserved(message);
     }
 
     /// Takes the message out, once, wherever it is: it is rare. The answer is whether it was there.

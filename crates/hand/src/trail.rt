@@ -80,6 +80,14 @@ impl<T: Copy + Drop> Trail<T> {
         &self.all[self.left + place]
     }
 
+    /// The items, the oldest first.
+    #[inline(always)]
+    pub(crate) fn as_slice(&self) -> &[T]
+        ensures { result.now ≡ self.now.items }
+    {
+        &self.all[self.left..]
+    }
+
     /// The oldest item, if there is one.
     pub(crate) fn front(&self) -> Option<&T>
         ensures variant { IsSome result ↔ (0 < length self.now.items) }
@@ -102,20 +110,6 @@ impl<T: Copy + Drop> Trail<T> {
             return None;
         }
         Some(self.item(len - 1))
-    }
-
-    /// The oldest item leaves, if there is one.
-    #[inline(always)]
-    pub(crate) fn pop_front(&mut self) -> Option<T>
-        ensures items { self.old.items ≡ option_to_list result ++ self.new.items }
-        ensures variant { IsSome result ↔ (0 < length self.old.items) }
-    {
-        if self.len() == 0 {
-            return None;
-        }
-        let item = *self.item(0);
-        self.forget(1);
-        Some(item)
     }
 
     /// The newest item leaves, if there is one.
@@ -144,6 +138,7 @@ impl<T: Copy + Drop> Trail<T> {
     pub(crate) fn forget(&mut self, count: usize)
         requires { count ≤ length self.old.items }
         ensures items { self.new.items ≡ drop count self.old.items }
+        ensures room { self.new.room ≡ self.old.room }
     {
         self.left += count;
     }
@@ -151,6 +146,7 @@ impl<T: Copy + Drop> Trail<T> {
     /// Where no more are there than have left at the front, they move there.
     pub(crate) fn close_up(&mut self)
         ensures items { self.new.items ≡ self.old.items }
+        ensures room { self.old.room ≤ self.new.room }
     {
         let len = self.len();
         if len <= self.left {

@@ -1,10 +1,11 @@
 -- What contracts see of the entries of a journal.
 use Rattle.std.specs.Prelude.{ℕ, Bool, List, min, Option, Some, None}
-use Rattle.journal.specs.declared.entry.Entry.{Entry}
+use Rattle.vlink.specs.declared.message.Message.{Message}
+use Rattle.virtual_time.specs.Law.{Entry}
 
 -- the entries, whether they are kept to be read, and for how many more there is room
 pub record Listing : Type 0 where
-  pub entries : List Entry
+  pub entries : List (Entry Message)
   pub keeps : Bool
   pub room : ℕ
 

@@ -1,66 +1,153 @@
 //! The entries of a journal.
-ghost use Rattle.std.specs.Prelude.{◌≡◌, Some};
-ghost use Rattle.journal.specs.Deeds.{prior_own, entry_own, place_of};
+ghost use Rattle.std.specs.Prelude.{◌≡◌, ◌≤◌, ◌^◌, Option, None, take, length, slice_get};
+ghost use Rattle.vlink.specs.declared.message.Message.{Message};
+ghost use Rattle.virtual_time.specs.Law.{Collected, Posted, Published, steps_of, step_by};
+ghost use Rattle.antimessages.specs.Mailing.{letters_for};
+ghost use Rattle.journal.specs.Deeds.{IsWithinMail, deed_of, entry_by};
 
 use crate::block::Block;
 use antimessages::Mail;
+use std::marker::Model;
 use std::snapshot::Snapshot;
+use virtual_time::Move;
+use vlink::Step;
 
-/// What an entry tells that a process did at one go.
+/// What was done at one go, as an entry keeps it.
 #[derive(Drop)]
-pub enum Deed {
-    /// So many letters were taken from the front of the mail of the process, one after another. The mail was this one: it has no bytes here,
-    /// and is read in proofs alone.
-    Collect(u32, Snapshot<Mail>),
+pub(crate) enum Content {
+    /// So many letters were taken from the front of the mail of the process. The mail was this one: it has no bytes here, and is read in proofs
+    /// alone.
+    Letters(u32, Snapshot<Mail>),
     /// These steps were done, and then the outbox was posted.
-    Post(Block),
+    Block(Block),
     /// GVT was set anew.
-    Publish,
+    Gvt,
 }
 
-/// The entry of the same process before this one, with its place in the journal.
-#[cycle(entry)]
-#[derive(Drop)]
-pub enum Prior {
-    /// There is none.
-    Opening,
-    /// It has this place, from 0.
-    After(u64, Snapshot<Entry>),
-}
-
-impl Prior {
-    /// This entry, which has this place, from 0.
-    pub fn after(place: u64, entry: &Entry) -> Prior
-        ensures place { place_of result ≡ Some place }
-        ensures own { prior_own result ≡ entry_own entry.now }
-    {
-        Prior::After(place, Snapshot::of(entry))
-    }
-}
-
-/// An entry of the journal.
-#[cycle(entry)]
+/// An entry of the journal: what one process did at one go. A clause sees the entry of the law.
 #[derive(Drop)]
 pub struct Entry {
-    /// The entry of the process before it.
-    pub prior: Prior,
-    /// What was done.
-    pub deed: Deed,
-    /// The process that did it; for `Publish` it is 0 and means nothing.
-    pub process: u16,
+    process: u16,
+    /// The place of the entry of the same process before this one, from 0.
+    prior: Option<u64>,
+    content: Content,
+}
+
+impl Model for Entry {
+    ghost use Rattle.vlink.specs.declared.message.Message.{Message};
+    ghost use Rattle.virtual_time.specs.Law.{Entry as LawEntry};
+    ghost use Rattle.journal.specs.Deeds.{IsWithinMail, deed_of, entry_by};
+
+    ghost Value = { LawEntry Message };
+
+    ghost view = { λ e. entry_by e.process e.prior (deed_of e.process e.content) };
+
+    ghost invariant = { λ e. IsWithinMail e.process e.content };
 }
 
 impl Entry {
-    /// What this process did behind what is told before.
-    pub fn new(prior: Prior, deed: Deed, process: u16) -> Entry
-        ensures prior { result.prior ≡ prior }
-        ensures deed { result.deed ≡ deed }
-        ensures process { result.process ≡ process }
+    /// A process took the first letters of its mail, so many. It takes no memory.
+    pub fn collected(process: u16, prior: Option<u64>, mail: &Mail, count: u32) -> Self
+        requires { count ≤ length (letters_for process mail.now) }
+        ensures { result ≡ entry_by process prior (Collected (take count (letters_for process mail.now))) }
+    {
+        let content = Content::Letters(count, Snapshot::of(mail));
+        Entry {
+            process,
+            prior,
+            content,
+        }
+    }
+
+    /// A process did these steps and posted its outbox.
+    pub fn posted(process: u16, prior: Option<u64>, block: Block) -> Self
+        ensures { result ≡ entry_by process prior (Posted block) }
     {
         Entry {
-            prior,
-            deed,
             process,
+            prior,
+            content: Content::Block(block),
         }
+    }
+
+    /// GVT was set anew. It is no process's entry.
+    pub fn published() -> Self
+        ensures { result ≡ entry_by 0 None Published }
+    {
+        Entry {
+            process: 0,
+            prior: None,
+            content: Content::Gvt,
+        }
+    }
+
+    /// For how many steps it stands.
+    pub fn count(&self) -> u64
+        requires { length (steps_of {M = Message} self.now.process self.now.deed) ≤ 2 ^ 62 }
+        ensures { result ≡ length (steps_of {M = Message} self.now.process self.now.deed) }
+    {
+        count_in(self.process, &self.content)
+    }
+
+    /// The step number `at`, from 0, of those for which it stands. None: there are no more.
+    pub fn step(&self, at: u64) -> Option<Step>
+        ensures { result ≡ slice_get (steps_of {M = Message} self.now.process self.now.deed) at }
+    {
+        step_in(self.process, &self.content, at)
+    }
+}
+
+/// For how many steps it stands that a process did this.
+fn count_in(process: u16, content: &Content) -> u64
+    requires within_mail { IsWithinMail process content.now }
+    requires few { length (steps_of {M = Message} process (deed_of process content.now)) ≤ 2 ^ 62 }
+    ensures { result ≡ length (steps_of {M = Message} process (deed_of process content.now)) }
+{
+    match content {
+        Content::Letters(count, _mail) => u64::from(*count),
+        Content::Block(block) => block.len() as u64 + 1,
+        Content::Gvt => 1,
+    }
+}
+
+/// The step number `at`, from 0, of those that a process did. None: there are no more.
+fn step_in(process: u16, content: &Content, at: u64) -> Option<Step>
+    requires { IsWithinMail process content.now }
+    ensures { result ≡ slice_get (steps_of {M = Message} process (deed_of process content.now)) at }
+{
+    let process = u32::from(process);
+    match content {
+        Content::Letters(count, _mail) => {
+            if at < u64::from(*count) {
+                Some(Step::Take { process, place: 0 })
+            } else {
+                None
+            }
+        }
+        Content::Block(block) => {
+            let moves = block.len() as u64;
+            if at == moves {
+                return Some(Step::Post { process });
+            }
+            if at > moves {
+                return None;
+            }
+            match block.get(at as usize) {
+                Some(moved) => Some(step_of_move(process, moved)),
+                None => None,
+            }
+        }
+        Content::Gvt => { if at == 0 { Some(Step::Gvt) } else { None } }
+    }
+}
+
+/// The step of a process that it does alone.
+fn step_of_move(process: u32, moved: Move) -> Step
+    ensures { result ≡ step_by process moved }
+{
+    match moved {
+        Move::Arrived => Step::Arrive { process },
+        Move::Ran => Step::Run { process },
+        Move::Committed => Step::Commit { process },
     }
 }

@@ -9,7 +9,7 @@ mod table;
 mod turn;
 
 pub use block::Block;
-pub use entry::{Deed, Entry, Prior};
+pub use entry::Entry;
 pub use fault::PoolFault;
 pub use list::Entries;
 pub use table::Table;

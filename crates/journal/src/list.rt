@@ -26,14 +26,9 @@ pub struct Entries {
 
 impl Model for Entries {
     ghost use Rattle.std.specs.Prelude.{◌≡◌, ◌-◌, map, is_some, option_map, vec_len, vec_capacity, IfSome};
-    ghost use Rattle.std.specs.Coded.{codes};
-    ghost use Rattle.journal.specs.contracts.entry.Entry as entry;
-    ghost use Rattle.journal.specs.contracts.entry.Prior as prior;
     ghost use Rattle.journal.specs.Listing.{Listing, room_of};
 
     ghost Value = { Listing };
-
-    ghost coded = { Prim.hlevel (codes, entry.the_row.coded, prior.the_row.coded) };
 
     ghost view = { λ e. record {
       entries = map (λ s. s.value) e.told.items;

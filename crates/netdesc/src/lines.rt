@@ -14,7 +14,7 @@ use crate::tables::{no_lists, put};
 use network::{LinePlan, Link, Outage};
 use network_rows::{DescFault, NodeRow};
 use std::alloc::{AllocError, Global};
-use vlink::Net;
+use vlink::{Net, process_number};
 
 /// The port of a node for its link to `other`, where `count` earlier links name the node.
 fn port_at(nodes: &[NodeRow], count: usize, node: usize, other: usize) -> u16
@@ -45,17 +45,17 @@ fn push_both(
     ensures memory { IfErr result (λ fault. fault ≡ OutOfMemory) }
 {
     let there = LinePlan {
-        from: link.a as u16,
+        from: process_number(link.a),
         from_port: a_port,
-        to: link.b as u16,
+        to: process_number(link.b),
         to_port: b_port,
         byte_ns: link.byte_ns,
         propagation_ns: link.propagation_ns,
     };
     let back = LinePlan {
-        from: link.b as u16,
+        from: process_number(link.b),
         from_port: b_port,
-        to: link.a as u16,
+        to: process_number(link.a),
         to_port: a_port,
         byte_ns: link.byte_ns,
         propagation_ns: link.propagation_ns,

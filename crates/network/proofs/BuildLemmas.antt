@@ -118,10 +118,6 @@ pub not-false : (b : Bool) → not b ≡ false → b ≡ true
 not-false true h = refl
 not-false false h = absurd (false≢true (sym h))
 
-pub not-true : (b : Bool) → not b ≡ true → b ≡ false
-not-true true h = absurd (false≢true h)
-not-true false h = refl
-
 -- a known name stands for a number below the count of names
 number_of-below : (names : List (List ℕ)) (name : List ℕ) → not (is_among names name) ≡ false → number_of names name < length names
 number_of-below names name known =

@@ -18,7 +18,7 @@ use crate::tables::Tables;
 use crate::wiring::{LinePlan, Outage, Way};
 use network_rows::{NodeKind, NodeRow, VirtualLink};
 use std::marker::Model;
-use vlink::{Time, VlId};
+use vlink::{Time, VlId, process_number};
 
 /// A network: end systems, switches, the links between them, and virtual links with their paths.
 ///
@@ -108,14 +108,14 @@ impl Network {
     }
 
     /// How many processes there are: the nodes, and behind them the lines.
-    pub fn process_count(&self) -> usize
+    pub fn process_count(&self) -> u16
         ensures value { result ≡ process_count self.now }
         ensures few { process_count self.now ≤ GREATEST_PROCESSES }
     {
-        self.nodes.len() + 2 * self.numbered.links.len()
+        process_number(self.nodes.len() + 2 * self.numbered.links.len())
     }
 
-    /// What a node is.
+    /// What the node at this place is.
     pub fn kind(&self, node: usize) -> NodeKind
         requires { node < length self.now.nodes }
         ensures value { option_map (λ node. node.kind) (slice_get self.now.nodes node) ≡ Some result }
@@ -124,7 +124,7 @@ impl Network {
         self.nodes[node].kind
     }
 
-    /// How many bytes may wait at each port of a node.
+    /// How many bytes may wait at each port of the node at this place.
     pub fn port_bytes(&self, node: usize) -> u32
         requires { node < length self.now.nodes }
         ensures { option_map (λ node. node.port_bytes) (slice_get self.now.nodes node) ≡ Some result }
@@ -132,7 +132,7 @@ impl Network {
         self.nodes[node].port_bytes
     }
 
-    /// The name of a node.
+    /// The name of the node at this place.
     pub fn node_name(&self, node: usize) -> &str
         requires { node < length self.now.nodes }
         ensures { result.now ≡ node_name self.now.nodes node }
@@ -199,17 +199,17 @@ impl Network {
         self.numbered.vls[vl].link()
     }
 
-    /// Where the frames of a virtual link begin: an end system.
-    pub fn source(&self, vl: usize) -> usize
+    /// Where the frames of a virtual link begin: the number of an end system.
+    pub fn source(&self, vl: usize) -> u16
         requires { vl < length self.now.vls }
         ensures value { option_and_then source_of (slice_get self.now.vls vl) ≡ Some result }
         ensures node { result < length self.now.nodes }
         ensures end_system { is_end_system self.now.nodes result ≡ true }
     {
-        self.numbered.vls[vl].source().unwrap()
+        process_number(self.numbered.vls[vl].source().unwrap())
     }
 
-    /// Where the frames of a virtual link end, rising.
+    /// Where the frames of a virtual link end: the places of nodes, rising.
     pub fn destinations(&self, vl: usize) -> &[usize]
         requires { vl < length self.now.vls }
         ensures { option_map destinations_of (slice_get self.now.vls vl) ≡ Some result.now }
@@ -217,7 +217,7 @@ impl Network {
         self.tables.destinations[vl].as_slice()
     }
 
-    /// The ports by which virtual links leave a node: by the number of the virtual link, then rising.
+    /// The ports by which virtual links leave the node at this place: by the number of the virtual link, then rising.
     ///
     /// At a switch these are the output ports of each virtual link; at an end system the networks that its own ones go out on.
     pub fn departures(&self, node: usize) -> &[Way]
@@ -227,7 +227,7 @@ impl Network {
         self.tables.meetings.departures[node].as_slice()
     }
 
-    /// The ports by which virtual links come in at a node: by the number of the virtual link.
+    /// The ports by which virtual links come in at the node at this place: by the number of the virtual link.
     ///
     /// At a switch this is the input port of each virtual link; at an end system the networks on which it is a destination.
     pub fn arrivals(&self, node: usize) -> &[Way]

@@ -2,7 +2,7 @@
 
 use vlink::VlId;
 
-/// A link between two nodes, which are given by their numbers. It carries frames in both directions.
+/// A link between two nodes, which are given by their places. It carries frames in both directions.
 #[derive(Clone, Copy, Debug, PartialEq, Eq)]
 pub struct Link {
     pub a: usize,
@@ -34,10 +34,10 @@ pub struct Hop {
 /// One direction of a link.
 #[derive(Clone, Copy, Debug, PartialEq, Eq)]
 pub struct LinePlan {
-    /// The node that it leads out of, and its port there.
+    /// The number of the node that it leads out of, and its port there.
     pub from: u16,
     pub from_port: u16,
-    /// The node that it leads to, and its port there.
+    /// The number of the node that it leads to, and its port there.
     pub to: u16,
     pub to_port: u16,
     /// How long a byte takes, in ns.

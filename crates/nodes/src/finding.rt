@@ -14,6 +14,7 @@ pub trait Numbered {
 }
 
 /// The place of the entry of a virtual link, where their numbers rise.
+#[inline(always)]
 pub fn place_of<T: Numbered>(entries: &[T], vl: VlId) -> Option<usize>
     requires { IsRising (map T.number entries.now) }
     ensures place { result ≡ place_of (map T.number entries.now) vl.0 }
@@ -24,6 +25,7 @@ pub fn place_of<T: Numbered>(entries: &[T], vl: VlId) -> Option<usize>
 }
 
 /// The same, as the search gives it: a place that is not beyond the number.
+#[inline(always)]
 fn search<T: Numbered>(entries: &[T], vl: VlId) -> Option<usize>
     requires { IsRising (map T.number entries.now) }
     ensures place { result ≡ place_of (map T.number entries.now) vl.0 }

@@ -52,6 +52,7 @@ impl Line {
     }
 
     /// The last bit of a frame leaves into the line.
+    #[inline(always)]
     fn carry(&self, at: Time, frame: &Frame, out: &mut Outbound)
         requires room { length out.old.messages < MOST_SENT }
         requires notes { length out.old.notes < 2 }

@@ -36,7 +36,7 @@ pub(crate) fn loads_of(
     let mut loads = vec![in alloc; 1u64; network.node_count()]?;
     for vl in 0..network.vl_count() {
         let rate = rate_of(network.virtual_link(vl));
-        add(&mut loads, network.source(vl), rate);
+        add(&mut loads, usize::from(network.source(vl)), rate);
     }
     for flow in flows {
         add(&mut loads, flow.from, sent_by(network, *flow));

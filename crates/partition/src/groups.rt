@@ -10,6 +10,7 @@ use crate::moving::Owners;
 use crate::packing::{group_of, pack};
 use network::Network;
 use std::alloc::{AllocError, Global};
+use vlink::process_number;
 
 /// How many events a group is to have within a lead, at the least.
 const EVENTS_IN_LEAD: u64 = 8;
@@ -18,35 +19,36 @@ const EVENTS_IN_LEAD: u64 = 8;
 pub fn group_count(
     alloc: Global,
     network: &Network,
-    most: usize,
+    most: u16,
     lead_ns: u64,
-) -> Result<usize, AllocError>
+) -> Result<u16, AllocError>
     ensures least { IfOk result (λ groups. 1 ≤ groups) }
     ensures most { 1 ≤ most → IfOk result (λ groups. groups ≤ most) }
 {
     let loads = loads_of(alloc, network, &flows_of(alloc, network)?)?;
     let within = all(&loads).saturating_mul(lead_ns) / 1_000_000_000;
-    let worth = (within / EVENTS_IN_LEAD).min(65_536) as usize;
+    let worth = u16::try_from(within / EVENTS_IN_LEAD).unwrap_or(most);
     Ok(worth.min(most).max(1))
 }
 
 /// The group of each process of the network, by its number, where there are so many groups, from 0. Each end system goes with a switch, switches with much
 /// traffic between them go together while a group can take both, and a line goes with the node to which it leads. It is refused for memory alone.
-pub fn groups_of(alloc: Global, network: &Network, groups: usize) -> Result<Vec<usize>, AllocError>
+pub fn groups_of(alloc: Global, network: &Network, groups: u16) -> Result<Vec<u16>, AllocError>
     requires { 1 ≤ groups }
     ensures all { IfOk result (λ places. length places.items ≡ process_count network.now) }
     ensures within { IfOk result (λ places. All (λ group. group < groups) places.items) }
 {
     let flows = flows_of(alloc, network)?;
     let loads = loads_of(alloc, network, &flows)?;
-    let owners = owners_of(alloc, network, &flows, &loads, groups)?;
-    let mut places = Vec::with_capacity(alloc, network.process_count())?;
+    let owners = owners_of(alloc, network, &flows, &loads, usize::from(groups))?;
+    let last = usize::from(groups) - 1;
+    let mut places = Vec::with_capacity(alloc, usize::from(network.process_count()))?;
     for node in 0..network.node_count() {
-        places.push(owners.at(node).min(groups - 1))?;
+        places.push(process_number(owners.at(node).min(last)))?;
     }
     for line in 0..network.line_count() {
         let to = usize::from(network.line(line).to);
-        places.push(owners.at(to).min(groups - 1))?;
+        places.push(process_number(owners.at(to).min(last)))?;
     }
     Ok(places)
 }

@@ -118,6 +118,7 @@ impl Outbound {
     }
 
     /// Sends a message for the moment `ns`, unless that is after the end of the run.
+    #[inline(always)]
     pub fn send(&mut self, ns: u64, receiver: u16, body: Body)
         requires room { length self.old.messages < MOST_SENT }
         requires numbers { self.old.sender.counter < greatest_number }

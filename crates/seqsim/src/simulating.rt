@@ -30,7 +30,7 @@ pub fn nodes_of(alloc: Global, network: &Network) -> Result<Vec<Node>, AllocErro
 {
     let mut nodes = Vec::new(alloc);
     for process in 0..network.process_count() {
-        nodes.push(Node::new(alloc, network, process as u16)?)?;
+        nodes.push(Node::new(alloc, network, process)?)?;
     }
     Ok(nodes)
 }

@@ -115,7 +115,7 @@ impl World {
 
     /// The letter number `place`, from 0, of the mail of process `process`: the one that the step Take would take. None where there is
     /// none, or no such process.
-    pub fn look(&self, process: u32, place: u32) -> Option<Letter>
+    pub fn look(&self, process: u16, place: usize) -> Option<Letter>
         ensures letter { process < process_count self.now.plan → (steps : List Step) → IsAfter self.now steps →
             result ≡ slice_get ((after self.now.plan steps).mail process) place }
         ensures none { process_count self.now.plan ≤ process → result ≡ None }
@@ -127,7 +127,7 @@ impl World {
     /// Undoes all done events of process `process`, the newest first, each by its record, and gives its node back; none where there is
     /// no such process. Nothing is sent, and no memory is taken. What is left is the state of the one-thread run after just the events
     /// that were committed.
-    pub fn undo_all(self, process: u32) -> Option<Node>
+    pub fn undo_all(self, process: u16) -> Option<Node>
         ensures none { IsNone result ↔ (process_count self.plan ≤ process) }
         ensures undone { IfSome result (λ node. (steps : List Step) → IsAfter self steps →
             node ≡ undo_all (simulation_of self.plan).rules (opening self.plan process) ((after self.plan steps).parts process)) }

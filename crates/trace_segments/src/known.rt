@@ -9,5 +9,5 @@ use vlink::VlId;
 pub fn is_in_network(network: &Network, vl: VlId, place: u16) -> bool
     ensures { result ≡ is_in_network network.now vl.0 place }
 {
-    network.place_of(vl).is_some() && usize::from(place) < network.process_count()
+    network.place_of(vl).is_some() && place < network.process_count()
 }

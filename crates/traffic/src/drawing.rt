@@ -8,7 +8,7 @@ use network::{GREATEST_PROCESSES, VirtualLink};
 use rand_core::utils::NextWord;
 use rand_pcg::Lcg64Xsh32;
 use std::alloc::AllocError;
-use vlink::{Body, Message, Time, VlId};
+use vlink::{Body, Message, Time, VlId, process_number};
 
 /// How many offers of a virtual link are due until then.
 pub fn due_count(until: Time, link: &VirtualLink) -> u64
@@ -27,7 +27,7 @@ pub fn due_count(until: Time, link: &VirtualLink) -> u64
 fn sender_of(vl: VlId) -> u32
     ensures { result ≡ sender_of vl.0 }
 {
-    GREATEST_PROCESSES as u32 + u32::from(vl.0)
+    u32::from(process_number(GREATEST_PROCESSES)) + u32::from(vl.0)
 }
 
 /// When the offer with this number and word comes, in ns.

@@ -1,22 +1,12 @@
 //! The offers of all virtual links.
-ghost use Rattle.std.specs.Prelude.{◌≡◌, ◌++◌, ◌+◌, ◌<◌, Some, length, slice_get, take, OnOk, IfOk, option_and_then};
+ghost use Rattle.std.specs.Prelude.{◌≡◌, ◌++◌, ◌+◌, ◌<◌, length, take, OnOk, IfOk};
 ghost use Rattle.std.specs.List.{flat_map};
-ghost use Rattle.network.specs.Words.{source_of};
 ghost use Rattle.traffic.specs.Offers.{offers_of_vl, offers_of};
 
 use crate::drawing::{due_count, push_offers};
 use network::Network;
 use std::alloc::{AllocError, Global};
 use vlink::Message;
-
-/// The process where the frames of the virtual link with this place begin.
-fn source_of(network: &Network, vl: usize) -> u16
-    requires { vl < length network.now.vls }
-    ensures { option_and_then source_of (slice_get network.now.vls vl) ≡ Some result }
-{
-    let _few = network.process_count();
-    network.source(vl) as u16
-}
 
 /// How many offers are due, with those that come after the end of the run since they are drawn to be late. The list of offers gets this
 /// room at once; any other would do, and would be left piece by piece.
@@ -36,7 +26,7 @@ fn push_vl(offers: &mut Vec<Message>, network: &Network, vl: usize) -> Result<()
     ensures { OnOk result (offers.new.items ≡ flat_map (offers_of_vl network.now) (take (vl + 1) network.now.vls)) }
 {
     let link = network.virtual_link(vl);
-    let source = source_of(network, vl);
+    let source = network.source(vl);
     push_offers(offers, network.seed(), network.until(), &link, source)
 }
 

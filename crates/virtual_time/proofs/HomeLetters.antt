@@ -1,9 +1,8 @@
 -- What an event of a group does where nothing comes late: it is handled and posted, and each letter home is taken and tallied, and undoes nothing.
 -- The floor of each process stays what it has in hand.
-use Rattle.std.proofs.Common.{◌≡◌, ℕ, suc, ◌+◌, ◌<◌, ◌≤◌, ◌==◌, ◌⊎◌, inl, inr, min, Bool, true, false, not, cond, nat_lt, List, [], ◌∷◌, ◌++◌, map, remove, Option, Some, None, refl, sym, ap, ◌∙◌, subst, arith, slice_get, lt-ltb, length, length-append}
-use Rattle.virtual_time.specs.Law.{Simulation, Rules, Order, IsOrder, put, same, IsIn, times_in, lowest, times_of, plus_of, pluses, minuses, IsPresent, is_present, received_by, Part, delivered, emptied, floor_of, unhandled, arrive, arrived, tallied, rolled_back, is_toggled, handled, next_of, run_one, World, taken, with_part, effect, done_by, is_enabled, step, AreDone}
+use Rattle.std.proofs.Common.{◌≡◌, ℕ, suc, ◌+◌, ◌<◌, ◌≤◌, ◌⊎◌, inl, inr, min, Bool, true, false, cond, nat_lt, List, [], ◌∷◌, ◌++◌, map, remove, Some, refl, sym, ap, ◌∙◌, subst, arith, slice_get, lt-ltb, length, length-append}
+use Rattle.virtual_time.specs.Law.{Simulation, Rules, Order, IsOrder, put, same, IsIn, times_in, lowest, times_of, plus_of, pluses, minuses, IsPresent, received_by, Part, delivered, emptied, floor_of, unhandled, arrive, arrived, tallied, rolled_back, is_toggled, handled, next_of, World, taken, with_part, effect, done_by, is_enabled, step, AreDone}
 use Rattle.virtual_time.specs.declared.letter.Letter.{Letter}
-use Rattle.virtual_time.specs.declared.step.Step.{Step}
 use Rattle.virtual_time.specs.declared.step.Step.TheVariants.{Take, Arrive, Run, Post}
 use Rattle.virtual_time.proofs.Journal.{put_here, put_twice}
 use Rattle.virtual_time.proofs.Lowest.{lowest-top, lowest-message, lowest-messages}
@@ -158,17 +157,6 @@ module _ {M : Type 0} (order : Order M) (O : IsOrder order) where
       both = let a = low in let b = high in omega arith
 
 module _ {M S K N : Type 0} (f : Simulation M S K N) (O : IsOrder f.rules.order) where
-  -- so the floor of the receiver stays what it has in hand, and no post is needed
-  pub home-settles : (q : ℕ) (m : M) (rest : List (Letter M)) (v : World M S) → (v.parts q).tray ≡ [] → f.rules.order.time m ≤ f.until →
-      pluses f.rules.order m (v.parts q).tally ≡ minuses f.rules.order m (v.parts q).tally → times_in f.rules.order m (v.parts q).done ≡ 0 →
-      v.floors q ≡ floor_of f.rules.order f.until (v.parts q) →
-      (home_after f O q (plus_of m) rest v).floors q ≡ floor_of f.rules.order f.until ((home_after f O q (plus_of m) rest v).parts q)
-  home-settles q m rest v t le c z s =
-      put_here q (min (f.rules.order.time m) (v.floors q)) v.floors ∙
-      (ap (λ n. min (f.rules.order.time m) n) s ∙
-      (sym (floor-tallied f.rules.order O f.until m (v.parts q) t le c z (tallied f.rules (plus_of m) [] (v.parts q)) refl refl refl) ∙
-      ap (floor_of f.rules.order f.until) (sym (put_here q (tallied f.rules (plus_of m) [] (v.parts q)) v.parts))))
-
   -- each step of a plain event can be done when it comes
   pub plain-enabled : (q : ℕ) (l : Letter M) (rest : List (Letter M)) (v : World M S) → q < f.processes → v.mail q ≡ l ∷ rest →
       AreDone f (Take q 0 ∷ Arrive q ∷ []) v

@@ -1,17 +1,13 @@
 -- What keeps the floor of a process what it has in hand, so that the least floor of a group is the moment of its first message.
-use Rattle.std.proofs.Common.{◌≡◌, ℕ, suc, ◌+◌, ◌<◌, ◌≤◌, ◌⊎◌, inl, inr, min, Bool, true, false, List, [], ◌∷◌, ◌++◌, map, Some, refl, sym, ap, ◌∙◌, subst, arith}
-use Rattle.virtual_time.specs.Law.{Simulation, Rules, Order, IsOrder, put, same, one_if, IsIn, times_in, lowest, times_of, plus_of, minus_of, pluses, minuses, IsPresent, received_by, Part, delivered, emptied, floor_of, unhandled, arrive, handled, oldest_committed, World, with_part, effect, done_by}
+use Rattle.std.proofs.Common.{◌≡◌, ℕ, suc, ◌+◌, ◌⊎◌, inl, inr, min, true, false, List, [], ◌∷◌, ◌++◌, map, refl, sym, ap, ◌∙◌, subst, arith}
+use Rattle.virtual_time.specs.Law.{Simulation, Rules, Order, IsOrder, put, same, one_if, IsIn, times_in, lowest, times_of, plus_of, minus_of, pluses, minuses, IsPresent, received_by, Part, delivered, emptied, floor_of, unhandled, arrive, oldest_committed, World, effect, done_by}
 use Rattle.virtual_time.specs.declared.letter.Letter.{Letter}
-use Rattle.virtual_time.specs.declared.step.Step.{Step}
 use Rattle.virtual_time.specs.declared.step.Step.TheVariants.{Arrive, Post}
 use Rattle.virtual_time.proofs.Journal.{put_here, put_twice}
-use Rattle.virtual_time.proofs.Kept.{put_elim₂}
-use Rattle.virtual_time.proofs.Lists.{in-cons, in-head}
 use Rattle.virtual_time.proofs.Lowest.{lowest-top, lowest-message, lowest-messages}
 use Rattle.virtual_time.proofs.Order.{same_cases, same-refl}
 use Rattle.virtual_time.proofs.Letters.{counts-other}
 use Rattle.virtual_time.proofs.Presence.{unhandled-is, unhandled-from, present-taken_back}
-use Rattle.virtual_time.proofs.HomeLetters.{run_after}
 
 lowest-behind : {M : Type 0} (order : Order M) (d : ℕ) (ls : List (Letter M)) (l : Letter M) →
     lowest d (times_of order (ls ++ l ∷ [])) ≡ min (order.time l.message) (lowest d (times_of order ls))
@@ -99,16 +95,6 @@ module _ {M : Type 0} (order : Order M) (O : IsOrder order) where
               unhandled-from order O (plus_of m ∷ part.tally) part.done x (let g = o.0 in let h = o.1 in omega arith) e
 
 module _ {M S K N : Type 0} (f : Simulation M S K N) (O : IsOrder f.rules.order) where
-  -- the floor of a process is what it has in hand
-  abbrev pub IsSettledAt : World M S → ℕ → Type 0
-  IsSettledAt v q = v.floors q ≡ floor_of f.rules.order f.until (v.parts q)
-
-  -- Run and Post
-  pub run-settles : (q : ℕ) (m : M) (v : World M S) → ((p : ℕ) → IsSettledAt v p) → (p : ℕ) → IsSettledAt (run_after f O q m v) p
-  run-settles q m v s =
-      put_elim₂ (λ p x y. x ≡ floor_of f.rules.order f.until y) q (floor_of f.rules.order f.until (emptied (handled f.rules (v.parts q) (Some m))))
-      (emptied (handled f.rules (v.parts q) (Some m))) v.floors v.parts refl (λ p n. s p)
-
   -- Arrive and Post: the letter is tallied, what is undone goes to the mail as antimessages, and the floor is what is left
   abbrev pub arrive_after : ℕ → World M S → World M S
   arrive_after p v =
@@ -130,8 +116,3 @@ module _ {M S K N : Type 0} (f : Simulation M S K N) (O : IsOrder f.rules.order)
         floors = put p (floor_of f.rules.order f.until (here j)) v.floors;
         gvt = v.gvt;
       }
-
-  pub arrive-settles : (p : ℕ) (v : World M S) → ((q : ℕ) → IsSettledAt v q) → (q : ℕ) → IsSettledAt (arrive_after p v) q
-  arrive-settles p v s =
-      put_elim₂ (λ q x y. x ≡ floor_of f.rules.order f.until y) p (floor_of f.rules.order f.until (emptied (arrive f.rules (f.opening p) (v.parts p))))
-      (emptied (arrive f.rules (f.opening p) (v.parts p))) v.floors v.parts refl (λ q n. s q)

@@ -11,10 +11,10 @@ use std::thread;
 use std::thread::Threads;
 
 /// In a network of at most so many processes each process is a group.
-const FEW_PROCESSES: usize = 16;
+const FEW_PROCESSES: u16 = 16;
 
 /// So many groups a network has at most, where it has more processes.
-const MOST_GROUPS: usize = 64;
+const MOST_GROUPS: u16 = 64;
 
 /// For each process the number of its group, from 0, and how many groups there are.
 #[derive(Drop)]
@@ -37,49 +37,34 @@ pub(crate) fn groups_for<T: Threads>(
     if processes <= FEW_PROCESSES {
         return each_alone(alloc, processes);
     }
-    let most = useful(rt, usize::from(workers)).min(MOST_GROUPS).max(1);
+    let most = u16::from(useful(rt, workers)).min(MOST_GROUPS).max(1);
     let groups = group_count(alloc, network, most, LEAD_NS)?;
-    let places = groups_of(alloc, network, groups)?;
-    Ok(Grouping {
-        owners: in_words(alloc, &places, groups)?,
-        groups: groups as u16,
-    })
-}
-
-/// The numbers of groups, of which there are so many, as a run has them.
-fn in_words(alloc: Global, places: &[usize], groups: usize) -> Result<Vec<u16>, AllocError>
-    requires few { groups ≤ 64 }
-    requires within { All (λ group. group < groups) places.now }
-    ensures all { IfOk result (λ owners. length owners.items ≡ length places.now) }
-    ensures within { IfOk result (λ owners. All (λ group. group < groups) owners.items) }
-{
-    let mut owners = Vec::with_capacity(alloc, places.len())?;
-    for group in places {
-        owners.push(*group as u16)?;
-    }
-    Ok(owners)
+    let owners = groups_of(alloc, network, groups)?;
+    Ok(Grouping { owners, groups })
 }
 
 /// Each of so many processes is a group.
-fn each_alone(alloc: Global, processes: usize) -> Result<Grouping, AllocError>
+fn each_alone(alloc: Global, processes: u16) -> Result<Grouping, AllocError>
     requires { processes ≤ 16 }
     ensures grouped { IfOk result (λ g. AreGrouped processes g.groups g.owners.items) }
     ensures groups { IfOk result (λ g. g.groups ≡ processes) }
 {
-    let mut owners = Vec::with_capacity(alloc, processes)?;
+    let mut owners = Vec::with_capacity(alloc, usize::from(processes))?;
     for process in 0..processes {
-        owners.push(process as u16)?;
+        owners.push(process)?;
     }
     Ok(Grouping {
         owners,
-        groups: processes as u16,
+        groups: processes,
     })
 }
 
 /// Of so many workers those that a processor can serve at once.
-fn useful<T: Threads>(rt: &T, workers: usize) -> usize {
+fn useful<T: Threads>(rt: &T, workers: u8) -> u8 {
     match thread::available_parallelism(rt) {
-        Ok(processors) => workers.min(processors.get()),
+        Ok(processors) => u8::try_from(processors.get())
+            .unwrap_or(workers)
+            .min(workers),
         Err(_) => workers,
     }
 }

@@ -48,8 +48,8 @@ fn is_told(alloc: Global, row: &str, refused: &mut String) -> Result<bool, Fail>
     let network = read(alloc, net.as_str())?;
     let table = Table::new(alloc)?;
     let script = String::from_str(alloc, script)?;
-    let first = Pairs::new(alloc, network.process_count())?;
-    let second = Pairs::new(alloc, network.process_count())?;
+    let first = Pairs::new(alloc, usize::from(network.process_count()))?;
+    let second = Pairs::new(alloc, usize::from(network.process_count()))?;
     let found = played::<Brand, Brand>(
         alloc, &network, table, first, second, limit, &script, refused,
     )?;

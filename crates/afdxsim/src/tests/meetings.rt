@@ -27,8 +27,9 @@ const ROWS: &str = "
 /// What is known of one process.
 #[derive(Drop)]
 struct Place {
+    process: u16,
     /// The process that it waits for before its first message.
-    waits_for: Option<u64>,
+    waits_for: Option<u16>,
     /// It is to handle its first message, or has handled it.
     has_begun: AtomicBool,
     /// How many messages it has handled.
@@ -46,10 +47,11 @@ struct Meeting {
 
 impl Meeting {
     // So many processes, of which none waits.
-    fn of(alloc: Global, processes: usize, looks: u64) -> Result<Self, AllocError> {
+    fn of(alloc: Global, processes: u16, looks: u64) -> Result<Self, AllocError> {
         let mut places = Vec::new(alloc);
-        for _ in 0..processes {
+        for process in 0..processes {
             places.push(Place {
+                process,
                 waits_for: None,
                 has_begun: AtomicBool::new(false),
                 handled: AtomicU64::new(0),
@@ -65,9 +67,9 @@ impl Meeting {
     // The first process of the pair is to wait for the second.
     fn wait(&mut self, pair: &str) -> Result<(), Fail> {
         let mut pieces = pair.split(':');
-        let first = number_of(pieces.next())?;
-        let second = number_of(pieces.next())?;
-        let Some(place) = self.places.get_mut(first as usize) else {
+        let first = process_of(pieces.next())?;
+        let second = process_of(pieces.next())?;
+        let Some(place) = self.places.get_mut(usize::from(first)) else {
             return Err("no place")?;
         };
         place.waits_for = Some(second);
@@ -85,8 +87,8 @@ impl Meeting {
     }
 
     // Whether it was seen that this process has begun.
-    fn sees(&self, process: u64) -> bool {
-        let Some(place) = self.places.get(process as usize) else {
+    fn sees(&self, process: u16) -> bool {
+        let Some(place) = self.places.get(usize::from(process)) else {
             return false;
         };
         for look in 0..self.looks {
@@ -124,6 +126,12 @@ impl Gate for Meeting {
             place.handled.fetch_add(1, Ordering::SeqCst);
         }
     }
+}
+
+// The process that is named by these digits.
+fn process_of(digits: Option<&str>) -> Result<u16, Fail> {
+    let number = number_of(digits)?;
+    Ok(u16::try_from(number).map_err(|_| "no process")?)
 }
 
 /// What a row tells.
@@ -197,9 +205,9 @@ fn pace_of(workers: u64) -> Result<Pace, Fail> {
 
 // The gate was told of each process as often as the journal has that it handled a message.
 fn is_told(gate: &Meeting, outcome: &Outcome) -> bool {
-    for process in 0..gate.places.len() {
-        let handled = gate.places[process].handled.load(Ordering::SeqCst);
-        if handled != runs_of(outcome.journal.as_slice(), process) {
+    for place in &gate.places {
+        let handled = place.handled.load(Ordering::SeqCst);
+        if handled != runs_of(outcome.journal.as_slice(), place.process) {
             return false;
         }
     }
@@ -207,11 +215,11 @@ fn is_told(gate: &Meeting, outcome: &Outcome) -> bool {
 }
 
 // How often the steps have that this process handled a message.
-fn runs_of(steps: &[Step], process: usize) -> u64 {
+fn runs_of(steps: &[Step], process: u16) -> u64 {
     let mut runs = 0u64;
     for step in steps {
         if let Step::Run { process: found } = *step {
-            if found as usize == process {
+            if found == u32::from(process) {
                 runs = runs.saturating_add(1);
             }
         }

@@ -68,6 +68,13 @@ pub struct Word<'w> {
     pub third: u64,
 }
 
+impl Word<'_> {
+    // The process that its first number names.
+    fn process(&self) -> u16 {
+        u16::try_from(self.first).unwrap_or(u16::MAX)
+    }
+}
+
 /// The word that this text writes.
 pub fn word_of(text: &str) -> Result<Word<'_>, Fail> {
     let mut pieces = text.split(':');
@@ -121,7 +128,7 @@ impl<J: NetworkRun> Stage<J> {
 
     // What a refused call leaves as it was: the count of steps, GVT, and the mail, the block and the mark of its process.
     fn seen(&self, word: Word<'_>) -> (u64, Time, u64, Option<(u64, Mark)>) {
-        let held = match self.helds.get(word.first as usize) {
+        let held = match self.helds.get(usize::from(word.process())) {
             Some(held) => Some((held.pending(), held.mark())),
             None => None,
         };
@@ -159,7 +166,7 @@ impl<J: NetworkRun> Stage<J> {
 
     // A process with a block collects nothing.
     fn collect(&mut self, word: Word<'_>, told: &mut String) -> Result<(), PoolFault> {
-        let Some(held) = self.helds.get_mut(word.first as usize) else {
+        let Some(held) = self.helds.get_mut(usize::from(word.process())) else {
             return Ok(told.push_str("none")?);
         };
         if held.pending() != 0 {
@@ -171,7 +178,7 @@ impl<J: NetworkRun> Stage<J> {
 
     // How many steps joined the block, those before a refusal among them: then it goes on.
     fn work(&mut self, word: Word<'_>) -> Result<u64, PoolFault> {
-        let Some(held) = self.helds.get_mut(word.first as usize) else {
+        let Some(held) = self.helds.get_mut(usize::from(word.process())) else {
             return Ok(0);
         };
         let (turn, before) = (small(word.second), held.pending());
@@ -186,7 +193,7 @@ impl<J: NetworkRun> Stage<J> {
     }
 
     fn post(&mut self, word: Word<'_>, told: &mut String) -> Result<(), PoolFault> {
-        let Some(held) = self.helds.get_mut(word.first as usize) else {
+        let Some(held) = self.helds.get_mut(usize::from(word.process())) else {
             return Ok(told.push_str("none")?);
         };
         post(held, &mut self.exchange)?;
@@ -194,7 +201,7 @@ impl<J: NetworkRun> Stage<J> {
     }
 
     fn ask(&self, word: Word<'_>, told: &mut String) -> Result<(), PoolFault> {
-        let Some(held) = self.helds.get(word.first as usize) else {
+        let Some(held) = self.helds.get(usize::from(word.process())) else {
             return Ok(told.push_str("none")?);
         };
         if word.name == "pending" {
@@ -210,7 +217,7 @@ impl<J: NetworkRun> Stage<J> {
 
     // How many letters there are in the mail of a process, up to 100.
     fn letters(&self, word: Word<'_>) -> u64 {
-        let process = u16::try_from(word.first).unwrap_or(u16::MAX);
+        let process = word.process();
         let mut count = 0;
         for place in 0..100usize {
             if self.exchange.look(process, place).is_some() {

@@ -131,7 +131,7 @@ fn of_process(
 ) -> Result<String, AllocError> {
     let [number, ..] = numbers(number);
     let number = short(number);
-    if usize::from(number) >= network.process_count() {
+    if number >= network.process_count() {
         return String::from_str(alloc, "none");
     }
     let node = Node::new(alloc, network, number)?;

@@ -8,6 +8,7 @@ use crate::ports::{Outlet, Ports, Wire};
 use network::{LinePlan, Network};
 use output_port::Port;
 use std::alloc::{AllocError, Global};
+use vlink::process_number;
 
 /// The process of a line.
 fn process_of(network: &Network, line: usize) -> u16
@@ -17,7 +18,7 @@ fn process_of(network: &Network, line: usize) -> u16
     // The contracts of these two say that there are few processes.
     let _processes = network.process_count();
     let _lines = network.line_count();
-    (network.node_count() + line) as u16
+    process_number(network.node_count() + line)
 }
 
 /// Notes the wire of a line at its port, where the line leaves this node and the port has none yet.

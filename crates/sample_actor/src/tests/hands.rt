@@ -16,7 +16,7 @@ use std::test::Fail;
 use vlink::{LATEST_NS, Letter, Message, Sign, Time};
 
 // How many processes letters can be for.
-const PROCESSES: u64 = 5;
+const PROCESSES: u16 = 5;
 
 #[derive(Drop)]
 struct Stage {
@@ -46,7 +46,7 @@ fn opened(alloc: Global, count: u64) -> Result<Stage, HandFault> {
     let mut told = String::new(alloc);
     told.reserve(4096)?;
     let mut members = Vec::new(alloc);
-    for process in 0..PROCESSES as u16 {
+    for process in 0..PROCESSES {
         let member = if u64::from(process) < count {
             Some(Passing::new(process, Time::known(LATEST_NS)))
         } else {

@@ -4,11 +4,10 @@ use Rattle.virtual_time.specs.Law.{after_moves, after_own}
 use Rattle.reverse.specs.Rules.{rules_of}
 use Rattle.reverse.specs.Setting.{simulation_of}
 use Rattle.process_queues.specs.Queues.{StandsFor}
-use Rattle.journal.specs.Deeds.{prior_own, place_of}
 use Rattle.halves.specs.declared.LeftHalf.{LeftHalf}
 use Rattle.exchange.specs.declared.mark.Standing.{Standing}
-use Rattle.exchange.specs.Views.{mark_in, marks_in}
-use Rattle.exchange.specs.Keeps.{AreMarked, entries_of}
+use Rattle.exchange.specs.Views.{mark_in, marks_in, place_of, own_of}
+use Rattle.exchange.specs.Keeps.{AreMarked}
 use Rattle.exchange.specs.Effects.{mark_at}
 use Rattle.exchange.proofs.Gone.{gone-stays}
 use Rattle.exchange.proofs.Holding.{holds-seen}
@@ -27,7 +26,7 @@ invariant_of-exchange g c =
       c.exchange.invariant.0,
       c.exchange.invariant.1,
       kept-as k c.exchange.inside.mail refl (λ q. refl) _
-          (subst (λ (bs : List Standing). AreMarked g.J.ActorRun.setting.processes (entries_of c.exchange.inside.journal.entries) c.exchange.inside.gvt bs) (sym c.tell_both.ensures.marks)
+          (subst (λ (bs : List Standing). AreMarked g.J.ActorRun.setting.processes c.exchange.inside.journal.entries c.exchange.inside.gvt bs) (sym c.tell_both.ensures.marks)
           (marks-seen k.marked p h.number_is s (place-is k h.number_is c.held.inside.standing fits) mine (omega arith))),
       c.tell_both.ensures.names ∙ c.exchange.invariant.3,
       c.exchange.invariant.4,
@@ -42,8 +41,8 @@ invariant_of-held g c =
     let p = c.held.inside.number in
     let none = rw (sym c.held.view_is) at c.requires.posted in
     let mine = rw (sym c.held.view_is, sym c.exchange.view_is) at c.join_law.ensures.own in
-    let base = after_own (simulation_of r x) p (prior_own c.held.inside.standing.last) in (
-      holds-seen k (c.actor_law.ensures x k.laid) g.R.Reversible.is_value p h.number_is c.held.inside.standing.last mine c.held.inside.process.queues
+    let base = after_own (simulation_of r x) p (own_of p c.held.inside.standing.last) in (
+      holds-seen k (c.actor_law.ensures x k.laid) g.R.Reversible.is_value p h.number_is (own_of p c.held.inside.standing.last) mine c.held.inside.process.queues
           (subst (λ b. StandsFor r g.R.Reversible.is_value (x.opening p) (after_moves r (x.opening p) b base) c.held.inside.process.queues) none h.stands)
           c.held.inside.gone
           (gone-stays r (x.opening p) (after_moves r (x.opening p) c.held.inside.block base) c.held.inside.process.queues h.stands c.held.inside.gone h.gone_early [] base
@@ -58,7 +57,7 @@ returns-clause-exchange g c =
     let marks = map (λ (b : LeftHalf Standing). b.value) c.exchange.inside.marks.items in
     let s : Standing = record { last = c.held.inside.standing.last; seen = c.exchange.inside.gvt } in
     rw (sym c.held.view_is, sym c.exchange.view_is) (λ i. record {
-      entries = entries_of c.exchange.inside.journal.entries;
+      entries = c.exchange.inside.journal.entries;
       marks = (ap marks_in c.tell_both.ensures.marks ∙ (map-set mark_in marks c.held.inside.number s ∙ (λ j. set (marks_in marks) c.held.inside.number (mark_at (place_of s.last) (k.gvt_is j))))) i;
       limit = c.exchange.inside.limit;
     })

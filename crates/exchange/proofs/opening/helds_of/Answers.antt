@@ -22,12 +22,12 @@ within g c = omega (arith, (actor-at g c).0, c.requires.each_name, c.requires.co
 pub open-requires-clause-actor : goal.open-requires-clause-actor
 open-requires-clause-actor g c =
     let x = g.J.ActorRun.setting in
-    let number : length c.loop-actor.yielded ≡ c.len-number.result = sym (c.len-number.ensures ∙ (c.loop-actor.helds.ok.0 ∙ c.loop-actor.invariant.count)) in
+    let number : length c.loop-actor.yielded ≡ c.process_number-number.result = sym (c.process_number-number.ensures ∙ c.len-in-loop-actor.ensures ∙ (c.loop-actor.helds.ok.0 ∙ c.loop-actor.invariant.count)) in
     actor-opens x.processes x.opening c.args.actors.items c.requires.count c.requires.each (length c.loop-actor.yielded) c.in-Some.actor (actor-at g (goal.at.open-requires-clause-actor g c).In-Some) ∙ ap x.opening number
 
-pub overflow_cast-number : goal.overflow_cast-number
-overflow_cast-number g c =
-    fits-few _ _ _ _ _ _ c.len-number.ensures c.loop-actor.helds.ok.0 c.loop-actor.invariant.count (actor-at g (goal.at.overflow_cast-number g c).In-Some).0 c.requires.count c.requires.few
+pub process_number-number-requires : goal.process_number-number-requires
+process_number-number-requires g c =
+    fits-few _ _ _ _ _ _ c.len-in-loop-actor.ensures c.loop-actor.helds.ok.0 c.loop-actor.invariant.count (actor-at g (goal.at.process_number-number-requires g c).In-Some).0 c.requires.count c.requires.few
 
 pub remove-mark-requires : goal.remove-mark-requires
 remove-mark-requires g c =
@@ -35,7 +35,7 @@ remove-mark-requires g c =
 
 pub open-requires-clause-name : goal.open-requires-clause-name
 open-requires-clause-name g c =
-    let number : length c.loop-actor.yielded ≡ c.len-number.result = sym (c.len-number.ensures ∙ (c.loop-actor.helds.ok.0 ∙ c.loop-actor.invariant.count)) in
+    let number : length c.loop-actor.yielded ≡ c.process_number-number.result = sym (c.process_number-number.ensures ∙ c.len-in-loop-actor.ensures ∙ (c.loop-actor.helds.ok.0 ∙ c.loop-actor.invariant.count)) in
     first-name g.J.ActorRun.names c.loop-actor.marks.items (length c.loop-actor.yielded) c.loop-actor.invariant.names (within g (goal.at.open-requires-clause-name g c).In-Some) c.remove-mark.result c.remove-mark.ensures.value
     ∙ ap (slice_index g.J.ActorRun.names) number
 
@@ -48,7 +48,7 @@ pub loop-actor-preserved : goal.loop-actor-preserved
 loop-actor-preserved g c =
     let x = g.J.ActorRun.setting in
     let pushed = c.push_reserved.ensures.items in
-    let number : c.len-number.result ≡ length c.loop-actor.yielded = c.len-number.ensures ∙ (c.loop-actor.helds.ok.0 ∙ c.loop-actor.invariant.count) in
+    let number : c.process_number-number.result ≡ length c.loop-actor.yielded = c.process_number-number.ensures ∙ c.len-in-loop-actor.ensures ∙ (c.loop-actor.helds.ok.0 ∙ c.loop-actor.invariant.count) in
     let longer = length_push c.loop-actor.yielded c.in-Some.actor in
     record {
       can = tt;

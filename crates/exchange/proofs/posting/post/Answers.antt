@@ -1,13 +1,12 @@
-use Rattle.std.proofs.Common.{◌<◌, All, IsOk, [], ◌∷◌, map, length, ◌++◌, Some, refl, sym, ap, ◌∙◌, subst, arith}
+use Rattle.std.proofs.Common.{◌<◌, All, IsOk, [], ◌∷◌, map, length, ◌++◌, Some, sym, ap, ◌∙◌, subst, arith}
 use Rattle.virtual_time.specs.Law.{received_by, Posted}
 use Rattle.reverse.specs.Rules.{rules_of}
 use Rattle.reverse.specs.Setting.{simulation_of}
 use Rattle.process_queues.specs.Queues.{Queues}
 use Rattle.halves.specs.declared.LeftHalf.{LeftHalf}
-use Rattle.journal.specs.Deeds.{seen_deed, prior_own, place_of}
+use Rattle.journal.specs.Deeds.{entry_by}
 use Rattle.exchange.specs.declared.mark.Standing.{Standing}
-use Rattle.exchange.specs.Keeps.{IsDeedWithinMail}
-use Rattle.exchange.proofs.Growth.{entry-fresh}
+use Rattle.exchange.specs.Views.{place_of, own_of}
 use Rattle.exchange.proofs.Holding.{Joined}
 use Rattle.exchange.proofs.Joining.{seen-low}
 use Rattle.exchange.proofs.Entered.{Entered}
@@ -19,7 +18,7 @@ use Rattle.exchange.proofs.posting.post.Goals as goal
 
 -- the process in hand is that of the journal
 joined : (g : Over) (c : After-join_law g) →
-    Joined (simulation_of (rules_of g.R.Reversible.plain) g.J.ActorRun.setting) c.exchange.inside.journal.entries c.held.inside.number c.held.inside.block c.held.inside.standing.last
+    Joined (simulation_of (rules_of g.R.Reversible.plain) g.J.ActorRun.setting) c.exchange.inside.journal.entries c.held.inside.number c.held.inside.block (own_of c.held.inside.number c.held.inside.standing.last)
 joined g c = record {
   part = rw (sym c.held.view_is, sym c.exchange.view_is) at c.join_law.ensures.part;
   enabled = rw (sym c.held.view_is, sym c.exchange.view_is) at c.join_law.ensures.enabled;
@@ -37,22 +36,18 @@ is-ok g c = c.post-posted.ensures.reserved (when-no-err c.reserve_post.result (s
 -- its entry is in the journal, and both halves tell it
 entered : (g : Over) (c : After-tell_both g) →
     Entered c.exchange.inside.journal.entries (map (λ (b : LeftHalf Standing). b.value) c.exchange.inside.marks.items)
-    c.held.inside.number c.held.inside.standing.last (Posted c.held.inside.block)
-    c.push_reserved.new.self.entries (map (λ (b : LeftHalf Standing). b.value) c.tell_both.new.marks.items) (record { last = c.after.result; seen = c.held.inside.standing.seen })
+    c.held.inside.number (place_of c.held.inside.standing.last) (own_of c.held.inside.number c.held.inside.standing.last) (Posted c.held.inside.block)
+    c.push_reserved.new.self.entries (map (λ (b : LeftHalf Standing). b.value) c.tell_both.new.marks.items) c.standing_at.result
 entered g c =
-    let p = c.held.inside.number in
-    let entry = c.new-entry.ensures in
-    let prior = entry.prior ∙ c.replace-prior.ensures.value in
     let mine = rw (sym c.held.view_is, sym c.exchange.view_is) at c.join_law.ensures.own in
-    let journal = c.reserve.ensures.entries in
+    let prior = rw (sym c.held.view_is) at c.mark-prior.ensures in
+    let journal = c.push_reserved.ensures.entries ∙
+    (λ i. c.reserve.ensures.entries i ++ (c.posted.ensures ∙ (λ j. entry_by c.held.inside.number (prior j).place (Posted (c.replace-block.ensures.value j)))) i ∷ []) in
     record {
-      entry = c.new-entry.result;
       mine = mine;
-      fresh = entry-fresh entry.process (ap place_of prior) (ap prior_own prior ∙ mine) (ap (seen_deed p) entry.deed ∙ ap (λ b. Posted b) c.replace-block.ensures.value)
-          (subst (IsDeedWithinMail p) (sym entry.deed) tt);
-      journal = c.push_reserved.ensures.entries ∙ ap (λ es. es ++ c.new-entry.result ∷ []) journal;
-      place = c.after.ensures.place ∙ ap (λ n. Some n) (c.len-place.ensures ∙ ap length journal);
-      own = c.after.ensures.own;
+      journal = journal;
+      place = c.standing_at.ensures.place ∙ ap (λ n. Some n) (c.len-place.ensures ∙ ap length c.reserve.ensures.entries);
+      told = c.standing_at.ensures.own c.held.inside.number;
       marked = c.tell_both.ensures.marks;
     }
 
@@ -69,7 +64,7 @@ invariant_of-held g c =
     let k = c.exchange.invariant.2 in
     let L = c.actor_law.ensures g.J.ActorRun.setting k.laid in
     let ok = is-ok g at.After-post-posted in (
-      holds-posted k c.held.invariant.0 L (entered g at.After-tell_both) refl (when-ok c.post-posted.result ok c.post-posted.ensures.emptied)
+      holds-posted k c.held.invariant.0 L (entered g at.After-tell_both) c.standing_at.ensures.seen (when-ok c.post-posted.result ok c.post-posted.ensures.emptied)
           (ap (λ (z : Queues g.row.R.Denot g.row.R-Record.Denot). z.left) (when-ok c.post-posted.result ok c.post-posted.ensures.queues))
           c.replace-block.new.dest (c.replace-block.ensures.after ∙ c.new.ensures),
       record { name = c.tell_both.ensures.name ∙ c.held.invariant.1.name; value = c.tell_both.ensures.mark },
@@ -86,7 +81,7 @@ invariant_of-exchange-2 g c =
     let posted = when-ok c.post-posted.result ok c.post-posted.ensures.posted in (
       omega arith,
       c.exchange.invariant.1,
-      kept-posted k h L (entered g at.After-tell_both) refl (when-ok c.post-posted.result ok c.post-posted.ensures.emptied) (joined g at.After-join_law)
+      kept-posted k h L (entered g at.After-tell_both) c.standing_at.ensures.seen (when-ok c.post-posted.result ok c.post-posted.ensures.emptied) (joined g at.After-join_law)
           (seen-low k h.number_is c.held.inside.standing fits) (λ s m. g.met.R.Actor.end_stays s m)
           c.post-posted.new.mail (c.post-posted.ensures.processes ∙ c.reserve_post.ensures.processes)
           (λ q. posted q ∙ (λ j. c.reserve_post.ensures.same q j ++ received_by (rules_of g.R.Reversible.plain).order q c.held.inside.process.queues.outbox))
@@ -99,5 +94,5 @@ pub returns-clause-ok : goal.returns-clause-ok
 returns-clause-ok g c =
     let f = simulation_of (rules_of g.R.Reversible.plain) g.J.ActorRun.setting in
     rw (sym c.held.view_is, sym c.exchange.view_is)
-    (block-posted f (entered g (goal.at.returns-clause-ok g c).After-tell_both) refl (omega arith) c.exchange.inside.limit c.held.inside.gone
+    (block-posted f (entered g (goal.at.returns-clause-ok g c).After-tell_both) c.standing_at.ensures.seen (omega arith) c.exchange.inside.limit c.held.inside.gone
     c.replace-block.new.dest (c.replace-block.ensures.after ∙ c.new.ensures))

@@ -1,7 +1,6 @@
 use Rattle.std.proofs.Common.{◌<◌, length, sym, ◌∙◌, arith}
 use Rattle.vlink.specs.declared.message.Message.{Message}
 use Rattle.virtual_time.specs.Law.{steps_of}
-use Rattle.journal.specs.Deeds.{seen_deed}
 use Rattle.exchange.proofs.Listed.{listed-more, some-step}
 use Rattle.exchange.proofs.reading.add_steps.Goals as goal
 use Rattle.exchange.proofs.reading.add_steps.Goals.{in-Some+in_ok-push, in_default}
@@ -9,9 +8,9 @@ use Rattle.exchange.proofs.reading.add_steps.Goals.{in-Some+in_ok-push, in_defau
 pub loop-at-preserved : goal.loop-at-preserved
 loop-at-preserved c =
     let e = c.args.entry.now in
-    let ss = steps_of {M = Message} e.process (seen_deed e.process e.deed) in
-    elim c.match-step_in.branch [
-      | in-Some+in_ok-push w ↦ listed-more ss c.loop-at.at w.in-Some.step c.args.list.now.items c.loop-at.list.items c.match-step_in.list.items w.in-Some.ensures c.loop-at.invariant
+    let ss = steps_of {M = Message} e.process e.deed in
+    elim c.match-step.branch [
+      | in-Some+in_ok-push w ↦ listed-more ss c.loop-at.at w.in-Some.step c.args.list.now.items c.loop-at.list.items c.match-step.list.items w.in-Some.ensures c.loop-at.invariant
           (let pushed = w.in_ok-push.ensures.items in let same = w.list-is in cc)
-      | in_default w ↦ let within : c.loop-at.at < length ss = omega arith in absurd (some-step ss c.loop-at.at within (sym c.step_in.ensures ∙ w.in_default.is))
+      | in_default w ↦ let within : c.loop-at.at < length ss = omega arith in absurd (some-step ss c.loop-at.at within (sym c.step.ensures ∙ w.in_default.is))
     ]

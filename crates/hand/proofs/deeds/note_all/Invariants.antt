@@ -1,4 +1,4 @@
-use Rattle.std.proofs.Common.{◌≡◌, ◌+◌, ◌≤◌, ◌++◌, take, length}
+use Rattle.std.proofs.Common.{◌≡◌, ◌+◌, ◌++◌, take}
 use Rattle.virtual_time.specs.Law.{rows_of}
 use Rattle.vlink.specs.Order.{message_order}
 use Rattle.hand.proofs.deeds.note_all.Given as goal

@@ -1,4 +1,4 @@
-use Rattle.std.proofs.Common.{◌≡◌, ◌+◌, ◌≤◌, ◌++◌, take, length}
+use Rattle.std.proofs.Common.{◌≡◌, ◌+◌, ◌++◌, take}
 use Rattle.hand.proofs.deeds.send_all.Given as goal
 
 abbrev pub invariant-loop-message : goal.invariant-loop-message

@@ -1,4 +1,4 @@
-use Rattle.std.proofs.Common.{◌<◌, drop, length, refl, sym, ap, ◌∙◌, subst}
+use Rattle.std.proofs.Common.{◌<◌, drop, length, sym, ap, ◌∙◌, subst}
 use Rattle.virtual_time.specs.Law.{rowed, start, run}
 use Rattle.reverse.specs.Rules.{rules_of}
 use Rattle.reverse.specs.Setting.{simulation_of}
@@ -13,5 +13,5 @@ returns g c = λ x laid steps h.
     let p = c.args.process in
     let there = subst (λ (o : Holdings g.row.R.Denot g.row.R-Record.Denot). p < length o.processes) (sym c.self.view_is) c.requires in
     let k = subst (StandsForWorld f g.R.Reversible.is_value w) (sym c.self.view_is) h in
-    let here = queues-at c.self.inside.processes.items p p c.index.result.now refl there c.index.ensures in
+    let here = queues-at c.self.inside.processes.items p c.from.result c.index.result.now c.from.ensures there c.index.ensures in
     c.sealed.ensures (x.opening p) (w.parts p) (k.parts p _ here) ∙ ap (λ n. drop n (rowed f.rules (x.opening p) (w.parts p).committed)) (k.whole p _ here)

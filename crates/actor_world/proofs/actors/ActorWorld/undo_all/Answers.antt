@@ -1,4 +1,4 @@
-use Rattle.std.proofs.Common.{◌<◌, length, map, refl, sym, subst, arith}
+use Rattle.std.proofs.Common.{◌<◌, length, map, sym, subst, arith}
 use Rattle.std.proofs.lemmas.List.{length-map}
 use Rattle.virtual_time.specs.Law.{start, run}
 use Rattle.reverse.specs.Rules.{rules_of}
@@ -18,8 +18,8 @@ stands g c = λ x laid steps h.
     let p = c.args.process in
     let vs = c.self.inside.processes.items in
     let there : p < length (map (λ (u : InHand g.row.R.Denot g.row.R-Record.Denot). u.queues) vs) =
-    omega (arith, length-map vs (λ (u : InHand g.row.R.Denot g.row.R-Record.Denot). u.queues), c.len.ensures, c.if-process-len.false, c.self.inside.processes.ok.0) in
-    (subst (StandsForWorld f g.R.Reversible.is_value (run f steps (start f))) (sym c.self.view_is) h).parts p _ (queues-at vs p p c.swap_remove.result refl there c.swap_remove.ensures.value)
+    omega (arith, length-map vs (λ (u : InHand g.row.R.Denot g.row.R-Record.Denot). u.queues), c.len.ensures, c.if-place-len.false, c.from-place.ensures, c.self.inside.processes.ok.0) in
+    (subst (StandsForWorld f g.R.Reversible.is_value (run f steps (start f))) (sym c.self.view_is) h).parts p _ (queues-at vs p c.from-place.result c.swap_remove.result c.from-place.ensures there c.swap_remove.ensures.value)
 
 pub returns-clause-undone : goal.returns-clause-undone
 returns-clause-undone g c = λ x laid steps h. c.undo_all.ensures.undone _ _ (stands g (goal.at.returns-clause-undone g c).After-swap_remove x laid steps h)

@@ -3,6 +3,7 @@ use Rattle.virtual_time.specs.declared.moved.Move.TheVariants.{Arrived}
 use Rattle.reverse.specs.Rules.{rules_of}
 use Rattle.reverse.specs.Setting.{simulation_of}
 use Rattle.exchange.proofs.Holding.{holds-moved}
+use Rattle.exchange.specs.Views.{place_of, own_of}
 use Rattle.exchange.proofs.Moves.{in_hand, moved-view, arrival-takes}
 use Rattle.exchange.proofs.held.Held.arrive.Goals as goal
 
@@ -18,10 +19,10 @@ invariant_of-self-in-Ok g c =
 pub returns-in-Ok-clause-arrived : goal.returns-in-Ok-clause-arrived
 returns-in-Ok-clause-arrived g c =
     let f = simulation_of (rules_of g.R.Reversible.plain) g.J.ActorRun.setting in
-    moved-view f c.self.inside.number c.self.inside.standing.last c.self.inside.standing.seen c.self.inside.gone c.self.inside.block Arrived c.args.self.now c.self.view_is c.push.new.self c.in_ok-push.ensures.pushed
+    moved-view f c.self.inside.number (own_of c.self.inside.number c.self.inside.standing.last) (place_of c.self.inside.standing.last) c.self.inside.standing.seen c.self.inside.gone c.self.inside.block Arrived c.args.self.now c.self.view_is c.push.new.self c.in_ok-push.ensures.pushed
 
 pub returns-in-Ok-clause-tray : goal.returns-in-Ok-clause-tray
 returns-in-Ok-clause-tray g c =
     let f = simulation_of (rules_of g.R.Reversible.plain) g.J.ActorRun.setting in
-    arrival-takes f c.args.self.now (in_hand f c.self.inside.number c.self.inside.standing.last c.self.inside.standing.seen c.self.inside.gone c.push.new.self) c.requires
-    (moved-view f c.self.inside.number c.self.inside.standing.last c.self.inside.standing.seen c.self.inside.gone c.self.inside.block Arrived c.args.self.now c.self.view_is c.push.new.self c.in_ok-push.ensures.pushed)
+    arrival-takes f c.args.self.now (in_hand f c.self.inside.number (own_of c.self.inside.number c.self.inside.standing.last) (place_of c.self.inside.standing.last) c.self.inside.standing.seen c.self.inside.gone c.push.new.self) c.requires
+    (moved-view f c.self.inside.number (own_of c.self.inside.number c.self.inside.standing.last) (place_of c.self.inside.standing.last) c.self.inside.standing.seen c.self.inside.gone c.self.inside.block Arrived c.args.self.now c.self.view_is c.push.new.self c.in_ok-push.ensures.pushed)

@@ -5,7 +5,7 @@ use Rattle.virtual_time.specs.declared.moved.Move.TheVariants.{Committed}
 use Rattle.vlink.specs.Order.{message_order}
 use Rattle.reverse.specs.Rules.{rules_of}
 use Rattle.reverse.specs.Setting.{simulation_of}
-use Rattle.exchange.specs.Views.{HeldState}
+use Rattle.exchange.specs.Views.{HeldState, place_of, own_of}
 use Rattle.exchange.proofs.Holding.{holds-moved}
 use Rattle.exchange.proofs.Moves.{in_hand, moved-view, commit-takes, early-commits}
 use Rattle.exchange.proofs.Oldest.{oldest-tells}
@@ -17,7 +17,7 @@ use Rattle.exchange.proofs.held.Held.commit_oldest.Goals as goal
 -- behind the test, the oldest done event can be committed
 can-commit : (g : Over) (c : After-push g) →
     can_move (simulation_of (rules_of g.R.Reversible.plain) g.J.ActorRun.setting) c.self.inside.standing.seen Committed
-    (in_hand (simulation_of (rules_of g.R.Reversible.plain) g.J.ActorRun.setting) c.self.inside.number c.self.inside.standing.last c.self.inside.standing.seen c.self.inside.gone c.self.inside.block).part ≡ true
+    (in_hand (simulation_of (rules_of g.R.Reversible.plain) g.J.ActorRun.setting) c.self.inside.number (own_of c.self.inside.number c.self.inside.standing.last) (place_of c.self.inside.standing.last) c.self.inside.standing.seen c.self.inside.gone c.self.inside.block).part ≡ true
 can-commit g c =
     let h = c.self.invariant.0 in
     early-commits (simulation_of (rules_of g.R.Reversible.plain) g.J.ActorRun.setting) (c.actor_law.ensures g.J.ActorRun.setting h.laid) c.self.inside.number c.self.inside.standing.seen _ h.safe
@@ -41,7 +41,7 @@ invariant_of-self-in-Ok-true g c =
 
 pub returns-in-Ok-true-clause-committed : goal.returns-in-Ok-true-clause-committed
 returns-in-Ok-true-clause-committed g c = λ yes.
-    moved-view (simulation_of (rules_of g.R.Reversible.plain) g.J.ActorRun.setting) c.self.inside.number c.self.inside.standing.last c.self.inside.standing.seen c.self.inside.gone c.self.inside.block Committed
+    moved-view (simulation_of (rules_of g.R.Reversible.plain) g.J.ActorRun.setting) c.self.inside.number (own_of c.self.inside.number c.self.inside.standing.last) (place_of c.self.inside.standing.last) c.self.inside.standing.seen c.self.inside.gone c.self.inside.block Committed
     c.args.self.now c.self.view_is c.push.new.self c.in_ok-push.ensures.pushed
 
 pub returns-in-Ok-true-clause-fewer : goal.returns-in-Ok-true-clause-fewer

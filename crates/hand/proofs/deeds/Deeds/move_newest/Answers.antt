@@ -9,20 +9,18 @@ use Rattle.hand.proofs.deeds.Deeds.move_newest.Goals.{After-push_back_reserved, 
 use Rattle.hand.proofs.deeds.Deeds.move_newest.Goals as goal
 
 -- what the newest one sent, and noted, is part of what all did
-sent-part : (g : Over) (c : After-push_back_reserved g) → c.from-sent.result ≤ length c.self.inside.sends.items
+sent-part : (g : Over) (c : After-push_back_reserved g) → c.in-Some.event.sent ≤ length c.self.inside.sends.items
 sent-part g c =
     let i = c.self.invariant.0 in
     let a = ap all_sent c.in-Some.ensures.items in
     let b = sent-more c.pop_back.new.self.items c.in-Some.event in
-    let n = c.from-sent.ensures in
     omega arith
 
-noted-part : (g : Over) (c : After-push_back_reserved g) → c.from-noted.result ≤ length c.self.inside.rows.items
+noted-part : (g : Over) (c : After-push_back_reserved g) → c.in-Some.event.noted ≤ length c.self.inside.rows.items
 noted-part g c =
     let i = c.self.invariant.1 in
     let a = ap all_noted c.in-Some.ensures.items in
     let b = noted-more c.pop_back.new.self.items c.in-Some.event in
-    let n = c.from-noted.ensures in
     omega arith
 
 pub move_last-requires-clause-enough : goal.move_last-requires-clause-enough
@@ -53,10 +51,13 @@ invariant_of-self g c =
     let q = noted-part g (goal.at.invariant_of-self g c).After-push_back_reserved in
     let sends = c.self.inside.sends in
     let rows = c.self.inside.rows in (
-      (let i = c.self.invariant.0 in let a = ap all_sent c.in-Some.ensures.items in let b = sent-more c.pop_back.new.self.items c.in-Some.event in let n = c.from-sent.ensures in
-          let t = ap length c.move_last.ensures.items ∙ length-take-le (length sends.items - c.from-sent.result) sends.items (omega arith) in omega arith),
-      (let i = c.self.invariant.1 in let a = ap all_noted c.in-Some.ensures.items in let b = noted-more c.pop_back.new.self.items c.in-Some.event in let n = c.from-noted.ensures in
-          let t = ap length c.move_last-2.ensures.items ∙ length-take-le (length rows.items - c.from-noted.result) rows.items (omega arith) in omega arith),
+      (let i = c.self.invariant.0 in let a = ap all_sent c.in-Some.ensures.items in let b = sent-more c.pop_back.new.self.items c.in-Some.event in
+          let t = ap length c.move_last.ensures.items ∙ length-take-le (length sends.items - c.in-Some.event.sent) sends.items (omega arith) in omega arith),
+      (let i = c.self.invariant.1 in let a = ap all_noted c.in-Some.ensures.items in let b = noted-more c.pop_back.new.self.items c.in-Some.event in
+          let t = ap length c.move_last-2.ensures.items ∙ length-take-le (length rows.items - c.in-Some.event.noted) rows.items (omega arith) in omega arith),
+      (let r = c.self.invariant.2 in let k = c.in-Some.ensures.room in omega (arith, r, k)),
+      (let r = c.self.invariant.3 in let k = c.move_last.ensures.items_capacity in omega (arith, r, k)),
+      (let r = c.self.invariant.4 in let k = c.move_last-2.ensures.items_capacity in omega (arith, r, k)),
     )
 
 pub invariant_of-other : goal.invariant_of-other
@@ -66,12 +67,15 @@ invariant_of-other g c =
     let sends = c.self.inside.sends in
     let rows = c.self.inside.rows in
     let there = c.other.inside in (
-      (let i = c.other.invariant.0 in let a = ap all_sent c.push_back_reserved.ensures.items in let b = sent-more there.events.items c.in-Some.event in let n = c.from-sent.ensures in
-          let t = ap length c.move_last.ensures.taken ∙ length-append there.sends.items (drop (length sends.items - c.from-sent.result) sends.items) in
-          let d = length-drop (length sends.items - c.from-sent.result) sends.items in omega arith),
-      (let i = c.other.invariant.1 in let a = ap all_noted c.push_back_reserved.ensures.items in let b = noted-more there.events.items c.in-Some.event in let n = c.from-noted.ensures in
-          let t = ap length c.move_last-2.ensures.taken ∙ length-append there.rows.items (drop (length rows.items - c.from-noted.result) rows.items) in
-          let d = length-drop (length rows.items - c.from-noted.result) rows.items in omega arith),
+      (let i = c.other.invariant.0 in let a = ap all_sent c.push_back_reserved.ensures.items in let b = sent-more there.events.items c.in-Some.event in
+          let t = ap length c.move_last.ensures.taken ∙ length-append there.sends.items (drop (length sends.items - c.in-Some.event.sent) sends.items) in
+          let d = length-drop (length sends.items - c.in-Some.event.sent) sends.items in omega arith),
+      (let i = c.other.invariant.1 in let a = ap all_noted c.push_back_reserved.ensures.items in let b = noted-more there.events.items c.in-Some.event in
+          let t = ap length c.move_last-2.ensures.taken ∙ length-append there.rows.items (drop (length rows.items - c.in-Some.event.noted) rows.items) in
+          let d = length-drop (length rows.items - c.in-Some.event.noted) rows.items in omega arith),
+      omega arith,
+      omega arith,
+      omega arith,
     )
 
 -- the newest event with its shares
@@ -79,32 +83,28 @@ newest : (g : Over) (c : After-move_last-2 g) → Deed g.row.K.Denot
 newest g c = record {
   message = c.in-Some.event.message;
   kept = c.in-Some.event.kept;
-  sent = drop (length c.self.inside.sends.items - c.from-sent.result) c.self.inside.sends.items;
-  rows = drop (length c.self.inside.rows.items - c.from-noted.result) c.self.inside.rows.items;
+  sent = drop (length c.self.inside.sends.items - c.in-Some.event.sent) c.self.inside.sends.items;
+  rows = drop (length c.self.inside.rows.items - c.in-Some.event.noted) c.self.inside.rows.items;
 }
 
-out : (g : Over) (c : After-move_last-2 g) → c.from-sent.result ≤ length c.self.inside.sends.items → c.from-noted.result ≤ length c.self.inside.rows.items →
+out : (g : Over) (c : After-move_last-2 g) → c.in-Some.event.sent ≤ length c.self.inside.sends.items → c.in-Some.event.noted ≤ length c.self.inside.rows.items →
     c.args.self.now.deeds ≡ deeds_in c.pop_back.new.self.items c.move_last.new.items.items c.move_last-2.new.items.items ++ newest g c ∷ []
 unfolding newest
 out g c p q =
     let inside = c.self.inside in
-    let n = c.from-sent.ensures in
-    let m = c.from-noted.ensures in
     sym (ap (λ z. z.deeds) c.self.view_is) ∙ (ap (λ es. deeds_in es inside.sends.items inside.rows.items) c.in-Some.ensures.items ∙
-    (newest-share c.pop_back.new.self.items c.in-Some.event inside.sends.items inside.rows.items (length inside.sends.items - c.from-sent.result) (length inside.rows.items - c.from-noted.result)
+    (newest-share c.pop_back.new.self.items c.in-Some.event inside.sends.items inside.rows.items (length inside.sends.items - c.in-Some.event.sent) (length inside.rows.items - c.in-Some.event.noted)
     (c.self.invariant.0 ∙ ap all_sent c.in-Some.ensures.items) (c.self.invariant.1 ∙ ap all_noted c.in-Some.ensures.items) (omega arith) (omega arith) ∙
     (λ j. deeds_in c.pop_back.new.self.items (sym c.move_last.ensures.items j) (sym c.move_last-2.ensures.items j) ++ newest g c ∷ [])))
 
-into : (g : Over) (c : After-move_last-2 g) → c.from-sent.result ≤ length c.self.inside.sends.items → c.from-noted.result ≤ length c.self.inside.rows.items →
+into : (g : Over) (c : After-move_last-2 g) → c.in-Some.event.sent ≤ length c.self.inside.sends.items → c.in-Some.event.noted ≤ length c.self.inside.rows.items →
     deeds_in c.push_back_reserved.new.self.items c.move_last.new.taken.items c.move_last-2.new.taken.items ≡ c.args.other.now.deeds ++ newest g c ∷ []
 unfolding newest
 into g c p q =
     let inside = c.self.inside in
     let there = c.other.inside in
-    let n = c.from-sent.ensures in
-    let m = c.from-noted.ensures in
-    let s = length-drop (length inside.sends.items - c.from-sent.result) inside.sends.items in
-    let t = length-drop (length inside.rows.items - c.from-noted.result) inside.rows.items in
+    let s = length-drop (length inside.sends.items - c.in-Some.event.sent) inside.sends.items in
+    let t = length-drop (length inside.rows.items - c.in-Some.event.noted) inside.rows.items in
     (λ j. deeds_in (c.push_back_reserved.ensures.items j) (c.move_last.ensures.taken j) (c.move_last-2.ensures.taken j)) ∙
     (deeds-more there.events.items c.in-Some.event there.sends.items (newest g c).sent there.rows.items (newest g c).rows c.other.invariant.0 c.other.invariant.1 (omega arith) (omega arith) ∙
     ap (λ z. z.deeds ++ newest g c ∷ []) c.other.view_is)
@@ -122,12 +122,12 @@ returns-clause-moved g c =
         events = let r = ap (λ z. z.events_room) c.self.view_is in let b = h.events in
             let l = ap length c.in-Some.ensures.items ∙ length-append c.pop_back.new.self.items (c.in-Some.event ∷ []) in let k = c.in-Some.ensures.room in omega arith;
         sends = let r = ap (λ z. z.sends_room) c.self.view_is in let b = h.sends in
-            let d = length-drop (length c.self.inside.sends.items - c.from-sent.result) c.self.inside.sends.items in
-            let l = ap length c.move_last.ensures.items ∙ length-take-le (length c.self.inside.sends.items - c.from-sent.result) c.self.inside.sends.items (omega arith) in
+            let d = length-drop (length c.self.inside.sends.items - c.in-Some.event.sent) c.self.inside.sends.items in
+            let l = ap length c.move_last.ensures.items ∙ length-take-le (length c.self.inside.sends.items - c.in-Some.event.sent) c.self.inside.sends.items (omega arith) in
             let k = c.move_last.ensures.items_capacity in omega arith;
         rows = let r = ap (λ z. z.rows_room) c.self.view_is in let b = h.rows in
-            let d = length-drop (length c.self.inside.rows.items - c.from-noted.result) c.self.inside.rows.items in
-            let l = ap length c.move_last-2.ensures.items ∙ length-take-le (length c.self.inside.rows.items - c.from-noted.result) c.self.inside.rows.items (omega arith) in
+            let d = length-drop (length c.self.inside.rows.items - c.in-Some.event.noted) c.self.inside.rows.items in
+            let l = ap length c.move_last-2.ensures.items ∙ length-take-le (length c.self.inside.rows.items - c.in-Some.event.noted) c.self.inside.rows.items (omega arith) in
             let k = c.move_last-2.ensures.items_capacity in omega arith;
       },
     )
@@ -145,10 +145,10 @@ returns-clause-room g c =
       events = let a = ap length split ∙ length-append left (newest g at ∷ []) in let r = ap (λ z. z.events_room) c.other.view_is in let b = h.events in
           let k = c.push_back_reserved.ensures.room in omega arith;
       sends = let a = ap sent_in split ∙ sent_in-push left (newest g at) in let r = ap (λ z. z.sends_room) c.other.view_is in let b = h.sends in
-          let d = length-drop (length c.self.inside.sends.items - c.from-sent.result) c.self.inside.sends.items in
+          let d = length-drop (length c.self.inside.sends.items - c.in-Some.event.sent) c.self.inside.sends.items in
           let l = ap length c.move_last.ensures.taken ∙ length-append c.other.inside.sends.items (newest g at).sent in let k = c.move_last.ensures.taken_capacity in omega arith;
       rows = let a = ap noted_in split ∙ noted_in-push left (newest g at) in let r = ap (λ z. z.rows_room) c.other.view_is in let b = h.rows in
-          let d = length-drop (length c.self.inside.rows.items - c.from-noted.result) c.self.inside.rows.items in
+          let d = length-drop (length c.self.inside.rows.items - c.in-Some.event.noted) c.self.inside.rows.items in
           let l = ap length c.move_last-2.ensures.taken ∙ length-append c.other.inside.rows.items (newest g at).rows in let k = c.move_last-2.ensures.taken_capacity in omega arith;
     }
 
@@ -164,11 +164,11 @@ returns-clause-back g c = λ h.
       events = let a = ap length joined ∙ length-append there (newest g at ∷ []) in let r = ap (λ z. z.events_room) c.self.view_is in let b = h.events in
           let l = ap length c.in-Some.ensures.items ∙ length-append c.pop_back.new.self.items (c.in-Some.event ∷ []) in let k = c.in-Some.ensures.room in omega arith;
       sends = let a = ap sent_in joined ∙ sent_in-push there (newest g at) in let r = ap (λ z. z.sends_room) c.self.view_is in let b = h.sends in
-          let d = length-drop (length c.self.inside.sends.items - c.from-sent.result) c.self.inside.sends.items in
-          let l = ap length c.move_last.ensures.items ∙ length-take-le (length c.self.inside.sends.items - c.from-sent.result) c.self.inside.sends.items (omega arith) in
+          let d = length-drop (length c.self.inside.sends.items - c.in-Some.event.sent) c.self.inside.sends.items in
+          let l = ap length c.move_last.ensures.items ∙ length-take-le (length c.self.inside.sends.items - c.in-Some.event.sent) c.self.inside.sends.items (omega arith) in
           let k = c.move_last.ensures.items_capacity in omega arith;
       rows = let a = ap noted_in joined ∙ noted_in-push there (newest g at) in let r = ap (λ z. z.rows_room) c.self.view_is in let b = h.rows in
-          let d = length-drop (length c.self.inside.rows.items - c.from-noted.result) c.self.inside.rows.items in
-          let l = ap length c.move_last-2.ensures.items ∙ length-take-le (length c.self.inside.rows.items - c.from-noted.result) c.self.inside.rows.items (omega arith) in
+          let d = length-drop (length c.self.inside.rows.items - c.in-Some.event.noted) c.self.inside.rows.items in
+          let l = ap length c.move_last-2.ensures.items ∙ length-take-le (length c.self.inside.rows.items - c.in-Some.event.noted) c.self.inside.rows.items (omega arith) in
           let k = c.move_last-2.ensures.items_capacity in omega arith;
     }

@@ -13,7 +13,6 @@ take_back-requires-clause-enough g c =
     let i = c.self.invariant.0 in
     let a = ap all_sent c.in-Some.ensures.items in
     let b = sent-more c.pop_back.new.self.items c.in-Some.event in
-    let n = c.from-sent.ensures in
     omega arith
 
 pub take_back-requires-clause-room : goal.take_back-requires-clause-room
@@ -21,7 +20,6 @@ take_back-requires-clause-room g c =
     let i = c.self.invariant.0 in
     let a = ap all_sent c.in-Some.ensures.items in
     let b = sent-more c.pop_back.new.self.items c.in-Some.event in
-    let n = c.from-sent.ensures in
     let s = sym (ap (λ z. sent_in z.deeds) c.self.view_is) ∙ how-much_sent c.self.inside.events.items c.self.inside.sends.items c.self.inside.rows.items c.self.invariant.0 in
     let h = c.requires.room in
     omega arith
@@ -31,25 +29,22 @@ overflow_sub-left g c =
     let i = c.self.invariant.1 in
     let a = ap all_noted c.in-Some.ensures.items in
     let b = noted-more c.pop_back.new.self.items c.in-Some.event in
-    let n = c.from-noted.ensures in
     let l = c.len.ensures in
     omega arith
 
 -- what the newest one sent, and noted, is part of what all did
-sent-part : (g : Over) (c : After-truncate g) → c.from-sent.result ≤ length c.self.inside.sends.items
+sent-part : (g : Over) (c : After-truncate g) → c.in-Some.event.sent ≤ length c.self.inside.sends.items
 sent-part g c =
     let i = c.self.invariant.0 in
     let a = ap all_sent c.in-Some.ensures.items in
     let b = sent-more c.pop_back.new.self.items c.in-Some.event in
-    let n = c.from-sent.ensures in
     omega arith
 
-noted-part : (g : Over) (c : After-truncate g) → c.from-noted.result ≤ length c.self.inside.rows.items
+noted-part : (g : Over) (c : After-truncate g) → c.in-Some.event.noted ≤ length c.self.inside.rows.items
 noted-part g c =
     let i = c.self.invariant.1 in
     let a = ap all_noted c.in-Some.ensures.items in
     let b = noted-more c.pop_back.new.self.items c.in-Some.event in
-    let n = c.from-noted.ensures in
     omega arith
 
 pub invariant_of-self : goal.invariant_of-self
@@ -58,11 +53,14 @@ invariant_of-self g c =
     let q = noted-part g (goal.at.invariant_of-self g c).After-truncate in
     let sends = c.self.inside.sends in
     let rows = c.self.inside.rows in (
-      (let i = c.self.invariant.0 in let a = ap all_sent c.in-Some.ensures.items in let b = sent-more c.pop_back.new.self.items c.in-Some.event in let n = c.from-sent.ensures in
-          let t = ap length c.take_back.ensures.sends ∙ length-take-le (length sends.items - c.from-sent.result) sends.items (omega arith) in omega arith),
-      (let i = c.self.invariant.1 in let a = ap all_noted c.in-Some.ensures.items in let b = noted-more c.pop_back.new.self.items c.in-Some.event in let n = c.from-noted.ensures in
+      (let i = c.self.invariant.0 in let a = ap all_sent c.in-Some.ensures.items in let b = sent-more c.pop_back.new.self.items c.in-Some.event in
+          let t = ap length c.take_back.ensures.sends ∙ length-take-le (length sends.items - c.in-Some.event.sent) sends.items (omega arith) in omega arith),
+      (let i = c.self.invariant.1 in let a = ap all_noted c.in-Some.ensures.items in let b = noted-more c.pop_back.new.self.items c.in-Some.event in
           let l = c.len.ensures in
-          let t = ap length c.truncate.ensures.items ∙ length-take-le (c.len.result - c.from-noted.result) rows.items (omega arith) in omega arith),
+          let t = ap length c.truncate.ensures.items ∙ length-take-le (c.len.result - c.in-Some.event.noted) rows.items (omega arith) in omega arith),
+      (let r = c.self.invariant.2 in let k = c.in-Some.ensures.room in omega (arith, r, k)),
+      (let r = c.self.invariant.3 in let k = c.take_back.ensures.sends_capacity in omega (arith, r, k)),
+      (let r = c.self.invariant.4 in let k = c.truncate.ensures.room in let l = c.len.ensures in omega (arith, r, k, l)),
     )
 
 -- the newest event with its shares
@@ -70,8 +68,8 @@ newest : (g : Over) (c : After-truncate g) → Deed g.row.K.Denot
 newest g c = record {
   message = c.in-Some.event.message;
   kept = c.in-Some.event.kept;
-  sent = drop (length c.self.inside.sends.items - c.from-sent.result) c.self.inside.sends.items;
-  rows = drop (c.len.result - c.from-noted.result) c.self.inside.rows.items;
+  sent = drop (length c.self.inside.sends.items - c.in-Some.event.sent) c.self.inside.sends.items;
+  rows = drop (c.len.result - c.in-Some.event.noted) c.self.inside.rows.items;
 }
 
 out : (g : Over) (c : After-truncate g) → c.args.self.now.deeds ≡ deeds_in c.pop_back.new.self.items c.take_back.new.sends.items c.truncate.new.self.items ++ newest g c ∷ []
@@ -80,11 +78,9 @@ out g c =
     let inside = c.self.inside in
     let p = sent-part g c in
     let q = noted-part g c in
-    let n = c.from-sent.ensures in
-    let m = c.from-noted.ensures in
     let l = c.len.ensures in
     sym (ap (λ z. z.deeds) c.self.view_is) ∙ (ap (λ es. deeds_in es inside.sends.items inside.rows.items) c.in-Some.ensures.items ∙
-    (newest-share c.pop_back.new.self.items c.in-Some.event inside.sends.items inside.rows.items (length inside.sends.items - c.from-sent.result) (c.len.result - c.from-noted.result)
+    (newest-share c.pop_back.new.self.items c.in-Some.event inside.sends.items inside.rows.items (length inside.sends.items - c.in-Some.event.sent) (c.len.result - c.in-Some.event.noted)
     (c.self.invariant.0 ∙ ap all_sent c.in-Some.ensures.items) (c.self.invariant.1 ∙ ap all_noted c.in-Some.ensures.items) (omega arith) (omega arith) ∙
     (λ j. deeds_in c.pop_back.new.self.items (sym c.take_back.ensures.sends j) (sym c.truncate.ensures.items j) ++ newest g c ∷ [])))
 
@@ -101,7 +97,7 @@ returns-clause-room g c =
     let p = sent-part g at in
     let left = deeds_in c.pop_back.new.self.items c.take_back.new.sends.items c.truncate.new.self.items in
     let a = ap sent_in (out g at) ∙ sent_in-push left (newest g at) in
-    let d = length-drop (length c.self.inside.sends.items - c.from-sent.result) c.self.inside.sends.items in
+    let d = length-drop (length c.self.inside.sends.items - c.in-Some.event.sent) c.self.inside.sends.items in
     let b = ap length c.take_back.ensures.back ∙ (length-append c.args.back.now.items (reverse (newest g at).sent) ∙ ap (λ n. length c.args.back.now.items + n) (length-reverse (newest g at).sent)) in
     let k = c.take_back.ensures.capacity in
     let h = c.requires.room in

@@ -13,8 +13,13 @@ invariant_of-self g c =
     let n = ap all_noted c.push_back_reserved.ensures.items ∙ noted-more inside.events.items _ in
     let s = ap length c.send_all.ensures.sends ∙ length-append inside.sends.items c.args.sends.now in
     let r = ap length c.note_all.ensures.rows ∙ length-append inside.rows.items (rows_of message_order c.args.message.now c.args.notes.now) in
-    let k = length-map c.args.notes.now (λ n. record { message = c.args.message.now; place = c.args.message.now.receiver; note = n }) in
-    (s ∙ (ap (λ z. z + length c.args.sends.now) c.self.invariant.0 ∙ sym e), r ∙ (ap (λ z. z + length (rows_of message_order c.args.message.now c.args.notes.now)) c.self.invariant.1 ∙ (ap (λ z. all_noted inside.events.items + z) k ∙ sym n)))
+    let k = length-map c.args.notes.now (λ n. record { message = c.args.message.now; place = c.args.message.now.receiver; note = n }) in (
+      s ∙ (ap (λ z. z + length c.args.sends.now) c.self.invariant.0 ∙ sym e),
+      r ∙ (ap (λ z. z + length (rows_of message_order c.args.message.now c.args.notes.now)) c.self.invariant.1 ∙ (ap (λ z. all_noted inside.events.items + z) k ∙ sym n)),
+      (let a = c.push_back_reserved.ensures.room in let b = c.self.invariant.2 in omega (arith, a, b)),
+      (let a = c.send_all.ensures.capacity in let b = c.self.invariant.3 in let l = c.requires.sends.0 in omega (arith, a, b, l)),
+      (let a = c.note_all.ensures.capacity in let b = c.self.invariant.4 in let l = c.requires.rows.0 in omega (arith, a, b, l)),
+    )
 
 pub returns-clause-deeds : goal.returns-clause-deeds
 returns-clause-deeds g c =

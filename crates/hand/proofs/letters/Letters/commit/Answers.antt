@@ -3,8 +3,8 @@ use Rattle.hand.specs.Sealing.{rows_in}
 use Rattle.hand.proofs.Forgetting.{rows-all}
 use Rattle.hand.proofs.letters.Letters.commit.Goals as goal
 
-pub forget_early-requires-clause-rows : goal.forget_early-requires-clause-rows
-forget_early-requires-clause-rows g c =
+pub forget-requires-clause-room : goal.forget-requires-clause-room
+forget-requires-clause-room g c =
     let all : length (rows_in c.args.done.now.deeds) ≡ length c.done.inside.rows.items =
     ap (λ z. length (rows_in z.deeds)) (sym c.done.view_is) ∙ ap length (rows-all c.done.inside.events.items c.done.inside.sends.items c.done.inside.rows.items c.done.invariant.1) in
     let counted = c.len.ensures in

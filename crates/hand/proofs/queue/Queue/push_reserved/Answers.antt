@@ -1,7 +1,6 @@
 use Rattle.std.proofs.Common.{List, ◌∷◌, ◌++◌, IsPermutation, subst, ap}
 use Rattle.std.proofs.lemmas.List.Sorted.{IsPermutation-append_left}
 use Rattle.vlink.specs.declared.message.Message.{Message}
-use Rattle.hand.proofs.Offers.{took, room-then}
 use Rattle.hand.proofs.queue.Queue.push_reserved.Goals as goal
 
 pub returns-clause-more : goal.returns-clause-more
@@ -9,7 +8,6 @@ returns-clause-more c =
     let m = c.args.message.now in
     let lists = c.self.inside.lists.messages in
     let offers = c.self.inside.offers.items in
-    let now = c.push-taken.new.self.messages in
+    let now = c.push_reserved.new.self.messages in
     subst (λ (xs : List Message). IsPermutation (m ∷ xs) (now ++ offers)) (ap (λ z. z.messages) c.self.view_is)
-    (IsPermutation-append_left offers (m ∷ lists) now
-    (c.push-taken.ensures.taken (took c.push-taken.result c.self.inside.lists.room (room-then c.self.inside.lists.room c.args.self.now.room (ap (λ z. z.room) c.self.view_is) c.requires) c.push-taken.ensures.full)))
+    (IsPermutation-append_left offers (m ∷ lists) now c.push_reserved.ensures.taken)

@@ -5,8 +5,12 @@ use Rattle.network.specs.Words.{node_plan, process_count}
 use Rattle.network.proofs.BuildLemmas.{few-accepted}
 use Rattle.network.proofs.network.Network.process_count.Goals as goal
 
-pub overflow_add-result : goal.overflow_add-result
-overflow_add-result c =
+pub overflow_add-len : goal.overflow_add-len
+overflow_add-len c =
+    omega (arith, few-accepted _ c.self.invariant.0, length-map c.self.inside.nodes.items node_plan, c.len.ensures, c.len-2.ensures)
+
+pub process_number-requires : goal.process_number-requires
+process_number-requires c =
     omega (arith, few-accepted _ c.self.invariant.0, length-map c.self.inside.nodes.items node_plan, c.len.ensures, c.len-2.ensures)
 
 pub returns-clause-few : goal.returns-clause-few
