@@ -44,7 +44,7 @@ impl<J: NetworkRun> Counted<J> {
     pub(crate) fn none(alloc: Global, network: &Network) -> Result<Self, AllocError>
         requires { network.now ≡ J.plan }
     {
-        Counted::opened(alloc, network, Vec::new(alloc))
+        Counted::with_moments(alloc, network, Vec::new(alloc))
     }
 
     /// No row is counted yet, and each of so many groups has a moment of its own. It is refused for memory alone.
@@ -52,10 +52,11 @@ impl<J: NetworkRun> Counted<J> {
         requires { network.now ≡ J.plan }
     {
         let own = first_moments(alloc, usize::from(groups))?;
-        Counted::opened(alloc, network, own)
+        Counted::with_moments(alloc, network, own)
     }
 
-    fn opened(alloc: Global, network: &Network, own: Vec<Time>) -> Result<Self, AllocError>
+    /// No row is counted yet, and the groups have these moments, all of them 0. It is refused for memory alone.
+    fn with_moments(alloc: Global, network: &Network, own: Vec<Time>) -> Result<Self, AllocError>
         requires network { network.now ≡ J.plan }
         requires first { (p : ℕ) → moment_of own.items 0 p ≡ 0 }
     {

@@ -67,7 +67,7 @@ impl<J: NetworkRun> Desk<J> {
         ensures kept { segment_fault self.old.gather segment ≡ None → self.new.fault ≡ self.old.fault }
         ensures memory { IfErr result (λ fault. fault ≡ pool.OutOfMemory) }
     {
-        match self.gathered(segment) {
+        match self.add_segment(segment) {
             Ok(None) => Ok(()),
             Ok(Some(batch)) => self.send(rt, batch),
             Err(SegmentFault::OutOfMemory) => Err(PoolFault::OutOfMemory),
@@ -80,7 +80,7 @@ impl<J: NetworkRun> Desk<J> {
 
     /// Takes the next segment of a group, which is one of the run. Once the segments of all groups for an interval are there, the batch of the
     /// interval is given. Its refusals are those of `Gather::take`, and change nothing.
-    fn gathered(&mut self, segment: Segment) -> Result<Option<RunBatch<J>>, SegmentFault>
+    fn add_segment(&mut self, segment: Segment) -> Result<Option<RunBatch<J>>, SegmentFault>
         requires run { segment.run ≡ 0 }
         requires group { segment.process < length J.names }
         requires of_run { (k : ℕ) × IsGroupSegmentOfRun J.plan J.owners segment.process k segment }

@@ -101,7 +101,7 @@ impl<J: NetworkRun> Unlocked<'_, J> {
         ensures { result ≡ true → IsEnded J.plan J.owners self.now.exchange.steps self.now.groups.items }
     {
         let until = self.network.until();
-        if self.exchange.lent().gvt().ns() != until.ns() + 1 || !self.are_of_world(until) {
+        if self.exchange.as_exchange().gvt().ns() != until.ns() + 1 || !self.are_of_world(until) {
             return false;
         }
         self.all_committed()
@@ -128,12 +128,12 @@ impl<J: NetworkRun> Unlocked<'_, J> {
         ensures each { result ≡ true → (g : ℕ) (group : GroupState NodeState NodeRecord) → slice_get self.now.groups.items g ≡ Some group →
             IsOfWorld J.plan J.owners self.now.exchange.steps g group }
     {
-        if self.groups.len() != usize::from(self.exchange.lent().groups()) {
+        if self.groups.len() != usize::from(self.exchange.as_exchange().groups()) {
             return false;
         }
         for place in 0..self.groups.len() {
             let group = &self.groups[place];
-            if !is_of_world(self.exchange.lent(), group, place, until) {
+            if !is_of_world(self.exchange.as_exchange(), group, place, until) {
                 return false;
             }
         }

@@ -10,7 +10,8 @@ use std::alloc::{AllocError, Global};
 use std::thread;
 use std::thread::Threads;
 
-/// In a network of at most so many processes each process is a group.
+/// In a network of at most so many processes each process is a group: there meetings of processes are tried and looked at. A larger one has no more
+/// groups than workers, since a section of the exchange moves some four lines of memory between cores, 100 ns each beside 75 ns of work for an event.
 const FEW_PROCESSES: u16 = 16;
 
 /// So many groups a network has at most, where it has more processes.

@@ -32,8 +32,8 @@ impl<J: NetworkRun> Leaving<J> {
         }
     }
 
-    /// They are counted.
-    pub(crate) fn counted(counted: Counted<J>) -> Self {
+    /// They are counted into tables.
+    pub(crate) fn to_tables(counted: Counted<J>) -> Self {
         Leaving {
             counted: Some(Mutex::new(counted)),
             trace: None,
@@ -41,7 +41,7 @@ impl<J: NetworkRun> Leaving<J> {
     }
 
     /// They go to the trace.
-    pub(crate) fn traced(trace: TraceLock<J>) -> Self {
+    pub(crate) fn to_trace(trace: TraceLock<J>) -> Self {
         Leaving {
             counted: None,
             trace: Some(trace),
@@ -71,7 +71,7 @@ impl<J: NetworkRun> Leaving<J> {
 
     /// The first fault of a segment that is not want of memory, where a trace is written, to which no batch is sent from here on; and what was
     /// counted, where rows are.
-    pub(crate) fn closed(&mut self) -> (Option<SegmentFault>, Option<Counted<J>>)
+    pub(crate) fn close(&mut self) -> (Option<SegmentFault>, Option<Counted<J>>)
         ensures { IfSome result.0 IsPlaceFault }
     {
         let counted = match self.counted.take() {

@@ -53,7 +53,7 @@ impl<J: NetworkRun> Model for Shared<J> {
 
 impl<J: NetworkRun> Shared<J> {
     /// The exchange.
-    pub(crate) fn lent(&self) -> &GroupExchange<Node, Of<J>>
+    pub(crate) fn as_exchange(&self) -> &GroupExchange<Node, Of<J>>
         ensures { result.now ≡ self.now }
     {
         &self.inner
@@ -102,7 +102,7 @@ impl<J: NetworkRun> Shared<J> {
     }
 
     /// A worker has a section. In one of `SECTIONS_PER_GVT`, and where it waits for it, GVT is set: then it is the answer, in ns.
-    pub(crate) fn passed(&mut self, waits: bool) -> Result<Option<Time>, RunFault<J>>
+    pub(crate) fn publish_if_due(&mut self, waits: bool) -> Result<Option<Time>, RunFault<J>>
         ensures no_spawn { IfErr result (λ fault. fault ≢ Spawn) }
     {
         self.sections = self.sections.wrapping_add(1);

@@ -95,9 +95,9 @@ fn summary_named<J: NetworkRun + Send + Sync, G: Gate + Sync, T: Threads + Wait 
     let start: StartOf<J> = StartOf::of(start);
     let keeps = start.keeps;
     let counted = Counted::each(alloc, start.network, start.grouping.groups)?;
-    let leaving = Leaving::counted(counted);
+    let leaving = Leaving::to_tables(counted);
     let mut ended = run_to_end::<J, G, T, W>(rt, alloc, start, gate, leaving, false, watch)?;
-    let (_none, counted) = ended.leaving.closed();
+    let (_none, counted) = ended.leaving.close();
     ended.summary(alloc, counted, keeps)
 }
 

@@ -50,7 +50,7 @@ pub struct Traced<S> {
 }
 
 /// No batch comes behind what a run has sent to the writer's thread, which else would wait for it. The answer is the run, and the first fault of a segment.
-fn closed<'n, J: NetworkRun>(
+fn close_trace<'n, J: NetworkRun>(
     ran: Result<Unlocked<'n, J>, RunFault<J>>,
 ) -> Result<(Unlocked<'n, J>, Option<SegmentFault>), RunFault<J>>
     requires ended { IfOk ran (λ r. IsEnded J.plan J.owners r.exchange.steps r.groups.items) }
@@ -58,7 +58,7 @@ fn closed<'n, J: NetworkRun>(
     ensures fault { IfOk result (λ r. IfSome r.1 IsPlaceFault) }
 {
     let mut ended = ran?;
-    let (fault, _none) = ended.leaving.closed();
+    let (fault, _none) = ended.leaving.close();
     Ok((ended, fault))
 }
 
@@ -89,12 +89,12 @@ fn traced_of<'a, J: NetworkRun, K: TraceRun, S: Sink + Drop>(
 
 /// Where the rows of a run go whose trace is written, the end of the channel where their batches come, and what counts them. It is refused for memory
 /// alone.
-fn opened<J: NetworkRun>(
+fn open_trace<J: NetworkRun>(
     alloc: Global,
     start: &StartOf<'_, J>,
 ) -> Result<(Leaving<J>, Receiver<RunBatch<J>>, Counted<J>), AllocError> {
     let (to, from) = bounded(alloc, MOST_BATCHES)?;
-    let leaving = Leaving::traced(TraceLock::new(alloc, start, to)?);
+    let leaving = Leaving::to_trace(TraceLock::new(alloc, start, to)?);
     let counted = Counted::none(alloc, start.network)?;
     Ok((leaving, from, counted))
 }
@@ -124,7 +124,7 @@ fn traced_named<
     ensures watched { W.becomes watch result.1 }
 {
     let start: StartOf<J> = StartOf::of(start);
-    let Ok((leaving, batches, counted)) = opened(alloc, &start) else {
+    let Ok((leaving, batches, counted)) = open_trace(alloc, &start) else {
         return (Err(PoolFault::OutOfMemory), watch);
     };
     let network = start.network;
@@ -147,7 +147,7 @@ fn traced_named<
             };
             let keeps = start.keeps;
             let ran = run_to_end(rt, alloc, start, gate, leaving, false, &mut watch);
-            let ran = closed(ran);
+            let ran = close_trace(ran);
             let (writing, counted) = writer.join(rt);
             (traced_of(alloc, ran, writing, counted, keeps), watch)
         },

@@ -21,7 +21,7 @@ use std::thread;
 use std::thread::{JoinHandle, Threads};
 use vlink::Time;
 
-/// Starts the workers, and joins all of them. Where there is no group, none is started. Then all groups are out of their hands, in order.
+/// Starts the workers, and joins all of them. Where there is no group, none is started. Then none of them has a group any more: the groups are there, in order.
 ///
 /// A refusal to one worker ends the others at their next turn. All of them are joined, and the answer is the least fault of what they ended
 /// with, and of the start. `Spawn`: a worker cannot be started. While they run, the calling thread shows the watch GVT; it is given back.
@@ -94,11 +94,11 @@ fn start_all<
             let mut start = Ok(());
             for worker in 0..common.workers {
                 if handles.reserve(1).is_err() {
-                    start = common.refused(RunFault::other(PoolFault::OutOfMemory));
+                    start = common.stop_all(RunFault::other(PoolFault::OutOfMemory));
                     break;
                 }
-                let Ok(handle) = scope.spawn(move || work(rt, alloc, common, gate, worker)) else {
-                    start = common.refused(RunFault::other(PoolFault::Spawn));
+                let Ok(handle) = scope.spawn(move || give_turns(rt, alloc, common, gate, worker)) else {
+                    start = common.stop_all(RunFault::other(PoolFault::Spawn));
                     break;
                 };
                 handles.push_reserved(handle);
@@ -107,7 +107,7 @@ fn start_all<
             if start.is_ok() {
                 show_gvt(rt, &common.moments, &mut watch);
             }
-            (joined(rt, alloc, start, handles), watch)
+            (join_all(rt, alloc, start, handles), watch)
         },
     )
 }
@@ -147,7 +147,7 @@ fn outcomes_of<J: NetworkRun, T: Threads + Wait>(
 }
 
 /// The threads are joined. The answer is the least fault of what they ended with, and of the start.
-fn joined<J: NetworkRun, T: Threads + Wait>(
+fn join_all<J: NetworkRun, T: Threads + Wait>(
     rt: &T,
     alloc: Global,
     start: Result<(), RunFault<J>>,
@@ -159,7 +159,7 @@ fn joined<J: NetworkRun, T: Threads + Wait>(
 }
 
 /// The worker of this number gives turns until the run is over or a refusal ends it. One of its own ends the others at their next turn.
-fn work<J: NetworkRun, G: Gate, T: Wait>(
+fn give_turns<J: NetworkRun, G: Gate, T: Wait>(
     rt: &T,
     alloc: Global,
     common: &Common<'_, J>,
@@ -167,7 +167,7 @@ fn work<J: NetworkRun, G: Gate, T: Wait>(
     number: usize,
 ) -> Result<(), RunFault<J>> {
     let outcome = match turns(rt, alloc, common, gate, number) {
-        Err(fault) => common.refused(fault),
+        Err(fault) => common.stop_all(fault),
         Ok(()) => Ok(()),
     };
     common.moments.end();

@@ -64,7 +64,7 @@ impl<'n, J: NetworkRun> Common<'n, J> {
     }
 
     /// The fault ends all workers.
-    pub(crate) fn refused(&self, fault: RunFault<J>) -> Result<(), RunFault<J>> {
+    pub(crate) fn stop_all(&self, fault: RunFault<J>) -> Result<(), RunFault<J>> {
         self.stop.store(true, Ordering::SeqCst);
         Err(fault)
     }

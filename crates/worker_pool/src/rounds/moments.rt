@@ -136,9 +136,9 @@ impl Moments {
         }
     }
 
-    /// The letters that waited for the group are taken. The answer is the least moment of those that were told of, in ns. Its caller has the lock of the
+    /// The letters that waited for the group are collected. The answer is the least moment of those that were told of, in ns. Its caller has the lock of the
     /// exchange.
-    pub(crate) fn taken(&self, group: u16) -> u64 {
+    pub(crate) fn collect(&self, group: u16) -> u64 {
         let Some(moment) = self.moments.get(usize::from(group)) else {
             return u64::MAX;
         };
@@ -160,7 +160,7 @@ impl Moments {
     }
 
     /// A turn was given, or GVT was set: workers that rest are woken where a group of theirs is due.
-    pub(crate) fn turned(&self) {
+    pub(crate) fn wake_due(&self) {
         if self.resting.value.load(Ordering::SeqCst) == 0 {
             return;
         }

@@ -1,4 +1,4 @@
-//! A group in the hands of a worker.
+//! A group, and how far it has come.
 use crate::network_run::{NetworkRun, Of};
 use group_exchange::Group;
 use nodes::Node;

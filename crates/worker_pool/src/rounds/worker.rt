@@ -142,8 +142,8 @@ impl<'s, 'n, J: NetworkRun, G: Gate, T: Wait> Worker<'s, 'n, J, G, T> {
         } else if !self.is_due(seat, limit_ns) {
             return Ok(false);
         }
-        let has_worked = self.work(seat)?;
-        self.common.moments.turned();
+        let has_worked = self.handle_due(seat)?;
+        self.common.moments.wake_due();
         self.common
             .leaving
             .take_rows(self.rt, self.common.network, &mut seat.group)?;
@@ -180,7 +180,8 @@ impl<'s, 'n, J: NetworkRun, G: Gate, T: Wait> Worker<'s, 'n, J, G, T> {
     }
 
     /// In one section of the exchange what the group did goes to the journal, its letters go to the other groups, and its own come to it; and now and
-    /// then, or where its next event is beyond the window, GVT is set in between. Then the other groups are told.
+    /// then, or where its next event is beyond the window, GVT is set in between, so that the group goes on by a GVT in which its own floor and letters
+    /// count. Then the other groups are told.
     fn meet(&mut self, seat: &mut Seat<J>) -> Result<(), RunFault<J>> {
         let number = seat.group.number();
         let seen_ns = seat.group.seen().ns();
@@ -189,12 +190,12 @@ impl<'s, 'n, J: NetworkRun, G: Gate, T: Wait> Worker<'s, 'n, J, G, T> {
         let shared = &mut exchange.value;
         list_letters(&mut self.letters_ns, &shared.inner, &seat.group);
         shared.post(&mut seat.group)?;
-        if let Some(gvt) = shared.passed(waits)? {
+        if let Some(gvt) = shared.publish_if_due(waits)? {
             let _is_new = self.common.moments.publish(gvt.ns());
         }
         shared.collect(&mut seat.group)?;
         // A letter in the tray is to be worked on no later than an event of its moment.
-        seat.next_ns = seat.next_ns.min(self.common.moments.taken(number));
+        seat.next_ns = seat.next_ns.min(self.common.moments.collect(number));
         drop(exchange);
         seat.unposted = 0;
         self.call_all();
@@ -203,7 +204,7 @@ impl<'s, 'n, J: NetworkRun, G: Gate, T: Wait> Worker<'s, 'n, J, G, T> {
 
     /// The group handles messages as long as they are due, as many as a turn has, and tells now and then how far it is. It ends where it is to meet the
     /// others. The answer is whether a message was handled.
-    fn work(&mut self, seat: &mut Seat<J>) -> Result<bool, RunFault<J>> {
+    fn handle_due(&mut self, seat: &mut Seat<J>) -> Result<bool, RunFault<J>> {
         let number = seat.group.number();
         let turn = u32::from(self.common.pace.turn);
         let mut handled = 0;
@@ -216,7 +217,7 @@ impl<'s, 'n, J: NetworkRun, G: Gate, T: Wait> Worker<'s, 'n, J, G, T> {
         for given in 0..turn {
             let most = piece.min(turn - handled.min(turn));
             let limit_ns = self.common.moments.limit_ns();
-            let count = self.work_to(&mut seat.group, most, limit_ns)?;
+            let count = self.handle_before(&mut seat.group, most, limit_ns)?;
             handled = handled.saturating_add(count);
             seat.look();
             self.common.moments.tell(number, seat.next_ns);
@@ -239,7 +240,7 @@ impl<'s, 'n, J: NetworkRun, G: Gate, T: Wait> Worker<'s, 'n, J, G, T> {
 
     /// The group handles messages before the limit, in ns, so many at most, no further ahead of the GVT that it saw than the window. The answer is how
     /// many. At a refusal the exchange tells whether numbers are used up.
-    fn work_to(
+    fn handle_before(
         &self,
         group: &mut NetworkGroup<J>,
         most: u32,
@@ -339,7 +340,7 @@ impl<'s, 'n, J: NetworkRun, G: Gate, T: Wait> Worker<'s, 'n, J, G, T> {
         let is_new = self.common.moments.publish(gvt.ns());
         drop(exchange);
         if is_new {
-            self.common.moments.turned();
+            self.common.moments.wake_due();
         }
         Ok(())
     }

@@ -15,7 +15,7 @@ loop-place-preserved g c =
     let group = c.index-group.result.now in
     let at = read-at items c.loop-place.place group (omega arith) c.index-group.ensures in
     below-more (IsOfWorld plan owners steps) items c.loop-place.place group at
-    (subst (λ (ledger : Ledger). IsOfWorld plan owners ledger.steps c.loop-place.place group) c.lent-in-loop-place.ensures (c.is_of_world.ensures cc)) c.loop-place.invariant
+    (subst (λ (ledger : Ledger). IsOfWorld plan owners ledger.steps c.loop-place.place group) c.as_exchange-in-loop-place.ensures (c.is_of_world.ensures cc)) c.loop-place.invariant
 
 pub returns-clause-grouped : goal.returns-clause-grouped
 returns-clause-grouped g c = λ yes.

@@ -13,6 +13,6 @@ returns g c = λ yes.
     let plan = g.J.NetworkRun.plan in
     let steps = c.args.self.now.exchange.steps in
     let items = c.args.self.now.groups.items in
-    let reached = subst (λ (ledger : Ledger). c.gvt.result ≡ (after plan ledger.steps).gvt) c.lent.ensures c.gvt.ensures in
+    let reached = subst (λ (ledger : Ledger). c.gvt.result ≡ (after plan ledger.steps).gvt) c.as_exchange.ensures c.gvt.ensures in
     let end : c.until-until.result ≡ plan.until = c.until-until.ensures.value ∙ ap (λ (z : Plan). z.until) c.args.self.now.planned in
     ended plan g.J.NetworkRun.owners steps items c.gvt.result reached (omega arith) (c.are_of_world.ensures.grouped cc) (c.are_of_world.ensures.each cc) (c.all_committed.ensures cc)

@@ -2,7 +2,7 @@ use Rattle.std.proofs.Common.{List, sym, subst}
 use Rattle.vlink.specs.Letters.{Row}
 use Rattle.worker_pool.specs.Counts.{moment_at, AreCountedBefore}
 use Rattle.worker_pool.proofs.CountedRun.{none-counted}
-use Rattle.worker_pool.proofs.counted.Counted.opened.Goals as goal
+use Rattle.worker_pool.proofs.counted.Counted.with_moments.Goals as goal
 
 pub invariant_of-result : goal.invariant_of-result
 invariant_of-result g c =

@@ -12,7 +12,7 @@ use Rattle.run_rows.proofs.Nothing.{none-of}
 use Rattle.worker_pool.proofs.GatheredRun.{own-rows, segment-gathered, given-batch}
 use Rattle.run_rows.specs.Written.{IsPlaceFault}
 use Rattle.run_rows.proofs.Written.{segment-told}
-use Rattle.worker_pool.proofs.desk.Desk.gathered.Goals as goal
+use Rattle.worker_pool.proofs.desk.Desk.add_segment.Goals as goal
 
 pub invariant_of-self : goal.invariant_of-self
 invariant_of-self g c =
