@@ -15,7 +15,7 @@ ghost use Rattle.afdxsim.specs.declared.fault.Fault.TheVariants.{OutOfMemory, Ex
 ghost use Rattle.afdxsim.specs.Replaying.{counts_text, finish_text, summary_text, fault_of_lines, IsSummary, IsJournal, AreCommittedTables, TellsOfSteps, TellsOfJournal, IsExhaustedIn, IsFaultOfJournal};
 
 use crate::fault::Fault;
-use crate::journal_steps::{done, steps_of};
+use crate::journal_steps::{do_steps, steps_of};
 use network::Network;
 use std::alloc::{AllocError, Global};
 use timewarp::{Replay, World};
@@ -135,6 +135,6 @@ pub fn conclusion_of(
     ensures fault { IfErr result (IsFaultOfJournal network text.now) }
 {
     let steps = steps_of(alloc, text)?;
-    let found = done(alloc, network, &steps)?;
+    let found = do_steps(alloc, network, &steps)?;
     Ok(conclusion_after(alloc, found)?)
 }

@@ -40,7 +40,7 @@ pub fn steps_of(alloc: Global, text: &[u8]) -> Result<Vec<Step>, Fault<'static>>
 
 /// Does these steps on a network.
 #[tactic(auto, using(crate::proofs::Conclusions::replayed))]
-pub fn done(alloc: Global, network: Network, steps: &[Step]) -> Result<Replay, Fault<'static>>
+pub fn do_steps(alloc: Global, network: Network, steps: &[Step]) -> Result<Replay, Fault<'static>>
     ensures replayed { IfOk result (λ found. IsReplayed found steps.now) }
     ensures network { IfOk result (λ found. found.world.plan ≡ network) }
     ensures fault { IfErr result (λ fault. (fault ≡ OutOfMemory) ⊎ ((fault ≡ Exhausted) × IsExhaustedIn network steps.now)) }

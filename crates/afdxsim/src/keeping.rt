@@ -33,7 +33,7 @@ pub fn fault_of_file<'a>(path: &'a str, why: OutFault) -> Fault<'a>
 }
 
 /// A new, empty file with this path.
-pub fn made<'a, H: Host>(path: &'a str, host: &mut H) -> Result<H::File, Fault<'a>>
+pub fn make_file<'a, H: Host>(path: &'a str, host: &mut H) -> Result<H::File, Fault<'a>>
     ensures empty { IfOk result (λ file. IfSome (H.outside.wrote file) (λ bytes. bytes ≡ [])) }
     ensures fresh { IfOk result (λ file. H.outside.unwritten file ≡ 0) }
     ensures host { OnOk result (host.new ≡ H.outside.made host.old path.entry.now) }
@@ -75,7 +75,7 @@ pub fn keep<'a, H: Host>(
     ensures output { H.outside.output host.new ≡ H.outside.output host.old }
     ensures quiet { IsQuiet H.outside host.old host.new }
 {
-    let mut file = made(path, host)?;
+    let mut file = make_file(path, host)?;
     let written = write(alloc, kept, &mut file);
     host.close(path, file);
     match written {

@@ -45,7 +45,7 @@ fn done_on<'a, H: Host, T: Threads + Wait + Clock + Sync>(
 }
 
 /// Does what is ordered. The description is read and judged before any other file is read or made.
-fn done<'a, H: Host, T: Threads + Wait + Clock + Sync>(
+fn do_order<'a, H: Host, T: Threads + Wait + Clock + Sync>(
     rt: &T,
     alloc: Global,
     order: &'a Order,
@@ -88,7 +88,7 @@ pub fn obey<H: Host, T: Threads + Wait + Clock + Sync>(
     match named_twice(order, host) {
         Some(path) => refuse_twice(alloc, path, host),
         None => {
-            let outcome = done(rt, alloc, order, host);
+            let outcome = do_order(rt, alloc, order, host);
             end(alloc, outcome, host)
         }
     }

@@ -14,10 +14,10 @@ ghost use Rattle.afdxsim.specs.Workers.{CanWantThreads, IsFaultOfPool};
 
 use crate::fault::Fault;
 use crate::host::Host;
-use crate::keeping::{Kept, keep, made};
+use crate::keeping::{Kept, keep, make_file};
 use crate::progress::asked_of;
 use crate::seq::show_tables;
-use crate::workers::{fault_of_trace, found_by_workers, pace_of, traced};
+use crate::workers::{fault_of_trace, found_by_workers, pace_of, traced_by_workers};
 use command_line::Run;
 use network::Network;
 use std::alloc::Global;
@@ -51,13 +51,13 @@ fn simulate_with_trace<'a, H: Host, T: Threads + Wait + Clock + Sync>(
     ensures heard { IsHeard H.outside host.old is_asked network.now (H.outside.errors host.new) }
 {
     let asked = asked_of(is_asked, host);
-    let file = made(path, host)?;
+    let file = make_file(path, host)?;
     let errors = host.errors();
     let Traced {
         outcome,
         written,
         sink,
-    } = traced(rt, alloc, network, pace, with_steps, file, asked, errors)?;
+    } = traced_by_workers(rt, alloc, network, pace, with_steps, file, asked, errors)?;
     host.close(path, sink);
     match written {
         Ok(()) => Ok(outcome),

@@ -76,7 +76,7 @@ pub fn found_by_workers<E: Sink, T: Threads + Wait + Clock + Sync>(
 /// That run, where it writes its trace into this file, which is given back at the end of the run. What it has taken is then a beginning of the trace
 /// of the one-thread run, whatever became of its writing. Where the run itself is given up, the file is dropped.
 #[tactic(auto, using(crate::proofs::Running::tables_made, crate::proofs::Running::tracers_gave_up))]
-pub fn traced<F: Sink + Drop + Send, E: Sink, T: Threads + Wait + Clock + Sync>(
+pub fn traced_by_workers<F: Sink + Drop + Send, E: Sink, T: Threads + Wait + Clock + Sync>(
     rt: &T,
     alloc: Global,
     network: &Network,

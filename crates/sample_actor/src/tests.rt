@@ -95,7 +95,7 @@ hand:1 +999999999999994:0 arrive run:1000000000000000 abroad next floor states =
 hand:2 +10:0 +11:1 run:90 next floor arrive run:90 run:90 +1:0 +2:1 arrive states next => . . idle . none . 10 . A0 A1 . ran R0 H0 . ran R1 H1 . . . A0 T0 A1 T1 A0 A1 . 0.0 0.0 . 1:0:9:0 .";
 
 // What the words of a script tell: on a group where it opens one, and else on a process.
-fn played(rt: &HostRuntime, script: &str) -> Result<String, Fail> {
+fn play_line(rt: &HostRuntime, script: &str) -> Result<String, Fail> {
     if script.starts_with("hand:") {
         return hands::play(rt, script);
     }
@@ -110,7 +110,7 @@ fn scripts_tell_what_their_lines_say(rt: HostRuntime) -> Result<(), Fail> {
             continue;
         };
         let (done, refused) = told.split_once(" | ").unwrap_or((told, told));
-        let played = played(&rt, script)?;
+        let played = play_line(&rt, script)?;
         let played = played.trim_end();
         if played != refused {
             assert_eq!(rt; played, done, "{script}");
@@ -123,7 +123,7 @@ fn scripts_tell_what_their_lines_say(rt: HostRuntime) -> Result<(), Fail> {
 #[test]
 fn scripts_of_standard_input_are_played(rt: HostRuntime) -> Result<(), Fail> {
     for line in BufReader::new(rt.alloc(), rt.reader())?.lines(rt.alloc()) {
-        println!(rt; "{}", played(&rt, &line?)?)?;
+        println!(rt; "{}", play_line(&rt, &line?)?)?;
     }
     Ok(())
 }

@@ -9,7 +9,7 @@ use std::alloc::Global;
 use std::test::Fail;
 
 /// The text that a row begins with, and what the row tells.
-pub fn changed<'a>(alloc: Global, row: &'a str) -> Result<(String, &'a str), Fail> {
+pub fn text_of_row<'a>(alloc: Global, row: &'a str) -> Result<(String, &'a str), Fail> {
     let (begin, told) = row.rsplit_once(" => ").ok_or("a row of one piece")?;
     let mut text = String::new(alloc);
     for (place, piece) in begin.split(" => ").enumerate() {
@@ -25,7 +25,7 @@ pub fn changed<'a>(alloc: Global, row: &'a str) -> Result<(String, &'a str), Fai
 /// A text with one change.
 fn with_change(alloc: Global, text: &str, change: &str) -> Result<String, Fail> {
     if let Some(added) = change.strip_prefix("+ ") {
-        let added = repeated(alloc, added)?;
+        let added = repeat(alloc, added)?;
         return Ok(format!(in alloc; "{text}{added}")?);
     }
     let (old, new) = change.split_once(" -> ").ok_or("no change")?;
@@ -35,7 +35,7 @@ fn with_change(alloc: Global, text: &str, change: &str) -> Result<String, Fail> 
 }
 
 /// A text as often as it says, each time with its number.
-pub fn repeated(alloc: Global, added: &str) -> Result<String, Fail> {
+pub fn repeat(alloc: Global, added: &str) -> Result<String, Fail> {
     let (count, one) = added.split_once(" x ").unwrap_or(("1", added));
     let one = lines_of(alloc, one)?;
     let count: u64 = count.parse().map_err(|_| "no number")?;

@@ -2,7 +2,7 @@
 ghost use Rattle.std.specs.Prelude.{◌≡◌, true, length};
 ghost use Rattle.network.specs.Words.{process_count};
 
-use super::changes::changed;
+use super::changes::text_of_row;
 use super::stage::{CountingGate, Stage};
 use netdesc::read;
 use network::Network;
@@ -43,21 +43,21 @@ fn an_exchange_does_what_scripts_say(rt: HostRuntime) -> Result<(), Fail> {
 fn is_told(alloc: Global, row: &str, refused: &mut String) -> Result<bool, Fail> {
     let (begin, told) = row.rsplit_once(" => ").ok_or("a row of one piece")?;
     let (begin, script) = begin.rsplit_once(" => ").ok_or("no script")?;
-    let (net, limit) = changed(alloc, begin)?;
+    let (net, limit) = text_of_row(alloc, begin)?;
     let limit = limit.parse().map_err(|_| "no limit")?;
     let network = read(alloc, net.as_str())?;
     let table = Table::new(alloc)?;
     let script = String::from_str(alloc, script)?;
     let first = Pairs::new(alloc, usize::from(network.process_count()))?;
     let second = Pairs::new(alloc, usize::from(network.process_count()))?;
-    let found = played::<Brand, Brand>(
+    let found = play_script::<Brand, Brand>(
         alloc, &network, table, first, second, limit, &script, refused,
     )?;
     Ok(found.as_str() == told)
 }
 
 // What the words of a script tell, at two exchanges over one table.
-fn played<J: NetworkRun, K: NetworkRun>(
+fn play_script<J: NetworkRun, K: NetworkRun>(
     alloc: Global,
     network: &Network,
     table: Table,

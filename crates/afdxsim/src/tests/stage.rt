@@ -109,9 +109,9 @@ impl<J: NetworkRun> Stage<J> {
     {
         let word = word_of(text)?;
         told.reserve(64)?;
-        let before = self.seen(word);
+        let before = self.look(word);
         let mut answer = self.act(word, told);
-        if answer == Err(PoolFault::OutOfMemory) && self.seen(word) == before {
+        if answer == Err(PoolFault::OutOfMemory) && self.look(word) == before {
             self.note_refused(word)?;
             answer = self.act(word, told);
         }
@@ -127,7 +127,7 @@ impl<J: NetworkRun> Stage<J> {
     }
 
     // What a refused call leaves as it was: the count of steps, GVT, and the mail, the block and the mark of its process.
-    fn seen(&self, word: Word<'_>) -> (u64, Time, u64, Option<(u64, Mark)>) {
+    fn look(&self, word: Word<'_>) -> (u64, Time, u64, Option<(u64, Mark)>) {
         let held = match self.helds.get(usize::from(word.process())) {
             Some(held) => Some((held.pending(), held.mark())),
             None => None,

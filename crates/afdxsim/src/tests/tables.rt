@@ -1,5 +1,5 @@
 //! The tables of a run of one network, written with another one.
-use super::changes::{changed, lines_of};
+use super::changes::{lines_of, text_of_row};
 use super::page::Page;
 use netdesc::read;
 use seqsim::{Unwatched, run};
@@ -25,8 +25,8 @@ const HEAD: &str = "table,vl,where,cause,count,least_ns,greatest_ns,sum_ns;";
 /// The tables of the one network, written with the other one, have the lines that the row tells.
 pub fn is_told(alloc: Global, row: &str) -> Result<bool, Fail> {
     let (one, other) = row.split_once("for ").ok_or("no other network")?;
-    let (one, _) = changed(alloc, one)?;
-    let (other, told) = changed(alloc, other)?;
+    let (one, _) = text_of_row(alloc, one)?;
+    let (other, told) = text_of_row(alloc, other)?;
     let finished = run(alloc, &read(alloc, one.as_str())?, &mut Unwatched)?;
     let other = read(alloc, other.as_str())?;
     let mut page = Page::new(alloc);

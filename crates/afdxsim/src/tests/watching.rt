@@ -1,5 +1,5 @@
 //! What is told on the way of a run, by a clock that the test sets.
-use super::changes::changed;
+use super::changes::text_of_row;
 use super::page::Page;
 use crate::progress::{Asked, Progress};
 use netdesc::read;
@@ -57,7 +57,7 @@ impl Clock for Ticking {
 fn told_by(alloc: Global, row: &str) -> Result<(String, String), Fail> {
     let (ms, row) = row.split_once(" => ").ok_or("no time")?;
     let (is_terminal, row) = row.split_once(" => ").ok_or("no terminal")?;
-    let (net, wanted) = changed(alloc, row)?;
+    let (net, wanted) = text_of_row(alloc, row)?;
     let network = read(alloc, net.as_str())?;
     let clock = Ticking {
         ms: ms.parse().map_err(|_| "no number")?,

@@ -1,5 +1,5 @@
 //! What a replay of a journal leaves that the program does not show. What is expected was worked out by hand.
-use super::changes::{changed, repeated};
+use super::changes::{repeat, text_of_row};
 use journal_text::read_steps;
 use netdesc::read;
 use nodes::Node;
@@ -42,7 +42,7 @@ pub fn is_refused(alloc: Global, most: u64, told: &str) -> Result<bool, Fail> {
 /// What the steps of the journal leave, read and done at once, is what the row tells.
 pub fn is_told(alloc: Global, row: &str) -> Result<bool, Fail> {
     let (begin, told) = row.rsplit_once(" => ").ok_or("a row of one piece")?;
-    let (net, steps) = changed(alloc, begin)?;
+    let (net, steps) = text_of_row(alloc, begin)?;
     let steps = read_steps(alloc, steps_of(alloc, steps)?.as_bytes(), 100_000)?;
     let found = replay(alloc, read(alloc, net.as_str())?, &steps)?;
     Ok(left_of(alloc, found.world)?.as_str() == told)
@@ -52,7 +52,7 @@ pub fn is_told(alloc: Global, row: &str) -> Result<bool, Fail> {
 fn steps_of(alloc: Global, row: &str) -> Result<String, Fail> {
     let mut steps = String::new(alloc);
     for piece in row.split(" + ") {
-        steps.push_str(&repeated(alloc, piece)?)?;
+        steps.push_str(&repeat(alloc, piece)?)?;
     }
     Ok(steps)
 }

@@ -8,7 +8,7 @@ use vlink::{GREATEST_NS, Letter, Message, Sign, Time};
 
 // What can be seen of a process: how many letters are in its tray and in its outbox, its oldest done event, the message that comes next, its
 // floor, how many events are committed, and how many more could be at the end.
-pub(crate) fn seen(
+pub(crate) fn look_at(
     process: &Process<Summing>,
 ) -> (
     usize,

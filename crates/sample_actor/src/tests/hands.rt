@@ -7,7 +7,7 @@
 //! `floor`, `abroad`, `rows` and `states` tell what can be seen. Behind its answer each word tells its block, up to a full stop: a letter for what was
 //! done, and the process. `R`: a message was handled; `H` and `T`: what was sent home arrived at once, or waits; `A`: the front of the tray arrived;
 //! `C`: an event was committed.
-use super::player::{moment, number, parted};
+use super::player::{moment, number, split_at_colon};
 use crate::Passing;
 use hand::{Did, Hand, HandFault};
 use std::alloc::Global;
@@ -29,11 +29,11 @@ struct Stage {
 // What the words of the script tell, one after another.
 pub(crate) fn play(rt: &HostRuntime, script: &str) -> Result<String, Fail> {
     let mut words = script.split_whitespace();
-    let (_, members) = parted(words.next().unwrap_or_default());
+    let (_, members) = split_at_colon(words.next().unwrap_or_default());
     let alloc = rt.alloc();
-    let mut stage = match opened(alloc, number(members)) {
+    let mut stage = match open_stage(alloc, number(members)) {
         Ok(stage) => stage,
-        Err(_) => opened(alloc, number(members))?,
+        Err(_) => open_stage(alloc, number(members))?,
     };
     for word in words {
         play_word(rt, &mut stage, word)?;
@@ -42,7 +42,7 @@ pub(crate) fn play(rt: &HostRuntime, script: &str) -> Result<String, Fail> {
 }
 
 // A group of the first processes, so many, and room for all that will be told.
-fn opened(alloc: Global, count: u64) -> Result<Stage, HandFault> {
+fn open_stage(alloc: Global, count: u64) -> Result<Stage, HandFault> {
     let mut told = String::new(alloc);
     told.reserve(4096)?;
     let mut members = Vec::new(alloc);
@@ -73,14 +73,14 @@ fn play_word(rt: &HostRuntime, stage: &mut Stage, word: &str) -> Result<(), Hand
     if fault == HandFault::Exhausted {
         return Ok(stage.told.push_str("exhausted ")?);
     }
-    let (call, _) = parted(word);
+    let (call, _) = split_at_colon(word);
     let _ = eprintln!(rt; "{call} was refused memory");
     act(rt.alloc(), stage, word)
 }
 
 // A letter, a call that does steps, or one that tells what can be seen.
 fn act(alloc: Global, stage: &mut Stage, word: &str) -> Result<(), HandFault> {
-    let (call, rest) = parted(word);
+    let (call, rest) = split_at_colon(word);
     match call {
         "arrive" => stage.hand.arrive_all()?,
         "commit" => stage.hand.commit(moment(number(rest)))?,
@@ -213,9 +213,9 @@ fn letter(written: &str) -> Letter {
         Some(rest) => (rest, Sign::Minus),
         None => (written.strip_prefix('+').unwrap_or(written), Sign::Plus),
     };
-    let (ns, rest) = parted(rest);
-    let (receiver, rest) = parted(rest);
-    let (sender, count) = parted(rest);
+    let (ns, rest) = split_at_colon(rest);
+    let (receiver, rest) = split_at_colon(rest);
+    let (sender, count) = split_at_colon(rest);
     let message = Message {
         time: moment(number(ns)),
         receiver: receiver.parse().unwrap_or_default(),

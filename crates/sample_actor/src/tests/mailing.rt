@@ -1,6 +1,6 @@
 //! The words for mail and floors. What names a process that there is not does nothing.
 use super::asking::tell_letter;
-use super::player::{Stage, letter, moment, number, parted, two_numbers};
+use super::player::{Stage, letter, moment, number, split_at_colon, two_numbers};
 use antimessages::{Mail, Outbox};
 use gvt::Floors;
 use process_queues::ProcFault;
@@ -25,7 +25,7 @@ pub(crate) fn post(stage: &mut Stage, is_reserved: bool) -> Result<(), ProcFault
 
 // A letter of another process is posted in room made before: its receiver, and how it is written.
 pub(crate) fn send(alloc: Global, mail: &mut Mail, rest: &str) -> Result<(), ProcFault> {
-    let (receiver, written) = parted(rest);
+    let (receiver, written) = split_at_colon(rest);
     let mut letter = letter(written);
     letter.message.receiver = process_of(number(receiver));
     let mut outbox = Outbox::new(alloc);

@@ -25,18 +25,18 @@ pub(crate) struct Stage {
 
 // What the words of the script tell, one after another, and the sum and the counter of the actor once all is undone.
 pub(crate) fn play(rt: &HostRuntime, script: &str) -> Result<String, Fail> {
-    let mut stage = match opened(rt.alloc()) {
+    let mut stage = match open_stage(rt.alloc()) {
         Ok(stage) => stage,
-        Err(_) => opened(rt.alloc())?,
+        Err(_) => open_stage(rt.alloc())?,
     };
     for word in script.split_whitespace() {
         play_word(rt, &mut stage, word)?;
     }
-    ended(stage)
+    end_stage(stage)
 }
 
 // Nothing done and nothing told, and room for all that will be told.
-fn opened(alloc: Global) -> Result<Stage, ProcFault> {
+fn open_stage(alloc: Global) -> Result<Stage, ProcFault> {
     let mut told = String::new(alloc);
     told.reserve(4096)?;
     Ok(Stage {
@@ -48,7 +48,7 @@ fn opened(alloc: Global) -> Result<Stage, ProcFault> {
 }
 
 // What was told, and the sum and the counter of the actor once all is undone.
-fn ended(stage: Stage) -> Result<String, Fail> {
+fn end_stage(stage: Stage) -> Result<String, Fail> {
     let Stage {
         process,
         mut told,
@@ -64,17 +64,17 @@ fn ended(stage: Stage) -> Result<String, Fail> {
 // Does what one word says. A word that is refused leaves the process as it was; where that was for want of memory, it is done again, but for
 // `arrive?`. `tools/refuse_memory.py` counts the words that were refused memory.
 fn play_word(rt: &HostRuntime, stage: &mut Stage, word: &str) -> Result<(), ProcFault> {
-    let before = asking::seen(&stage.process);
+    let before = asking::look_at(&stage.process);
     let Err(fault) = act(rt.alloc(), stage, word) else {
         return Ok(());
     };
-    if asking::seen(&stage.process) != before {
+    if asking::look_at(&stage.process) != before {
         stage.told.push_str("changed ")?;
     }
     if fault == ProcFault::Exhausted {
         return Ok(stage.told.push_str("exhausted ")?);
     }
-    let (call, _) = parted(word);
+    let (call, _) = split_at_colon(word);
     let _ = eprintln!(rt; "{call} was refused memory");
     if word == "arrive?" {
         return Ok(stage.told.push_str("refused ")?);
@@ -83,13 +83,13 @@ fn play_word(rt: &HostRuntime, stage: &mut Stage, word: &str) -> Result<(), Proc
 }
 
 // The call that a word stands for, and what stands behind the colon.
-pub(crate) fn parted(word: &str) -> (&str, &str) {
+pub(crate) fn split_at_colon(word: &str) -> (&str, &str) {
     word.split_once(':').unwrap_or((word, ""))
 }
 
 // A letter, a word without an answer, or one that tells of letters or messages.
 fn act(alloc: Global, stage: &mut Stage, word: &str) -> Result<(), ProcFault> {
-    let (call, rest) = parted(word);
+    let (call, rest) = split_at_colon(word);
     match call {
         "counter" => stage.process = Process::new(alloc, actor(number(rest)))?,
         "reserve_letters" => stage.process.reserve_letters(number(rest) as usize)?,
@@ -141,7 +141,7 @@ pub(crate) fn number(digits: &str) -> u64 {
 
 // Two numbers with a colon between.
 pub(crate) fn two_numbers(digits: &str) -> (u64, u64) {
-    let (first, second) = parted(digits);
+    let (first, second) = split_at_colon(digits);
     (number(first), number(second))
 }
 

@@ -14,7 +14,7 @@ returns-in-Some-clause-ends g c = inl (c.in-Some.path.now, c.in-Some.ensures.twi
 
 pub returns-in-None-clause-ends : goal.returns-in-None-clause-ends
 returns-in-None-clause-ends g c =
-    let done = c.done-outcome in
+    let done = c.do_order-outcome in
     inr (
       c.named_twice.ensures.apart c.in-None.is,
       has_ended g.H.Host.outside done.result c.args.order.now c.end.result c.args.host.now done.new.host c.end.new.host

@@ -16,10 +16,10 @@ pub returns-in_err-outcome-clause-heard : goal.returns-in_err-outcome-clause-hea
 returns-in_err-outcome-clause-heard g c =
     let outside = g.H.Host.outside in
     let law = g.met.H.Host.lawful in
-    let said = c.traced.new.errors in
-    heard_beside outside law c.args.is_asked c.asked_of-asked.result.is_asked c.args.network.now c.args.path.now c.args.host.now c.made.new.host
-    c.errors-errors.result.now said c.asked_of-asked.ensures c.in_ok-file.ensures.host c.errors-errors.ensures.value c.traced.ensures.heard
-    (outside.with_errors c.made.new.host said) (law.errors_stay c.made.new.host said)
+    let said = c.traced_by_workers.new.errors in
+    heard_beside outside law c.args.is_asked c.asked_of-asked.result.is_asked c.args.network.now c.args.path.now c.args.host.now c.make_file.new.host
+    c.errors-errors.result.now said c.asked_of-asked.ensures c.in_ok-file.ensures.host c.errors-errors.ensures.value c.traced_by_workers.ensures.heard
+    (outside.with_errors c.make_file.new.host said) (law.errors_stay c.make_file.new.host said)
 
 pub returns-in-Ok-clause-trace : goal.returns-in-Ok-clause-trace
 returns-in-Ok-clause-trace g c =
@@ -29,8 +29,8 @@ returns-in-Ok-clause-trace g c =
     let path = c.args.path.now in
     let found = c.in_ok-outcome.field-0 in
     let rows = c.in_ok-outcome.ensures.text in
-    let begun = c.made.new.host in
-    let said = c.traced.new.errors in
+    let begun = c.make_file.new.host in
+    let said = c.traced_by_workers.new.errors in
     let new = c.close.new.self in
     let written-out = c.in_ok-outcome.written-is in
     let went = c.in-Ok.is in
@@ -40,29 +40,29 @@ returns-in-Ok-clause-trace g c =
     written outside law path (IsTraceText plan) (heard_host outside c.args.host.now c.args.is_asked (outside.errors new)) (outside.with_errors begun said) new
     c.in_ok-file.file found.sink (trace_text plan rows.0)
     (begins_given outside law c.args.is_asked c.asked_of-asked.result.is_asked plan path c.args.host.now begun c.errors-errors.result.now said
-    c.asked_of-asked.ensures c.in_ok-file.ensures.host c.errors-errors.ensures.value c.traced.ensures.heard found.sink new c.close.ensures)
+    c.asked_of-asked.ensures c.in_ok-file.ensures.host c.errors-errors.ensures.value c.traced_by_workers.ensures.heard found.sink new c.close.ensures)
     c.in_ok-file.ensures.empty (all rows.0 rows.1) (rows.0, rows.1, refl) c.close.ensures
 
 pub returns-in-Ok-clause-heard : goal.returns-in-Ok-clause-heard
 returns-in-Ok-clause-heard g c =
     heard_given g.H.Host.outside g.met.H.Host.lawful c.args.is_asked c.asked_of-asked.result.is_asked c.args.network.now c.args.path.now c.args.host.now
-    c.made.new.host c.errors-errors.result.now c.traced.new.errors c.asked_of-asked.ensures c.in_ok-file.ensures.host c.errors-errors.ensures.value
-    c.traced.ensures.heard c.in_ok-outcome.field-0.sink c.close.new.self c.close.ensures
+    c.make_file.new.host c.errors-errors.result.now c.traced_by_workers.new.errors c.asked_of-asked.ensures c.in_ok-file.ensures.host c.errors-errors.ensures.value
+    c.traced_by_workers.ensures.heard c.in_ok-outcome.field-0.sink c.close.new.self c.close.ensures
 
 pub returns-in-Err-clause-heard : goal.returns-in-Err-clause-heard
 returns-in-Err-clause-heard g c =
     heard_given g.H.Host.outside g.met.H.Host.lawful c.args.is_asked c.asked_of-asked.result.is_asked c.args.network.now c.args.path.now c.args.host.now
-    c.made.new.host c.errors-errors.result.now c.traced.new.errors c.asked_of-asked.ensures c.in_ok-file.ensures.host c.errors-errors.ensures.value
-    c.traced.ensures.heard c.in_ok-outcome.field-0.sink c.close.new.self c.close.ensures
+    c.make_file.new.host c.errors-errors.result.now c.traced_by_workers.new.errors c.asked_of-asked.ensures c.in_ok-file.ensures.host c.errors-errors.ensures.value
+    c.traced_by_workers.ensures.heard c.in_ok-outcome.field-0.sink c.close.new.self c.close.ensures
 
 pub returns-in-Err-clause-output : goal.returns-in-Err-clause-output
 returns-in-Err-clause-output g c =
     let outside = g.H.Host.outside in
     let law = g.met.H.Host.lawful in
-    let begun = c.made.new.host in
-    let said = c.traced.new.errors in
+    let begun = c.make_file.new.host in
+    let said = c.traced_by_workers.new.errors in
     ap outside.output c.close.ensures
-    ∙ (law.output_at_closed (outside.with_errors begun said) c.args.path.now c.in_ok-outcome.field-0.sink ∙ (law.output_beside begun said ∙ c.made.ensures.output))
+    ∙ (law.output_at_closed (outside.with_errors begun said) c.args.path.now c.in_ok-outcome.field-0.sink ∙ (law.output_beside begun said ∙ c.make_file.ensures.output))
 
 pub returns-in-Err-clause-fault : goal.returns-in-Err-clause-fault
 returns-in-Err-clause-fault g c =
@@ -71,8 +71,8 @@ returns-in-Err-clause-fault g c =
     let law = g.met.H.Host.lawful in
     let found = c.in_ok-outcome.field-0 in
     let rows = c.in_ok-outcome.ensures.text in
-    let begun = c.made.new.host in
-    let said = c.traced.new.errors in
+    let begun = c.make_file.new.host in
+    let said = c.traced_by_workers.new.errors in
     let new = c.close.new.self in
     let heard = heard_host outside c.args.host.now c.args.is_asked (outside.errors new) in
     let written-out = c.in_ok-outcome.written-is in
@@ -81,7 +81,7 @@ returns-in-Err-clause-fault g c =
     inr (subst (λ fault. LacksTrace outside c.args.path.now plan heard new fault) (sym c.fault_of_trace.ensures)
     (lacks_trace outside law c.args.path (IsTraceText plan) heard (outside.with_errors begun said) new c.in_ok-file.file found.sink (trace_text plan rows.0)
     (begins_given outside law c.args.is_asked c.asked_of-asked.result.is_asked plan c.args.path.now c.args.host.now begun c.errors-errors.result.now said
-    c.asked_of-asked.ensures c.in_ok-file.ensures.host c.errors-errors.ensures.value c.traced.ensures.heard found.sink new c.close.ensures)
+    c.asked_of-asked.ensures c.in_ok-file.ensures.host c.errors-errors.ensures.value c.traced_by_workers.ensures.heard found.sink new c.close.ensures)
     c.in_ok-file.ensures.empty c.in_ok-file.ensures.fresh (rows.0, rows.1, refl) c.close.ensures
     (makes_there outside law c.args.is_asked c.args.host.now c.args.path.now (outside.errors new) true c.in_ok-file.ensures.made)
     (c.in_ok-outcome.ensures.beginning rows.0 rows.1) c.in-Err.why

@@ -1,6 +1,6 @@
 use Rattle.std.proofs.Common.{◌∙◌, ap}
 use Rattle.afdxsim.proofs.Ended.{done_there, err_then, fault_there}
-use Rattle.afdxsim.proofs.obeying.done.Goals as goal
+use Rattle.afdxsim.proofs.obeying.do_order.Goals as goal
 
 pub returns-clause-done : goal.returns-clause-done
 returns-clause-done g c =

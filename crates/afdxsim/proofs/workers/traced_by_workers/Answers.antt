@@ -1,6 +1,6 @@
 use Rattle.std.proofs.Common.{◌∙◌, rules}
 use Rattle.afdxsim.specs.MoreProgress.{one_behind_another}
-use Rattle.afdxsim.proofs.workers.traced.Goals as goal
+use Rattle.afdxsim.proofs.workers.traced_by_workers.Goals as goal
 
 pub returns-clause-heard : goal.returns-clause-heard
 returns-clause-heard g c =
