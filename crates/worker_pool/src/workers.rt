@@ -97,7 +97,8 @@ fn start_all<
                     start = common.stop_all(RunFault::other(PoolFault::OutOfMemory));
                     break;
                 }
-                let Ok(handle) = scope.spawn(move || give_turns(rt, alloc, common, gate, worker)) else {
+                let Ok(handle) = scope.spawn(move || give_turns(rt, alloc, common, gate, worker))
+                else {
                     start = common.stop_all(RunFault::other(PoolFault::Spawn));
                     break;
                 };
