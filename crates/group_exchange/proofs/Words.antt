@@ -5,7 +5,7 @@ use Rattle.virtual_time.specs.Law.{behind}
 use Rattle.virtual_time.specs.declared.step.Step.{Step}
 use Rattle.std.proofs.lemmas.Grind.{flat_map-append}
 use Rattle.std.specs.declared.snapshot.Snapshot.{Snapshot}
-use Rattle.group_exchange.specs.declared.deed.GroupDeed.{GroupDeed}
+use Rattle.group_exchange.specs.declared.addition.Addition.{Addition}
 use Rattle.group_exchange.specs.Telling.{steps_by}
 use Rattle.hand.specs.declared.block.Did.{Did}
 use Rattle.hand.specs.Block.{steps_of_word, steps_told}
@@ -39,7 +39,7 @@ word-at (w ∷ ws) zero d h = refl
 word-at (w ∷ ws) (suc k) d h = word-at ws k d (omega arith)
 
 -- the journal is told one thing more
-pub told-longer : (told : List (Snapshot GroupDeed)) (e : Snapshot GroupDeed) (xs : List Step) → steps_by e.value ≡ xs →
+pub told-longer : (told : List (Snapshot Addition)) (e : Snapshot Addition) (xs : List Step) → steps_by e.value ≡ xs →
     flat_map (λ t. steps_by t.value) (told ++ e ∷ []) ≡ flat_map (λ t. steps_by t.value) told ++ xs
 told-longer told e xs h =
-    flat_map-append (λ (t : Snapshot GroupDeed). steps_by t.value) told (e ∷ []) ∙ ap (λ z. flat_map (λ t. steps_by t.value) told ++ z) (append-nil (steps_by e.value) ∙ h)
+    flat_map-append (λ (t : Snapshot Addition). steps_by t.value) told (e ∷ []) ∙ ap (λ z. flat_map (λ t. steps_by t.value) told ++ z) (append-nil (steps_by e.value) ∙ h)

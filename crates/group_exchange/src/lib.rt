@@ -2,10 +2,10 @@
 //! no lock. A group (`Group`) collects letters, works alone and posts; the `GroupExchange` has letters on their way, floors, GVT and the journal.
 #![tactic(auto)]
 
+mod addition;
 mod boxes;
 mod carrying;
 mod collecting;
-mod deed;
 mod fits;
 mod group;
 mod groups;
@@ -22,9 +22,9 @@ mod splitting;
 mod steps;
 mod working;
 
+pub use addition::Addition;
 pub use boxes::Boxes;
 pub use collecting::collect;
-pub use deed::GroupDeed;
 pub use group::Group;
 pub use groups::GroupExchange;
 pub use mark::{Mark, Standing};

@@ -7,8 +7,8 @@ ghost use Rattle.hand.specs.Block.{steps_told};
 ghost use Rattle.group_exchange.specs.Boxing.{box_of};
 ghost use Rattle.group_exchange.specs.Telling.{waiting_for};
 
+use crate::addition::Addition;
 use crate::boxes::Boxes;
-use crate::deed::GroupDeed;
 use crate::listing::{list_block, list_takes};
 use hand::Words;
 use journal::{PoolFault, Table};
@@ -24,11 +24,11 @@ pub(crate) struct Kept {
     pub(crate) table: Table,
 }
 
-/// The steps of a journal, in order. They are there as what it was told, in snapshots, which have no bytes and are read in proofs alone; and, where
-/// they are kept, once more as they are.
+/// The steps of a journal, in order. They are there as what was added at each go, in snapshots, which have no bytes and are read in proofs alone; and,
+/// where they are kept, once more as they are.
 #[derive(Drop)]
 pub struct Steps {
-    told: Vec<Snapshot<GroupDeed>>,
+    told: Vec<Snapshot<Addition>>,
     /// How many steps there are.
     count: u64,
     kept: Option<Kept>,
@@ -119,7 +119,7 @@ impl Steps {
     {
         let letters = boxes.letters(group);
         self.count += letters.len() as u64;
-        self.told.push_reserved(Snapshot::of(&GroupDeed::Collected(group, Snapshot::of(boxes))));
+        self.told.push_reserved(Snapshot::of(&Addition::Collected(group, Snapshot::of(boxes))));
         if let Some(kept) = &mut self.kept {
             list_takes(&mut kept.steps, letters);
         }
@@ -137,7 +137,7 @@ impl Steps {
         ensures keeps { self.new.keeps ≡ self.old.keeps }
     {
         self.count += count;
-        self.told.push_reserved(Snapshot::of(&GroupDeed::Posted(
+        self.told.push_reserved(Snapshot::of(&Addition::Posted(
             Snapshot::of(words),
             Snapshot::of(boxes),
         )));
@@ -154,7 +154,7 @@ impl Steps {
         ensures keeps { self.new.keeps ≡ self.old.keeps }
     {
         self.count += 1;
-        self.told.push_reserved(Snapshot::of(&GroupDeed::Published));
+        self.told.push_reserved(Snapshot::of(&Addition::Published));
         if let Some(kept) = &mut self.kept {
             kept.steps.push_reserved(Step::Gvt);
         }

@@ -120,7 +120,7 @@ impl<R: Actor, J: GroupRun<R>> Group<R, J> {
         let Some(process) = self.next_before(limit) else {
             return Ok(false);
         };
-        let run = self.handled(process);
+        let run = self.run_count(process);
         gate.before(process, run);
         let has_run = self.run_first(limit)?;
         gate.after(process, run);
@@ -221,7 +221,7 @@ impl<R: Actor, J: GroupRun<R>> Group<R, J> {
     }
 
     /// How many messages a process has handled, those that it handled again included.
-    fn handled(&self, process: u16) -> u64 {
+    fn run_count(&self, process: u16) -> u64 {
         match self.runs.get(usize::from(process)) {
             Some(runs) => *runs,
             None => 0,

@@ -1,11 +1,11 @@
-//! What a journal of groups is told at one go.
+//! What is added to a journal of groups at one go.
 use crate::boxes::Boxes;
 use hand::Words;
 use std::snapshot::Snapshot;
 
-/// What the journal is told at one go. It stands for steps of the law of virtual time.
+/// What is added to a journal of groups at one go. It stands for steps of the law of virtual time.
 #[derive(Drop)]
-pub enum GroupDeed {
+pub enum Addition {
     /// All letters for the group of this number were taken, where these letters were on their way.
     Collected(u16, Snapshot<Boxes>),
     /// A group did what these words tell, where these letters were on their way.
