@@ -83,13 +83,6 @@ impl Steps {
         self.count
     }
 
-    /// Whether they are kept, to be read.
-    pub fn are_kept(&self) -> bool
-        ensures { result ≡ self.now.keeps }
-    {
-        self.kept.is_some()
-    }
-
     /// Makes room for so many more, and then writes their places in the table. Where they are not kept it takes no memory and nothing is
     /// written. `Torn`: another journal has written there before, which is looked at behind the growths.
     pub fn reserve(&mut self, more: usize) -> Result<(), PoolFault>
