@@ -1,10 +1,12 @@
 """Rows of whole runs of the program, in tools/rows: descriptions, words, journals, tables and traces, runs by workers, and files
 and streams that take a byte a write and then fail. What is expected was worked out by hand. They need the built program, at
-crates/afdxsim/out/afdxsim, where `rt ci` leaves it, and a C compiler for the few lines of C that cut each write."""
+crates/afdxsim/out/afdxsim, where `rt ci` leaves it, and a C compiler for the few lines of C that cut each write or set the clock."""
 import os
+import pty
 import subprocess
 import sys
 import tempfile
+import tty
 import unittest
 from collections import namedtuple
 
@@ -35,6 +37,21 @@ long write(int file, const void *bytes, unsigned long count) {
 }
 
 long __write(int file, const void *bytes, unsigned long count) { return write(file, bytes, count); }
+"""
+
+# The clock of a program: it goes on by MS each time it is read.
+CLOCK = r"""
+extern char *getenv(const char *);
+extern long strtol(const char *, char **, int);
+
+static long now;
+
+int clock_gettime(int clock, long time[2]) {
+    long ms = __atomic_add_fetch(&now, strtol(getenv("MS"), 0, 10), __ATOMIC_RELAXED);
+    time[0] = ms / 1000;
+    time[1] = ms % 1000 * 1000000;
+    return 0;
+}
 """
 
 # How words end: the status, both streams, and the files that are left, each None where there is none.
@@ -253,6 +270,34 @@ class Cut(Ends):
             found = self.ended("replay net.toml steps.txt", network("n1"), "G\n", errors=full)
             self.assertEqual((found.status, found.output), (0, self.ended("replay net.toml steps.txt", network("n1"), "G\n").output))
             self.assertEqual(self.ended("check net.toml", "", errors=full).status, 3)
+
+
+class Paced(Ends):
+    """What is told on the way of a run, by a clock of the test."""
+
+    @classmethod
+    def setUpClass(cls):
+        super().setUpClass()
+        cls.library = library_in(cls.folder, CLOCK)
+
+    def ended_at_a_terminal(self, words, net, env):
+        master, slave = pty.openpty()
+        try:
+            tty.setraw(slave)
+            found = self.ended(words, net, env=env, errors=slave)
+            return found._replace(errors=os.read(master, 65536))
+        finally:
+            os.close(slave)
+            os.close(master)
+
+    def test_progress_tells_how_fast_a_run_is(self):
+        for row in rows("paced"):
+            with self.subTest(row):
+                ms, is_terminal, row = row.split(" => ", 2)
+                net, told = changed(row)
+                ended = self.ended_at_a_terminal if is_terminal == "yes" else self.ended
+                found = ended("seq net.toml --progress", net, env={"LD_PRELOAD": self.library, "MS": ms})
+                self.assertEqual((found.status, found.errors.decode()), (0, lines_of(told).replace("^", "\x1b[1A\x1b[2K")))
 
 
 if __name__ == "__main__":

@@ -1,5 +1,5 @@
 //! Rows of what the program does not show: calls on an exchange of a network, runs in which processes wait for each other, what a replay
-//! leaves, segments of a trace, tables of another network, progress by a clock of the test, and a host that tells what its files hold. Those of
+//! leaves, segments of a trace, tables of another network, and a host that tells what its files hold. Those of
 //! whole runs of the program stand in tools/rows. A row is a line of text.
 mod changes;
 mod exchanges;
@@ -10,7 +10,6 @@ mod segments;
 mod stage;
 mod tables;
 mod telling_host;
-mod watching;
 mod worlds;
 
 use std::test::Fail;

@@ -6,7 +6,7 @@ ghost use Rattle.worker_pool.specs.Segments.{IsGroupIntervalSealed, IsGroupSegme
 
 use crate::network_run::NetworkRun;
 use crate::rounds::seat::NetworkGroup;
-use crate::segments::interval_at;
+use network_exchange::interval_at;
 use std::alloc::{AllocError, Global};
 use trace_tables::{Segment, cut};
 use vlink::Time;

@@ -1,5 +1,5 @@
-//! A run of a network by workers: threads that give turns to groups of processes, which share one locked exchange. And what a network gives to the
-//! exchange of single processes, and the names of it, so that a user has one door.
+//! A run of a network by workers: threads that give turns to groups of processes, which share one locked exchange. And the names of the exchange of
+//! single processes, so that a user has one door.
 #![tactic(auto)]
 
 mod batches;
@@ -12,14 +12,12 @@ mod group_work;
 mod grouping;
 mod leaving;
 mod network_run;
-mod opening;
 mod outcomes;
 mod pace;
 mod results;
 mod rounds;
 mod run_fault;
 mod running;
-mod segments;
 mod shared;
 mod start;
 mod summary;
@@ -28,11 +26,9 @@ mod workers;
 
 pub use exchange::{ActorRun, Exchange, Gate, Held, Mark, Pairs, collect, post, publish, work};
 pub use journal::{PoolFault, Table};
-pub use network_run::{NetworkRun, Of};
-pub use opening::open_network;
+pub use network_exchange::{Of, next_segment, open_network};
 pub use pace::Pace;
-pub use run_rows::TraceRun;
+pub use run_rows::{NetworkRun, TraceRun};
 pub use running::{Outcome, run};
-pub use segments::next_segment;
 pub use summary::{Summary, run_summary};
 pub use tracing::{Traced, run_traced};

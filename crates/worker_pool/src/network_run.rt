@@ -1,23 +1,12 @@
-//! Of which run of a network an exchange and its processes are.
-use exchange::ActorRun;
+//! Of which run of a network an exchange and its groups are.
 use group_exchange::GroupRun;
 use nodes::Node;
 pub use run_rows::NetworkRun;
 use std::marker::PhantomData;
 
-/// The run of a network, as a run of its nodes and lines.
+/// The run of a network, as a run of its nodes and lines in groups.
 pub struct Of<J: NetworkRun> {
     of: PhantomData<J>,
-}
-
-impl<J: NetworkRun> ActorRun<Node> for Of<J> {
-    ghost use Rattle.seqsim.specs.Networks.{setting_of};
-
-    ghost setting = { setting_of J.plan };
-
-    ghost keeps = { J.keeps };
-
-    ghost names = { J.names };
 }
 
 impl<J: NetworkRun> GroupRun<Node> for Of<J> {

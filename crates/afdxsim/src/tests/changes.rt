@@ -1,6 +1,6 @@
 //! What a row begins with: a network of examples/, and what it differs by.
 //!
-//! A row has pieces with ` => ` between them. The first names a network: `n1`, `n2` or `n3`. Then come its changes. `OLD -> NEW` puts NEW in
+//! A row has pieces with ` => ` between them. The first names a network: `n1` or `n3`. Then come its changes. `OLD -> NEW` puts NEW in
 //! the place of the first OLD, and `+ TEXT` puts TEXT at the end.
 //! `+ 3 x TEXT` puts it there three times, with 0, 1 and 2 for each `#` in it and 1, 2 and 3 for each `@`. A `;` stands for the end of
 //! a line. The last piece is what the row tells.

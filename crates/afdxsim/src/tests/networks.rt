@@ -23,7 +23,6 @@ depth = 16;size = 64;offset_ns = 0;period_ns = 1000000000000;jitter_ns = 0;"#;
 pub fn network(alloc: Global, name: &str) -> Result<String, Fail> {
     match name {
         "n1" => one_switch(alloc),
-        "n2" => two_networks(alloc),
         "n3" => there_and_back(alloc),
         _ => Err("no such network")?,
     }
@@ -44,21 +43,4 @@ fn there_and_back(alloc: Global) -> Result<String, Fail> {
     let second = format!(in alloc; "{second}{paths}")?;
     let second = lines_of(alloc, second.as_str())?;
     Ok(format!(in alloc; "{first}{second}")?)
-}
-
-/// Twenty virtual links, each on both networks.
-fn two_networks(alloc: Global) -> Result<String, Fail> {
-    let first = SWITCH.replace(alloc, "SW1", "SWA")?;
-    let second = SWITCH.replace(alloc, "SW1", "SWB")?;
-    let second = second.replace(alloc, "\"A\"", "\"B\"")?;
-    let of_first = LINKS.replace(alloc, "SW1", "SWA")?;
-    let of_second = LINKS.replace(alloc, "SW1", "SWB")?;
-    let mut text = format!(in alloc; "{TOP}{ENDS}{first}{second}{of_first}{of_second}")?;
-    let paths = r#"a = [["ES1", "SWA", "ES2"]];b = [["ES1", "SWB", "ES2"]];"#;
-    for id in 1..=20u64 {
-        let id = format!(in alloc; "id = {id}")?;
-        text.push_str(&VL.replace(alloc, "id = 1", id.as_str())?)?;
-        text.push_str(paths)?;
-    }
-    lines_of(alloc, text.as_str())
 }
