@@ -47,6 +47,18 @@ Description: proved simulator of AFDX networks
  /usr/share/doc/afdxsim/proof.json.
 """
 
+# As packages of Python do: what it is compiled to is made once for all users, and goes with the package.
+SCRIPTS = {
+    "postinst": """#!/bin/sh
+set -e
+if [ "$1" = configure ]; then py3compile -p afdxsim /usr/lib/afdxsim; fi
+""",
+    "prerm": """#!/bin/sh
+set -e
+py3clean -p afdxsim
+""",
+}
+
 
 def git(*words, root=ROOT):
     run = subprocess.run(["git", *words], cwd=root, stdin=subprocess.DEVNULL, capture_output=True, text=True)
@@ -202,6 +214,8 @@ def close(tree, path, record, root=ROOT):
         with open(os.path.join(tree.folder, name), "rb") as file:
             sums.append(f"{hashlib.file_digest(file, 'md5').hexdigest()}  {name}\n")
     tree.write("DEBIAN/md5sums", "".join(sums))
+    for name, text in SCRIPTS.items():
+        tree.write(f"DEBIAN/{name}", text, 0o755)
     maintainer = git("log", "-1", "--format=%an <%ae>", root=root).strip()
     tree.write("DEBIAN/control", CONTROL.format(
         version=record["version"], maintainer=maintainer, size=-(-size // 1024), libc=libc_of(path)
