@@ -296,6 +296,8 @@ class Used:
         ):
             found = self.run_there("afdx", *words)
             self.assertEqual((found.returncode, found.stderr), (2, message))
+        said = self.run_there("afdx", "--help").stdout
+        self.assertFalse([word for word in ("rt try", "afdx build", "./test") if word in said])
 
 
 class Unpacked(Used, Package):
