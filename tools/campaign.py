@@ -391,6 +391,11 @@ def write_results(words, campaign):
     return path
 
 
+def who_made(words):
+    """The program that made the runs, as the campaign and its pages tell it."""
+    return NOT_PROVED if words.by_try else cluster.version_of(words.program)
+
+
 def write_record(words, net, seeds, merged=None):
     """Writes what the campaign says of itself."""
     own = ["--seeds", str(words.seeds)]
@@ -398,9 +403,8 @@ def write_record(words, net, seeds, merged=None):
     own += ["--until", str(words.until)] if words.until is not None else []
     own += [word for it in words.set or () for word in ("--set", it.text)] + [word for vl in words.aim or () for word in ("--aim", str(vl))]
     own += [name for name, is_given in (("--offsets", words.offsets), ("--histograms", words.histograms)) if is_given]
-    made_by = NOT_PROVED if words.by_try else cluster.version_of(words.program)
     found = record.Record(
-        afdx.checksum(net.text), made_by, net.until_ns, seeds[0] if seeds else net.seed, len(seeds), words.offsets, own,
+        afdx.checksum(net.text), who_made(words), net.until_ns, seeds[0] if seeds else net.seed, len(seeds), words.offsets, own,
         None if merged is None else afdx.checksum(merged),
     )
     write_whole(os.path.join(words.output, record.NAME), found.text())
@@ -435,7 +439,7 @@ def over_settings(words, net, limits, seeds):
         return found.status
     table, page = (os.path.join(words.output, name) for name in ("sweep.csv", "sweep.html"))
     write_whole(table, found.table())
-    write_whole(page, sweep.page(found, words.net, bool(limits)))
+    write_whole(page, sweep.page(found, words.net, who_made(words), bool(limits)))
     write_json(words, "sweep.json", found.long_rows)
     write_record(words, net, seeds)
     files.say(f"{table} and {page}: {len(whole)} combinations, {found.done} runs, in {time.monotonic() - begin:.1f} s")
@@ -496,7 +500,7 @@ def over_outages(words, net, limits, seeds):
         return found.status
     table, page = (os.path.join(words.output, name) for name in ("outages.csv", "outages.html"))
     write_whole(table, found.table())
-    write_whole(page, each_outage.page(found, words.net))
+    write_whole(page, each_outage.page(found, words.net, who_made(words)))
     write_record(words, net, seeds)
     summaries = found.summaries()
     files.say(f"{table} and {page}: {len(summaries)} outages, {found.done} runs, in {time.monotonic() - begin:.1f} s")

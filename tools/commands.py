@@ -58,6 +58,12 @@ OF_RUN = (
 # What is said of the tools that have the program run.
 OF_CHOICE = "--by WHAT (proved or try; default: proved, else try) or --program PATH names the program that makes the runs."
 
+IN_A_CLONE = """\
+  the proved one, where it was built of these very sources: `afdx build` and ./test leave it, a package brings it;
+  else these sources by `rt try`, without a proof and with checks, where the kit is: it takes some two minutes, writes no
+  file, and passes on 1 MiB of each run;"""
+IN_A_PACKAGE = "  the proved one that the package has;"
+
 HELP = """usage: afdx [--help] [--version] COMMAND ..
 
 One command for all that is done with a network: each line is a command, and `afdx COMMAND --help` tells its words.
@@ -65,10 +71,8 @@ One command for all that is done with a network: each line is a command, and `af
 {commands}
 
 which program runs is told on error output, once. It is
-  the proved one, where it was built of these very sources: `afdx build` and ./test leave it, a package brings it;
-  else these sources by `rt try`, without a proof and with checks, where the kit is: it takes some two minutes, writes no
-  file, and passes on 1 MiB of each run;
-  with --by second-opinion the plain simulator in Python, for seq and page; with --by proved and --by try just that one;
+{which}
+  with --by second-opinion the plain simulator in Python, for seq and page{only};
   with --program PATH the program that you name
 
 {of_run}
@@ -105,7 +109,8 @@ def is_there(tool):
 
 def help_text(is_clone=program.is_clone()):
     lines = [f"  {name:<12}{says}" for name, (_, says) in commands(is_clone).items()]
-    return HELP.format(commands="\n".join(lines), of_run=OF_RUN)
+    which, only = (IN_A_CLONE, "; with --by proved and --by try just that one") if is_clone else (IN_A_PACKAGE, "")
+    return HELP.format(commands="\n".join(lines), which=which, only=only, of_run=OF_RUN)
 
 
 def version_text():

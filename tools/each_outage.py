@@ -284,7 +284,7 @@ def summary_row(it, has_limits):
     return row(cells + (plain(f"{len(it.broken):,}") if has_limits else []))
 
 
-def page(found, path):
+def page(found, path, made_by):
     """The page of all outages."""
     summaries = found.summaries()
     losing = sum(it.lost().most > 0 for it in summaries)
@@ -311,5 +311,6 @@ def page(found, path):
         "</table><footer>A frame is lost end to end where it is delivered by neither network. Where it is open how many are, it is "
         "told from the least to the most: a trace tells neither which port of a switch was full where copies go on by several, "
         "nor of which frames copies were lost after the last frame that came. Later means that the greatest latency "
-        f"grows by more than {later_in_words(found.least_later)}; outages.csv has each. It tells what happened in these runs, and is no bound on what can happen.</footer></main></body></html>\n"
+        f"grows by more than {later_in_words(found.least_later)}; outages.csv has each. It tells what happened in these runs, and is no bound on what can happen. "
+        f"They are by {html.escape(made_by)}.</footer></main></body></html>\n"
     )

@@ -4,8 +4,8 @@
 
 and the status is 0 where nothing failed, else 1. It sets itself up: as root on Debian it installs what is missing of what the
 tests of the tools need; else it says before the first proof what is missing, and ends. It tells how far it is, how long the
-last run on this machine took, and at the end what each crate took. The program that it leaves has a record of what it was
-built of, by which `afdx` knows it.
+last run on this machine took, and at the end what each crate took and which tests were skipped, and why. The program that it
+leaves has a record of what it was built of, by which `afdx` knows it.
 """
 import glob
 import json
@@ -22,11 +22,14 @@ import program
 from crate_times import minutes, now
 
 # What the tests of the tools need: programs, and libraries of Python, each by the package of Debian that has it.
-PROGRAMS = {"chromium": "chromium", "tshark": "tshark"}
+PROGRAMS = {"chromium": "chromium", "tshark": "tshark", "git": "git"}
 MODULES = {
     "distributed": "python3-distributed", "jsonschema": "python3-jsonschema", "hypothesis": "python3-hypothesis",
     "openpyxl": "python3-openpyxl",
 }
+# What a few of them need besides; where it is not there these are skipped.
+FEW_PROGRAMS = {"mmdebstrap": "mmdebstrap", "man": "man-db"}
+FEW_MODULES = {"numpy": "python3-numpy", "pandas": "python3-pandas"}
 # Debian's packages are for this interpreter.
 DEBIAN = "/usr/bin/python3"
 # How often it tells what is proved, in s.
@@ -41,9 +44,9 @@ def tell(text):
 # ---- what is needed ----
 
 
-def lacks(python):
-    """The libraries that an interpreter lacks, or None where it cannot be run or is too old."""
-    tries = f"import importlib.util as u, sys; print(*(n for n in {list(MODULES)} if not u.find_spec(n))); sys.exit(sys.version_info < (3, 11))"
+def lacks(python, modules):
+    """The libraries of these that an interpreter lacks, or None where it cannot be run or is too old."""
+    tries = f"import importlib.util as u, sys; print(*(n for n in {list(modules)} if not u.find_spec(n))); sys.exit(sys.version_info < (3, 11))"
     try:
         run = subprocess.run([python, "-c", tries], stdin=subprocess.DEVNULL, capture_output=True, text=True)
     except OSError:
@@ -54,30 +57,50 @@ def lacks(python):
 def python_for_tests():
     """The interpreter that runs the tests of the tools, and the libraries that it lacks: one that lacks none, and of two the one
     that Debian's packages are for."""
-    found = [(python, lacks(python)) for python in (sys.executable, DEBIAN)]
+    found = [(python, lacks(python, MODULES)) for python in (sys.executable, DEBIAN)]
     found = [(python, modules) for python, modules in found if modules is not None]
     return min(found, key=lambda it: (bool(it[1]), it[0] != DEBIAN))
+
+
+def without(programs):
+    """The packages of those programs that are not here."""
+    return [package for name, package in programs.items() if not shutil.which(name)]
 
 
 def missing():
     """The packages that are missing, and the interpreter that has the rest."""
     python, modules = python_for_tests()
-    packages = [package for name, package in PROGRAMS.items() if not shutil.which(name)]
-    return packages + [MODULES[name] for name in modules], python
+    return without(PROGRAMS) + [MODULES[name] for name in modules], python
+
+
+def missing_for_few():
+    """The packages that are missing of what a few tests need. Its libraries are looked for where Debian has them."""
+    return without(FEW_PROGRAMS) + [FEW_MODULES[name] for name in lacks(DEBIAN, FEW_MODULES) or []]
+
+
+def install(packages, few):
+    """Installs what is needed at one go, and the rest one by one: what cannot be had keeps nothing else away."""
+    tell(f"installs {' '.join(packages + few)}")
+    for words in (["apt-get", "update"], *([*INSTALL, *it] for it in (packages, *([name] for name in few)) if it)):
+        subprocess.run(words, stdin=subprocess.DEVNULL, env=os.environ | {"DEBIAN_FRONTEND": "noninteractive"})
+
+
+def as_root(packages):
+    return f"{' '.join(packages)}. As root: apt-get update && {' '.join(INSTALL + packages)}"
 
 
 def set_up():
     """Sees that all is there that the tests need, and answers the interpreter for those of the tools; None where something
     is missing, which is told."""
-    packages, python = missing()
-    if packages and os.geteuid() == 0 and shutil.which("apt-get"):
-        tell(f"installs {' '.join(packages)}")
-        for words in (["apt-get", "update"], [*INSTALL, *packages]):
-            subprocess.run(words, stdin=subprocess.DEVNULL, env=os.environ | {"DEBIAN_FRONTEND": "noninteractive"})
-        packages, python = missing()
+    (packages, python), few = missing(), missing_for_few()
+    if (packages or few) and os.geteuid() == 0 and shutil.which("apt-get"):
+        install(packages, few)
+        (packages, python), few = missing(), missing_for_few()
     if packages:
-        tell(f"missing: {' '.join(packages)}. As root: apt-get update && {' '.join(INSTALL + packages)}")
+        tell(f"missing: {as_root(packages + few)}")
         return None
+    if few:
+        tell(f"tests are skipped that need {as_root(few)}")
     return python
 
 
@@ -211,17 +234,18 @@ def prove(counts, last, times):
 
 
 def try_tools(counts, python):
-    """Runs the tests of the tools, file by file, and answers how long each took."""
-    files, took = sorted(glob.glob("tools/test_*.py")), {}
+    """Runs the tests of the tools, file by file, and answers how long each took, and which tests were skipped and why."""
+    files, took, skipped = sorted(glob.glob("tools/test_*.py")), {}, []
     for number, file in enumerate(files, 1):
         name, begin = os.path.basename(file), now()
         tell(f"tools: file {number} of {len(files)}, {name}")
-        said, status = said_by([python, "-m", "unittest", "discover", "-s", "tools", "-p", name])
+        said, status = said_by([python, os.path.join("tools", "run_tests.py"), name])
         counts.add(counts_of_unittest(said), status)
         took[name] = now() - begin
+        skipped += re.findall(r"^skipped: .*$", said, re.MULTILINE)
     if not files:
         counts.add((0, 0), 0)
-    return took
+    return took, skipped
 
 
 def main():
@@ -235,13 +259,15 @@ def main():
         tell(f"the last run on this machine took {minutes(last.seconds)} ({last.date}); what has not changed is not proved again")
     prove(counts, last, times)
     proved = now() - begin
-    took = try_tools(counts, python)
+    took, skipped = try_tools(counts, python)
     tell("seconds of processors that each crate took in this run:")
     for line in crate_times.in_lines(times):
         tell(f"  {line}")
     tell("seconds that each file of the tests of the tools took:")
     for name, seconds in sorted(took.items(), key=lambda it: -it[1]):
         tell(f"  {name:<26}{seconds:>6.0f}")
+    for line in skipped:
+        tell(line)
     tell(f"proofs and edits {minutes(proved)}, tools {minutes(now() - begin - proved)}, all {minutes(now() - begin)}")
     if not counts.failed:
         last.keep(now() - begin, {name: round(sum(mine.values())) for name, mine in times.items()})

@@ -24,8 +24,10 @@ import files
 import program
 from program import ROOT, NoProgram
 
-# Tools for who changes the program: they need its sources.
-ONLY_IN_A_CLONE = ("gate.py", "package.py", "reading_list.py", "refuse_memory.py", "threaded_runs.py")
+# Tools for who changes the program, and what tests alone read: they need its sources.
+ONLY_IN_A_CLONE = (
+    "drawn.py", "gate.py", "package.py", "reading_list.py", "refuse_memory.py", "row_files.py", "run_tests.py", "threaded_runs.py",
+)
 OF_A_TOOL = re.compile(r"tools/(?!test_)\w+\.(py|lua)|tools/page/.*")
 PYTHON = "/usr/bin/python3"
 CONTROL = """Package: afdxsim
@@ -44,6 +46,18 @@ Description: proved simulator of AFDX networks
  is in /usr/share/doc/afdxsim/docs/PROMISES.md, and what it was proved of in
  /usr/share/doc/afdxsim/proof.json.
 """
+
+# As packages of Python do: what it is compiled to is made once for all users, and goes with the package.
+SCRIPTS = {
+    "postinst": """#!/bin/sh
+set -e
+if [ "$1" = configure ]; then py3compile -p afdxsim /usr/lib/afdxsim; fi
+""",
+    "prerm": """#!/bin/sh
+set -e
+py3clean -p afdxsim
+""",
+}
 
 
 def git(*words, root=ROOT):
@@ -200,6 +214,8 @@ def close(tree, path, record, root=ROOT):
         with open(os.path.join(tree.folder, name), "rb") as file:
             sums.append(f"{hashlib.file_digest(file, 'md5').hexdigest()}  {name}\n")
     tree.write("DEBIAN/md5sums", "".join(sums))
+    for name, text in SCRIPTS.items():
+        tree.write(f"DEBIAN/{name}", text, 0o755)
     maintainer = git("log", "-1", "--format=%an <%ae>", root=root).strip()
     tree.write("DEBIAN/control", CONTROL.format(
         version=record["version"], maintainer=maintainer, size=-(-size // 1024), libc=libc_of(path)

@@ -260,7 +260,7 @@ def combinations_table(sweep, has_limits):
     return f'<table id="combinations"><thead>{row(heads, "th")}</thead><tbody>{"".join(rows)}</tbody></table>'
 
 
-def page(sweep, path, has_limits):
+def page(sweep, path, made_by, has_limits):
     """The page of all combinations."""
     effects, whole = sweep.effects(), sweep.whole()
     seeds = sweep.courses[0][1].seeds
@@ -283,5 +283,5 @@ def page(sweep, path, has_limits):
         "<footer>The effect is how far the combinations are apart in the mean, over seeds, of the greatest latency of a run. "
         "The spread of seeds is how far the greatest latencies of the runs of one combination are apart, in the one where "
         "that is most. The effect of one key is how far its values are apart, each taken over all values of the others. It "
-        "tells what happened in these runs, and is no bound on what can happen.</footer></main></body></html>\n"
+        f"tells what happened in these runs, and is no bound on what can happen. They are by {esc(made_by)}.</footer></main></body></html>\n"
     )

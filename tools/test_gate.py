@@ -16,14 +16,14 @@ HERE = os.path.dirname(os.path.abspath(__file__))
 
 PASSES = "import unittest\nclass It(unittest.TestCase):\n    def test_one(self): pass\n    def test_two(self): pass\n"
 FAILS = PASSES + "    def test_three(self): self.fail()\n    def test_four(self): raise OSError\n"
-SKIPS = PASSES + "    @unittest.skip('x')\n    def test_three(self): pass\n"
+SKIPS = PASSES + "    @unittest.skip('there is no x:\\n get it')\n    def test_three(self): pass\n"
 GOOD = "echo 7 passed, 3 failed in a crate\necho 51 passed, 0 failed\n"
-# An apt-get that writes down its words, and installs a program that is asked for, for it is in the packages.
+# An apt-get that writes down its words, and installs a program that is asked for, where it is this one.
 APT = """
     echo "$@" >> {folder}/apt.log
     for word in "$@"; do
-        if [ "$word" = chromium ] && [ "{works}" = yes ]; then
-            : > {folder}/chromium; /bin/chmod 755 {folder}/chromium
+        if [ "$word" = "{has}" ]; then
+            : > {folder}/$word; /bin/chmod 755 {folder}/$word
         fi
     done
 """
@@ -56,12 +56,12 @@ class Gate(unittest.TestCase):
         os.chmod(self.folder, 0o755)
         os.mkdir(os.path.join(self.folder, "tools"))
         shutil.copy(os.path.join(HERE, "..", "test"), self.folder)
-        for name in ("gate.py", "program.py", "crate_times.py", "by_rt.py"):
+        for name in ("gate.py", "program.py", "crate_times.py", "by_rt.py", "run_tests.py"):
             shutil.copy(os.path.join(HERE, name), os.path.join(self.folder, "tools"))
         # What the tests need is there, whatever this machine has.
-        for name in gate.MODULES:
+        for name in (*gate.MODULES, *gate.FEW_MODULES):
             self.write(f"modules/{name}.py", "")
-        for name in gate.PROGRAMS:
+        for name in (*gate.PROGRAMS, *gate.FEW_PROGRAMS):
             self.write(name, "", 0o755)
 
     def write(self, name, text, mode=0o644):
@@ -112,27 +112,53 @@ class Gate(unittest.TestCase):
                     os.unlink(os.path.join(self.folder, "rt"))
                 self.assertEqual(self.ended(rt, tests)[1:], (line, status))
 
+    def test_each_skipped_test_is_told_with_its_reason(self):
+        for tests, told in (
+            (SKIPS, ["test_it.It.test_three: there is no x: get it"]), (PASSES, []),
+            (f"import unittest\n@unittest.skip('none')\nclass Other(unittest.TestCase):\n    def test_it(self): pass\n{SKIPS}",
+             ["test_it.Other.test_it: none", "test_it.It.test_three: there is no x: get it"]),
+        ):
+            lines, last, status = self.ended(GOOD, tests)
+            self.assertEqual((last, status), ("53 passed, 0 failed", 0))
+            found = [line.removeprefix("test: skipped: ") for line in lines if line.startswith("test: skipped: ")]
+            self.assertEqual(sorted(found), sorted(told))
+
     @unittest.skipUnless(os.geteuid() == 0, "installs as root alone")
     def test_as_root_it_installs_what_is_missing(self):
         os.unlink(os.path.join(self.folder, "chromium"))
-        self.script("apt-get", APT.format(folder=self.folder, works="yes"))
+        self.script("apt-get", APT.format(folder=self.folder, has="chromium"))
         lines, last, status = self.ended(GOOD, env={"PATH": self.folder})
         self.assertIn("test: installs chromium", lines)
         self.assertEqual((last, status), ("53 passed, 0 failed", 0))
-        with open(os.path.join(self.folder, "apt.log")) as file:
-            self.assertEqual(file.read(), "update\ninstall -y --no-install-recommends chromium\n")
+        self.assertEqual(self.text("apt.log"), "update\ninstall -y --no-install-recommends chromium\n")
+
+    @unittest.skipUnless(os.geteuid() == 0, "installs as root alone")
+    def test_what_a_few_tests_need_is_installed_where_it_can_be(self):
+        for name in ("chromium", "mmdebstrap", "man"):
+            os.unlink(os.path.join(self.folder, name))
+        self.script("apt-get", APT.format(folder=self.folder, has="chromium"))
+        lines, last, status = self.ended(GOOD, env={"PATH": self.folder})
+        self.assertIn("test: installs chromium mmdebstrap man-db", lines)
+        self.assertEqual(self.text("apt.log"), "update\n" + "".join(
+            f"install -y --no-install-recommends {name}\n" for name in ("chromium", "mmdebstrap", "man-db")
+        ))
+        self.assertIn(
+            "test: tests are skipped that need mmdebstrap man-db. "
+            "As root: apt-get update && apt-get install -y --no-install-recommends mmdebstrap man-db", lines
+        )
+        self.assertEqual((last, status), ("53 passed, 0 failed", 0))
 
     @unittest.skipUnless(os.geteuid() == 0, "installs as root alone")
     def test_what_cannot_be_installed_is_told_before_the_first_proof(self):
         os.unlink(os.path.join(self.folder, "chromium"))
-        self.script("apt-get", APT.format(folder=self.folder, works="no"))
+        self.script("apt-get", APT.format(folder=self.folder, has=""))
         lines, last, status = self.ended("echo PROVES\n" + GOOD, env={"PATH": self.folder})
         self.assertNotIn("PROVES", lines)
         self.assertEqual((last, status), ("0 passed, 1 failed", 1))
 
     def test_else_it_says_in_one_line_what_is_missing(self):
         os.unlink(os.path.join(self.folder, "chromium"))
-        self.script("apt-get", APT.format(folder=self.folder, works="yes"))
+        self.script("apt-get", APT.format(folder=self.folder, has="chromium"))
         who = {"user": 65534, "cwd": self.folder} if os.geteuid() == 0 else {}
         lines, last, status = self.ended("echo PROVES\n" + GOOD, env={"PATH": self.folder}, **who)
         self.assertEqual(lines, [
@@ -143,8 +169,8 @@ class Gate(unittest.TestCase):
         self.assertFalse(os.path.exists(os.path.join(self.folder, "apt.log")))
 
     def test_a_library_that_is_missing_is_one_of_debian(self):
-        for name in gate.MODULES:
-            self.assertRegex(gate.MODULES[name], f"^python3-{name}$")
+        for name, package in (gate.MODULES | gate.FEW_MODULES).items():
+            self.assertEqual(package, f"python3-{name}")
         python, lacking = gate.python_for_tests()
         self.assertTrue(os.path.isfile(python))
         self.assertLessEqual(set(lacking), set(gate.MODULES))

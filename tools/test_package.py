@@ -1,5 +1,7 @@
-"""Tests of the package: of a commit of what is here, with a stand-in for the program where there is none, or the built one."""
+"""Tests of the package: of a commit of what is here, with the built program, or a stand-in for it where there is none. Those of
+the class Installed need root and mmdebstrap, which fetches a Debian 12 from a mirror; it takes half a minute."""
 import contextlib
+import glob
 import json
 import os
 import shutil
@@ -8,6 +10,7 @@ import tempfile
 import time
 import unittest
 
+import commands
 import package
 import program
 import test_commands
@@ -15,8 +18,38 @@ import test_commands
 HERE = os.path.dirname(os.path.abspath(__file__))
 TOP = os.path.dirname(HERE)
 KIT = test_commands.KIT
-# The least of a Debian 12, with what the package depends on: some 50 MB of packages are fetched.
-BOOTSTRAP = ["mmdebstrap", "--variant=minbase", "--include=python3", "bookworm"]
+# The least of a Debian 12, with what the package depends on: some 50 MB of packages are fetched. No mirror is waited for long.
+BOOTSTRAP = [
+    "timeout", "--kill-after=20", "600", "mmdebstrap", "--variant=minbase", "--include=python3",
+    '--aptopt=Acquire::http::Timeout "20"', '--aptopt=Acquire::Retries "1"', "bookworm",
+]
+with open(os.path.join(TOP, "examples", "cockpit.tables.csv")) as opened:
+    TABLES = opened.read()
+# What a user does one after another, with NET an example: the words of `afdx`, what they print, and a file that they leave.
+DONE = (
+    ("completion bash", "complete -o filenames -F _afdx afdx", None),
+    ("explain NET", "accepted", None),
+    ("bounds NET -o bounds.csv", "", "bounds.csv"),
+    ("table EXAMPLES/flight_deck.csv", "until_ns", None),
+    ("table --back NET -o net.csv", "", "net.csv"),
+    ("seq NET --trace trace.csv", TABLES, "trace.csv"),
+    ("seq NET --trace second.csv --by second-opinion", TABLES, "second.csv"),
+    ("pcap NET trace.csv -o net.pcapng", "", "net.pcapng"),
+    ("page NET -o page.html", "", "page.html"),
+    ("page NET EXAMPLES/cockpit.tables.csv -o drawn.html --bounds bounds.csv", "", "drawn.html"),
+    ("campaign NET --seeds 2 -o campaign", "2 runs merged", "campaign/merged.csv"),
+    ("campaign NET --seeds 1 --set vl.101.depth=1,2 -o sweep", "2 runs", "sweep/sweep.html"),
+    ("campaign NET --aim 101 -o aim", "", "aim/aim.csv"),
+    ("page NET campaign -o merged.html", "", "merged.html"),
+    ("outages NET -o outages", "", "outages/outages.html"),
+)
+# The same of what only the program itself does.
+DONE_BY_THE_PROGRAM = (
+    ("check NET", "ok: 48 processes, 10 virtual links, ", None),
+    ("seq NET --trace trace.csv --progress", TABLES, "trace.csv"),
+    ("run NET --workers 2 --turn 4 --journal steps.txt --trace run.csv", TABLES, "steps.txt"),
+    ("replay NET steps.txt", TABLES, None),
+)
 
 
 def run(*words, **more):
@@ -30,8 +63,10 @@ def is_elf(path):
         return file.read(4) == b"\x7fELF"
 
 
-class Packages(unittest.TestCase):
+class Package(unittest.TestCase):
     """A clone with few crates and all that a package has, and the package of its commit."""
+
+    once = None
 
     @classmethod
     def setUpClass(cls):
@@ -103,6 +138,22 @@ class Packages(unittest.TestCase):
         self.assertEqual(ended.stdout, f"{path}: sha256 {program.sum_of_file(path)}\n")
         return path
 
+    def made(self):
+        """The package, made once for all tests of a class."""
+        if self.once is None:
+            type(self).once = self.packed("once")
+        return self.once
+
+    def unpacked(self):
+        """A folder with the files of the package alone."""
+        folder = self.enterContext(tempfile.TemporaryDirectory())
+        self.assertEqual(run("dpkg-deb", "-x", self.made(), folder).returncode, 0)
+        return folder
+
+
+class Packages(Package):
+    """What it has, and of what it is made."""
+
     def test_what_it_has(self):
         path = self.packed()
         self.assertEqual(os.path.basename(path), f"afdxsim_{program.version(TOP)}_amd64.deb")
@@ -165,80 +216,153 @@ class Packages(unittest.TestCase):
         refused(f"{program.BUILT} is there, and no record says which sources it was built of")
         self.record("7 passed, 0 failed")
 
-    def unpacked(self):
-        """A folder with the files of the package alone."""
-        folder = self.enterContext(tempfile.TemporaryDirectory())
-        self.assertEqual(run("dpkg-deb", "-x", self.packed(), folder).returncode, 0)
-        return folder
+    def test_its_manual_pages_have_no_fault(self):
+        if not shutil.which("man"):
+            self.skipTest("there is no man: apt-get install -y man-db")
+        folder = self.unpacked()
+        for name in ("afdx", "afdxsim"):
+            shown = run("man", "-l", "--warnings", os.path.join(folder, f"usr/share/man/man1/{name}.1.gz"), env=self.env(MANWIDTH="120"))
+            self.assertIn("NAME", shown.stdout)
+            self.assertEqual((shown.returncode, shown.stderr), (0, ""))
 
-    def goes_well(self, call, examples, folder):
-        """All that a user does goes well, where `call` runs a command, and these are the examples and a folder to write into."""
-        with open(os.path.join(TOP, "examples", "cockpit.tables.csv")) as file:
-            tables = file.read()
-        net = f"{examples}/cockpit.toml"
-        found = call("afdx", "--version")
+
+class Used:
+    """All that a user does with the package goes well. `run_there` runs a command where its files are, which are in the folder
+    `root` as it is seen from here, and has `work` there as the folder for what is written."""
+
+    def run_there(self, *words):
+        raise NotImplementedError
+
+    def does(self, rows):
+        """Calls `afdx` with the words of each row, and sees that it goes well."""
+        for words, prints, leaves in rows:
+            given = [word.replace("EXAMPLES", self.examples).replace("NET", f"{self.examples}/cockpit.toml") for word in words.split()]
+            with self.subTest(words):
+                found = self.run_there("afdx", *given)
+                self.assertEqual(found.returncode, 0, found.stderr)
+                (self.assertEqual if prints == TABLES else self.assertIn)(prints, found.stdout)
+                self.assertTrue(leaves is None or os.path.getsize(self.path(leaves)) > 0)
+
+    def path(self, name):
+        return os.path.join(self.work, name)
+
+    def same(self, name, other):
+        with open(self.path(name)) as one, open(self.path(other)) as two:
+            self.assertEqual(one.read(), two.read())
+
+    def test_it_tells_what_it_was_proved_of(self):
+        found = self.run_there("afdx", "--version")
         self.assertEqual(found.returncode, 0, found.stderr)
         version = found.stdout.splitlines()
         self.assertEqual(version[0], f"afdxsim {program.version(TOP)}")
         self.assertRegex(version[1], "^program: .*, proved, commit [0-9a-f]{8}, " + KIT)
-        found = call("afdx", "seq", net)
-        self.assertEqual(found.stdout, tables)
+        found = self.run_there("afdx", "seq", f"{self.examples}/cockpit.toml")
+        self.assertEqual(found.stdout, TABLES)
         self.assertRegex(found.stderr, r"^afdx: afdxsim [0-9.]+, proved, commit [0-9a-f]{8}, " + KIT + "\n$")
-        for words, prints in (
-            (["page", net, "-o", f"{folder}/page.html"], ""), (["explain", net], "accepted"), (["bounds", net], "bound_ns"),
-            (["seq", net, "--by", "second-opinion"], tables), (["table", f"{examples}/flight_deck.csv"], "until_ns"),
-            (["campaign", net, "--seeds", "2", "-o", f"{folder}/campaign"], "2 runs merged"), (["completion", "bash"], "complete"),
-        ):
-            found = call("afdx", *words)
-            self.assertEqual(found.returncode, 0, found.stderr)
-            self.assertIn(prints, found.stdout)
+
+    def test_all_that_a_user_does_goes_well(self):
+        self.does(DONE)
+        self.same("trace.csv", "second.csv")
+        self.assertEqual({words.split()[0] for words, _, _ in DONE + DONE_BY_THE_PROGRAM}, set(commands.commands(is_clone=False)))
+
+    def test_so_does_what_only_the_program_does(self):
+        if not self.is_real:
+            self.skipTest(f"there is no built program at {program.BUILT}: ./afdx build, or ./test")
+        self.does(DONE_BY_THE_PROGRAM)
+        self.same("trace.csv", "run.csv")
+        found = self.run_there("afdx", "replay", f"{self.examples}/cockpit.toml", "steps.txt")
+        self.assertRegex(found.stderr, r"\nreplay: \d+ did, \d+ not enabled, 0 refused, gvt \d+, finished\n$")
+
+    def test_each_command_and_each_tool_tells_its_words(self):
+        python = "/usr/bin/python3"
+        calls = [("afdx", "--help"), ("afdxsim", "--help"), *(("afdx", name, "--help") for name in commands.commands(is_clone=False))]
+        for path in glob.glob(os.path.join(self.root, "usr/lib/afdxsim/tools/*.py")):
+            with open(path) as file:
+                text = file.read()
+            # What has a main of its own and words: one is called by another tool alone.
+            if 'if __name__ == "__main__":' in text and "argparse" in text:
+                calls.append((python, f"{self.lib}/tools/{os.path.basename(path)}", "--help"))
+        self.assertGreater(sum(call[0] == python for call in calls), 5)
+        for call in calls:
+            found = self.run_there(*call)
+            self.assertEqual((found.returncode, found.stderr), (0, ""), call)
+            self.assertIn("usage", found.stdout.lower(), call)
+
+    def test_what_needs_a_clone_or_the_kit_says_so(self):
         for words, message in (
             (["build"], "afdx: there is no command 'build': afdx --help tells all\n"),
-            (["seq", net, "--by", "try"], "afdx: `rt`, the kit's command, is not on the PATH\n"),
+            (["package"], "afdx: there is no command 'package': afdx --help tells all\n"),
+            (["seq", f"{self.examples}/n1.toml", "--by", "try"], "afdx: `rt`, the kit's command, is not on the PATH\n"),
         ):
-            self.assertEqual(call("afdx", *words).stderr, message)
+            found = self.run_there("afdx", *words)
+            self.assertEqual((found.returncode, found.stderr), (2, message))
+        said = self.run_there("afdx", "--help").stdout
+        self.assertFalse([word for word in ("rt try", "afdx build", "./test") if word in said])
 
-    def test_its_files_alone_are_enough(self):
-        root = self.unpacked()
+
+class Unpacked(Used, Package):
+    """Its files alone are enough, wherever they lie."""
+
+    def setUp(self):
         if not self.is_real:
-            # The stand-in knows its tools by the path at which they will be.
-            path = os.path.join(root, "usr/bin/afdxsim")
-            self.skipTest(f"there is no built program, and the stand-in {path} wants a whole root folder")
+            # It knows its tools by the path at which they will be.
+            self.skipTest(f"there is no built program at {program.BUILT}, and the stand-in for it wants a whole root folder")
+        self.root = self.work = self.unpacked()
+        self.examples, self.lib = (os.path.join(self.root, "usr", name) for name in ("share/doc/afdxsim/examples", "lib/afdxsim"))
 
-        def call(name, *words):
-            env = {"PATH": f"{root}/usr/bin:/usr/bin:/bin", "HOME": "/nonexistent"}
-            return run(os.path.join(root, "usr/bin", name), *words, env=env, cwd=root)
+    def run_there(self, name, *words):
+        env = {"PATH": f"{self.root}/usr/bin:/usr/bin:/bin", "HOME": "/nonexistent"}
+        return run(os.path.join(self.root, "usr/bin", name), *words, env=env, cwd=self.work)
 
-        self.goes_well(call, os.path.join(root, "usr/share/doc/afdxsim/examples"), root)
-        if shutil.which("man"):
-            for name in ("afdx", "afdxsim"):
-                shown = run("man", "-l", "--warnings", os.path.join(root, f"usr/share/man/man1/{name}.1.gz"), env=self.env(MANWIDTH="120"))
-                self.assertIn("NAME", shown.stdout)
-                self.assertEqual((shown.returncode, shown.stderr), (0, ""))
 
-    def test_it_installs_on_a_debian_12_that_has_nothing_else(self):
+class Installed(Used, Package):
+    """It installs on a Debian 12 that has nothing else, neither the kit nor git, and can be removed."""
+
+    examples, lib = "/usr/share/doc/afdxsim/examples", "/usr/lib/afdxsim"
+    root = why = None
+
+    def setUp(self):
         if os.geteuid() != 0 or not shutil.which("mmdebstrap"):
-            self.skipTest("a fresh Debian is made by mmdebstrap, as root")
-        root = os.path.join(self.enterContext(tempfile.TemporaryDirectory()), "root")
+            self.skipTest("a fresh Debian is made by mmdebstrap, as root: apt-get install -y mmdebstrap")
+        if self.root is None:
+            type(self).root, type(self).why = self.debian()
+        if self.why:
+            self.skipTest(self.why)
+        folder = tempfile.mkdtemp(dir=os.path.join(self.root, "tmp"))
+        self.addCleanup(shutil.rmtree, folder)
+        self.work, self.inside = folder, os.path.join("/", os.path.relpath(folder, self.root))
+        if not os.path.exists(os.path.join(self.root, "usr/bin/afdx")):
+            shutil.copy(self.made(), os.path.join(self.root, "afdxsim.deb"))
+            found = self.run_there("dpkg", "--install", "/afdxsim.deb")
+            self.assertEqual(found.returncode, 0, found.stdout[-1000:] + found.stderr[-1000:])
+
+    def debian(self):
+        """A root folder with a Debian, and why there is none."""
+        root = os.path.join(self.folder, "root")
         made = run(*BOOTSTRAP, root, env=self.env())
         if made.returncode != 0:
-            self.skipTest(f"mmdebstrap cannot make a Debian here (does it reach a mirror?): {made.stderr.strip()[-200:]}")
-        shutil.copy(self.packed(), os.path.join(root, "afdxsim.deb"))
-        for name in ("dev/null", "dev/urandom"):
+            return root, f"mmdebstrap cannot make a Debian here (does it reach a mirror?): {made.stderr.strip()[-200:]}"
+        for name, number in (("dev/null", (1, 3)), ("dev/urandom", (1, 9))):
             if not os.path.exists(os.path.join(root, name)):
-                number = {"dev/null": (1, 3), "dev/urandom": (1, 9)}[name]
-                os.mknod(os.path.join(root, name), 0o20666, os.makedev(*number))
+                try:
+                    os.mknod(os.path.join(root, name), 0o20666, os.makedev(*number))
+                except OSError as fault:
+                    return root, f"a root folder gets no devices here: {fault.strerror}"
+        tried = run("chroot", root, "/usr/bin/python3", "-c", "")
+        return root, None if tried.returncode == 0 else f"nothing runs in a root folder here: {tried.stderr.strip()[-200:]}"
 
-        def call(*words):
-            env = {"PATH": "/usr/sbin:/usr/bin:/sbin:/bin", "HOME": "/root", "DEBIAN_FRONTEND": "noninteractive"}
-            return run("chroot", root, *words, env=env)
+    def run_there(self, *words):
+        env = {"PATH": "/usr/sbin:/usr/bin:/sbin:/bin", "HOME": "/root", "DEBIAN_FRONTEND": "noninteractive"}
+        return run("chroot", self.root, "env", "-C", self.inside, *words, env=env)
 
-        found = call("dpkg", "--install", "/afdxsim.deb")
-        self.assertEqual(found.returncode, 0, found.stdout[-1000:] + found.stderr[-1000:])
-        self.assertEqual(call("dpkg", "--verify", "afdxsim").stdout, "")
-        self.goes_well(call, "/usr/share/doc/afdxsim/examples", "/tmp")
-        self.assertEqual(call("dpkg", "--remove", "afdxsim").returncode, 0)
-        self.assertFalse(os.path.exists(os.path.join(root, "usr/lib/afdxsim/afdx")))
+    def test_it_is_there_as_it_was_packed_and_can_be_removed(self):
+        self.assertEqual(self.run_there("dpkg", "--verify", "afdxsim").stdout, "")
+        self.assertTrue(glob.glob(os.path.join(self.root, "usr/lib/afdxsim/tools/__pycache__/commands.*")))
+        self.does([row for row in DONE if row[2] == "page.html"])
+        found = self.run_there("dpkg", "--remove", "afdxsim")
+        self.assertEqual((found.returncode, found.stderr), (0, ""))
+        for name in ("bin/afdx", "bin/afdxsim", "lib/afdxsim", "share/doc/afdxsim", "share/man/man1/afdx.1.gz"):
+            self.assertFalse(os.path.lexists(os.path.join(self.root, "usr", name)), name)
 
 
 if __name__ == "__main__":

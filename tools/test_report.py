@@ -1270,13 +1270,6 @@ class WithoutABrowser(unittest.TestCase):
         self.assertEqual(make(path, self.file("bad.csv", "x\n"), "-o", self.page)[0], 2)
         self.assertEqual(read(self.page), "earlier")
 
-    def test_the_script_is_javascript(self):
-        node = shutil.which("node")
-        if not node:
-            self.skipTest("there is no node")
-        run = subprocess.run([node, "--check", os.path.join(HERE, "page", "report.js")], capture_output=True, text=True)
-        self.assertEqual((run.returncode, run.stderr), (0, ""))
-
     def test_help(self):
         run = subprocess.run(
             [sys.executable, os.path.join(HERE, "report.py"), "--help"], capture_output=True, text=True
