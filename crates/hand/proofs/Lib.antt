@@ -42,3 +42,4 @@ pub mod Leaving
 pub mod OldestDeed
 pub mod Opens
 pub mod Handed
+pub mod Precedes

@@ -1,5 +1,5 @@
 -- Done events are committed one after another.
-use Rattle.std.proofs.Common.{◌≡◌, ℕ, ◌<◌, ◌≤◌, true, false, List, [], ◌∷◌, ◌++◌, Option, Some, None, IfSome, All, IsPermutation, pos, refl, sym, ap, ◌∙◌, subst, append_assoc, append-nil, arith}
+use Rattle.std.proofs.Common.{◌≡◌, ℕ, ◌<◌, ◌≤◌, ◌⊎◌, inl, inr, min, true, false, List, [], ◌∷◌, ◌++◌, Option, Some, None, IfSome, IfNone, All, IsPermutation, pos, refl, sym, ap, ◌∙◌, subst, append_assoc, append-nil, arith}
 use Rattle.std.proofs.lemmas.Bool.{both_ways}
 use Rattle.std.proofs.lemmas.List.Elements.{All-head, All-tail, All-weaker}
 use Rattle.std.proofs.lemmas.List.Sorted.{IsPermutation-refl}
@@ -18,9 +18,9 @@ use Rattle.antimessages.specs.Counting.{signed_count}
 use Rattle.hand.specs.declared.block.Did.TheVariants.{Committed}
 use Rattle.hand.specs.Block.{steps_told}
 use Rattle.hand.specs.Deeds.{Deed}
-use Rattle.hand.specs.Flow.{IsFirst}
+use Rattle.hand.specs.Flow.{Flow, IsFirst}
 use Rattle.hand.specs.Hands.{Held, CommitsTold, StandsForSent, IsAsBefore, is_ours}
-use Rattle.hand.specs.Sealing.{CanCommit, rows_in, words_of}
+use Rattle.hand.specs.Sealing.{CanCommit, Stays, rows_in, words_of}
 use Rattle.hand.proofs.Telling.{done-append, are_done-append, of_members-none, of_members-both, told-append}
 use Rattle.hand.proofs.Sealing.{is-ours, sealed-steps, sealed}
 use Rattle.hand.proofs.Still.{stands-still}
@@ -36,6 +36,24 @@ pub none-in : IsOrder message_order → (m : Message) (first : Option Message) (
     times_in message_order m queue ≡ 0
 none-in O m None queue e b = ap (times_in message_order m) e
 none-in O m (Some f) queue i b = none-before O m f queue b i.1
+
+-- what is earlier than a limit comes before the first of the queue, if that is not earlier
+pub before-first : IsOrder message_order → (m : Message) (limit : ℕ) (first : Option Message) → m.time < limit → IfSome first (λ f. limit ≤ f.time) →
+    IfSome first (λ f. message_order.less m f ≡ true)
+before-first O m limit None l w = tt
+before-first O m limit (Some f) l w = O.by_time m f (omega (arith, l, w))
+
+-- a done message stays that is not early enough
+pub late-stays : (moment : ℕ) (flow : Flow) (m : Message) (first : Option Message) → IsFirst first flow.queue →
+    (moment ≤ m.time) ⊎ ((f : Message) × (first ≡ Some f) × (message_order.less m f ≡ false)) → Stays moment flow m
+late-stays moment flow m first i (inl l) = inl l
+late-stays moment flow m first i (inr b) = inr (inr (b.0, (subst (λ o. IsFirst o flow.queue) b.1 i).0, b.2))
+
+-- the earlier of a moment and that of the first message, if there is one, is not after either
+pub limit-within : (limit moment : ℕ) (first : Option Message) → IfSome first (λ f. limit ≡ min f.time moment) → IfNone first (limit ≡ moment) →
+    (limit ≤ moment) × IfSome first (λ f. limit ≤ f.time)
+limit-within limit moment None s n = (omega (arith, n), tt)
+limit-within limit moment (Some f) s n = (omega (arith, s), omega (arith, s))
 
 commit-gvt : {M S K N : Type 0} (f : Simulation M S K N) (p : ℕ) (v : World M S) → (effect f (Commit p) v).gvt ≡ v.gvt
 unfolding effect

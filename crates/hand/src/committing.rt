@@ -1,5 +1,5 @@
 //! The oldest done events of a group are committed.
-ghost use Rattle.std.specs.Prelude.{◌≡◌, ℕ, ◌+◌, ◌<◌, ◌≤◌, ◌++◌, ◌∷◌, [], true, false, All, IfSome, Some, OnOk, OnErr, length, take, drop, slice_get, vec_len, vec_capacity};
+ghost use Rattle.std.specs.Prelude.{◌≡◌, ℕ, ◌+◌, ◌<◌, ◌≤◌, ◌⊎◌, ◌++◌, ◌∷◌, [], true, false, All, IfSome, Some, OnOk, OnErr, length, take, drop, slice_get, vec_len, vec_capacity};
 ghost use Rattle.vlink.specs.Order.{message_order};
 ghost use Rattle.vlink.specs.declared.message.Message.{Message};
 ghost use Rattle.hand.specs.Deeds.{Deed, messages_of};
@@ -9,6 +9,7 @@ ghost use Rattle.hand.specs.Undoing.{noted_in, sent_in};
 
 use crate::block::{Did, Words};
 use crate::deeds::{Deeds, precedes};
+use crate::handing::time_or;
 use crate::letters::Letters;
 use crate::rows::Rows;
 use crate::trail::Trail;
@@ -50,18 +51,23 @@ impl<K: Copy> Deeds<K> {
 }
 
 impl Letters {
-    /// Whether a done event with this message can be committed below the moment; `first` is the first message of the queue, if there is one.
+    /// Whether a done event with this message can be committed below the moment; `first` is the first message of the queue, if there is one, and
+    /// `limit` the earlier of both moments.
     #[inline(always)]
-    fn can_commit(&self, message: &Message, moment: Time, first: &Option<Message>) -> bool
-        requires { IsFirst first.now self.now.queue }
+    fn can_commit(
+        &self,
+        message: &Message,
+        moment: Time,
+        first: &Option<Message>,
+        limit: Time,
+    ) -> bool
+        requires first { IsFirst first.now self.now.queue }
+        requires limit { (limit ≤ moment) × IfSome first.now (λ f. limit ≤ f.time) }
         ensures yes { result ≡ true → CanCommit moment self.now message.now }
         ensures no { result ≡ false → Stays moment self.now message.now }
     {
         order_law();
-        if message.time >= moment {
-            return false;
-        }
-        if !comes_before(message, first) {
+        if !is_early(message, moment, first, limit) {
             return false;
         }
         self.extra.is_zero(message)
@@ -80,8 +86,9 @@ impl Letters {
         ensures left { IfSome (slice_get (messages_of done.now.deeds) result) (Stays moment self.now) }
     {
         let events = done.events.as_slice();
+        let limit = time_or(first, moment);
         for place in 0..events.len() {
-            if !self.can_commit(&events[place].message, moment, first) {
+            if !self.can_commit(&events[place].message, moment, first, limit) {
                 return place;
             }
         }
@@ -111,6 +118,21 @@ impl Letters {
         done.close_up();
         Ok(())
     }
+}
+
+/// Whether the message is earlier than the moment, and comes before `first`, if there is one. Mostly `limit` tells, the earlier of both moments.
+#[inline(always)]
+fn is_early(message: &Message, moment: Time, first: &Option<Message>, limit: Time) -> bool
+    requires { (limit ≤ moment) × IfSome first.now (λ f. limit ≤ f.time) }
+    ensures early { result ≡ true → message.now.time < moment }
+    ensures before { result ≡ true → IfSome first.now (λ f. message_order.less message.now f ≡ true) }
+    ensures no { result ≡ false → (moment ≤ message.now.time) ⊎ ((f : Message) × (first.now ≡ Some f) × (message_order.less message.now f ≡ false)) }
+{
+    order_law();
+    if message.time < limit {
+        return true;
+    }
+    message.time < moment && comes_before(message, first)
 }
 
 /// Whether the message comes before `first`, if there is one.

@@ -151,7 +151,7 @@ impl<K: Copy> Deeds<K> {
     }
 }
 
-/// Whether the first message comes before the second. Mostly their moments tell.
+/// Whether the first message comes before the second. Mostly their moments tell, or their receivers.
 #[inline(always)]
 pub(crate) fn precedes(first: &Message, second: &Message) -> bool
     ensures { result ≡ message_order.less first.now second.now }
@@ -159,6 +159,9 @@ pub(crate) fn precedes(first: &Message, second: &Message) -> bool
     message_order_law();
     order_law();
     if first.time < second.time {
+        return true;
+    }
+    if first.time.ns() == second.time.ns() && first.receiver < second.receiver {
         return true;
     }
     compare(first, second).is_lt()

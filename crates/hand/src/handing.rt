@@ -133,7 +133,8 @@ impl Letters {
 }
 
 /// The moment of the message, if there is one, or `end`, whichever is earlier.
-fn time_or(message: &Option<Message>, end: Time) -> Time
+#[inline(always)]
+pub(crate) fn time_or(message: &Option<Message>, end: Time) -> Time
     ensures some { IfSome message.now (λ m. result ≡ min m.time end) }
     ensures none { IfNone message.now (result ≡ end) }
 {

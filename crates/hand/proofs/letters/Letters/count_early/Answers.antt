@@ -3,6 +3,7 @@ use Rattle.std.proofs.lemmas.List.{length-map}
 use Rattle.hand.specs.Deeds.{messages_of}
 use Rattle.hand.specs.Sealing.{CanCommit, Stays}
 use Rattle.hand.proofs.Forgetting.{as-seen, seen-at, one-more, none-past}
+use Rattle.hand.proofs.Sealed.{limit-within}
 use Rattle.hand.proofs.letters.Letters.count_early.Given.{Over}
 use Rattle.hand.proofs.letters.Letters.count_early.Goals.{After-as_slice-events, After-index-events-place}
 use Rattle.hand.proofs.letters.Letters.count_early.Goals as goal
@@ -11,6 +12,9 @@ use Rattle.hand.proofs.letters.Letters.count_early.Goals as goal
 many : (g : Over) (c : After-as_slice-events g) → length c.as_slice-events.result.now ≡ length c.args.done.now.deeds
 many g c =
     as-seen c.done.inside.events.items c.done.inside.sends.items c.done.inside.rows.items c.args.done.now.deeds c.as_slice-events.result.now (ap (λ z. z.deeds) c.done.view_is) c.as_slice-events.ensures
+
+pub can_commit-requires-clause-limit : goal.can_commit-requires-clause-limit
+can_commit-requires-clause-limit g c = limit-within c.time_or-limit.result c.args.moment c.args.first.now c.time_or-limit.ensures.some c.time_or-limit.ensures.none
 
 pub returns-then-not-can_commit-clause-within : goal.returns-then-not-can_commit-clause-within
 returns-then-not-can_commit-clause-within g c =
