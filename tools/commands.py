@@ -42,7 +42,7 @@ OF_TOOLS = {
 RUN_IT = ("campaign", "outages")
 OWN = {
     "page": ("NET [TABLES] -o FILE", "explain, simulate, bound and draw: one page to look at"),
-    "build": ("[--jobs N]", "prove all crates and build the program"),
+    "build": ("[--jobs N]", "prove the program and build it"),
     "package": ("[-o DIR]", "make a Debian package of the proved program and the tools"),
     "completion": ("bash", "print what completes words in a shell"),
 }
@@ -420,10 +420,10 @@ def simulate_by_try(net, out, trace):
 
 def build(arguments):
     parser = argparse.ArgumentParser(
-        prog="afdx build", description="Proves all crates and builds the program: crates/afdxsim/out/afdxsim.",
-        epilog="What it said in full is in crates/afdxsim/out/build.log.",
+        prog="afdx build", description="Proves the program and all that it is made of, and builds it: crates/afdxsim/out/afdxsim.",
+        epilog="What is proved is kept on this machine, for ./test too. What `rt` said in full is in crates/afdxsim/out/build.log.",
     )
-    parser.add_argument("--jobs", type=afdx.whole(1, 1024), default=len(os.sched_getaffinity(0)), metavar="N", help="crates side by side")
+    parser.add_argument("--jobs", type=afdx.whole(1, 1024), metavar="N", help="on at most N processors (default: all)")
     record = by_rt.build(parser.parse_args(arguments).jobs)
     files.say(f"{program.BUILT}: {program.in_words(record)}")
     return 0
