@@ -49,7 +49,9 @@ pub fn post<R: Actor, J: ActorRun<R>>(
     }
     let place = exchange.journal.len() as u64;
     let block = mem::replace(&mut held.block, Block::new());
-    exchange.journal.push_reserved(Entry::posted(held.number, prior, block));
+    exchange
+        .journal
+        .push_reserved(Entry::posted(held.number, prior, block));
     held.standing = standing_at(place, &exchange.journal, held.standing.seen);
     let _posted = held.process.post(&mut exchange.mail);
     exchange.floors.set(held.number, held.process.floor());
