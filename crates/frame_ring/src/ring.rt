@@ -66,13 +66,6 @@ impl FrameRing {
         self.bytes
     }
 
-    /// How many frames the ring may hold.
-    pub fn room(&self) -> u32
-        ensures { result ≡ self.now.room }
-    {
-        self.room
-    }
-
     /// Whether there is no frame.
     pub fn is_empty(&self) -> bool
         ensures { IsTrue result ↔ (self.now.frames ≡ []) }

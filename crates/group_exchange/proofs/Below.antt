@@ -19,7 +19,7 @@ use Rattle.reverse.specs.declared.sends.Sends.{Sends}
 use Rattle.reverse.proofs.Members.{in-all}
 use Rattle.antimessages.specs.Counting.{signed_count}
 use Rattle.hand.specs.Block.{steps_told}
-use Rattle.hand.specs.Deeds.{deeds_at, deeds_of, messages_of}
+use Rattle.hand.specs.DoneEvents.{done_events_at, done_events_of, messages_of}
 use Rattle.hand.specs.Flow.{Flow}
 use Rattle.hand.specs.Hands.{Held, IsAsBefore, IsMember, StandsForGroup, StaysDone, counted, is_ours}
 use Rattle.hand.specs.Sealing.{Stays}
@@ -122,8 +122,8 @@ module _ {S K : Type 0} (plain : Plain S Message Sends K) (O : IsOrder message_o
   pub none-done : h.done ≡ [] → (p : ℕ) → is_ours h.members p ≡ true → (v.parts p).done ≡ []
   none-done none p t =
       let m = held-is (slice_get h.members p) t in
-      let e : [] ≡ deeds_of (rules_of plain) (reached (rules_of plain) (x.opening p) (v.parts p).committed) (v.parts p).done =
-      ap (deeds_at message_order p) (sym none) ∙ (stands.members p m.0 m.1).done in
+      let e : [] ≡ done_events_of (rules_of plain) (reached (rules_of plain) (x.opening p) (v.parts p).committed) (v.parts p).done =
+      ap (done_events_at message_order p) (sym none) ∙ (stands.members p m.0 m.1).done in
       sym (ap messages_of e ∙ messages-of (rules_of plain) O V (reached (rules_of plain) (x.opening p) (v.parts p).committed) (v.parts p).done)
 
   -- the first message of the queue, where it is not done, is what its receiver handles next

@@ -18,7 +18,7 @@ use Rattle.virtual_time.proofs.Reading.{next-is}
 use Rattle.virtual_time.proofs.SafeGroup.{group-safe}
 use Rattle.reverse.specs.Setting.{Setting, simulation_of}
 use Rattle.hand.specs.Block.{steps_told}
-use Rattle.hand.specs.Deeds.{Deed, deed_of, deeds_at, deeds_of, messages_of}
+use Rattle.hand.specs.DoneEvents.{DoneEvent, done_event_of, done_events_at, done_events_of, messages_of}
 use Rattle.hand.specs.Hands.{DoesTold, Held, StandsForGroup, is_ours}
 use Rattle.hand.specs.Sealing.{rows_in}
 use Rattle.hand.proofs.Going.{done-in, held-is}
@@ -169,32 +169,32 @@ module _ {S K : Type 0} {r : Rules Message S K Note} {number end : S → ℕ} {i
       }
 
 -- the rows of an event of a group are of its message, at its receiver
-abbrev IsOfEvent : {K : Type 0} → Order Message → Deed K → Type 0
+abbrev IsOfEvent : {K : Type 0} → Order Message → DoneEvent K → Type 0
 IsOfEvent o d = All (λ row. (row.message ≡ d.message) × (row.place ≡ o.receiver d.message)) d.rows
 
 module _ {S K : Type 0} (r : Rules Message S K Note) where
-  deeds-rows : IsOrder r.order → (s : S) (ms : List Message) → All (IsOfEvent r.order) (deeds_of r s ms)
-  deeds-rows O s [] = All-nil (IsOfEvent r.order)
-  deeds-rows O s (m ∷ ms) =
-      All-cons (IsOfEvent r.order) (deed_of r s m) (deeds_of r (r.after s m) ms) (event-rows r.order O m (r.notes s m)) (deeds-rows O (r.after s m) ms)
+  events-rows : IsOrder r.order → (s : S) (ms : List Message) → All (IsOfEvent r.order) (done_events_of r s ms)
+  events-rows O s [] = All-nil (IsOfEvent r.order)
+  events-rows O s (m ∷ ms) =
+      All-cons (IsOfEvent r.order) (done_event_of r s m) (done_events_of r (r.after s m) ms) (event-rows r.order O m (r.notes s m)) (events-rows O (r.after s m) ms)
 
   -- those of all members are those of the group
-  all-deeds : (members : List (Option S)) (P : Deed K → Type 0) (ds : List (Deed K)) → ((p : ℕ) → is_ours members p ≡ true → All P (deeds_at r.order p ds)) →
+  all-events : (members : List (Option S)) (P : DoneEvent K → Type 0) (ds : List (DoneEvent K)) → ((p : ℕ) → is_ours members p ≡ true → All P (done_events_at r.order p ds)) →
       All (λ m. is_ours members (r.order.receiver m) ≡ true) (messages_of ds) → All P ds
-  all-deeds members P [] each home = All-nil P
-  all-deeds members P (d ∷ ds) each home =
+  all-events members P [] each home = All-nil P
+  all-events members P (d ∷ ds) each home =
       let p = r.order.receiver d.message in
       let t = All-head (λ m. is_ours members (r.order.receiver m) ≡ true) d.message (messages_of ds) home in
-      let here : All P (d ∷ deeds_at r.order p ds) = subst (λ b. All P (cond b (d ∷ deeds_at r.order p ds) (deeds_at r.order p ds))) (eq-eqb p p refl) (each p t) in
-      All-cons P d ds (All-head P d (deeds_at r.order p ds) here)
-      (all-deeds members P ds (λ q u. later q (r.order.receiver d.message == q) (each q u)) (All-tail (λ m. is_ours members (r.order.receiver m) ≡ true) d.message (messages_of ds) home))
+      let here : All P (d ∷ done_events_at r.order p ds) = subst (λ b. All P (cond b (d ∷ done_events_at r.order p ds) (done_events_at r.order p ds))) (eq-eqb p p refl) (each p t) in
+      All-cons P d ds (All-head P d (done_events_at r.order p ds) here)
+      (all-events members P ds (λ q u. later q (r.order.receiver d.message == q) (each q u)) (All-tail (λ m. is_ours members (r.order.receiver m) ≡ true) d.message (messages_of ds) home))
     where
-      later : (q : ℕ) (b : Bool) → All P (cond b (d ∷ deeds_at r.order q ds) (deeds_at r.order q ds)) → All P (deeds_at r.order q ds)
-      later q true a = All-tail P d (deeds_at r.order q ds) a
+      later : (q : ℕ) (b : Bool) → All P (cond b (d ∷ done_events_at r.order q ds) (done_events_at r.order q ds)) → All P (done_events_at r.order q ds)
+      later q true a = All-tail P d (done_events_at r.order q ds) a
       later q false a = a
 
   -- what holds of the messages of events holds of those of their rows
-  rows-by : (Q : Message → Type 0) (ds : List (Deed K)) → All (IsOfEvent r.order) ds → All Q (messages_of ds) → All (λ row. Q row.message) (rows_in ds)
+  rows-by : (Q : Message → Type 0) (ds : List (DoneEvent K)) → All (IsOfEvent r.order) ds → All Q (messages_of ds) → All (λ row. Q row.message) (rows_in ds)
   rows-by Q [] a b = All-nil (λ (row : Row). Q row.message)
   rows-by Q (d ∷ ds) a b =
       let q = All-head Q d.message (messages_of ds) b in
@@ -202,7 +202,7 @@ module _ {S K : Type 0} (r : Rules Message S K Note) where
       (All-weaker (λ row. (row.message ≡ d.message) × (row.place ≡ r.order.receiver d.message)) (λ row. Q row.message) (λ row e. subst Q (sym e.0) q) d.rows (All-head (IsOfEvent r.order) d ds a))
       (rows-by Q ds (All-tail (IsOfEvent r.order) d ds a) (All-tail Q d.message (messages_of ds) b))
 
-  rows-placed : (ds : List (Deed K)) → All (IsOfEvent r.order) ds → All (λ row. row.place ≡ r.order.receiver row.message) (rows_in ds)
+  rows-placed : (ds : List (DoneEvent K)) → All (IsOfEvent r.order) ds → All (λ row. row.place ≡ r.order.receiver row.message) (rows_in ds)
   rows-placed [] a = All-nil (λ (row : Row). row.place ≡ r.order.receiver row.message)
   rows-placed (d ∷ ds) a =
       All-append (λ row. row.place ≡ r.order.receiver row.message) d.rows (rows_in ds)
@@ -210,7 +210,7 @@ module _ {S K : Type 0} (r : Rules Message S K Note) where
       (All-head (IsOfEvent r.order) d ds a))
       (rows-placed ds (All-tail (IsOfEvent r.order) d ds a))
 
-  rows-ascend : IsOrder r.order → (ds : List (Deed K)) → All (IsOfEvent r.order) ds → IsAscending r.order (messages_of ds) → AreInOrder r.order (rows_in ds)
+  rows-ascend : IsOrder r.order → (ds : List (DoneEvent K)) → All (IsOfEvent r.order) ds → IsAscending r.order (messages_of ds) → AreInOrder r.order (rows_in ds)
   rows-ascend O [] a up = tt
   rows-ascend O (d ∷ ds) a up =
       let P : Row → Type 0 = λ row. (row.message ≡ d.message) × (row.place ≡ r.order.receiver d.message) in
@@ -238,16 +238,16 @@ not-before o O a b l = go (o.less b a) refl
 module _ {S K : Type 0} {r : Rules Message S K Note} (O : IsOrder r.order) {V : S → Message → Type 0} {x : Setting S} {v : World Message S} {owners : List ℕ} {g seen gone : ℕ} {h : Held S K}
     (stands : StandsForGroup r V x v h) (mine : (p : ℕ) → is_ours h.members p ≡ is_of owners g p) (k : KeepsRows r owners g seen gone h) (new : Held S K) where
   -- done events are committed, all that are earlier than the GVT that the group saw
-  pub rows-committed : (ds : List (Deed K)) → h.done ≡ ds ++ new.done → new.rows ≡ record h.rows { all = h.rows.all ++ rows_in ds } → All (λ m. r.order.time m < seen) (messages_of ds) →
+  pub rows-committed : (ds : List (DoneEvent K)) → h.done ≡ ds ++ new.done → new.rows ≡ record h.rows { all = h.rows.all ++ rows_in ds } → All (λ m. r.order.time m < seen) (messages_of ds) →
       All (λ m. seen ≤ r.order.time m) (messages_of new.done) → KeepsRows r owners g seen gone new
   rows-committed ds done rows early late =
       let o = r.order in
-      let ms = map-append (λ (d : Deed K). d.message) ds new.done in
+      let ms = map-append (λ (d : DoneEvent K). d.message) ds new.done in
       let home : All (λ m. is_ours h.members (o.receiver m) ≡ true) (messages_of h.done) =
       each-message o O (λ m. is_ours h.members (o.receiver m) ≡ true) (messages_of h.done) (λ m i. stands.home m (let a = times-append o O m h.flow.queue (messages_of h.done) in omega arith)) in
-      let events : All (IsOfEvent o) h.done = all-deeds r h.members (IsOfEvent o) h.done (λ p t.
+      let events : All (IsOfEvent o) h.done = all-events r h.members (IsOfEvent o) h.done (λ p t.
       let at = held-is (slice_get h.members p) t in
-      subst (All (IsOfEvent o)) (sym (stands.members p at.0 at.1).done) (deeds-rows r O (reached r (x.opening p) (v.parts p).committed) (v.parts p).done)) home in
+      subst (All (IsOfEvent o)) (sym (stands.members p at.0 at.1).done) (events-rows r O (reached r (x.opening p) (v.parts p).committed) (v.parts p).done)) home in
       let these : All (IsOfEvent o) ds = all-front (IsOfEvent o) ds new.done (subst (All (IsOfEvent o)) done events) in
       let split : messages_of h.done ≡ messages_of ds ++ messages_of new.done = ap messages_of done ∙ ms in
       let front : (P : Message → Type 0) → All P (messages_of h.done) → All P (messages_of ds) = λ P a. all-front P (messages_of ds) (messages_of new.done) (subst (All P) split a) in

@@ -11,7 +11,7 @@ use Rattle.journal.specs.declared.fault.PoolFault.{PoolFault}
 use Rattle.journal.specs.declared.fault.PoolFault.TheVariants.{OutOfMemory, Exhausted}
 use Rattle.hand.specs.declared.block.Did.{Did}
 use Rattle.hand.specs.Block.{steps_told}
-use Rattle.hand.specs.Deeds.{messages_of}
+use Rattle.hand.specs.DoneEvents.{messages_of}
 use Rattle.hand.specs.Hands.{Held}
 use Rattle.group_exchange.specs.Views.{Ledger, GroupState, is_of, mark_at, block_of, world_after, in_group}
 use Rattle.reverse.specs.declared.sends.TheConstants.{MOST_SENT}

@@ -8,7 +8,7 @@ use Rattle.reverse.specs.Setting.{Setting, simulation_of, IsLaidOut}
 use Rattle.gvt.specs.Horizon.{Floors}
 use Rattle.halves.specs.declared.RightHalf.{RightHalf}
 use Rattle.hand.specs.Block.{steps_told}
-use Rattle.hand.specs.Deeds.{messages_of}
+use Rattle.hand.specs.DoneEvents.{messages_of}
 use Rattle.hand.specs.Hands.{Held, StandsForGroup, is_ours}
 use Rattle.group_exchange.specs.declared.mark.Standing.{Standing}
 use Rattle.group_exchange.specs.Rows.{AreInOrder}

@@ -58,7 +58,7 @@ impl<R: Actor + Drop, J: GroupRun<R>> GroupExchange<R, J> {
     {
         actor_law::<R>();
         let keeps = table.is_some();
-        let end = Time::known(until.ns() + 1);
+        let end = Time::of_known(until.ns() + 1);
         let Pairs { lefts, rights } = pairs;
         let count = process_number(lefts.len());
         let mut lefts = lefts;

@@ -7,7 +7,7 @@ ghost use Rattle.reverse.specs.Rules.{rules_of};
 ghost use Rattle.reverse.specs.Setting.{Setting, simulation_of};
 ghost use Rattle.journal.specs.declared.fault.PoolFault.TheVariants.{OutOfMemory, JournalFull, Torn};
 ghost use Rattle.hand.specs.Block.{steps_told};
-ghost use Rattle.hand.specs.Deeds.{messages_of};
+ghost use Rattle.hand.specs.DoneEvents.{messages_of};
 ghost use Rattle.hand.specs.Hands.{FirstWaits, StandsForGroup};
 ghost use Rattle.group_exchange.specs.Boxing.{HasRoom, box_of, for_group};
 ghost use Rattle.group_exchange.specs.Telling.{waiting_for};

@@ -3,7 +3,7 @@ ghost use Rattle.std.specs.Prelude.{◌≡◌, ◌≤◌, ◌+◌, ◌⊎◌, mi
 ghost use Rattle.reverse.specs.Rules.{rules_of};
 ghost use Rattle.reverse.specs.Setting.{simulation_of};
 ghost use Rattle.journal.specs.declared.fault.PoolFault.TheVariants.{OutOfMemory, Exhausted};
-ghost use Rattle.hand.specs.Deeds.{messages_of};
+ghost use Rattle.hand.specs.DoneEvents.{messages_of};
 ghost use Rattle.hand.specs.declared.early.Early.TheVariants.{Idle, Late};
 ghost use Rattle.group_exchange.specs.Effects.{Goes, IsGroupAsBefore, IsIdleBefore, IsShort, Works, WorksSome};
 

@@ -16,12 +16,12 @@ use Rattle.virtual_time.proofs.Presence.{present-true, present-from}
 use Rattle.virtual_time.proofs.Handling.{reached-append}
 use Rattle.virtual_time.proofs.Rolling.{roll-none}
 use Rattle.two_lists.proofs.Counting.{times-permutation}
-use Rattle.hand.specs.Deeds.{Deed, deeds_at, messages_of}
+use Rattle.hand.specs.DoneEvents.{DoneEvent, done_events_at, messages_of}
 use Rattle.hand.specs.Hands.{Held, IsMember, CountsBeside, counted}
-use Rattle.hand.specs.Arriving.{sent_by, taken_back, undone_deeds, AreLate, StaysBeside, CountsMore, JoinsQueue, LeavesQueue, IsUndone, FrontArrived}
+use Rattle.hand.specs.Arriving.{sent_by, taken_back, undone_events, AreLate, StaysBeside, CountsMore, JoinsQueue, LeavesQueue, IsUndone, FrontArrived}
 use Rattle.hand.proofs.Member.{all-pluses, all-minuses, done-times, present-here}
 use Rattle.hand.proofs.Going.{received-first}
-use Rattle.hand.proofs.LateDeeds.{AreHalves, halves-of, sent-deeds, undone-deeds}
+use Rattle.hand.proofs.LateDone.{AreHalves, halves-of, sent-events, undone-events}
 
 module _ {S K : Type 0} (r : Rules Message S K Note) (l : Letter) (ls : List Letter) (y : Message) where
   -- what a letter adds to the counts
@@ -38,7 +38,7 @@ module _ {S K : Type 0} (r : Rules Message S K Note) (l : Letter) (ls : List Let
       (omega arith, omega arith)
 
 module _ {S K : Type 0} (r : Rules Message S K Note) (O : IsOrder r.order) (V : S → Message → Type 0) (opening : S) (part : Part Message S) (s : S) (old new : Held S K)
-    (l : Letter) (rest : List Letter) (late : List (Deed K)) (a : FrontArrived r l rest late old new) (b : (m : Message) → CountsBeside r.order old m)
+    (l : Letter) (rest : List Letter) (late : List (DoneEvent K)) (a : FrontArrived r l rest late old new) (b : (m : Message) → CountsBeside r.order old m)
     (k : IsMember r V opening (r.order.receiver l.message) part s old) where
   abbrev m : Message
   m = l.message
@@ -50,7 +50,7 @@ module _ {S K : Type 0} (r : Rules Message S K Note) (O : IsOrder r.order) (V : 
   left = received_by r.order p rest
 
   abbrev ds : List Message
-  ds = messages_of (deeds_at r.order p new.done)
+  ds = messages_of (done_events_at r.order p new.done)
 
   abbrev es : List Message
   es = messages_of late
@@ -63,15 +63,15 @@ module _ {S K : Type 0} (r : Rules Message S K Note) (O : IsOrder r.order) (V : 
   after =
       record {
         committed = part.committed;
-        done = messages_of (deeds_at r.order (r.order.receiver l.message) new.done);
-        state = undone_deeds r late part.state;
+        done = messages_of (done_events_at r.order (r.order.receiver l.message) new.done);
+        state = undone_events r late part.state;
         tally = l ∷ part.tally;
         tray = received_by r.order (r.order.receiver l.message) rest;
         outbox = taken_back late;
       }
 
-  pub halves : AreHalves r (reached r opening part.committed) part.done (deeds_at r.order (r.order.receiver l.message) new.done) late
-  halves = halves-of r base part.done (deeds_at r.order p new.done) late (sym k.done ∙ a.undone)
+  pub halves : AreHalves r (reached r opening part.committed) part.done (done_events_at r.order (r.order.receiver l.message) new.done) late
+  halves = halves-of r base part.done (done_events_at r.order p new.done) late (sym k.done ∙ a.undone)
 
   pub tray-is : part.tray ≡ l ∷ left
   tray-is = k.tray ∙ (ap (received_by r.order p) a.tray ∙ received-first r.order p l rest refl)
@@ -81,7 +81,7 @@ module _ {S K : Type 0} (r : Rules Message S K Note) (O : IsOrder r.order) (V : 
   stays none = λ j. record {
     committed = part.committed;
     done = (halves.messages ∙ (ap (λ z. ds ++ messages_of z) none ∙ append-nil ds)) j;
-    state = undone_deeds r (sym none j) part.state;
+    state = undone_events r (sym none j) part.state;
     tally = l ∷ part.tally;
     tray = left;
     outbox = (k.outbox ∙ ap (λ z. taken_back z) (sym none)) j;
@@ -93,7 +93,7 @@ module _ {S K : Type 0} (r : Rules Message S K Note) (O : IsOrder r.order) (V : 
     committed = part.committed;
     done = kept j;
     state = (ap (λ z. undone r z (from_on r.order m part.done) part.state) from ∙ (ap (λ z. undone r (reached r base ds) z part.state) undone-ones ∙
-        (sym (undone-deeds r (reached r base ds) es part.state) ∙ ap (λ z. undone_deeds r z part.state) (sym halves.back)))) j;
+        (sym (undone-events r (reached r base ds) es part.state) ∙ ap (λ z. undone_events r z part.state) (sym halves.back)))) j;
     tally = l ∷ part.tally;
     tray = left;
     outbox = (ap (λ z. z ++ map minus_of (reverse (sent r (reached r opening (part.committed ++ before r.order m part.done)) (from_on r.order m part.done)))) k.outbox ∙
@@ -114,7 +114,7 @@ module _ {S K : Type 0} (r : Rules Message S K Note) (O : IsOrder r.order) (V : 
 
       sends : sent r (reached r opening (part.committed ++ before r.order m part.done)) (from_on r.order m part.done) ≡ sent_by late
       sends = ap (λ z. sent r z (from_on r.order m part.done)) from ∙ (ap (sent r (reached r base ds)) undone-ones ∙
-          (sym (sent-deeds r (reached r base ds) es) ∙ ap (λ z. sent_by z) (sym halves.back)))
+          (sym (sent-events r (reached r base ds) es) ∙ ap (λ z. sent_by z) (sym halves.back)))
 
   by-toggle : (t : Bool) → is_toggled r.order l part.tally ≡ t → cond t (rolled_back r opening m (tallied r l left part)) (tallied r l left part) ≡ after → arrive r opening part ≡ after
   by-toggle t e h = ap (arrived r opening part) tray-is ∙ (ap (λ z. cond z (rolled_back r opening m (tallied r l left part)) (tallied r l left part)) e ∙ h)
@@ -172,7 +172,7 @@ module _ {S K : Type 0} (r : Rules Message S K Note) (O : IsOrder r.order) (V : 
   none-late : ((y : Message) → IsIn r.order y (messages_of late) → ⊥) → late ≡ []
   none-late h = go late h
     where
-      go : (xs : List (Deed K)) → ((y : Message) → IsIn r.order y (messages_of xs) → ⊥) → xs ≡ []
+      go : (xs : List (DoneEvent K)) → ((y : Message) → IsIn r.order y (messages_of xs) → ⊥) → xs ≡ []
       go [] i = refl
       go (x ∷ xs) i = absurd (i x.message (in-head r.order O x.message (messages_of xs)))
 

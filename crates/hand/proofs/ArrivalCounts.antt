@@ -12,12 +12,12 @@ use Rattle.virtual_time.proofs.Lists.{times-append}
 use Rattle.virtual_time.proofs.Letters.{counts-other, received-mine, received-here, named-none}
 use Rattle.antimessages.specs.Counting.{HaveSameCounts, signed_count}
 use Rattle.two_lists.proofs.Counting.{times-permutation}
-use Rattle.hand.specs.Deeds.{Deed, deeds_at, messages_of}
+use Rattle.hand.specs.DoneEvents.{DoneEvent, done_events_at, messages_of}
 use Rattle.hand.specs.Hands.{Held, CountsBeside, counted}
 use Rattle.hand.specs.Arriving.{StaysBeside, CountsMore, JoinsQueue, LeavesQueue, IsUndone, FrontArrived}
 use Rattle.hand.proofs.Member.{all-pluses, all-minuses, times-at, times-elsewhere}
 use Rattle.hand.proofs.Arrival.{plus-adds, minus-adds}
-use Rattle.hand.proofs.LateDeeds.{messages-append}
+use Rattle.hand.proofs.LateDone.{messages-append}
 
 module _ {S K : Type 0} (r : Rules Message S K Note) (O : IsOrder r.order) (V : S → Message → Type 0) where
   -- lists with the same counts have them for each receiver
@@ -36,7 +36,7 @@ module _ {S K : Type 0} (r : Rules Message S K Note) (O : IsOrder r.order) (V : 
           omega (arith, ints)
       go (inr d) = let a = none xs d in let b = none ys d in omega (arith, ints)
 
-  module _ (l : Letter) (rest : List Letter) (late : List (Deed K)) (old new : Held S K) (a : FrontArrived r l rest late old new) (b : (m : Message) → CountsBeside r.order old m) where
+  module _ (l : Letter) (rest : List Letter) (late : List (DoneEvent K)) (old new : Held S K) (a : FrontArrived r l rest late old new) (b : (m : Message) → CountsBeside r.order old m) where
     abbrev m : Message
     m = l.message
 
@@ -47,10 +47,10 @@ module _ {S K : Type 0} (r : Rules Message S K Note) (O : IsOrder r.order) (V : 
     done-was : (y : Message) → times_in r.order y (messages_of old.done) ≡ times_in r.order y (messages_of new.done) + times_in r.order y (messages_of late)
     done-was y = go (cases_eq (r.order.receiver y) p)
       where
-        split : times_in r.order y (messages_of (deeds_at r.order p old.done)) ≡ times_in r.order y (messages_of (deeds_at r.order p new.done)) + times_in r.order y (messages_of late)
+        split : times_in r.order y (messages_of (done_events_at r.order p old.done)) ≡ times_in r.order y (messages_of (done_events_at r.order p new.done)) + times_in r.order y (messages_of late)
         split =
-            ap (λ z. times_in r.order y (messages_of z)) a.undone ∙ (ap (times_in r.order y) (messages-append (deeds_at r.order p new.done) late) ∙
-            times-append r.order O y (messages_of (deeds_at r.order p new.done)) (messages_of late))
+            ap (λ z. times_in r.order y (messages_of z)) a.undone ∙ (ap (times_in r.order y) (messages-append (done_events_at r.order p new.done) late) ∙
+            times-append r.order O y (messages_of (done_events_at r.order p new.done)) (messages_of late))
 
         go : (r.order.receiver y ≡ p) ⊎ (r.order.receiver y ≡ p → ⊥) →
             times_in r.order y (messages_of old.done) ≡ times_in r.order y (messages_of new.done) + times_in r.order y (messages_of late)

@@ -19,17 +19,17 @@ use Rattle.antimessages.specs.Counting.{signed_count}
 use Rattle.antimessages.proofs.Agreeing.{same_counts-cons}
 use Rattle.process_queues.specs.Past.{AreValues}
 use Rattle.hand.specs.declared.block.Did.TheVariants.{Arrived}
-use Rattle.hand.specs.Deeds.{Deed, deeds_at, messages_of}
+use Rattle.hand.specs.DoneEvents.{DoneEvent, done_events_at, messages_of}
 use Rattle.hand.specs.Hands.{Held, IsMember, CountsBeside, StandsForSent, counted, is_held, is_ours}
 use Rattle.hand.specs.Passing.{held}
-use Rattle.hand.specs.Arriving.{taken_back, undone_deeds, FrontArrived}
+use Rattle.hand.specs.Arriving.{taken_back, undone_events, FrontArrived}
 use Rattle.hand.proofs.Going.{held-is, received-append, received-first, received-skip}
 use Rattle.hand.proofs.Arrival.{after, halves, tray-is, arrives-so}
 use Rattle.hand.proofs.ArrivalCounts.{received-signed, adds, Adds}
-use Rattle.hand.proofs.LateDeeds.{AreHalves, values-front}
+use Rattle.hand.proofs.LateDone.{AreHalves, values-front}
 
 module _ {S K : Type 0} (r : Rules Message S K Note) (O : IsOrder r.order) (V : S → Message → Type 0) (law : (s : S) (e : Message) → r.undo (r.after s e) e (r.kept s e) ≡ s)
-    (l : Letter) (rest : List Letter) (late : List (Deed K)) (old new : Held S K) (a : FrontArrived r l rest late old new) where
+    (l : Letter) (rest : List Letter) (late : List (DoneEvent K)) (old new : Held S K) (a : FrontArrived r l rest late old new) where
   -- the group before what was undone goes on
   abbrev pub told : Held S K
   told = held new.members new.done new.rows (record new.flow { tray = rest; abroad = old.flow.abroad; words = old.flow.words ++ Arrived (r.order.receiver l.message) ∷ [] })
@@ -37,11 +37,11 @@ module _ {S K : Type 0} (r : Rules Message S K Note) (O : IsOrder r.order) (V : 
   -- the receiver
   its : (b : (m : Message) → CountsBeside r.order old m) (up : IsAscending r.order (messages_of old.done)) (opening : S) (part : Part Message S) (s : S)
       (k : IsMember r V opening (r.order.receiver l.message) part s old) →
-      IsMember r V opening (r.order.receiver l.message) (emptied (after r O V opening part s old new l rest late a b k)) (undone_deeds r late s) told
+      IsMember r V opening (r.order.receiver l.message) (emptied (after r O V opening part s old new l rest late a b k)) (undone_events r late s) told
   its b up opening part s k = record {
-    state = ap (undone_deeds r late) k.state;
+    state = ap (undone_events r late) k.state;
     done = split.front;
-    values = values-front r V (reached r opening part.committed) (messages_of (deeds_at r.order (r.order.receiver l.message) new.done)) (messages_of late)
+    values = values-front r V (reached r opening part.committed) (messages_of (done_events_at r.order (r.order.receiver l.message) new.done)) (messages_of late)
         (subst (AreValues r V (reached r opening part.committed)) split.messages k.values);
     counts = λ y.
         same_counts-cons r.order l part.tally (received_by r.order (r.order.receiver l.message) (counted old)) k.counts y ∙
@@ -54,7 +54,7 @@ module _ {S K : Type 0} (r : Rules Message S K Note) (O : IsOrder r.order) (V : 
         (subst (IsWell r (λ z. ⊤) opening) (arrives-so r O V opening part s old new l rest late a b k up) (arrive-well r O (λ z. ⊤) (λ z y i. law z y) opening part k.well).well);
   }
     where
-      split : AreHalves r (reached r opening part.committed) part.done (deeds_at r.order (r.order.receiver l.message) new.done) late
+      split : AreHalves r (reached r opening part.committed) part.done (done_events_at r.order (r.order.receiver l.message) new.done) late
       split = halves r O V opening part s old new l rest late a b k
 
   -- another member
@@ -145,7 +145,7 @@ module _ {S K : Type 0} (r : Rules Message S K Note) (O : IsOrder r.order) (V : 
         stands = record {
           count = a.count ∙ g.count;
           members = λ q t e. put_elim (λ z part. slice_get new.members z ≡ Some (Some t) → IsMember r V (x.opening z) z part t told) p (emptied made) v.parts
-              (λ i. subst (λ u. IsMember r V (x.opening p) p (emptied made) u told) (let b = a.state at.0 at.1 in let w : undone_deeds r late at.0 ≡ t = cc (b, i) in w)
+              (λ i. subst (λ u. IsMember r V (x.opening p) p (emptied made) u told) (let b = a.state at.0 at.1 in let w : undone_events r late at.0 ≡ t = cc (b, i) in w)
               (its g.beside g.ascending (x.opening p) (v.parts p) at.0 mine))
               (λ z n i. other g.beside (x.opening z) z (v.parts z) t n (g.members z t (sym (a.others z n) ∙ i))) q e;
           mail = λ q.

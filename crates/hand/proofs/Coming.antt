@@ -10,7 +10,7 @@ use Rattle.virtual_time.proofs.WellStep.{delivered-well}
 use Rattle.virtual_time.proofs.HomeLetters.{arrives-plain}
 use Rattle.antimessages.specs.Counting.{HaveSameCounts}
 use Rattle.antimessages.proofs.Agreeing.{same_counts-cons}
-use Rattle.hand.specs.Deeds.{deeds_at, messages_of}
+use Rattle.hand.specs.DoneEvents.{done_events_at, messages_of}
 use Rattle.hand.specs.Hands.{Held, IsMember, counted}
 use Rattle.hand.proofs.Running.{received-same}
 
@@ -46,7 +46,7 @@ module _ {S K : Type 0} (r : Rules Message S K Note) (O : IsOrder r.order) (V : 
   pub came-other : (opening : S) (p : ℕ) (part : Part Message S) (s : S) → (r.order.receiver m ≡ p → ⊥) → IsMember r V opening p part s h → IsMember r V opening p part s new
   came-other opening p part s n k = record {
     state = k.state;
-    done = ap (deeds_at r.order p) done ∙ k.done;
+    done = ap (done_events_at r.order p) done ∙ k.done;
     values = k.values;
     counts = λ x. k.counts x ∙ subst (λ ls. HaveSameCounts r.order ls (received_by r.order p (counted new)))
         (ap (λ b. cond b (plus_of m ∷ received_by r.order p (counted h)) (received_by r.order p (counted h))) (ne_eqb (r.order.receiver m) p n))
@@ -63,7 +63,7 @@ module _ {S K : Type 0} (r : Rules Message S K Note) (O : IsOrder r.order) (V : 
       IsMember r V opening p part s h → IsMember r V opening p (tallied r (plus_of m) [] part) s new
   came-member law opening p part s e empty before k = record {
     state = k.state;
-    done = ap (deeds_at r.order p) done ∙ k.done;
+    done = ap (done_events_at r.order p) done ∙ k.done;
     values = k.values;
     counts = λ x. same_counts-cons r.order (plus_of m) part.tally (received_by r.order p (counted h)) k.counts x ∙
         subst (λ ls. HaveSameCounts r.order ls (received_by r.order p (counted new)))

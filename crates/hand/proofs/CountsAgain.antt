@@ -10,7 +10,7 @@ use Rattle.virtual_time.proofs.Lists.{times-append}
 use Rattle.reverse.specs.Setting.{Setting}
 use Rattle.antimessages.specs.Counting.{HaveSameCounts, signed_count}
 use Rattle.two_lists.proofs.Counting.{times-permutation}
-use Rattle.hand.specs.Deeds.{Deed, messages_of}
+use Rattle.hand.specs.DoneEvents.{DoneEvent, messages_of}
 use Rattle.hand.specs.Flow.{Flow}
 use Rattle.hand.specs.Hands.{CountsBeside, DoesSent, StandsForSent, counted, is_ours}
 use Rattle.hand.specs.Passing.{held}
@@ -20,7 +20,7 @@ use Rattle.hand.proofs.Member.{all-pluses, all-minuses}
 use Rattle.hand.proofs.ArrivalCounts.{received-signed}
 use Rattle.hand.proofs.Telling.{of_members-none}
 
-module _ {S K : Type 0} (r : Rules Message S K Note) (O : IsOrder r.order) (V : S → Message → Type 0) (members : List (Option S)) (done : List (Deed K)) (rows : Sealed)
+module _ {S K : Type 0} (r : Rules Message S K Note) (O : IsOrder r.order) (V : S → Message → Type 0) (members : List (Option S)) (done : List (DoneEvent K)) (rows : Sealed)
     (m : Message) (old new : Flow) (a : CountsAgain r.order m done old new) where
   one-less : (y : Message) → times_in r.order y (old.queue ++ messages_of done) ≡ one_if (same r.order y m) + times_in r.order y (new.queue ++ messages_of done)
   one-less y =

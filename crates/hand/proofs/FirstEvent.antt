@@ -19,7 +19,7 @@ use Rattle.process_queues.proofs.Newest.{after-all}
 use Rattle.two_lists.proofs.Counting.{times-permutation}
 use Rattle.hand.specs.declared.block.Did.TheVariants.{Ran}
 use Rattle.hand.specs.Block.{steps_told}
-use Rattle.hand.specs.Deeds.{Deed, deed_of, deeds_at, messages_of}
+use Rattle.hand.specs.DoneEvents.{DoneEvent, done_event_of, done_events_at, messages_of}
 use Rattle.hand.specs.Flow.{Flow}
 use Rattle.hand.specs.Hands.{AreOfMembers, DoesSent, StandsForSent, is_held, is_ours}
 use Rattle.hand.specs.Passing.{GoesOn, held}
@@ -55,12 +55,12 @@ set-ours members p s t e q = go (cases_eq q p)
 
 module _ {S K : Type 0} (plain : Plain S Message Sends K) (V : S → Message → Type 0) (O : IsOrder message_order)
     (law : (s : S) (e : Message) → plain.before (plain.after s e) e (plain.saves s e) ≡ s)
-    (members : List (Option S)) (done later : List (Deed K)) (rows : Sealed) (old popped told new : Flow) (m : Message) (s : S)
+    (members : List (Option S)) (done later : List (DoneEvent K)) (rows : Sealed) (old popped told new : Flow) (m : Message) (s : S)
     (at : slice_get members m.receiver ≡ Some (Some s)) (value : V s m)
     (first : All (λ y. message_order.less y m ≡ false) old.queue) (early : is_after message_order (newest_of (messages_of done)) m ≡ true)
     (queue : IsPermutation old.queue (m ∷ popped.queue)) (extra : popped.extra ≡ old.extra) (tray : popped.tray ≡ old.tray) (abroad : popped.abroad ≡ old.abroad) (words : popped.words ≡ old.words) (keeps : popped.keeps ≡ old.keeps)
     (ran-word : told ≡ record popped { words = popped.words ++ Ran m.receiver ∷ []; room = told.room })
-    (deed : later ≡ done ++ deed_of (rules_of plain) s m ∷ [])
+    (event : later ≡ done ++ done_event_of (rules_of plain) s m ∷ [])
     (gone : GoesOn (rules_of plain) V (set members m.receiver (Some (plain.after s m))) ((rules_of plain).sends s m) told ((rules_of plain).sends s m) new []) where
   abbrev members' : List (Option S)
   members' = set members m.receiver (Some (plain.after s m))
@@ -100,28 +100,28 @@ module _ {S K : Type 0} (plain : Plain S Message Sends K) (V : S → Message →
       ascending : (x : Setting S) → (v : World Message S) → StandsForSent (rules_of plain) V x v (held members done rows old) [] →
           IsAscending message_order (messages_of done) → IsAscending message_order (messages_of later)
       ascending x v g up =
-          subst (IsAscending message_order) (sym (ap messages_of deed ∙ messages-push (rules_of plain) O V done (deed_of (rules_of plain) s m)))
+          subst (IsAscending message_order) (sym (ap messages_of event ∙ messages-push (rules_of plain) O V done (done_event_of (rules_of plain) s m)))
           (ascending-push message_order O (messages_of done) m up (before-done x v g))
 
       running : (x : Setting S) → Laws (simulation_of (rules_of plain) x) → (v : World Message S) → StandsForSent (rules_of plain) V x v (held members done rows old) [] →
           AreDone (simulation_of (rules_of plain) x) (steps_told (Ran m.receiver ∷ [])) v
           × StandsForSent (rules_of plain) V x (done_by (simulation_of (rules_of plain) x) (steps_told (Ran m.receiver ∷ [])) v) (held members' later rows told) (map plus_of ((rules_of plain).sends s m))
       running x L v g = (
-        ran-steps (rules_of plain) O V law x v (held members done rows old) (held members' later rows told) m s (deed_of (rules_of plain) s m) at
+        ran-steps (rules_of plain) O V law x v (held members done rows old) (held members' later rows told) m s (done_event_of (rules_of plain) s m) at
             (set-here members m.receiver (Some (plain.after s m)) (Some s) at) (λ q n. set-there members m.receiver q (Some (plain.after s m)) n) (length-set members m.receiver (Some (plain.after s m)))
             refl value waits mine kept (ascending x v g) refl (ap (λ z. z.extra) ran-word ∙ extra) (ap (λ z. z.tray) ran-word ∙ tray) (ap (λ z. z.abroad) ran-word ∙ abroad)
             (λ y i. in-all message_order O (λ z. message_order.less z m ≡ false) y old.queue first i) (not-done x v g) g,
-        ran (rules_of plain) O V law x v (held members done rows old) (held members' later rows told) m s (deed_of (rules_of plain) s m) at
+        ran (rules_of plain) O V law x v (held members done rows old) (held members' later rows told) m s (done_event_of (rules_of plain) s m) at
             (set-here members m.receiver (Some (plain.after s m)) (Some s) at) (λ q n. set-there members m.receiver q (Some (plain.after s m)) n) (length-set members m.receiver (Some (plain.after s m)))
             refl value waits mine kept (ascending x v g) refl (ap (λ z. z.extra) ran-word ∙ extra) (ap (λ z. z.tray) ran-word ∙ tray) (ap (λ z. z.abroad) ran-word ∙ abroad)
             (λ y i. in-all message_order O (λ z. message_order.less z m ≡ false) y old.queue first i) (not-done x v g) g,
       )
         where
-          mine : deeds_at message_order m.receiver later ≡ deeds_at message_order m.receiver done ++ deed_of (rules_of plain) s m ∷ []
-          mine = ap (deeds_at message_order m.receiver) deed ∙ mine-push (rules_of plain) O V done (deed_of (rules_of plain) s m) m.receiver refl
+          mine : done_events_at message_order m.receiver later ≡ done_events_at message_order m.receiver done ++ done_event_of (rules_of plain) s m ∷ []
+          mine = ap (done_events_at message_order m.receiver) event ∙ mine-push (rules_of plain) O V done (done_event_of (rules_of plain) s m) m.receiver refl
 
-          kept : (q : ℕ) → (q ≡ m.receiver → ⊥) → deeds_at message_order q later ≡ deeds_at message_order q done
-          kept q n = ap (deeds_at message_order q) deed ∙ kept-push (rules_of plain) O V done (deed_of (rules_of plain) s m) q (λ e. n (sym e))
+          kept : (q : ℕ) → (q ≡ m.receiver → ⊥) → done_events_at message_order q later ≡ done_events_at message_order q done
+          kept q n = ap (done_events_at message_order q) event ∙ kept-push (rules_of plain) O V done (done_event_of (rules_of plain) s m) q (λ e. n (sym e))
 
           waits : (y : Message) → times_in message_order y old.queue ≡ one_if (same message_order y m) + times_in message_order y told.queue
           waits y = sym (times-permutation message_order y old.queue (m ∷ popped.queue) queue) ∙
@@ -143,7 +143,7 @@ module _ {S K : Type 0} (plain : Plain S Message Sends K) (V : S → Message →
           (z y : Message) → IsIn message_order z ((rules_of plain).sends s m) → IsIn message_order y (messages_of later) → message_order.less y z ≡ true
       before x L v g z y i j =
           let after : message_order.less m z ≡ true = O.by_time m z (L.later m.receiver (within x v g) s (is_reached x v g) m z i) in
-          let k = subst (λ ms. IsIn message_order y ms) (ap messages_of deed ∙ messages-push (rules_of plain) O V done (deed_of (rules_of plain) s m)) j in
+          let k = subst (λ ms. IsIn message_order y ms) (ap messages_of event ∙ messages-push (rules_of plain) O V done (done_event_of (rules_of plain) s m)) j in
           elim (in-push message_order O y m (messages_of done) k) [
             | inl d ↦ O.transitive y m z (before-done x v g y d) after
             | inr e ↦ subst (λ w. message_order.less w z ≡ true) (sym e) after

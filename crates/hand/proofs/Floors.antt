@@ -18,7 +18,7 @@ use Rattle.virtual_time.proofs.Presence.{unhandled-is, unhandled-from}
 use Rattle.reverse.specs.Rules.{is_before}
 use Rattle.reverse.specs.Setting.{Setting}
 use Rattle.reverse.proofs.Members.{in-all}
-use Rattle.hand.specs.Deeds.{messages_of}
+use Rattle.hand.specs.DoneEvents.{messages_of}
 use Rattle.hand.specs.Flow.{floor_in}
 use Rattle.hand.specs.Hands.{FirstWaits, Held, IsMember, StandsForSent, is_ours}
 use Rattle.hand.proofs.Going.{held-is}

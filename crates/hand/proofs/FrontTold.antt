@@ -14,17 +14,17 @@ use Rattle.reverse.specs.Rules.{rules_of}
 use Rattle.reverse.specs.Setting.{Setting, simulation_of}
 use Rattle.reverse.specs.declared.sends.Sends.{Sends}
 use Rattle.hand.specs.declared.block.Did.TheVariants.{Arrived}
-use Rattle.hand.specs.Deeds.{Deed, deeds_at, messages_of}
+use Rattle.hand.specs.DoneEvents.{DoneEvent, done_events_at, messages_of}
 use Rattle.hand.specs.Hands.{Held, DoesSent, StandsForSent}
 use Rattle.hand.specs.Arriving.{FrontArrived, WentOn, taken_back, sent_by}
-use Rattle.hand.proofs.LateDeeds.{sent-deeds}
+use Rattle.hand.proofs.LateDone.{sent-events}
 use Rattle.hand.proofs.Arrival.{halves}
 use Rattle.hand.proofs.Arrives.{front-steps, front-stands, mine, at, within, ours, ours-same}
 use Rattle.hand.proofs.WordTold.{word-told}
 
 module _ {S K : Type 0} (plain : Plain S Message Sends K) (V : S → Message → Type 0) (O : IsOrder message_order)
     (law : (s : S) (e : Message) → plain.before (plain.after s e) e (plain.saves s e) ≡ s)
-    (l : Letter) (rest : List Letter) (late : List (Deed K)) (old new : Held S K) where
+    (l : Letter) (rest : List Letter) (late : List (DoneEvent K)) (old new : Held S K) where
   abbrev r : Rules Message S K Note
   r = rules_of plain
 
@@ -37,9 +37,9 @@ module _ {S K : Type 0} (plain : Plain S Message Sends K) (V : S → Message →
       let s = at r O V law l rest late old new a x v g in
       let h = halves r O V (x.opening l.message.receiver) part s.0 old new l rest late a g.beside k in
       let base = reached r (x.opening l.message.receiver) part.committed in
-      let ds = messages_of (deeds_at message_order l.message.receiver new.done) in
+      let ds = messages_of (done_events_at message_order l.message.receiver new.done) in
       let is_reached : IsReached (simulation_of r x) l.message.receiver (reached r base ds) = (part.committed ++ ds, sym (reached-append r (x.opening l.message.receiver) part.committed ds)) in
-      let sends : sent_by late ≡ sent r (reached r base ds) (messages_of late) = ap (λ z. sent_by z) h.back ∙ sent-deeds r (reached r base ds) (messages_of late) in
+      let sends : sent_by late ≡ sent r (reached r base ds) (messages_of late) = ap (λ z. sent_by z) h.back ∙ sent-events r (reached r base ds) (messages_of late) in
       let j : IsIn message_order m (sent_by late) =
       (let b = named-minus message_order O m (reverse (sent_by late)) i in let c = times-reverse message_order O m (sent_by late) in omega arith) in
       sends-each (simulation_of r x) L (λ y. y.time ≤ x.until) l.message.receiver (L.in_time l.message.receiver (within r O V law l rest late old new a x v g))

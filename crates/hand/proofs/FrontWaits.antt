@@ -12,7 +12,7 @@ use Rattle.reverse.specs.Rules.{is_before, rules_of}
 use Rattle.reverse.specs.Setting.{Setting}
 use Rattle.reverse.specs.declared.sends.Sends.{Sends}
 use Rattle.reverse.proofs.Members.{in-all}
-use Rattle.hand.specs.Deeds.{Deed, messages_of}
+use Rattle.hand.specs.DoneEvents.{DoneEvent, messages_of}
 use Rattle.hand.specs.Flow.{Flow}
 use Rattle.hand.specs.Handling.{CountsAgain}
 use Rattle.hand.specs.Hands.{Held, FirstWaits, IsAsBefore, StandsForGroup}
@@ -59,7 +59,7 @@ module _ {S K : Type 0} (r : Rules Message S K Note) (V : S → Message → Type
   }
 
   -- one message, which is done already
-  pub counted-again : IsOrder r.order → (members : List (Option S)) (done : List (Deed K)) (rows : Sealed) (m : Message) (old new : Flow) → CountsAgain r.order m done old new →
+  pub counted-again : IsOrder r.order → (members : List (Option S)) (done : List (DoneEvent K)) (rows : Sealed) (m : Message) (old new : Flow) → CountsAgain r.order m done old new →
       new ≡ record old { queue = new.queue; extra = new.extra; room = new.room } → CountedBeside r V (held members done rows old) (held members done rows new)
   counted-again O members done rows m old new a e = record {
     stands = λ x v g. stands-again r O V members done rows m old new a x v [] g;

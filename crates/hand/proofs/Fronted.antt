@@ -19,7 +19,7 @@ use Rattle.hand.specs.declared.block.Did.TheVariants.{Arrived}
 use Rattle.hand.specs.declared.tray.Way.{Way}
 use Rattle.hand.specs.declared.tray.Way.TheVariants.{Beside, Joins, Leaves, Undoes}
 use Rattle.hand.specs.Arriving.{FrontArrived, WentOn, CountsMore, JoinsQueue, LeavesQueue, IsUndone, sent_by, taken_back, to_members, to_others, words_taken}
-use Rattle.hand.specs.Deeds.{Deed, deeds_at, messages_of}
+use Rattle.hand.specs.DoneEvents.{DoneEvent, done_events_at, messages_of}
 use Rattle.hand.specs.Flow.{Flow}
 use Rattle.hand.specs.Hands.{is_ours}
 use Rattle.hand.specs.Passing.{held}
@@ -40,7 +40,7 @@ in-contains O m (x ∷ xs) i = elim (in-cons message_order O m x xs i) [
 ]
 
 module _ {S K : Type 0} (plain : Plain S Message Sends K) (V : S → Message → Type 0) (O : IsOrder message_order) (l : Letter) (rest : List Letter) (is_done : Bool)
-    (members members' : List (Option S)) (done done' : List (Deed K)) (rows : Sealed) (old counted told settled new : Flow) (back : List Message)
+    (members members' : List (Option S)) (done done' : List (DoneEvent K)) (rows : Sealed) (old counted told settled new : Flow) (back : List Message)
     (tray : old.tray ≡ l ∷ rest) (yes : is_done ≡ true → IsIn message_order l.message (messages_of done))
     (no : is_done ≡ false → IsAscending message_order (messages_of done) → times_in message_order l.message (messages_of done) ≡ 0)
     (only : counted ≡ record old { queue = counted.queue; extra = counted.extra; room = counted.room })
@@ -49,11 +49,11 @@ module _ {S K : Type 0} (plain : Plain S Message Sends K) (V : S → Message →
     (gone : WentOn members' (map minus_of back) settled new) (queue : new.queue ≡ settled.queue) (extra : new.extra ≡ settled.extra) where
   -- what arrived, and how that is told
   pub record Fronted : Type 0 where
-    pub late : List (Deed K)
+    pub late : List (DoneEvent K)
     pub went : WentOn members (taken_back late) (record old { tray = rest; words = old.words ++ Arrived l.message.receiver ∷ [] }) new
     pub arrived : IsAscending message_order (messages_of done) → FrontArrived (rules_of plain) l rest late (held members done rows old) (held members' done' rows new)
 
-  module _ (late_ones : List (Deed K)) (same : back ≡ reverse (sent_by late_ones)) (ours : (q : ℕ) → is_ours members' q ≡ is_ours members q) where
+  module _ (late_ones : List (DoneEvent K)) (same : back ≡ reverse (sent_by late_ones)) (ours : (q : ℕ) → is_ours members' q ≡ is_ours members q) where
     home-same : to_members members' (map minus_of back) ≡ to_members members (taken_back late_ones)
     home-same = to_members-same members' members ours (map minus_of back) ∙ ap (λ z. to_members members (map minus_of z)) same
 
@@ -117,8 +117,8 @@ module _ {S K : Type 0} (plain : Plain S Message Sends K) (V : S → Message →
   at_last waits = record { members = members'; done = done'; aside = []; queue = waits; back = back }
 
   module _ (waits : List Message) (b : RolledBack (rules_of plain) l.message at_first (at_last waits)) (same : counted.queue ≡ old.queue) (same_extra : counted.extra ≡ old.extra) where
-    abbrev late_ones : List (Deed K)
-    late_ones = deeds_at message_order l.message.receiver b.rolled.behind
+    abbrev late_ones : List (DoneEvent K)
+    late_ones = done_events_at message_order l.message.receiver b.rolled.behind
 
     rolled-with : (IsAscending message_order (messages_of done) → JoinsQueue message_order l late_ones (held members done rows old) (held members' done' rows new)
         ⊎ IsUndone message_order l late_ones (held members done rows old) (held members' done' rows new)) → Fronted

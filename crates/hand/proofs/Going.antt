@@ -17,7 +17,7 @@ use Rattle.virtual_time.proofs.HomeLetters.{comes-home, home_after, plain-enable
 use Rattle.virtual_time.proofs.Settled.{floor-again}
 use Rattle.reverse.specs.Setting.{Setting, simulation_of}
 use Rattle.antimessages.specs.Counting.{signed_count}
-use Rattle.hand.specs.Deeds.{Deed, deeds_at, messages_of}
+use Rattle.hand.specs.DoneEvents.{DoneEvent, done_events_at, messages_of}
 use Rattle.hand.specs.Hands.{Held, IsMember, StandsForSent, counted, is_held, is_ours}
 use Rattle.hand.proofs.Member.{messages-of, present-here, all-pluses, all-minuses}
 use Rattle.hand.proofs.Running.{received-same}
@@ -71,12 +71,12 @@ module _ (o : Order Message) where
       received-append q abroad (l ∷ rest) ∙ (ap (λ z. received_by o q abroad ++ z) (received-skip q l rest n) ∙ sym (received-append q abroad rest))
 
 module _ {S K : Type 0} (r : Rules Message S K Note) (O : IsOrder r.order) (V : S → Message → Type 0) where
-  at-fewer : (p : ℕ) (y : Message) (ds : List (Deed K)) → times_in r.order y (messages_of (deeds_at r.order p ds)) ≤ times_in r.order y (messages_of ds)
+  at-fewer : (p : ℕ) (y : Message) (ds : List (DoneEvent K)) → times_in r.order y (messages_of (done_events_at r.order p ds)) ≤ times_in r.order y (messages_of ds)
   at-fewer p y [] = omega arith
   at-fewer p y (d ∷ ds) = go (r.order.receiver d.message == p) (at-fewer p y ds)
     where
-      go : (b : Bool) → times_in r.order y (messages_of (deeds_at r.order p ds)) ≤ times_in r.order y (messages_of ds) →
-          times_in r.order y (messages_of (cond b (d ∷ deeds_at r.order p ds) (deeds_at r.order p ds))) ≤ one_if (same r.order y d.message) + times_in r.order y (messages_of ds)
+      go : (b : Bool) → times_in r.order y (messages_of (done_events_at r.order p ds)) ≤ times_in r.order y (messages_of ds) →
+          times_in r.order y (messages_of (cond b (d ∷ done_events_at r.order p ds) (done_events_at r.order p ds))) ≤ one_if (same r.order y d.message) + times_in r.order y (messages_of ds)
       go true h = omega arith
       go false h = omega arith
 
@@ -99,7 +99,7 @@ module _ {S K : Type 0} (r : Rules Message S K Note) (O : IsOrder r.order) (V : 
       count = ap length members ∙ g.count;
       members = λ p s e. let k = g.members p s (ap (λ z. slice_get z p) (sym members) ∙ e) in record {
         state = k.state;
-        done = ap (deeds_at r.order p) done ∙ k.done;
+        done = ap (done_events_at r.order p) done ∙ k.done;
         values = k.values;
         counts = λ y. k.counts y ∙ received-same r O V p (counted h) (counted new) (λ z. sym (plus-same z)) (λ z. sym (minus-same z)) y;
         tray = k.tray ∙ ap (received_by r.order p) (sym tray);

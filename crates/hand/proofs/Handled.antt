@@ -12,19 +12,19 @@ use Rattle.virtual_time.proofs.Order.{same-refl}
 use Rattle.virtual_time.proofs.Lists.{times-append}
 use Rattle.virtual_time.proofs.HomeLetters.{runs-plain, run_after}
 use Rattle.reverse.specs.Setting.{Setting, simulation_of}
-use Rattle.hand.specs.Deeds.{Deed, deed_of, deeds_at, messages_of}
+use Rattle.hand.specs.DoneEvents.{DoneEvent, done_event_of, done_events_at, messages_of}
 use Rattle.hand.specs.Hands.{Held, IsMember, StandsForSent, is_held, is_ours}
 use Rattle.hand.proofs.Member.{next-here}
 use Rattle.hand.proofs.Running.{ran-member, ran-other, more-done}
 use Rattle.hand.proofs.Going.{received-append}
 
 module _ {S K : Type 0} (r : Rules Message S K Note) (O : IsOrder r.order) (V : S → Message → Type 0)
-    (law : (s : S) (e : Message) → r.undo (r.after s e) e (r.kept s e) ≡ s) (x : Setting S) (v : World Message S) (h new : Held S K) (m : Message) (s : S) (d : Deed K)
+    (law : (s : S) (e : Message) → r.undo (r.after s e) e (r.kept s e) ≡ s) (x : Setting S) (v : World Message S) (h new : Held S K) (m : Message) (s : S) (d : DoneEvent K)
     (at : slice_get h.members (r.order.receiver m) ≡ Some (Some s)) (slot : slice_get new.members (r.order.receiver m) ≡ Some (Some (r.after s m)))
     (slots : (q : ℕ) → (q ≡ r.order.receiver m → ⊥) → slice_get new.members q ≡ slice_get h.members q) (count : length new.members ≡ length h.members)
-    (deed : d ≡ deed_of r s m) (value : V s m) (queue : (y : Message) → times_in r.order y h.flow.queue ≡ one_if (same r.order y m) + times_in r.order y new.flow.queue)
-    (mine : deeds_at r.order (r.order.receiver m) new.done ≡ deeds_at r.order (r.order.receiver m) h.done ++ d ∷ [])
-    (kept : (q : ℕ) → (q ≡ r.order.receiver m → ⊥) → deeds_at r.order q new.done ≡ deeds_at r.order q h.done)
+    (event : d ≡ done_event_of r s m) (value : V s m) (queue : (y : Message) → times_in r.order y h.flow.queue ≡ one_if (same r.order y m) + times_in r.order y new.flow.queue)
+    (mine : done_events_at r.order (r.order.receiver m) new.done ≡ done_events_at r.order (r.order.receiver m) h.done ++ d ∷ [])
+    (kept : (q : ℕ) → (q ≡ r.order.receiver m → ⊥) → done_events_at r.order q new.done ≡ done_events_at r.order q h.done)
     (ascending : IsAscending r.order (messages_of h.done) → IsAscending r.order (messages_of new.done)) (rows : new.rows ≡ h.rows) (extra : new.flow.extra ≡ h.flow.extra) (tray : new.flow.tray ≡ h.flow.tray) (abroad : new.flow.abroad ≡ h.flow.abroad)
     (first : (y : Message) → IsIn r.order y h.flow.queue → r.order.less y m ≡ false) (not_done : times_in r.order m (messages_of h.done) ≡ 0)
     (g : StandsForSent r V x v h []) where
@@ -44,7 +44,7 @@ module _ {S K : Type 0} (r : Rules Message S K Note) (O : IsOrder r.order) (V : 
   ran-steps = (rw (lt-ltb (r.order.receiver m) x.processes within) (ap is_some next), (lt-ltb (r.order.receiver m) x.processes within, tt))
 
   is : d.message ≡ m
-  is = ap (λ z. z.message) deed
+  is = ap (λ z. z.message) event
 
   pub ours-same : (q : ℕ) → is_ours new.members q ≡ is_ours h.members q
   ours-same q = go (cases_eq q (r.order.receiver m))
@@ -73,7 +73,7 @@ module _ {S K : Type 0} (r : Rules Message S K Note) (O : IsOrder r.order) (V : 
         members = λ q t e. put_elim (λ z part. slice_get new.members z ≡ Some (Some t) → IsMember r V (x.opening z) z part t new)
             (r.order.receiver m) (emptied (handled r (v.parts (r.order.receiver m)) (Some m))) v.parts
             (λ i. subst (λ u. IsMember r V (x.opening (r.order.receiver m)) (r.order.receiver m) (emptied (handled r (v.parts (r.order.receiver m)) (Some m))) u new) (let w : r.after s m ≡ t = cc (slot, i) in w)
-            (ran-member r O V h new m d is queue mine kept extra tray rows law (x.opening (r.order.receiver m)) (v.parts (r.order.receiver m)) s deed value next its))
+            (ran-member r O V h new m d is queue mine kept extra tray rows law (x.opening (r.order.receiver m)) (v.parts (r.order.receiver m)) s event value next its))
             (λ z n i. ran-other r O V h new m d is queue mine kept extra tray rows (x.opening z) z (v.parts z) t (λ k. n (sym k)) (g.members z t (sym (slots z n) ∙ i))) q e;
         mail = λ q. ap (λ z. z ++ received_by r.order q ((v.parts (r.order.receiver m)).outbox ++ map plus_of (r.sends (v.parts (r.order.receiver m)).state m))) (g.mail q) ∙
             (ap (λ z. received_by r.order q (h.flow.abroad ++ []) ++ received_by r.order q (z ++ map plus_of (r.sends (v.parts (r.order.receiver m)).state m))) its.outbox ∙

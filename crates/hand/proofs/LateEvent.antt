@@ -12,7 +12,7 @@ use Rattle.antimessages.specs.Counting.{is_after}
 use Rattle.process_queues.specs.Past.{newest_of}
 use Rattle.hand.specs.declared.block.Did.TheVariants.{Ran}
 use Rattle.hand.specs.Arriving.{WentOn, to_members, to_others, words_taken}
-use Rattle.hand.specs.Deeds.{Deed, deed_of, deeds_at, messages_of}
+use Rattle.hand.specs.DoneEvents.{DoneEvent, done_event_of, done_events_at, messages_of}
 use Rattle.hand.specs.Flow.{Flow}
 use Rattle.hand.specs.Handling.{SetAside}
 use Rattle.hand.specs.Hands.{DoesSent}
@@ -27,7 +27,7 @@ use Rattle.hand.proofs.WentOn.{to_members-same, to_others-same}
 
 module _ {K : Type 0} (o : Order Message) (m : Message) where
   -- the newest goes there too
-  pub aside-more : (done front aside : List (Deed K)) (d : Deed K) → o.less d.message m ≡ false → (o.receiver d.message == o.receiver m) ≡ false →
+  pub aside-more : (done front aside : List (DoneEvent K)) (d : DoneEvent K) → o.less d.message m ≡ false → (o.receiver d.message == o.receiver m) ≡ false →
       SetAside o m done (front ++ d ∷ []) aside → SetAside o m done front (aside ++ d ∷ [])
   aside-more done front aside d late other a = record {
     behind = d ∷ a.behind;
@@ -38,38 +38,38 @@ module _ {K : Type 0} (o : Order Message) (m : Message) where
   }
 
   -- those that were set aside are back
-  pub set-back : (done front aside later : List (Deed K)) → SetAside o m done front aside → later ≡ front ++ reverse aside → later ≡ done
+  pub set-back : (done front aside later : List (DoneEvent K)) → SetAside o m done front aside → later ≡ front ++ reverse aside → later ≡ done
   set-back done front aside later a e = e ∙ (ap (λ z. front ++ reverse z) a.is_aside ∙ (ap (λ z. front ++ z) (reverse-reverse a.behind) ∙ sym a.was))
 
-  none-of : (ds : List (Deed K)) → All (λ y. (o.receiver y == o.receiver m) ≡ false) (messages_of ds) → deeds_at o (o.receiver m) ds ≡ []
+  none-of : (ds : List (DoneEvent K)) → All (λ y. (o.receiver y == o.receiver m) ≡ false) (messages_of ds) → done_events_at o (o.receiver m) ds ≡ []
   none-of [] a = refl
   none-of (d ∷ ds) a =
-      ap (λ b. cond b (d ∷ deeds_at o (o.receiver m) ds) (deeds_at o (o.receiver m) ds)) (All-head (λ y. (o.receiver y == o.receiver m) ≡ false) d.message (messages_of ds) a) ∙
+      ap (λ b. cond b (d ∷ done_events_at o (o.receiver m) ds) (done_events_at o (o.receiver m) ds)) (All-head (λ y. (o.receiver y == o.receiver m) ≡ false) d.message (messages_of ds) a) ∙
       none-of ds (All-tail (λ y. (o.receiver y == o.receiver m) ≡ false) d.message (messages_of ds) a)
 
 module _ {S K : Type 0} (plain : Plain S Message Sends K) (V : S → Message → Type 0) (O : IsOrder message_order)
     (law : (s : S) (e : Message) → plain.before (plain.after s e) e (plain.saves s e) ≡ s)
-    (members : List (Option S)) (done front aside later : List (Deed K)) (rows : Sealed) (old popped told new : Flow) (m : Message) (s : S)
+    (members : List (Option S)) (done front aside later : List (DoneEvent K)) (rows : Sealed) (old popped told new : Flow) (m : Message) (s : S)
     (at : slice_get members m.receiver ≡ Some (Some s)) (value : V s m) (set_aside : SetAside message_order m done front aside)
-    (early : is_after message_order (newest_of (messages_of front)) m ≡ true) (back : later ≡ (front ++ deed_of (rules_of plain) s m ∷ []) ++ reverse aside) where
+    (early : is_after message_order (newest_of (messages_of front)) m ≡ true) (back : later ≡ (front ++ done_event_of (rules_of plain) s m ∷ []) ++ reverse aside) where
   abbrev members' : List (Option S)
   members' = set members m.receiver (Some (plain.after s m))
 
-  done-now : later ≡ front ++ deed_of (rules_of plain) s m ∷ set_aside.behind
+  done-now : later ≡ front ++ done_event_of (rules_of plain) s m ∷ set_aside.behind
   done-now =
-      back ∙ (append_assoc front (deed_of (rules_of plain) s m ∷ []) (reverse aside) ∙
-      ap (λ z. front ++ deed_of (rules_of plain) s m ∷ z) (ap reverse set_aside.is_aside ∙ reverse-reverse set_aside.behind))
+      back ∙ (append_assoc front (done_event_of (rules_of plain) s m ∷ []) (reverse aside) ∙
+      ap (λ z. front ++ done_event_of (rules_of plain) s m ∷ z) (ap reverse set_aside.is_aside ∙ reverse-reverse set_aside.behind))
 
   -- the state of each member came from what it has done
   pub late-came : ((p : ℕ) → CameTo (rules_of plain) V members done p) → (p : ℕ) → CameTo (rules_of plain) V (set members m.receiver (Some (plain.after s m))) later p
   late-came came =
       handled-came (rules_of plain) O V members members' done later m s at (set-here members m.receiver (Some (plain.after s m)) (Some s) at)
       (λ q n. set-there members m.receiver q (Some (plain.after s m)) n) value
-      (ap (deeds_at message_order m.receiver) done-now ∙
-      (between-mine (rules_of plain) O front set_aside.behind m (none-of message_order m set_aside.behind set_aside.others) (deed_of (rules_of plain) s m) refl ∙
-      ap (λ z. deeds_at message_order m.receiver z ++ deed_of (rules_of plain) s m ∷ []) (sym set_aside.was)))
-      (λ q n. ap (deeds_at message_order q) done-now ∙ (between-kept (rules_of plain) O front set_aside.behind m (deed_of (rules_of plain) s m) refl q n ∙
-      ap (deeds_at message_order q) (sym set_aside.was)))
+      (ap (done_events_at message_order m.receiver) done-now ∙
+      (between-mine (rules_of plain) O front set_aside.behind m (none-of message_order m set_aside.behind set_aside.others) (done_event_of (rules_of plain) s m) refl ∙
+      ap (λ z. done_events_at message_order m.receiver z ++ done_event_of (rules_of plain) s m ∷ []) (sym set_aside.was)))
+      (λ q n. ap (done_events_at message_order q) done-now ∙ (between-kept (rules_of plain) O front set_aside.behind m (done_event_of (rules_of plain) s m) refl q n ∙
+      ap (done_events_at message_order q) (sym set_aside.was)))
       came
 
   -- the steps that this is

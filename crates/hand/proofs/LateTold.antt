@@ -16,11 +16,11 @@ use Rattle.reverse.specs.declared.sends.Sends.{Sends}
 use Rattle.reverse.proofs.Members.{in-all}
 use Rattle.two_lists.proofs.Counting.{times-permutation}
 use Rattle.hand.specs.declared.block.Did.TheVariants.{Ran}
-use Rattle.hand.specs.Deeds.{Deed, deed_of, deeds_at, messages_of}
+use Rattle.hand.specs.DoneEvents.{DoneEvent, done_event_of, done_events_at, messages_of}
 use Rattle.hand.specs.Hands.{Held, DoesSent, StandsForSent, is_held, is_ours}
 use Rattle.hand.specs.Arriving.{WentOn}
 use Rattle.hand.specs.Handling.{FirstHandled}
-use Rattle.hand.proofs.LateDeeds.{messages-append}
+use Rattle.hand.proofs.LateDone.{messages-append}
 use Rattle.hand.proofs.Member.{messages-of, present-here, done-times}
 use Rattle.hand.proofs.Parted.{not_at, parted-late, parted-mine, between-mine, between-kept, between-ascending}
 use Rattle.hand.proofs.Handled.{ran, ran-steps, ours-same}
@@ -67,45 +67,45 @@ module _ {S K : Type 0} (plain : Plain S Message Sends K) (V : S → Message →
           (let b = waits m in let c = ap one_if (same-refl message_order O m) in let d = times-append message_order O m old.flow.queue (messages_of old.done) in omega arith))
           (done-times r O V (x.opening m.receiver) m.receiver (v.parts m.receiver) s old g.beside k m refl ∙ none)
 
-      none-behind : deeds_at message_order m.receiver a.behind ≡ []
-      none-behind = go (deeds_at message_order m.receiver a.behind) (λ y i. both_ways _ (parted-late r O a.front a.behind m a.late y i) (last y (was-done y i)))
+      none-behind : done_events_at message_order m.receiver a.behind ≡ []
+      none-behind = go (done_events_at message_order m.receiver a.behind) (λ y i. both_ways _ (parted-late r O a.front a.behind m a.late y i) (last y (was-done y i)))
         where
-          was-done : (y : Message) → IsIn message_order y (messages_of (deeds_at message_order m.receiver a.behind)) → IsIn message_order y (v.parts m.receiver).done
+          was-done : (y : Message) → IsIn message_order y (messages_of (done_events_at message_order m.receiver a.behind)) → IsIn message_order y (v.parts m.receiver).done
           was-done y i =
               let k = g.members m.receiver s a.before in
-              let left = deeds_at message_order m.receiver (a.front ++ not_at r O m.receiver a.behind) in
-              let c : (v.parts m.receiver).done ≡ messages_of left ++ messages_of (deeds_at message_order m.receiver a.behind) =
-              sym (ap (λ z. messages_of (deeds_at message_order m.receiver z)) (sym a.was) ∙
+              let left = done_events_at message_order m.receiver (a.front ++ not_at r O m.receiver a.behind) in
+              let c : (v.parts m.receiver).done ≡ messages_of left ++ messages_of (done_events_at message_order m.receiver a.behind) =
+              sym (ap (λ z. messages_of (done_events_at message_order m.receiver z)) (sym a.was) ∙
               (ap messages_of k.done ∙ messages-of r O V (reached r (x.opening m.receiver) (v.parts m.receiver).committed) (v.parts m.receiver).done)) ∙
-              (ap messages_of (parted-mine r O a.front a.behind m) ∙ messages-append left (deeds_at message_order m.receiver a.behind)) in
-              let d : times_in message_order y (v.parts m.receiver).done ≡ times_in message_order y (messages_of left) + times_in message_order y (messages_of (deeds_at message_order m.receiver a.behind)) =
-              ap (times_in message_order y) c ∙ times-append message_order O y (messages_of left) (messages_of (deeds_at message_order m.receiver a.behind)) in
+              (ap messages_of (parted-mine r O a.front a.behind m) ∙ messages-append left (done_events_at message_order m.receiver a.behind)) in
+              let d : times_in message_order y (v.parts m.receiver).done ≡ times_in message_order y (messages_of left) + times_in message_order y (messages_of (done_events_at message_order m.receiver a.behind)) =
+              ap (times_in message_order y) c ∙ times-append message_order O y (messages_of left) (messages_of (done_events_at message_order m.receiver a.behind)) in
               omega arith
 
-          go : (xs : List (Deed K)) → ((y : Message) → IsIn message_order y (messages_of xs) → ⊥) → xs ≡ []
+          go : (xs : List (DoneEvent K)) → ((y : Message) → IsIn message_order y (messages_of xs) → ⊥) → xs ≡ []
           go [] i = refl
           go (z ∷ zs) i = absurd (i z.message (in-head message_order O z.message (messages_of zs)))
 
-      handled : deeds_at message_order m.receiver new.done ≡ deeds_at message_order m.receiver old.done ++ deed_of r s m ∷ []
+      handled : done_events_at message_order m.receiver new.done ≡ done_events_at message_order m.receiver old.done ++ done_event_of r s m ∷ []
       handled =
-          ap (deeds_at message_order m.receiver) a.done ∙ (between-mine r O a.front a.behind m none-behind (deed_of r s m) refl ∙
-          ap (λ z. deeds_at message_order m.receiver z ++ deed_of r s m ∷ []) (sym a.was))
+          ap (done_events_at message_order m.receiver) a.done ∙ (between-mine r O a.front a.behind m none-behind (done_event_of r s m) refl ∙
+          ap (λ z. done_events_at message_order m.receiver z ++ done_event_of r s m ∷ []) (sym a.was))
 
-      kept : (q : ℕ) → (q ≡ m.receiver → ⊥) → deeds_at message_order q new.done ≡ deeds_at message_order q old.done
-      kept q n = ap (deeds_at message_order q) a.done ∙ (between-kept r O a.front a.behind m (deed_of r s m) refl q n ∙ ap (deeds_at message_order q) (sym a.was))
+      kept : (q : ℕ) → (q ≡ m.receiver → ⊥) → done_events_at message_order q new.done ≡ done_events_at message_order q old.done
+      kept q n = ap (done_events_at message_order q) a.done ∙ (between-kept r O a.front a.behind m (done_event_of r s m) refl q n ∙ ap (done_events_at message_order q) (sym a.was))
 
       ascending : IsAscending message_order (messages_of old.done) → IsAscending message_order (messages_of new.done)
       ascending b =
           subst (λ z. IsAscending message_order (messages_of z)) (sym a.done)
-          (between-ascending r O a.front a.behind m up a.early a.late (ap (λ z. times_in message_order m (messages_of z)) (sym a.was) ∙ none) (deed_of r s m) refl)
+          (between-ascending r O a.front a.behind m up a.early a.late (ap (λ z. times_in message_order m (messages_of z)) (sym a.was) ∙ none) (done_event_of r s m) refl)
 
     tells : (x : Setting S) → Laws (simulation_of (rules_of plain) x) → (v : World Message S) → StandsForSent (rules_of plain) V x v old [] →
         IsTold plain V O law (Ran m.receiver) old.flow.tray (map plus_of (r.sends s m)) old new x v
     tells x L v g = record {
-      steps = ran-steps r O V law x v old told m s (deed_of r s m) a.before a.state a.others a.count refl a.value waits (handled x v g) (kept x v g) (ascending x v g) a.rows a.extra refl refl first (none x v g) g;
-      stands = ran r O V law x v old told m s (deed_of r s m) a.before a.state a.others a.count refl a.value waits (handled x v g) (kept x v g) (ascending x v g) a.rows a.extra refl refl first (none x v g) g;
+      steps = ran-steps r O V law x v old told m s (done_event_of r s m) a.before a.state a.others a.count refl a.value waits (handled x v g) (kept x v g) (ascending x v g) a.rows a.extra refl refl first (none x v g) g;
+      stands = ran r O V law x v old told m s (done_event_of r s m) a.before a.state a.others a.count refl a.value waits (handled x v g) (kept x v g) (ascending x v g) a.rows a.extra refl refl first (none x v g) g;
       by = let here : is_ours old.members m.receiver ≡ true = ap is_held a.before in (here, (here, tt));
-      same = ours-same r O V law x v old told m s (deed_of r s m) a.before a.state a.others a.count refl a.value waits (handled x v g) (kept x v g) (ascending x v g) a.rows a.extra refl refl first (none x v g) g;
+      same = ours-same r O V law x v old told m s (done_event_of r s m) a.before a.state a.others a.count refl a.value waits (handled x v g) (kept x v g) (ascending x v g) a.rows a.extra refl refl first (none x v g) g;
       soon = in-time x L v g;
     }
 

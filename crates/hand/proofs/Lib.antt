@@ -14,7 +14,7 @@ pub mod Sealing
 pub mod Still
 pub mod Sealed
 pub mod Forgetting
-pub mod LateDeeds
+pub mod LateDone
 pub mod Parted
 pub mod Arrival
 pub mod ArrivalCounts
@@ -32,14 +32,14 @@ pub mod Origin
 pub mod Retreating
 pub mod Rolled
 pub mod Fronted
-pub mod NewestDeed
+pub mod NewestDone
 pub mod Came
 pub mod LateEvent
 pub mod Rooms
 pub mod Floors
 pub mod FrontWaits
 pub mod Leaving
-pub mod OldestDeed
+pub mod OldestDone
 pub mod Opens
 pub mod Handed
 pub mod Precedes

@@ -10,22 +10,22 @@ use Rattle.virtual_time.proofs.Lists.{times-append, in-append}
 use Rattle.virtual_time.proofs.Presence.{present-true, present-from}
 use Rattle.virtual_time.proofs.Reading.{next-from}
 use Rattle.antimessages.proofs.Agreeing.{present-same_count}
-use Rattle.hand.specs.Deeds.{Deed, deeds_at, deeds_of, messages_of}
+use Rattle.hand.specs.DoneEvents.{DoneEvent, done_events_at, done_events_of, messages_of}
 use Rattle.hand.specs.Hands.{Held, IsMember, CountsBeside, counted}
 
 module _ {S K : Type 0} (r : Rules Message S K Note) (O : IsOrder r.order) (V : S → Message → Type 0) where
-  pub messages-of : (s : S) (ms : List Message) → messages_of (deeds_of r s ms) ≡ ms
+  pub messages-of : (s : S) (ms : List Message) → messages_of (done_events_of r s ms) ≡ ms
   messages-of s [] = refl
   messages-of s (m ∷ ms) = ap (λ xs. m ∷ xs) (messages-of (r.after s m) ms)
 
   -- of a message for p the events of p have as many as all have
-  pub times-at : (p : ℕ) (m : Message) → r.order.receiver m ≡ p → (ds : List (Deed K)) →
-      times_in r.order m (messages_of (deeds_at r.order p ds)) ≡ times_in r.order m (messages_of ds)
+  pub times-at : (p : ℕ) (m : Message) → r.order.receiver m ≡ p → (ds : List (DoneEvent K)) →
+      times_in r.order m (messages_of (done_events_at r.order p ds)) ≡ times_in r.order m (messages_of ds)
   times-at p m e [] = refl
   times-at p m e (d ∷ ds) = go (r.order.receiver d.message == p) refl (times-at p m e ds)
     where
-      go : (b : Bool) → (r.order.receiver d.message == p) ≡ b → times_in r.order m (messages_of (deeds_at r.order p ds)) ≡ times_in r.order m (messages_of ds) →
-          times_in r.order m (messages_of (cond b (d ∷ deeds_at r.order p ds) (deeds_at r.order p ds))) ≡ one_if (same r.order m d.message) + times_in r.order m (messages_of ds)
+      go : (b : Bool) → (r.order.receiver d.message == p) ≡ b → times_in r.order m (messages_of (done_events_at r.order p ds)) ≡ times_in r.order m (messages_of ds) →
+          times_in r.order m (messages_of (cond b (d ∷ done_events_at r.order p ds) (done_events_at r.order p ds))) ≡ one_if (same r.order m d.message) + times_in r.order m (messages_of ds)
       go true h i = ap (λ n. one_if (same r.order m d.message) + n) i
       go false h i = elim (same_cases r.order O m d.message) [
         | inl k ↦ absurd (both_ways _ h (eq-eqb _ _ (sym (ap r.order.receiver k) ∙ e)))
@@ -33,12 +33,12 @@ module _ {S K : Type 0} (r : Rules Message S K Note) (O : IsOrder r.order) (V : 
       ]
 
   -- of a message for another process they have none
-  pub times-elsewhere : (p : ℕ) (m : Message) → (r.order.receiver m ≡ p → ⊥) → (ds : List (Deed K)) → times_in r.order m (messages_of (deeds_at r.order p ds)) ≡ 0
+  pub times-elsewhere : (p : ℕ) (m : Message) → (r.order.receiver m ≡ p → ⊥) → (ds : List (DoneEvent K)) → times_in r.order m (messages_of (done_events_at r.order p ds)) ≡ 0
   times-elsewhere p m n [] = refl
   times-elsewhere p m n (d ∷ ds) = go (r.order.receiver d.message == p) refl (times-elsewhere p m n ds)
     where
-      go : (b : Bool) → (r.order.receiver d.message == p) ≡ b → times_in r.order m (messages_of (deeds_at r.order p ds)) ≡ 0 →
-          times_in r.order m (messages_of (cond b (d ∷ deeds_at r.order p ds) (deeds_at r.order p ds))) ≡ 0
+      go : (b : Bool) → (r.order.receiver d.message == p) ≡ b → times_in r.order m (messages_of (done_events_at r.order p ds)) ≡ 0 →
+          times_in r.order m (messages_of (cond b (d ∷ done_events_at r.order p ds) (done_events_at r.order p ds))) ≡ 0
       go true h i = elim (same_cases r.order O m d.message) [
         | inl e ↦ absurd (n (ap r.order.receiver e ∙ eqb-true _ _ h))
         | inr k ↦ (let z = ap one_if k in omega (arith, i))

@@ -12,15 +12,15 @@ use Rattle.reverse.specs.Setting.{Setting}
 use Rattle.reverse.specs.declared.sends.Sends.{Sends}
 use Rattle.antimessages.specs.Counting.{is_after}
 use Rattle.process_queues.specs.Past.{newest_of}
-use Rattle.hand.specs.Deeds.{Deed, messages_of}
+use Rattle.hand.specs.DoneEvents.{DoneEvent, messages_of}
 use Rattle.hand.specs.Handling.{HasLater, SetAside, StopsAt}
 use Rattle.hand.specs.Hands.{Held, StandsForSent}
 use Rattle.hand.proofs.Among.{contains-in, none-among}
-use Rattle.hand.proofs.LateDeeds.{messages-append}
+use Rattle.hand.proofs.LateDone.{messages-append}
 use Rattle.hand.proofs.Member.{present-here, done-times}
-use Rattle.hand.proofs.NewestDeed.{newest-among}
+use Rattle.hand.proofs.NewestDone.{newest-among}
 
-module _ {K : Type 0} (O : IsOrder message_order) (m : Message) (done front aside : List (Deed K)) (a : SetAside message_order m done front aside) where
+module _ {K : Type 0} (O : IsOrder message_order) (m : Message) (done front aside : List (DoneEvent K)) (a : SetAside message_order m done front aside) where
   -- setting aside stopped at an event that does not come before m: that is of its receiver
   pub has-later : StopsAt message_order m front → is_after message_order (newest_of (messages_of front)) m ≡ false → HasLater message_order m done
   has-later stops not = go (newest_of (messages_of front)) refl not
@@ -39,7 +39,7 @@ module _ {K : Type 0} (O : IsOrder message_order) (m : Message) (done front asid
       }
 
   -- one event more
-  pub one-more : (later : List (Deed K)) (d : Deed K) → later ≡ (front ++ d ∷ []) ++ reverse aside → length later ≡ length done + 1
+  pub one-more : (later : List (DoneEvent K)) (d : DoneEvent K) → later ≡ (front ++ d ∷ []) ++ reverse aside → length later ≡ length done + 1
   one-more later d e =
       let x = ap length e in
       let y = length-append (front ++ d ∷ []) (reverse aside) in

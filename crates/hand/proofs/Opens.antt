@@ -9,7 +9,7 @@ use Rattle.virtual_time.specs.Law.{Rules, IsOrder, World, IsAscending, IsIn, flo
 use Rattle.virtual_time.proofs.WellStep.{opened-well}
 use Rattle.reverse.specs.Setting.{Setting}
 use Rattle.antimessages.specs.Counting.{signed_count}
-use Rattle.hand.specs.Deeds.{deeds_at, messages_of}
+use Rattle.hand.specs.DoneEvents.{done_events_at, messages_of}
 use Rattle.hand.specs.Hands.{Held, HasDoneNothing, IsMember, IsOpened, StandsForGroup, counted, is_held, is_ours}
 
 module _ {S K : Type 0} (r : Rules Message S K Note) (O : IsOrder r.order) (V : S → Message → Type 0) (x : Setting S) (v : World Message S) (h : Held S K) (n : HasDoneNothing h) where
@@ -29,7 +29,7 @@ module _ {S K : Type 0} (r : Rules Message S K Note) (O : IsOrder r.order) (V : 
     count = o.count;
     members = λ p s e. subst (λ part. IsMember r V (x.opening p) p part s h) (sym (o.part p (ap is_held e))) (record {
       state = sym (o.state p s e);
-      done = ap (deeds_at r.order p) n.done;
+      done = ap (done_events_at r.order p) n.done;
       values = tt;
       counts = λ y. ap (λ ls. signed_count r.order y (received_by r.order p ls)) (sym nothing-counted);
       tray = ap (received_by r.order p) (sym n.tray);

@@ -6,89 +6,89 @@ use Rattle.vlink.specs.declared.note.Note.{Note}
 use Rattle.virtual_time.specs.Law.{Rules, reached}
 use Rattle.virtual_time.proofs.Handling.{reached-append}
 use Rattle.process_queues.specs.Past.{AreValues}
-use Rattle.hand.specs.Deeds.{Deed, deed_of, deeds_at, deeds_of}
+use Rattle.hand.specs.DoneEvents.{DoneEvent, done_event_of, done_events_at, done_events_of}
 use Rattle.hand.specs.Hands.{is_held, is_ours}
 use Rattle.hand.specs.Undoing.{CameBy, CameTo}
 use Rattle.hand.proofs.Going.{held-is}
 
 module _ {S K : Type 0} (r : Rules Message S K Note) (V : S → Message → Type 0) where
   -- the last of the events of a member, and those before it
-  pub record HasLast (base : S) (ms : List Message) (ds : List (Deed K)) (d : Deed K) : Type 0 where
+  pub record HasLast (base : S) (ms : List Message) (ds : List (DoneEvent K)) (d : DoneEvent K) : Type 0 where
     pub front : List Message
     pub messages : ms ≡ front ++ d.message ∷ []
-    pub deeds : ds ≡ deeds_of r base front
+    pub events : ds ≡ done_events_of r base front
     pub values : AreValues r V base front
     pub value : V (reached r base front) d.message
     pub kept : d.kept ≡ r.kept (reached r base front) d.message
 
-  has-last : (base : S) (ms : List Message) (ds : List (Deed K)) (d : Deed K) → ds ++ d ∷ [] ≡ deeds_of r base ms → AreValues r V base ms → HasLast base ms ds d
+  has-last : (base : S) (ms : List Message) (ds : List (DoneEvent K)) (d : DoneEvent K) → ds ++ d ∷ [] ≡ done_events_of r base ms → AreValues r V base ms → HasLast base ms ds d
   has-last base [] [] d e v = cc
   has-last base [] (x ∷ xs) d e v = cc
   has-last base (m ∷ []) [] d e v =
-      let a : d ≡ deed_of r base m = cc in
+      let a : d ≡ done_event_of r base m = cc in
       let b : d.message ≡ m = ap (λ z. z.message) a in
       record {
         front = [];
         messages = ap (λ z. z ∷ []) (sym b);
-        deeds = refl;
+        events = refl;
         values = tt;
         value = subst (λ z. V base z) (sym b) v.0;
         kept = ap (λ z. z.kept) a ∙ ap (λ z. r.kept base z) (sym b);
       }
   has-last base (m ∷ (n ∷ ms)) [] d e v = cc
   has-last base (m ∷ ms) (x ∷ xs) d e v =
-      let a : x ≡ deed_of r base m = cc in
-      let b : xs ++ d ∷ [] ≡ deeds_of r (r.after base m) ms = cc in
+      let a : x ≡ done_event_of r base m = cc in
+      let b : xs ++ d ∷ [] ≡ done_events_of r (r.after base m) ms = cc in
       let h = has-last (r.after base m) ms xs d b v.1 in
       record {
         front = m ∷ h.front;
         messages = ap (λ z. m ∷ z) h.messages;
-        deeds = (λ j. a j ∷ xs) ∙ ap (λ z. deed_of r base m ∷ z) h.deeds;
+        events = (λ j. a j ∷ xs) ∙ ap (λ z. done_event_of r base m ∷ z) h.events;
         values = (v.0, h.values);
         value = h.value;
         kept = h.kept;
       }
 
   -- the state before the last of them
-  pub record CameLast (s : S) (ds : List (Deed K)) (d : Deed K) : Type 0 where
+  pub record CameLast (s : S) (ds : List (DoneEvent K)) (d : DoneEvent K) : Type 0 where
     pub before : S
     pub value : V before d.message
     pub state : s ≡ r.after before d.message
     pub kept : d.kept ≡ r.kept before d.message
     pub came : CameBy r V before ds
 
-  pub came-last : (s : S) (ds : List (Deed K)) (d : Deed K) → CameBy r V s (ds ++ d ∷ []) → CameLast s ds d
+  pub came-last : (s : S) (ds : List (DoneEvent K)) (d : DoneEvent K) → CameBy r V s (ds ++ d ∷ []) → CameLast s ds d
   came-last s ds d c =
-      let h = has-last c.base c.messages ds d c.deeds c.values in
+      let h = has-last c.base c.messages ds d c.events c.values in
       record {
         before = reached r c.base h.front;
         value = h.value;
         state = c.state ∙ (ap (reached r c.base) h.messages ∙ reached-append r c.base h.front (d.message ∷ []));
         kept = h.kept;
-        came = record { base = c.base; messages = h.front; deeds = h.deeds; values = h.values; state = refl };
+        came = record { base = c.base; messages = h.front; events = h.events; values = h.values; state = refl };
       }
 
   -- the events of p, one behind another
-  pub at-append : (p : ℕ) (xs ys : List (Deed K)) → deeds_at r.order p (xs ++ ys) ≡ deeds_at r.order p xs ++ deeds_at r.order p ys
+  pub at-append : (p : ℕ) (xs ys : List (DoneEvent K)) → done_events_at r.order p (xs ++ ys) ≡ done_events_at r.order p xs ++ done_events_at r.order p ys
   at-append p xs ys = filter-append (λ d. r.order.receiver d.message == p) xs ys
 
-  pub at-mine : (p : ℕ) (d : Deed K) (ds : List (Deed K)) → r.order.receiver d.message ≡ p → deeds_at r.order p (d ∷ ds) ≡ d ∷ deeds_at r.order p ds
-  at-mine p d ds e = ap (λ b. cond b (d ∷ deeds_at r.order p ds) (deeds_at r.order p ds)) (eq-eqb (r.order.receiver d.message) p e)
+  pub at-mine : (p : ℕ) (d : DoneEvent K) (ds : List (DoneEvent K)) → r.order.receiver d.message ≡ p → done_events_at r.order p (d ∷ ds) ≡ d ∷ done_events_at r.order p ds
+  at-mine p d ds e = ap (λ b. cond b (d ∷ done_events_at r.order p ds) (done_events_at r.order p ds)) (eq-eqb (r.order.receiver d.message) p e)
 
-  pub at-another : (p : ℕ) (d : Deed K) (ds : List (Deed K)) → (r.order.receiver d.message ≡ p → ⊥) → deeds_at r.order p (d ∷ ds) ≡ deeds_at r.order p ds
-  at-another p d ds n = ap (λ b. cond b (d ∷ deeds_at r.order p ds) (deeds_at r.order p ds)) (ne_eqb (r.order.receiver d.message) p n)
+  pub at-another : (p : ℕ) (d : DoneEvent K) (ds : List (DoneEvent K)) → (r.order.receiver d.message ≡ p → ⊥) → done_events_at r.order p (d ∷ ds) ≡ done_events_at r.order p ds
+  at-another p d ds n = ap (λ b. cond b (d ∷ done_events_at r.order p ds) (done_events_at r.order p ds)) (ne_eqb (r.order.receiver d.message) p n)
 
-  pub last-mine : (p : ℕ) (ds : List (Deed K)) (d : Deed K) → r.order.receiver d.message ≡ p → deeds_at r.order p (ds ++ d ∷ []) ≡ deeds_at r.order p ds ++ d ∷ []
-  last-mine p ds d e = at-append p ds (d ∷ []) ∙ ap (λ z. deeds_at r.order p ds ++ z) (at-mine p d [] e)
+  pub last-mine : (p : ℕ) (ds : List (DoneEvent K)) (d : DoneEvent K) → r.order.receiver d.message ≡ p → done_events_at r.order p (ds ++ d ∷ []) ≡ done_events_at r.order p ds ++ d ∷ []
+  last-mine p ds d e = at-append p ds (d ∷ []) ∙ ap (λ z. done_events_at r.order p ds ++ z) (at-mine p d [] e)
 
-  pub last-another : (p : ℕ) (ds : List (Deed K)) (d : Deed K) → (r.order.receiver d.message ≡ p → ⊥) → deeds_at r.order p (ds ++ d ∷ []) ≡ deeds_at r.order p ds
-  last-another p ds d n = at-append p ds (d ∷ []) ∙ (ap (λ z. deeds_at r.order p ds ++ z) (at-another p d [] n) ∙ append-nil (deeds_at r.order p ds))
+  pub last-another : (p : ℕ) (ds : List (DoneEvent K)) (d : DoneEvent K) → (r.order.receiver d.message ≡ p → ⊥) → done_events_at r.order p (ds ++ d ∷ []) ≡ done_events_at r.order p ds
+  last-another p ds d n = at-append p ds (d ∷ []) ∙ (ap (λ z. done_events_at r.order p ds ++ z) (at-another p d [] n) ∙ append-nil (done_events_at r.order p ds))
 
-module _ {S K : Type 0} (r : Rules Message S K Note) (V : S → Message → Type 0) (p : ℕ) (members members' : List (Option S)) (done left : List (Deed K)) (d : Deed K) (split : done ≡ left ++ d ∷ []) (came : CameTo r V members done p) where
+module _ {S K : Type 0} (r : Rules Message S K Note) (V : S → Message → Type 0) (p : ℕ) (members members' : List (Option S)) (done left : List (DoneEvent K)) (d : DoneEvent K) (split : done ≡ left ++ d ∷ []) (came : CameTo r V members done p) where
   -- where the newest event is of p, its state came from it
   module _ (mine : r.order.receiver d.message ≡ p) (m : Message) (k : K) (message : m ≡ d.message) (kept : k ≡ d.kept) where
-    its-last : (s : S) → slice_get members p ≡ Some (Some s) → CameLast r V s (deeds_at r.order p left) d
-    its-last s e = came-last r V s (deeds_at r.order p left) d (subst (CameBy r V s) (ap (deeds_at r.order p) split ∙ last-mine r V p left d mine) (came s e))
+    its-last : (s : S) → slice_get members p ≡ Some (Some s) → CameLast r V s (done_events_at r.order p left) d
+    its-last s e = came-last r V s (done_events_at r.order p left) d (subst (CameBy r V s) (ap (done_events_at r.order p) split ∙ last-mine r V p left d mine) (came s e))
 
     pub came-from : (s : S) → slice_get members p ≡ Some (Some s) → (t : S) × V t m × (s ≡ r.after t m) × (k ≡ r.kept t m)
     came-from s e =
@@ -105,8 +105,8 @@ module _ {S K : Type 0} (r : Rules Message S K Note) (V : S → Message → Type
         let was : one.before ≡ s =
         sym (ap (λ z. r.undo z m k) one.state ∙ (ap (λ z. r.undo (r.after one.before d.message) z k) message ∙
         (ap (λ z. r.undo (r.after one.before d.message) d.message z) (kept ∙ one.kept) ∙ law one.before d.message))) ∙ is in
-        subst (λ z. CameBy r V z (deeds_at r.order p left)) was one.came
+        subst (λ z. CameBy r V z (done_events_at r.order p left)) was one.came
 
   -- where it is of another, nothing changes of p
   pub aside-came : (r.order.receiver d.message ≡ p → ⊥) → CameTo r V members left p
-  aside-came n s e = subst (CameBy r V s) (ap (deeds_at r.order p) split ∙ last-another r V p left d n) (came s e)
+  aside-came n s e = subst (CameBy r V s) (ap (done_events_at r.order p) split ∙ last-another r V p left d n) (came s e)

@@ -6,22 +6,22 @@ use Rattle.std.proofs.lemmas.List.Sorted.{IsPermutation-refl, IsPermutation-tran
 use Rattle.vlink.specs.declared.message.Message.{Message}
 use Rattle.vlink.specs.declared.note.Note.{Note}
 use Rattle.virtual_time.specs.Law.{Rules}
-use Rattle.hand.specs.Arriving.{sent_by, undone_deeds}
+use Rattle.hand.specs.Arriving.{sent_by, undone_events}
 use Rattle.vlink.specs.Order.{message_order}
 use Rattle.antimessages.specs.Counting.{is_after}
 use Rattle.process_queues.specs.Past.{newest_of}
-use Rattle.hand.specs.Deeds.{Deed, Done, deeds_at, messages_of}
+use Rattle.hand.specs.DoneEvents.{DoneEvent, Done, done_events_at, messages_of}
 use Rattle.hand.specs.Hands.{is_ours}
 use Rattle.hand.specs.Undoing.{HasRoomFor, Retreat, RollsBack, others_at, sent_in, noted_in}
-use Rattle.hand.proofs.LateDeeds.{messages-append}
-use Rattle.hand.proofs.NewestDeed.{newest-last, sent_in-push, noted_in-push}
+use Rattle.hand.proofs.LateDone.{messages-append}
+use Rattle.hand.proofs.NewestDone.{newest-last, sent_in-push, noted_in-push}
 use Rattle.hand.proofs.Origin.{at-mine, at-another}
 
 module _ {S K : Type 0} (r : Rules Message S K Note) (V : S → Message → Type 0) (m : Message) (start : Retreat S K) where
-  others-mine : (d : Deed K) (ds : List (Deed K)) → r.order.receiver d.message ≡ r.order.receiver m → others_at r.order (r.order.receiver m) (d ∷ ds) ≡ others_at r.order (r.order.receiver m) ds
+  others-mine : (d : DoneEvent K) (ds : List (DoneEvent K)) → r.order.receiver d.message ≡ r.order.receiver m → others_at r.order (r.order.receiver m) (d ∷ ds) ≡ others_at r.order (r.order.receiver m) ds
   others-mine d ds e = ap (λ b. cond (not b) (d ∷ others_at r.order (r.order.receiver m) ds) (others_at r.order (r.order.receiver m) ds)) (eq-eqb (r.order.receiver d.message) (r.order.receiver m) e)
 
-  others-another : (d : Deed K) (ds : List (Deed K)) → (r.order.receiver d.message ≡ r.order.receiver m → ⊥) →
+  others-another : (d : DoneEvent K) (ds : List (DoneEvent K)) → (r.order.receiver d.message ≡ r.order.receiver m → ⊥) →
       others_at r.order (r.order.receiver m) (d ∷ ds) ≡ d ∷ others_at r.order (r.order.receiver m) ds
   others-another d ds n = ap (λ b. cond (not b) (d ∷ others_at r.order (r.order.receiver m) ds) (others_at r.order (r.order.receiver m) ds)) (ne_eqb (r.order.receiver d.message) (r.order.receiver m) n)
 
@@ -29,7 +29,7 @@ module _ {S K : Type 0} (r : Rules Message S K Note) (V : S → Message → Type
   reverse-cons x xs = reverse-append (x ∷ []) xs
 
   -- at first nothing is undone
-  pub rolls-none : (aside : List (Deed K)) (back : List Message) → aside ≡ [] → back ≡ [] → RollsBack r m start (record start { aside = aside; back = back })
+  pub rolls-none : (aside : List (DoneEvent K)) (back : List Message) → aside ≡ [] → back ≡ [] → RollsBack r m start (record start { aside = aside; back = back })
   rolls-none aside back a b = record {
     behind = [];
     done = sym (append-nil start.done);
@@ -43,7 +43,7 @@ module _ {S K : Type 0} (r : Rules Message S K Note) (V : S → Message → Type
     others = λ q n. refl;
   }
 
-  module _ (old : Retreat S K) (d : Deed K) (left : List (Deed K)) (split : old.done ≡ left ++ d ∷ []) (late : r.order.less d.message m ≡ false) (k : RollsBack r m start old) where
+  module _ (old : Retreat S K) (d : DoneEvent K) (left : List (DoneEvent K)) (split : old.done ≡ left ++ d ∷ []) (late : r.order.less d.message m ≡ false) (k : RollsBack r m start old) where
     more : start.done ≡ left ++ d ∷ k.behind
     more = k.done ∙ (ap (λ z. z ++ k.behind) split ∙ append_assoc left (d ∷ []) k.behind)
 
@@ -64,17 +64,17 @@ module _ {S K : Type 0} (r : Rules Message S K Note) (V : S → Message → Type
           late = later;
           aside = k.aside ∙ ap reverse (sym (others-mine d k.behind e));
           queue = subst (λ ds. IsPermutation (messages_of ds ++ start.queue) queue') (sym mine)
-              (IsPermutation-trans (d.message ∷ (messages_of (deeds_at r.order (r.order.receiver m) k.behind) ++ start.queue)) (d.message ∷ old.queue) queue'
-              (IsPermutation-cons d.message (messages_of (deeds_at r.order (r.order.receiver m) k.behind) ++ start.queue) old.queue k.queue) p);
-          back = b ∙ (ap (λ z. z ++ reverse d.sent) k.back ∙ (sym (reverse-append d.sent (sent_by (deeds_at r.order (r.order.receiver m) k.behind))) ∙ ap (λ ds. reverse (sent_by ds)) (sym mine)));
+              (IsPermutation-trans (d.message ∷ (messages_of (done_events_at r.order (r.order.receiver m) k.behind) ++ start.queue)) (d.message ∷ old.queue) queue'
+              (IsPermutation-cons d.message (messages_of (done_events_at r.order (r.order.receiver m) k.behind) ++ start.queue) old.queue k.queue) p);
+          back = b ∙ (ap (λ z. z ++ reverse d.sent) k.back ∙ (sym (reverse-append d.sent (sent_by (done_events_at r.order (r.order.receiver m) k.behind))) ∙ ap (λ ds. reverse (sent_by ds)) (sym mine)));
           count = n ∙ k.count;
           ours = λ q. ours q ∙ k.ours q;
-          state = λ s i. state (undone_deeds r (deeds_at r.order (r.order.receiver m) k.behind) s) (k.state s i) ∙ ap (λ ds. Some (Some (undone_deeds r ds s))) (sym mine);
+          state = λ s i. state (undone_events r (done_events_at r.order (r.order.receiver m) k.behind) s) (k.state s i) ∙ ap (λ ds. Some (Some (undone_events r ds s))) (sym mine);
           others = λ q i. others q i ∙ k.others q i;
         }
 
     -- the newest event is set aside
-    pub rolls-aside : (aside' : List (Deed K)) → (r.order.receiver d.message ≡ r.order.receiver m → ⊥) → aside' ≡ old.aside ++ d ∷ [] →
+    pub rolls-aside : (aside' : List (DoneEvent K)) → (r.order.receiver d.message ≡ r.order.receiver m → ⊥) → aside' ≡ old.aside ++ d ∷ [] →
         RollsBack r m start (record old { done = left; aside = aside' })
     rolls-aside aside' n a =
         let another = at-another r V (r.order.receiver m) d k.behind n in
@@ -87,7 +87,7 @@ module _ {S K : Type 0} (r : Rules Message S K Note) (V : S → Message → Type
           back = k.back ∙ ap (λ ds. reverse (sent_by ds)) (sym another);
           count = k.count;
           ours = k.ours;
-          state = λ s i. k.state s i ∙ ap (λ ds. Some (Some (undone_deeds r ds s))) (sym another);
+          state = λ s i. k.state s i ∙ ap (λ ds. Some (Some (undone_events r ds s))) (sym another);
           others = k.others;
         }
 
@@ -97,7 +97,7 @@ none-long [] e = refl
 none-long (x ∷ xs) e = absurd (omega arith)
 
 -- nothing needs no room
-pub room-none : {K : Type 0} (ds : List (Deed K)) (there : Done K) → ds ≡ [] → HasRoomFor ds there
+pub room-none : {K : Type 0} (ds : List (DoneEvent K)) (there : Done K) → ds ≡ [] → HasRoomFor ds there
 room-none ds there e = record {
   events = let a = ap length e in omega arith;
   sends = let a = ap sent_in e in omega arith;
@@ -105,7 +105,7 @@ room-none ds there e = record {
 }
 
 -- where there is room for more there is for fewer
-pub room-fewer : {K : Type 0} (all left : List (Deed K)) (d : Deed K) (there : Done K) → all ≡ left ++ d ∷ [] → HasRoomFor all there → HasRoomFor left there
+pub room-fewer : {K : Type 0} (all left : List (DoneEvent K)) (d : DoneEvent K) (there : Done K) → all ≡ left ++ d ∷ [] → HasRoomFor all there → HasRoomFor left there
 room-fewer all left d there e h = record {
   events = let a = ap length e ∙ length-append left (d ∷ []) in let b = h.events in omega arith;
   sends = let a = ap sent_in e ∙ sent_in-push left d in let b = h.sends in omega arith;
@@ -113,7 +113,7 @@ room-fewer all left d there e h = record {
 }
 
 -- an event that code finds not to be before a message
-pub newest-late : {K : Type 0} (m : Message) (all left : List (Deed K)) (d : Deed K) → all ≡ left ++ d ∷ [] → is_after message_order (newest_of (messages_of all)) m ≡ false →
+pub newest-late : {K : Type 0} (m : Message) (all left : List (DoneEvent K)) (d : DoneEvent K) → all ≡ left ++ d ∷ [] → is_after message_order (newest_of (messages_of all)) m ≡ false →
     message_order.less d.message m ≡ false
 newest-late m all left d e a =
     subst (λ o. is_after message_order o m ≡ false)
@@ -129,7 +129,7 @@ pub rest-left : {X : Type 0} (xs ys rest : List X) (o : Option X) (x z : X) → 
 rest-left xs ys rest o x z a b e = let k : z ∷ ys ≡ x ∷ rest = ap (λ w. option_to_list w ++ ys) (sym e) ∙ (sym a ∙ b) in cc
 
 -- what does not come after the newest has one
-pub some-late : {K : Type 0} (m : Message) (ds : List (Deed K)) → is_after message_order (newest_of (messages_of ds)) m ≡ false → 0 < length ds
+pub some-late : {K : Type 0} (m : Message) (ds : List (DoneEvent K)) → is_after message_order (newest_of (messages_of ds)) m ≡ false → 0 < length ds
 some-late m [] e = cc
 some-late m (d ∷ ds) e = omega arith
 

@@ -14,7 +14,7 @@ use Rattle.virtual_time.proofs.WellRun.{run-well}
 use Rattle.virtual_time.proofs.WellStep.{emptied-well}
 use Rattle.antimessages.specs.Counting.{HaveSameCounts}
 use Rattle.process_queues.specs.Past.{AreValues}
-use Rattle.hand.specs.Deeds.{Deed, deed_of, deeds_at, deeds_of, messages_of}
+use Rattle.hand.specs.DoneEvents.{DoneEvent, done_event_of, done_events_at, done_events_of, messages_of}
 use Rattle.hand.specs.Hands.{Held, IsMember, counted}
 use Rattle.hand.proofs.Member.{times-at, all-pluses, all-minuses}
 
@@ -47,35 +47,35 @@ module _ {S K : Type 0} (r : Rules Message S K Note) (O : IsOrder r.order) (V : 
   values-more s [] m vs v = (v, tt)
   values-more s (x ∷ xs) m vs v = (vs.0, values-more (r.after s x) xs m vs.1 v)
 
-  pub deeds-push : (s : S) (ms : List Message) (m : Message) → deeds_of r s (ms ++ m ∷ []) ≡ deeds_of r s ms ++ deed_of r (reached r s ms) m ∷ []
-  deeds-push s [] m = refl
-  deeds-push s (x ∷ xs) m = ap (λ z. deed_of r s x ∷ z) (deeds-push (r.after s x) xs m)
+  pub events-push : (s : S) (ms : List Message) (m : Message) → done_events_of r s (ms ++ m ∷ []) ≡ done_events_of r s ms ++ done_event_of r (reached r s ms) m ∷ []
+  events-push s [] m = refl
+  events-push s (x ∷ xs) m = ap (λ z. done_event_of r s x ∷ z) (events-push (r.after s x) xs m)
 
-  at-push : (q : ℕ) (ds : List (Deed K)) (d : Deed K) → deeds_at r.order q (ds ++ d ∷ []) ≡ deeds_at r.order q ds ++ deeds_at r.order q (d ∷ [])
+  at-push : (q : ℕ) (ds : List (DoneEvent K)) (d : DoneEvent K) → done_events_at r.order q (ds ++ d ∷ []) ≡ done_events_at r.order q ds ++ done_events_at r.order q (d ∷ [])
   at-push q [] d = refl
   at-push q (x ∷ xs) d = go (r.order.receiver x.message == q) (at-push q xs d)
     where
-      go : (b : Bool) → deeds_at r.order q (xs ++ d ∷ []) ≡ deeds_at r.order q xs ++ deeds_at r.order q (d ∷ []) →
-          cond b (x ∷ deeds_at r.order q (xs ++ d ∷ [])) (deeds_at r.order q (xs ++ d ∷ [])) ≡ cond b (x ∷ deeds_at r.order q xs) (deeds_at r.order q xs) ++ deeds_at r.order q (d ∷ [])
+      go : (b : Bool) → done_events_at r.order q (xs ++ d ∷ []) ≡ done_events_at r.order q xs ++ done_events_at r.order q (d ∷ []) →
+          cond b (x ∷ done_events_at r.order q (xs ++ d ∷ [])) (done_events_at r.order q (xs ++ d ∷ [])) ≡ cond b (x ∷ done_events_at r.order q xs) (done_events_at r.order q xs) ++ done_events_at r.order q (d ∷ [])
       go true e = ap (λ z. x ∷ z) e
       go false e = e
 
-  pub messages-push : (ds : List (Deed K)) (d : Deed K) → messages_of (ds ++ d ∷ []) ≡ messages_of ds ++ d.message ∷ []
+  pub messages-push : (ds : List (DoneEvent K)) (d : DoneEvent K) → messages_of (ds ++ d ∷ []) ≡ messages_of ds ++ d.message ∷ []
   messages-push [] d = refl
   messages-push (x ∷ xs) d = ap (λ z. x.message ∷ z) (messages-push xs d)
 
   -- one event more, behind all others: it is behind those of its receiver, and those of others stay
-  pub mine-push : (ds : List (Deed K)) (d : Deed K) (p : ℕ) → r.order.receiver d.message ≡ p → deeds_at r.order p (ds ++ d ∷ []) ≡ deeds_at r.order p ds ++ d ∷ []
-  mine-push ds d p e = at-push p ds d ∙ ap (λ b. deeds_at r.order p ds ++ cond b (d ∷ []) []) (eq-eqb (r.order.receiver d.message) p e)
+  pub mine-push : (ds : List (DoneEvent K)) (d : DoneEvent K) (p : ℕ) → r.order.receiver d.message ≡ p → done_events_at r.order p (ds ++ d ∷ []) ≡ done_events_at r.order p ds ++ d ∷ []
+  mine-push ds d p e = at-push p ds d ∙ ap (λ b. done_events_at r.order p ds ++ cond b (d ∷ []) []) (eq-eqb (r.order.receiver d.message) p e)
 
-  pub kept-push : (ds : List (Deed K)) (d : Deed K) (q : ℕ) → (r.order.receiver d.message ≡ q → ⊥) → deeds_at r.order q (ds ++ d ∷ []) ≡ deeds_at r.order q ds
-  kept-push ds d q n = at-push q ds d ∙ (ap (λ b. deeds_at r.order q ds ++ cond b (d ∷ []) []) (ne_eqb (r.order.receiver d.message) q n) ∙ append-nil (deeds_at r.order q ds))
+  pub kept-push : (ds : List (DoneEvent K)) (d : DoneEvent K) (q : ℕ) → (r.order.receiver d.message ≡ q → ⊥) → done_events_at r.order q (ds ++ d ∷ []) ≡ done_events_at r.order q ds
+  kept-push ds d q n = at-push q ds d ∙ (ap (λ b. done_events_at r.order q ds ++ cond b (d ∷ []) []) (ne_eqb (r.order.receiver d.message) q n) ∙ append-nil (done_events_at r.order q ds))
 
   -- the message went from the queue to the done events, where it is the last of its receiver
-  module _ (h new : Held S K) (m : Message) (d : Deed K) (is : d.message ≡ m)
+  module _ (h new : Held S K) (m : Message) (d : DoneEvent K) (is : d.message ≡ m)
       (queue : (x : Message) → times_in r.order x h.flow.queue ≡ one_if (same r.order x m) + times_in r.order x new.flow.queue)
-      (mine : deeds_at r.order (r.order.receiver m) new.done ≡ deeds_at r.order (r.order.receiver m) h.done ++ d ∷ [])
-      (kept : (q : ℕ) → (q ≡ r.order.receiver m → ⊥) → deeds_at r.order q new.done ≡ deeds_at r.order q h.done) (extra : new.flow.extra ≡ h.flow.extra) (tray : new.flow.tray ≡ h.flow.tray) (rows : new.rows ≡ h.rows) where
+      (mine : done_events_at r.order (r.order.receiver m) new.done ≡ done_events_at r.order (r.order.receiver m) h.done ++ d ∷ [])
+      (kept : (q : ℕ) → (q ≡ r.order.receiver m → ⊥) → done_events_at r.order q new.done ≡ done_events_at r.order q h.done) (extra : new.flow.extra ≡ h.flow.extra) (tray : new.flow.tray ≡ h.flow.tray) (rows : new.rows ≡ h.rows) where
     -- it is done once more, and all others as often as before
     pub more-done : (x : Message) → times_in r.order x (messages_of new.done) ≡ one_if (same r.order x m) + times_in r.order x (messages_of h.done)
     more-done x = go (cases_eq (r.order.receiver x) (r.order.receiver m))
@@ -85,9 +85,9 @@ module _ {S K : Type 0} (r : Rules Message S K Note) (O : IsOrder r.order) (V : 
         go (inl e) =
             let a = times-at r O V (r.order.receiver m) x e h.done in
             let b = times-at r O V (r.order.receiver m) x e new.done in
-            let c : times_in r.order x (messages_of (deeds_at r.order (r.order.receiver m) new.done)) ≡ times_in r.order x (messages_of (deeds_at r.order (r.order.receiver m) h.done) ++ m ∷ []) =
-            ap (times_in r.order x) (ap messages_of mine ∙ (messages-push (deeds_at r.order (r.order.receiver m) h.done) d ∙ ap (λ z. messages_of (deeds_at r.order (r.order.receiver m) h.done) ++ z ∷ []) is)) in
-            let i = times-append r.order O x (messages_of (deeds_at r.order (r.order.receiver m) h.done)) (m ∷ []) in
+            let c : times_in r.order x (messages_of (done_events_at r.order (r.order.receiver m) new.done)) ≡ times_in r.order x (messages_of (done_events_at r.order (r.order.receiver m) h.done) ++ m ∷ []) =
+            ap (times_in r.order x) (ap messages_of mine ∙ (messages-push (done_events_at r.order (r.order.receiver m) h.done) d ∙ ap (λ z. messages_of (done_events_at r.order (r.order.receiver m) h.done) ++ z ∷ []) is)) in
+            let i = times-append r.order O x (messages_of (done_events_at r.order (r.order.receiver m) h.done)) (m ∷ []) in
             omega arith
         go (inr n) = elim (same_cases r.order O x m) [
           | inl e ↦ absurd (n (ap r.order.receiver e))
@@ -128,12 +128,12 @@ module _ {S K : Type 0} (r : Rules Message S K Note) (O : IsOrder r.order) (V : 
 
     -- the receiver, whose next message it was
     pub ran-member : (law : (s : S) (e : Message) → r.undo (r.after s e) e (r.kept s e) ≡ s) (opening : S) (part : Part Message S) (s : S) →
-        d ≡ deed_of r s m → V s m → next_of r.order part ≡ Some m → IsMember r V opening (r.order.receiver m) part s h →
+        d ≡ done_event_of r s m → V s m → next_of r.order part ≡ Some m → IsMember r V opening (r.order.receiver m) part s h →
         IsMember r V opening (r.order.receiver m) (emptied (handled r part (Some m))) (r.after s m) new
-    ran-member law opening part s deed value next k = record {
+    ran-member law opening part s event value next k = record {
       state = ap (λ z. r.after z m) k.state;
-      done = mine ∙ (ap (λ z. z ++ d ∷ []) k.done ∙ (ap (λ z. deeds_of r (reached r opening part.committed) part.done ++ z ∷ []) (deed ∙ ap (λ z. deed_of r z m) from) ∙
-          sym (deeds-push (reached r opening part.committed) part.done m)));
+      done = mine ∙ (ap (λ z. z ++ d ∷ []) k.done ∙ (ap (λ z. done_events_of r (reached r opening part.committed) part.done ++ z ∷ []) (event ∙ ap (λ z. done_event_of r z m) from) ∙
+          sym (events-push (reached r opening part.committed) part.done m)));
       values = values-more (reached r opening part.committed) part.done m k.values (subst (λ z. V z m) from value);
       counts = λ x. k.counts x ∙ received-same (r.order.receiver m) (counted h) (counted new) new-pluses new-minuses x;
       tray = k.tray ∙ ap (received_by r.order (r.order.receiver m)) (sym tray);

@@ -17,7 +17,7 @@ use Rattle.reverse.proofs.Members.{in-all}
 use Rattle.antimessages.specs.Counting.{signed_count}
 use Rattle.hand.specs.declared.block.Did.TheVariants.{Committed}
 use Rattle.hand.specs.Block.{steps_told}
-use Rattle.hand.specs.Deeds.{Deed}
+use Rattle.hand.specs.DoneEvents.{DoneEvent}
 use Rattle.hand.specs.Flow.{Flow, IsFirst}
 use Rattle.hand.specs.Hands.{Held, CommitsTold, StandsForSent, IsAsBefore, is_ours}
 use Rattle.hand.specs.Sealing.{CanCommit, Stays, rows_in, words_of}
@@ -87,7 +87,7 @@ module _ {S K : Type 0} (plain : Plain S Message Sends K) (V : S → Message →
     stands = λ x L v l g. (tt, stands-still plain V O law h new a x v g, refl, of_members-none h.members new.members a.members);
   }
 
-  pub commits-oldest : (h new : Held S K) (d : Deed K) (rest : List (Deed K)) → new.members ≡ h.members → h.done ≡ d ∷ rest → new.done ≡ rest → new.rows.all ≡ h.rows.all ++ d.rows →
+  pub commits-oldest : (h new : Held S K) (d : DoneEvent K) (rest : List (DoneEvent K)) → new.members ≡ h.members → h.done ≡ d ∷ rest → new.done ≡ rest → new.rows.all ≡ h.rows.all ++ d.rows →
       new.flow.queue ≡ h.flow.queue → new.flow.extra ≡ h.flow.extra → new.flow.tray ≡ h.flow.tray → new.flow.abroad ≡ h.flow.abroad →
       new.flow.words ≡ h.flow.words ++ Committed d.message.receiver ∷ [] → new.flow.keeps ≡ h.flow.keeps →
       times_in message_order d.message h.flow.queue ≡ 0 → signed_count message_order d.message h.flow.extra ≡ pos 0 → d.message.time < moment →
@@ -109,7 +109,7 @@ module _ {S K : Type 0} (plain : Plain S Message Sends K) (V : S → Message →
   }
 
   -- the events at the front of the list, one after another
-  pub commits-many : (ds : List (Deed K)) (h new : Held S K) (rest : List (Deed K)) → new.members ≡ h.members → h.done ≡ ds ++ rest → new.done ≡ rest → new.rows ≡ record h.rows { all = h.rows.all ++ rows_in ds } →
+  pub commits-many : (ds : List (DoneEvent K)) (h new : Held S K) (rest : List (DoneEvent K)) → new.members ≡ h.members → h.done ≡ ds ++ rest → new.done ≡ rest → new.rows ≡ record h.rows { all = h.rows.all ++ rows_in ds } →
       new.flow ≡ record h.flow { words = h.flow.words ++ words_of ds; room = new.flow.room } → All (λ d. CanCommit moment h.flow d.message) ds →
       CommitsTold (rules_of plain) V moment h new
   commits-many [] h new rest members done left rows flow can = commits-nothing h new (record {
@@ -120,7 +120,7 @@ module _ {S K : Type 0} (plain : Plain S Message Sends K) (V : S → Message →
     flow = flow ∙ (λ j. record h.flow { queue = (ap (λ z. z.queue) (sym flow)) j; words = append-nil h.flow.words j; room = new.flow.room });
   })
   commits-many (d ∷ ds) h new rest members done left rows flow can =
-      let one : CanCommit moment h.flow d.message = All-head (λ (d : Deed K). CanCommit moment h.flow d.message) d ds can in
+      let one : CanCommit moment h.flow d.message = All-head (λ (d : DoneEvent K). CanCommit moment h.flow d.message) d ds can in
       let mid : Held S K = record {
         members = h.members;
         done = ds ++ rest;
@@ -131,5 +131,5 @@ module _ {S K : Type 0} (plain : Plain S Message Sends K) (V : S → Message →
       (commits-oldest h mid d (ds ++ rest) refl done refl refl refl refl refl refl refl refl one.none one.zero one.early)
       (commits-many ds mid new rest members refl left (rows ∙ (λ j. record h.rows { all = sym (append_assoc h.rows.all d.rows (rows_in ds)) j }))
       (flow ∙ (λ j. record h.flow { words = sym (append_assoc h.flow.words (Committed d.message.receiver ∷ []) (words_of ds)) j; room = new.flow.room }))
-      (All-weaker (λ (d : Deed K). CanCommit moment h.flow d.message) (λ (d : Deed K). CanCommit moment mid.flow d.message)
-      (λ d c. record { early = c.early; zero = c.zero; none = c.none }) ds (All-tail (λ (d : Deed K). CanCommit moment h.flow d.message) d ds can)))
+      (All-weaker (λ (d : DoneEvent K). CanCommit moment h.flow d.message) (λ (d : DoneEvent K). CanCommit moment mid.flow d.message)
+      (λ d c. record { early = c.early; zero = c.zero; none = c.none }) ds (All-tail (λ (d : DoneEvent K). CanCommit moment h.flow d.message) d ds can)))

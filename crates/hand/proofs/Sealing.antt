@@ -21,7 +21,7 @@ use Rattle.reverse.specs.Setting.{Setting, simulation_of}
 use Rattle.antimessages.specs.Counting.{HaveSameCounts, signed_count}
 use Rattle.antimessages.proofs.Agreeing.{same_counts-cons}
 use Rattle.process_queues.specs.Past.{AreValues}
-use Rattle.hand.specs.Deeds.{Deed, deed_of, deeds_at, deeds_of, messages_of}
+use Rattle.hand.specs.DoneEvents.{DoneEvent, done_event_of, done_events_at, done_events_of, messages_of}
 use Rattle.hand.specs.Hands.{Held, IsMember, StandsForSent, counted, is_ours}
 use Rattle.hand.proofs.Member.{all-pluses, all-minuses}
 use Rattle.hand.proofs.Running.{received-same}
@@ -33,14 +33,14 @@ module _ {S K : Type 0} (r : Rules Message S K Note) (O : IsOrder r.order) (V : 
   both-cancel y m ls = omega (arith, ints)
 
   -- the first of the events of a member
-  first-done : (base : S) (ds : List Message) (d : Deed K) (es : List (Deed K)) → d ∷ es ≡ deeds_of r base ds →
-      (later : List Message) × (ds ≡ d.message ∷ later) × (d ≡ deed_of r base d.message) × (es ≡ deeds_of r (r.after base d.message) later)
+  first-done : (base : S) (ds : List Message) (d : DoneEvent K) (es : List (DoneEvent K)) → d ∷ es ≡ done_events_of r base ds →
+      (later : List Message) × (ds ≡ d.message ∷ later) × (d ≡ done_event_of r base d.message) × (es ≡ done_events_of r (r.after base d.message) later)
   first-done base [] d es e = cc
   first-done base (m ∷ ms) d es e =
-      let a : d ≡ deed_of r base m = cc in
-      let b : es ≡ deeds_of r (r.after base m) ms = cc in
+      let a : d ≡ done_event_of r base m = cc in
+      let b : es ≡ done_events_of r (r.after base m) ms = cc in
       let c : d.message ≡ m = ap (λ z. z.message) a in
-      (ms, ap (λ z. z ∷ ms) (sym c), a ∙ ap (deed_of r base) (sym c), b ∙ ap (λ z. deeds_of r (r.after base z) ms) (sym c))
+      (ms, ap (λ z. z ∷ ms) (sym c), a ∙ ap (done_event_of r base) (sym c), b ∙ ap (λ z. done_events_of r (r.after base z) ms) (sym c))
 
   rows-mine : (p : ℕ) (m : Message) (notes : List Note) → r.order.receiver m ≡ p → rows_at p (rows_of r.order m notes) ≡ rows_of r.order m notes
   rows-mine p m [] e = refl
@@ -54,7 +54,7 @@ module _ {S K : Type 0} (r : Rules Message S K Note) (O : IsOrder r.order) (V : 
       ap (λ b. cond b (record { message = m; place = r.order.receiver m; note = k } ∷ rows_at p (rows_of r.order m ks)) (rows_at p (rows_of r.order m ks))) (ne_eqb (r.order.receiver m) p n) ∙
       rows-others p m ks n
 
-  module _ (law : (s : S) (e : Message) → r.undo (r.after s e) e (r.kept s e) ≡ s) (x : Setting S) (v : World Message S) (h new : Held S K) (d : Deed K) (rest : List (Deed K))
+  module _ (law : (s : S) (e : Message) → r.undo (r.after s e) e (r.kept s e) ≡ s) (x : Setting S) (v : World Message S) (h new : Held S K) (d : DoneEvent K) (rest : List (DoneEvent K))
       (members : new.members ≡ h.members) (done : h.done ≡ d ∷ rest) (left : new.done ≡ rest) (rows : new.rows.all ≡ h.rows.all ++ d.rows) (queue : new.flow.queue ≡ h.flow.queue)
       (extra : new.flow.extra ≡ h.flow.extra) (tray : new.flow.tray ≡ h.flow.tray) (abroad : new.flow.abroad ≡ h.flow.abroad)
       (none : times_in r.order d.message h.flow.queue ≡ 0) (zero : signed_count r.order d.message h.flow.extra ≡ pos 0) (early : r.order.time d.message < v.gvt)
@@ -87,12 +87,12 @@ module _ {S K : Type 0} (r : Rules Message S K Note) (O : IsOrder r.order) (V : 
     base : S
     base = reached r (x.opening (r.order.receiver d.message)) (v.parts (r.order.receiver d.message)).committed
 
-    first : (later : List Message) × ((v.parts (r.order.receiver d.message)).done ≡ d.message ∷ later) × (d ≡ deed_of r base d.message) × (deeds_at r.order (r.order.receiver d.message) rest ≡ deeds_of r (r.after base d.message) later)
+    first : (later : List Message) × ((v.parts (r.order.receiver d.message)).done ≡ d.message ∷ later) × (d ≡ done_event_of r base d.message) × (done_events_at r.order (r.order.receiver d.message) rest ≡ done_events_of r (r.after base d.message) later)
     unfolding base
     first =
-        first-done (reached r (x.opening (r.order.receiver d.message)) (v.parts (r.order.receiver d.message)).committed) (v.parts (r.order.receiver d.message)).done d (deeds_at r.order (r.order.receiver d.message) rest)
-        (sym (ap (λ b. cond b (d ∷ deeds_at r.order (r.order.receiver d.message) rest) (deeds_at r.order (r.order.receiver d.message) rest)) (eq-eqb (r.order.receiver d.message) (r.order.receiver d.message) refl)) ∙
-        (ap (deeds_at r.order (r.order.receiver d.message)) (sym done) ∙ its.done))
+        first-done (reached r (x.opening (r.order.receiver d.message)) (v.parts (r.order.receiver d.message)).committed) (v.parts (r.order.receiver d.message)).done d (done_events_at r.order (r.order.receiver d.message) rest)
+        (sym (ap (λ b. cond b (d ∷ done_events_at r.order (r.order.receiver d.message) rest) (done_events_at r.order (r.order.receiver d.message) rest)) (eq-eqb (r.order.receiver d.message) (r.order.receiver d.message) refl)) ∙
+        (ap (done_events_at r.order (r.order.receiver d.message)) (sym done) ∙ its.done))
 
     once : pluses r.order d.message (v.parts (r.order.receiver d.message)).tally ≡ minuses r.order d.message (v.parts (r.order.receiver d.message)).tally + 1
     once =
@@ -144,7 +144,7 @@ module _ {S K : Type 0} (r : Rules Message S K Note) (O : IsOrder r.order) (V : 
     unfolding base
     member = record {
       state = its.state;
-      done = ap (deeds_at r.order (r.order.receiver d.message)) left ∙ (first.3 ∙ ap (λ z. deeds_of r z first.0) (sym further));
+      done = ap (done_events_at r.order (r.order.receiver d.message)) left ∙ (first.3 ∙ ap (λ z. done_events_of r z first.0) (sym further));
       values = subst (λ z. AreValues r V z first.0) (sym further)
           (let a = subst (λ z. AreValues r V (reached r (x.opening (r.order.receiver d.message)) (v.parts (r.order.receiver d.message)).committed) z) first.1 its.values in a.1);
       counts = counts;
@@ -178,8 +178,8 @@ module _ {S K : Type 0} (r : Rules Message S K Note) (O : IsOrder r.order) (V : 
     unfolding base
     other q s n k = record {
       state = k.state;
-      done = ap (deeds_at r.order q) left ∙ (sym (ap (deeds_at r.order q) done ∙
-          ap (λ b. cond b (d ∷ deeds_at r.order q rest) (deeds_at r.order q rest)) (ne_eqb (r.order.receiver d.message) q n)) ∙ k.done);
+      done = ap (done_events_at r.order q) left ∙ (sym (ap (done_events_at r.order q) done ∙
+          ap (λ b. cond b (d ∷ done_events_at r.order q rest) (done_events_at r.order q rest)) (ne_eqb (r.order.receiver d.message) q n)) ∙ k.done);
       values = k.values;
       counts = λ y. k.counts y ∙ (received-same r O V q (counted h) (plus_of d.message ∷ counted new) (λ z. let a = plus-more z in omega arith) (λ z. let a = minus-same z in omega arith) y ∙
           ap (signed_count r.order y) (received-skip r.order q (plus_of d.message) (counted new) n));

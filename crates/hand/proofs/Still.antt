@@ -13,7 +13,7 @@ use Rattle.reverse.specs.Setting.{Setting}
 use Rattle.reverse.specs.declared.sends.Sends.{Sends}
 use Rattle.two_lists.proofs.Counting.{times-permutation}
 use Rattle.hand.specs.declared.block.Did.{Did}
-use Rattle.hand.specs.Deeds.{Deed, messages_of}
+use Rattle.hand.specs.DoneEvents.{DoneEvent, messages_of}
 use Rattle.hand.specs.Flow.{Flow, IsFirst, TookFirst}
 use Rattle.hand.specs.Handling.{IsHandled}
 use Rattle.hand.specs.Hands.{Held, DoesSent, StandsForSent, IsAsBefore, is_ours}
@@ -22,7 +22,7 @@ use Rattle.hand.specs.Rows.{Sealed}
 use Rattle.hand.proofs.Going.{stands-kept}
 use Rattle.hand.proofs.Telling.{of_members-none}
 
-pub as-first : {S K : Type 0} (members : List (Option S)) (done : List (Deed K)) (rows : Sealed) (flow next : Flow) → IsPermutation flow.queue next.queue →
+pub as-first : {S K : Type 0} (members : List (Option S)) (done : List (DoneEvent K)) (rows : Sealed) (flow next : Flow) → IsPermutation flow.queue next.queue →
     next ≡ record flow { queue = next.queue; room = next.room } → IsAsBefore (held members done rows flow) (held members done rows next)
 as-first members done rows flow next p e = record { members = refl; done = refl; rows = refl; queue = p; flow = e }
 
@@ -36,7 +36,7 @@ as-both h mid new a b = record {
 }
 
 -- room was made
-pub as-roomy : {S K : Type 0} (members : List (Option S)) (done later : List (Deed K)) (rows : Sealed) (flow next : Flow) → later ≡ done →
+pub as-roomy : {S K : Type 0} (members : List (Option S)) (done later : List (DoneEvent K)) (rows : Sealed) (flow next : Flow) → later ≡ done →
     next ≡ record flow { room = next.room } → IsAsBefore (held members done rows flow) (held members later rows next)
 as-roomy members done later rows flow next d e = record {
   members = refl;
@@ -55,7 +55,7 @@ pub waits-after : (old mid new : Flow) (ws : List Did) → IsPermutation old.que
 waits-after old mid new ws p b = subst (λ (z : List Message). IsPermutation old.queue z) (sym (ap (λ z. z.queue) b)) p
 
 -- the first message was taken out, and waits again
-pub as-put_back : {S K : Type 0} (members : List (Option S)) (done : List (Deed K)) (rows : Sealed) (flow next last : Flow) (m : Message) → TookFirst m flow next →
+pub as-put_back : {S K : Type 0} (members : List (Option S)) (done : List (DoneEvent K)) (rows : Sealed) (flow next last : Flow) (m : Message) → TookFirst m flow next →
     IsPermutation (m ∷ next.queue) last.queue → last ≡ record next { queue = last.queue; room = last.room } → IsAsBefore (held members done rows flow) (held members done rows last)
 as-put_back members done rows flow next last m t p e = record {
   members = refl;
@@ -66,7 +66,7 @@ as-put_back members done rows flow next last m t p e = record {
 }
 
 -- there was none, and there is none
-pub as-empty : {S K : Type 0} (members : List (Option S)) (done : List (Deed K)) (rows : Sealed) (flow next : Flow) → flow.queue ≡ [] → next.queue ≡ [] →
+pub as-empty : {S K : Type 0} (members : List (Option S)) (done : List (DoneEvent K)) (rows : Sealed) (flow next : Flow) → flow.queue ≡ [] → next.queue ≡ [] →
     next ≡ record flow { queue = next.queue; room = next.room } → IsAsBefore (held members done rows flow) (held members done rows next)
 as-empty members done rows flow next none empty e = record {
   members = refl;

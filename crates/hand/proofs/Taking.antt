@@ -14,7 +14,7 @@ use Rattle.virtual_time.proofs.Settled.{floor-delivered}
 use Rattle.reverse.specs.Setting.{Setting, simulation_of}
 use Rattle.virtual_time.specs.declared.letter.Letter.{Letter as AnyLetter}
 use Rattle.antimessages.specs.Counting.{signed_count}
-use Rattle.hand.specs.Deeds.{deeds_at, messages_of}
+use Rattle.hand.specs.DoneEvents.{done_events_at, messages_of}
 use Rattle.hand.specs.Hands.{Held, IsMember, StandsForSent, counted, is_ours}
 use Rattle.hand.proofs.Going.{held-is, received-append, received-first, received-skip, received-sent, received-rest, received-other}
 
@@ -57,7 +57,7 @@ module _ {S K : Type 0} (r : Rules Message S K Note) (V : S → Message → Type
   its : (p : ℕ) (part : Part Message S) (s : S) → r.order.receiver l.message ≡ p → IsMember r V (x.opening p) p part s h → IsMember r V (x.opening p) p (delivered l part) s new
   its p part s e k = record {
     state = k.state;
-    done = ap (deeds_at r.order p) done ∙ k.done;
+    done = ap (done_events_at r.order p) done ∙ k.done;
     values = k.values;
     counts = λ y. k.counts y ∙ ap (λ z. signed_count r.order y (received_by r.order p z)) (sym counted-same);
     tray = ap (λ z. z ++ l ∷ []) k.tray ∙ (ap (λ z. received_by r.order p h.flow.tray ++ z) (sym (received-first r.order p l [] e)) ∙
@@ -70,7 +70,7 @@ module _ {S K : Type 0} (r : Rules Message S K Note) (V : S → Message → Type
   others : (p : ℕ) (part : Part Message S) (s : S) → (r.order.receiver l.message ≡ p → ⊥) → IsMember r V (x.opening p) p part s h → IsMember r V (x.opening p) p part s new
   others p part s n k = record {
     state = k.state;
-    done = ap (deeds_at r.order p) done ∙ k.done;
+    done = ap (done_events_at r.order p) done ∙ k.done;
     values = k.values;
     counts = λ y. k.counts y ∙ ap (λ z. signed_count r.order y (received_by r.order p z)) (sym counted-same);
     tray = k.tray ∙ (sym (append-nil (received_by r.order p h.flow.tray)) ∙ (ap (λ z. received_by r.order p h.flow.tray ++ z) (sym (received-skip r.order p l [] n)) ∙

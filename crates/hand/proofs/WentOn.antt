@@ -13,7 +13,7 @@ use Rattle.reverse.specs.Setting.{Setting, simulation_of}
 use Rattle.reverse.specs.declared.sends.Sends.{Sends}
 use Rattle.hand.specs.declared.block.Did.TheVariants.{Taken}
 use Rattle.hand.specs.Block.{steps_told}
-use Rattle.hand.specs.Deeds.{Deed}
+use Rattle.hand.specs.DoneEvents.{DoneEvent}
 use Rattle.hand.specs.Flow.{Flow}
 use Rattle.hand.specs.Hands.{StandsForSent, is_ours}
 use Rattle.hand.specs.Passing.{held}
@@ -59,7 +59,7 @@ went-both members xs ys old mid new a b = record {
 }
 
 module _ {S K : Type 0} (plain : Plain S Message Sends K) (V : S → Message → Type 0) (O : IsOrder message_order)
-    (law : (s : S) (e : Message) → plain.before (plain.after s e) e (plain.saves s e) ≡ s) (members : List (Option S)) (done : List (Deed K)) (rows : Sealed) (x : Setting S) where
+    (law : (s : S) (e : Message) → plain.before (plain.after s e) e (plain.saves s e) ≡ s) (members : List (Option S)) (done : List (DoneEvent K)) (rows : Sealed) (x : Setting S) where
   -- what the group has after a letter went on
   abbrev taken_to : Letter → Flow → Flow
   taken_to l flow = record flow { tray = flow.tray ++ l ∷ []; words = flow.words ++ Taken l.message.receiver ∷ [] }

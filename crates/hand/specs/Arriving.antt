@@ -9,23 +9,23 @@ use Rattle.virtual_time.specs.declared.letter.Sign.TheVariants.{Plus, Minus}
 use Rattle.antimessages.specs.Counting.{HaveSameCounts, signed_count}
 use Rattle.hand.specs.declared.block.Did.{Did}
 use Rattle.hand.specs.declared.block.Did.TheVariants.{Taken}
-use Rattle.hand.specs.Deeds.{Deed, deeds_at, messages_of}
+use Rattle.hand.specs.DoneEvents.{DoneEvent, done_events_at, messages_of}
 use Rattle.hand.specs.Flow.{Flow}
 use Rattle.hand.specs.Hands.{Held, is_ours}
 
 -- all that these events sent, in order
-abbrev pub sent_by : {K : Type 0} → List (Deed K) → List Message
+abbrev pub sent_by : {K : Type 0} → List (DoneEvent K) → List Message
 sent_by [] = []
 sent_by (d ∷ ds) = d.sent ++ sent_by ds
 
 -- the antimessages of all that, the last sent first
-abbrev pub taken_back : {K : Type 0} → List (Deed K) → List Letter
+abbrev pub taken_back : {K : Type 0} → List (DoneEvent K) → List Letter
 taken_back ds = map minus_of (reverse (sent_by ds))
 
 -- the state that is left when these events are undone, the newest first, each by its record
-abbrev pub undone_deeds : {S K : Type 0} → Rules Message S K Note → List (Deed K) → S → S
-undone_deeds r [] now = now
-undone_deeds r (d ∷ ds) now = r.undo (undone_deeds r ds now) d.message d.kept
+abbrev pub undone_events : {S K : Type 0} → Rules Message S K Note → List (DoneEvent K) → S → S
+undone_events r [] now = now
+undone_events r (d ∷ ds) now = r.undo (undone_events r ds now) d.message d.kept
 
 -- of these letters those to members, and those to others
 abbrev pub to_members : {S : Type 0} → List (Option S) → List Letter → List Letter
@@ -45,11 +45,11 @@ pub record WentOn {S : Type 0} (members : List (Option S)) (sent : List Letter) 
   pub words : new.words ≡ old.words ++ words_taken (to_members members sent)
   pub keeps : new.keeps ≡ old.keeps
 
-module _ {S K : Type 0} (o : Order Message) (l : Letter) (late : List (Deed K)) (old new : Held S K) where
+module _ {S K : Type 0} (o : Order Message) (l : Letter) (late : List (DoneEvent K)) (old new : Held S K) where
   -- those that were undone do not come before the message, and those that its receiver has still done do
   pub record AreLate : Type 0 where
     pub not_before : (m : Message) → IsIn o m (messages_of late) → o.less m l.message ≡ false
-    pub before : (m : Message) → IsIn o m (messages_of (deeds_at o (o.receiver l.message) new.done)) → o.less m l.message ≡ true
+    pub before : (m : Message) → IsIn o m (messages_of (done_events_at o (o.receiver l.message) new.done)) → o.less m l.message ≡ true
 
   -- a plus of a message that counts less beside or is done; or a minus of one that counts more beside, or that is neither there nor counts more
   abbrev pub StaysBeside : Type 0
@@ -95,15 +95,15 @@ module _ {S K : Type 0} (o : Order Message) (l : Letter) (late : List (Deed K)) 
 module _ {S K : Type 0} (r : Rules Message S K Note) where
   -- the letter arrived, which was the first of the tray, with the rest behind it; and late events of its receiver were undone. What they sent is
   -- to go on as antimessages, `taken_back late`.
-  pub record FrontArrived (l : Letter) (rest : List Letter) (late : List (Deed K)) (old new : Held S K) : Type 0 where
+  pub record FrontArrived (l : Letter) (rest : List Letter) (late : List (DoneEvent K)) (old new : Held S K) : Type 0 where
     pub tray : old.flow.tray ≡ l ∷ rest
     -- the late ones are the last that the receiver had done; what others had done stays, and all is in order
-    pub undone : deeds_at r.order (r.order.receiver l.message) old.done ≡ deeds_at r.order (r.order.receiver l.message) new.done ++ late
-    pub kept : (q : ℕ) → (q ≡ r.order.receiver l.message → ⊥) → deeds_at r.order q new.done ≡ deeds_at r.order q old.done
+    pub undone : done_events_at r.order (r.order.receiver l.message) old.done ≡ done_events_at r.order (r.order.receiver l.message) new.done ++ late
+    pub kept : (q : ℕ) → (q ≡ r.order.receiver l.message → ⊥) → done_events_at r.order q new.done ≡ done_events_at r.order q old.done
     pub ascending : IsAscending r.order (messages_of old.done) → IsAscending r.order (messages_of new.done)
     -- the receiver is in the state in which they are undone, and no other member changed
     pub state : (s : S) → slice_get old.members (r.order.receiver l.message) ≡ Some (Some s) →
-        slice_get new.members (r.order.receiver l.message) ≡ Some (Some (undone_deeds r late s))
+        slice_get new.members (r.order.receiver l.message) ≡ Some (Some (undone_events r late s))
     pub others : (q : ℕ) → (q ≡ r.order.receiver l.message → ⊥) → slice_get new.members q ≡ slice_get old.members q
     pub count : length new.members ≡ length old.members
     pub rows : new.rows ≡ old.rows

@@ -5,7 +5,7 @@ use Rattle.vlink.specs.declared.note.Note.{Note}
 use Rattle.virtual_time.specs.Law.{Order, Rules, IsIn, times_in, plus_of}
 use Rattle.antimessages.specs.Counting.{HaveSameCounts, is_after}
 use Rattle.process_queues.specs.Past.{newest_of}
-use Rattle.hand.specs.Deeds.{Deed, deed_of, messages_of}
+use Rattle.hand.specs.DoneEvents.{DoneEvent, done_event_of, messages_of}
 use Rattle.hand.specs.Flow.{Flow}
 use Rattle.hand.specs.Hands.{Held}
 
@@ -24,28 +24,28 @@ module _ {S K : Type 0} (r : Rules Message S K Note) (is_value : S → Message �
     pub others : (q : ℕ) → (q ≡ r.order.receiver m → ⊥) → slice_get new.members q ≡ slice_get old.members q
     pub count : length new.members ≡ length old.members
     -- its event is behind those that come before it
-    pub front : List (Deed K)
-    pub behind : List (Deed K)
+    pub front : List (DoneEvent K)
+    pub behind : List (DoneEvent K)
     pub was : old.done ≡ front ++ behind
-    pub done : new.done ≡ front ++ deed_of r s m ∷ behind
+    pub done : new.done ≡ front ++ done_event_of r s m ∷ behind
     pub early : is_after r.order (newest_of (messages_of front)) m ≡ true
     pub late : All (λ y. r.order.less y m ≡ false) (messages_of behind)
     pub rows : new.rows ≡ old.rows
 
 -- the newest events, which do not come before m and are of other members, were set aside
-pub record SetAside {K : Type 0} (o : Order Message) (m : Message) (done front aside : List (Deed K)) : Type 0 where
-  pub behind : List (Deed K)
+pub record SetAside {K : Type 0} (o : Order Message) (m : Message) (done front aside : List (DoneEvent K)) : Type 0 where
+  pub behind : List (DoneEvent K)
   pub was : done ≡ front ++ behind
   pub late : All (λ y. o.less y m ≡ false) (messages_of behind)
   pub others : All (λ y. (o.receiver y == o.receiver m) ≡ false) (messages_of behind)
   pub is_aside : aside ≡ reverse behind
 
 -- the newest event comes before m, or is of its receiver
-abbrev pub StopsAt : {K : Type 0} → Order Message → Message → List (Deed K) → Type 0
+abbrev pub StopsAt : {K : Type 0} → Order Message → Message → List (DoneEvent K) → Type 0
 StopsAt o m front = (y : Message) → newest_of (messages_of front) ≡ Some y → o.less y m ≡ false → o.receiver y ≡ o.receiver m
 
 -- the receiver of m has done a message that does not come before it
-pub record HasLater {K : Type 0} (o : Order Message) (m : Message) (done : List (Deed K)) : Type 0 where
+pub record HasLater {K : Type 0} (o : Order Message) (m : Message) (done : List (DoneEvent K)) : Type 0 where
   pub later : Message
   pub is_done : IsIn o later (messages_of done)
   pub of_receiver : o.receiver later ≡ o.receiver m
@@ -56,7 +56,7 @@ abbrev pub IsHandled : {S K : Type 0} → Message → Held S K → Held S K → 
 IsHandled m old new = (length new.done ≡ length old.done + 1) ⊎ IsPermutation old.flow.queue (m ∷ new.flow.queue)
 
 -- a message of the queue is done already: it leaves the queue and counts beside
-pub record CountsAgain {K : Type 0} (o : Order Message) (m : Message) (done : List (Deed K)) (old new : Flow) : Type 0 where
+pub record CountsAgain {K : Type 0} (o : Order Message) (m : Message) (done : List (DoneEvent K)) (old new : Flow) : Type 0 where
   pub is_done : IsIn o m (messages_of done)
   pub queue : IsPermutation old.queue (m ∷ new.queue)
   pub extra : HaveSameCounts o new.extra (plus_of m ∷ old.extra)

@@ -9,7 +9,7 @@ use Rattle.antimessages.specs.Counting.{HaveSameCounts}
 use Rattle.process_queues.specs.Past.{AreValues}
 use Rattle.hand.specs.declared.block.Did.{Did}
 use Rattle.hand.specs.Block.{steps_told}
-use Rattle.hand.specs.Deeds.{Deed, deeds_at, deeds_of, messages_of}
+use Rattle.hand.specs.DoneEvents.{DoneEvent, done_events_at, done_events_of, messages_of}
 use Rattle.hand.specs.Flow.{Flow}
 use Rattle.hand.specs.Rows.{Sealed}
 use Rattle.hand.specs.Sealing.{Stays}
@@ -18,7 +18,7 @@ pub record Held (S K : Type 0) : Type 0 where
   -- the actors by their numbers; none where the process is elsewhere
   pub members : List (Option S)
   -- the done events of all members, in the order of their messages
-  pub done : List (Deed K)
+  pub done : List (DoneEvent K)
   -- the rows of committed events
   pub rows : Sealed
   -- what is present and not done, what counts beside, the letters, and what was done
@@ -51,7 +51,7 @@ module _ {S K : Type 0} (r : Rules Message S K Note) (is_value : S → Message �
   -- a member in this state is this part of a process that opened in that one
   pub record IsMember (opening : S) (p : ℕ) (part : Part Message S) (s : S) (h : Held S K) : Type 0 where
     pub state : part.state ≡ s
-    pub done : deeds_at r.order p h.done ≡ deeds_of r (reached r opening part.committed) part.done
+    pub done : done_events_at r.order p h.done ≡ done_events_of r (reached r opening part.committed) part.done
     -- each done event was handled at a value of its type
     pub values : AreValues r is_value (reached r opening part.committed) part.done
     pub counts : HaveSameCounts r.order part.tally (received_by r.order p (counted h))

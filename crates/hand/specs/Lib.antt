@@ -1,6 +1,6 @@
 pub mod Arriving
 pub mod Block
-pub mod Deeds
+pub mod DoneEvents
 pub mod Flow
 pub mod Handling
 pub mod Hands

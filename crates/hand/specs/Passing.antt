@@ -8,12 +8,12 @@ use Rattle.virtual_time.specs.Law.{Rules, Laws, World, IsIn, plus_of, AreBy, Are
 use Rattle.reverse.specs.Setting.{Setting, simulation_of}
 use Rattle.hand.specs.declared.block.Did.{Did}
 use Rattle.hand.specs.Block.{steps_told}
-use Rattle.hand.specs.Deeds.{Deed, messages_of}
+use Rattle.hand.specs.DoneEvents.{DoneEvent, messages_of}
 use Rattle.hand.specs.Flow.{Flow}
 use Rattle.hand.specs.Hands.{Held, StandsForSent, is_ours}
 use Rattle.hand.specs.Rows.{Sealed}
 
-abbrev pub held : {S K : Type 0} → List (Option S) → List (Deed K) → Sealed → Flow → Held S K
+abbrev pub held : {S K : Type 0} → List (Option S) → List (DoneEvent K) → Sealed → Flow → Held S K
 held members done rows flow = record { members = members; done = done; rows = rows; flow = flow }
 
 -- of these messages, which one event sent, some have not gone on yet; where all come after what the group has done, and are not after the end,
@@ -23,7 +23,7 @@ pub record GoesOn {S K : Type 0} (r : Rules Message S K Note) (V : S → Message
   pub words : new.words ≡ old.words ++ did
   pub keeps : new.keeps ≡ old.keeps
   pub by : AreBy (is_ours members) (steps_told did)
-  pub stands : (done : List (Deed K)) (rows : Sealed) (x : Setting S) → Laws (simulation_of r x) → (v : World Message S) →
+  pub stands : (done : List (DoneEvent K)) (rows : Sealed) (x : Setting S) → Laws (simulation_of r x) → (v : World Message S) →
       ((m : Message) → IsIn r.order m all → r.order.time m ≤ x.until) →
       ((m y : Message) → IsIn r.order m all → IsIn r.order y (messages_of done) → r.order.less y m ≡ true) →
       StandsForSent r V x v (held members done rows old) (map plus_of sent) →

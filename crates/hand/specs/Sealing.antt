@@ -7,7 +7,7 @@ use Rattle.virtual_time.specs.Law.{times_in}
 use Rattle.antimessages.specs.Counting.{signed_count}
 use Rattle.hand.specs.declared.block.Did.{Did}
 use Rattle.hand.specs.declared.block.Did.TheVariants.{Committed}
-use Rattle.hand.specs.Deeds.{Deed}
+use Rattle.hand.specs.DoneEvents.{DoneEvent}
 use Rattle.hand.specs.Flow.{Flow}
 
 -- a done message is earlier than the moment, and counts just once
@@ -21,9 +21,9 @@ abbrev pub Stays : ℕ → Flow → Message → Type 0
 Stays moment flow m = (moment ≤ m.time) ⊎ ((signed_count message_order m flow.extra ≢ pos 0) ⊎ ((x : Message) × Contains flow.queue x × (message_order.less m x ≡ false)))
 
 -- the rows that these events gave, and their words once they are committed
-abbrev pub rows_in : {K : Type 0} → List (Deed K) → List Row
+abbrev pub rows_in : {K : Type 0} → List (DoneEvent K) → List Row
 rows_in [] = []
 rows_in (d ∷ ds) = d.rows ++ rows_in ds
 
-abbrev pub words_of : {K : Type 0} → List (Deed K) → List Did
+abbrev pub words_of : {K : Type 0} → List (DoneEvent K) → List Did
 words_of = map (λ d. Committed d.message.receiver)

@@ -10,7 +10,7 @@ ghost use Rattle.hand.specs.Passing.{held};
 ghost use Rattle.hand.specs.Rows.{Sealed};
 ghost use Rattle.hand.specs.Undoing.{CameTo, HasRoomFor, Settled, sent_in};
 
-use crate::deeds::Deeds;
+use crate::done_events::DoneEvents;
 use crate::letters::Letters;
 use crate::members::is_ours;
 use crate::tray::Way;
@@ -23,26 +23,26 @@ use vlink::{Letter, Message};
 /// back. There is room for all that comes of it. A refusal changes nothing.
 pub(crate) fn arrive<R: Actor>(
     members: &mut [Option<R>],
-    done: &mut Deeds<R::Record>,
+    done: &mut DoneEvents<R::Record>,
     undoing: &mut Undoing<R::Record>,
     letters: &mut Letters,
     letter: &Letter,
 ) -> Result<(), OutOfMemory>
     requires front { (rest : List Letter) × (letters.old.tray ≡ letter.now ∷ rest) }
-    requires empty { undoing.old.aside.deeds ≡ [] }
+    requires empty { undoing.old.aside.events ≡ [] }
     requires none_back { undoing.old.back.items ≡ [] }
-    requires came { (p : ℕ) → CameTo (rules_of R.plain) R.is_value members.old done.old.deeds p }
-    requires room { length done.old.deeds + sent_in done.old.deeds + 2 ≤ letters.old.room }
-    requires space { HasRoomFor done.old.deeds undoing.old.aside }
-    requires sends { vec_len undoing.old.back + sent_in done.old.deeds ≤ vec_capacity undoing.old.back }
+    requires came { (p : ℕ) → CameTo (rules_of R.plain) R.is_value members.old done.old.events p }
+    requires room { length done.old.events + sent_in done.old.events + 2 ≤ letters.old.room }
+    requires space { HasRoomFor done.old.events undoing.old.aside }
+    requires sends { vec_len undoing.old.back + sent_in done.old.events ≤ vec_capacity undoing.old.back }
     ensures len { length members.new ≡ length members.old }
-    ensures did { OnOk result ((rows : Sealed) → DoesSent (rules_of R.plain) R.is_value (held members.old done.old.deeds rows letters.old) [] (held members.new done.new.deeds rows letters.new) []) }
-    ensures came { (p : ℕ) → CameTo (rules_of R.plain) R.is_value members.new done.new.deeds p }
-    ensures fewer { OnOk result (length letters.new.tray + sent_in done.new.deeds < length letters.old.tray + sent_in done.old.deeds) }
-    ensures empty { undoing.new.aside.deeds ≡ [] }
+    ensures did { OnOk result ((rows : Sealed) → DoesSent (rules_of R.plain) R.is_value (held members.old done.old.events rows letters.old) [] (held members.new done.new.events rows letters.new) []) }
+    ensures came { (p : ℕ) → CameTo (rules_of R.plain) R.is_value members.new done.new.events p }
+    ensures fewer { OnOk result (length letters.new.tray + sent_in done.new.events < length letters.old.tray + sent_in done.old.events) }
+    ensures empty { undoing.new.aside.events ≡ [] }
     ensures none_back { undoing.new.back.items ≡ [] }
     ensures members { OnErr result (members.new ≡ members.old) }
-    ensures done { OnErr result (done.new.deeds ≡ done.old.deeds) }
+    ensures done { OnErr result (done.new.events ≡ done.old.events) }
     ensures letters { OnErr result (letters.new ≡ record letters.old { room = letters.new.room }) }
 {
     actor_rules_law::<R>();
@@ -56,25 +56,25 @@ pub(crate) fn arrive<R: Actor>(
 /// The message of a letter that arrived joins the queue, or is undone; before that its receiver rolls back to it.
 fn settle<R: Actor>(
     members: &mut [Option<R>],
-    done: &mut Deeds<R::Record>,
+    done: &mut DoneEvents<R::Record>,
     undoing: &mut Undoing<R::Record>,
     letters: &mut Letters,
     message: &Message,
     way: Way,
 )
-    requires empty { undoing.old.aside.deeds ≡ [] }
+    requires empty { undoing.old.aside.events ≡ [] }
     requires none_back { undoing.old.back.items ≡ [] }
-    requires came { (p : ℕ) → CameTo (rules_of R.plain) R.is_value members.old done.old.deeds p }
-    requires room { length done.old.deeds + 1 ≤ letters.old.room }
-    requires space { HasRoomFor done.old.deeds undoing.old.aside }
-    requires sends { vec_len undoing.old.back + sent_in done.old.deeds ≤ vec_capacity undoing.old.back }
+    requires came { (p : ℕ) → CameTo (rules_of R.plain) R.is_value members.old done.old.events p }
+    requires room { length done.old.events + 1 ≤ letters.old.room }
+    requires space { HasRoomFor done.old.events undoing.old.aside }
+    requires sends { vec_len undoing.old.back + sent_in done.old.events ≤ vec_capacity undoing.old.back }
     ensures settled { Settled (rules_of R.plain) message.now
-        (record { members = members.old; done = done.old.deeds; aside = []; queue = letters.old.queue; back = [] })
-        (record { members = members.new; done = done.new.deeds; aside = []; queue = letters.new.queue; back = undoing.new.back.items }) way }
-    ensures came { (p : ℕ) → CameTo (rules_of R.plain) R.is_value members.new done.new.deeds p }
+        (record { members = members.old; done = done.old.events; aside = []; queue = letters.old.queue; back = [] })
+        (record { members = members.new; done = done.new.events; aside = []; queue = letters.new.queue; back = undoing.new.back.items }) way }
+    ensures came { (p : ℕ) → CameTo (rules_of R.plain) R.is_value members.new done.new.events p }
     ensures others { letters.new ≡ record letters.old { queue = letters.new.queue; room = letters.new.room } }
-    ensures room { letters.old.room ≤ letters.new.room + length done.old.deeds + 1 }
-    ensures empty { undoing.new.aside.deeds ≡ [] }
+    ensures room { letters.old.room ≤ letters.new.room + length done.old.events + 1 }
+    ensures empty { undoing.new.aside.events ≡ [] }
 {
     match way {
         Way::Beside => {}

@@ -2,13 +2,13 @@
 ghost use Rattle.std.specs.Prelude.{◌≡◌, ℕ, ◌+◌, ◌<◌, ◌≤◌, ◌⊎◌, ◌++◌, ◌∷◌, [], true, false, All, IfSome, Some, OnOk, OnErr, length, take, drop, slice_get, vec_len, vec_capacity};
 ghost use Rattle.vlink.specs.Order.{message_order};
 ghost use Rattle.vlink.specs.declared.message.Message.{Message};
-ghost use Rattle.hand.specs.Deeds.{Deed, messages_of};
+ghost use Rattle.hand.specs.DoneEvents.{DoneEvent, messages_of};
 ghost use Rattle.hand.specs.Flow.{IsFirst};
 ghost use Rattle.hand.specs.Sealing.{CanCommit, Stays, rows_in, words_of};
 ghost use Rattle.hand.specs.Undoing.{noted_in, sent_in};
 
 use crate::block::{Did, Words};
-use crate::deeds::{Deeds, precedes};
+use crate::done_events::{DoneEvents, precedes};
 use crate::handing::time_or;
 use crate::letters::Letters;
 use crate::rows::Rows;
@@ -16,12 +16,12 @@ use crate::trail::Trail;
 use std::alloc::AllocError;
 use vlink::{Message, Row, Time, order_law};
 
-impl<K: Copy> Deeds<K> {
+impl<K: Copy> DoneEvents<K> {
     /// How many messages the oldest events, so many, sent in all, and how many rows they gave.
     fn shares(&self, count: usize) -> (usize, usize)
-        requires { count ≤ length self.now.deeds }
-        ensures sent { result.0 ≡ sent_in (take count self.now.deeds) }
-        ensures noted { result.1 ≡ noted_in (take count self.now.deeds) }
+        requires { count ≤ length self.now.events }
+        ensures sent { result.0 ≡ sent_in (take count self.now.events) }
+        ensures noted { result.1 ≡ noted_in (take count self.now.events) }
     {
         let events = self.events.as_slice();
         // No sum is more than there are in all, which these numbers tell.
@@ -38,10 +38,10 @@ impl<K: Copy> Deeds<K> {
 
     /// The oldest events, so many, are forgotten. Their rows go to the end of `taken`, which has room for them.
     fn forget(&mut self, count: usize, taken: &mut Vec<Row>)
-        requires enough { count ≤ length self.old.deeds }
-        requires room { vec_len taken.old + length (rows_in self.old.deeds) ≤ vec_capacity taken.old }
-        ensures deeds { self.new.deeds ≡ drop count self.old.deeds }
-        ensures rows { taken.new.items ≡ taken.old.items ++ rows_in (take count self.old.deeds) }
+        requires enough { count ≤ length self.old.events }
+        requires room { vec_len taken.old + length (rows_in self.old.events) ≤ vec_capacity taken.old }
+        ensures events { self.new.events ≡ drop count self.old.events }
+        ensures rows { taken.new.items ≡ taken.old.items ++ rows_in (take count self.old.events) }
     {
         let (sent, noted) = self.shares(count);
         self.events.forget(count);
@@ -76,14 +76,14 @@ impl Letters {
     /// How many of the oldest done events can be committed below the moment, one after another.
     pub(crate) fn count_early<K: Copy>(
         &self,
-        done: &Deeds<K>,
+        done: &DoneEvents<K>,
         moment: Time,
         first: &Option<Message>,
     ) -> usize
         requires { IsFirst first.now self.now.queue }
-        ensures within { result ≤ length done.now.deeds }
-        ensures early { All (CanCommit moment self.now) (take result (messages_of done.now.deeds)) }
-        ensures left { IfSome (slice_get (messages_of done.now.deeds) result) (Stays moment self.now) }
+        ensures within { result ≤ length done.now.events }
+        ensures early { All (CanCommit moment self.now) (take result (messages_of done.now.events)) }
+        ensures left { IfSome (slice_get (messages_of done.now.events) result) (Stays moment self.now) }
     {
         let events = done.events.as_slice();
         let limit = time_or(first, moment);
@@ -98,15 +98,15 @@ impl Letters {
     /// The oldest done events, so many, are committed: they are forgotten, and their rows go to the end of `sealed`. A refusal changes nothing.
     pub(crate) fn commit<K: Copy>(
         &mut self,
-        done: &mut Deeds<K>,
+        done: &mut DoneEvents<K>,
         sealed: &mut Rows,
         count: usize,
     ) -> Result<(), AllocError>
-        requires { count ≤ length done.old.deeds }
-        ensures deeds { OnOk result (done.new.deeds ≡ drop count done.old.deeds) }
-        ensures rows { OnOk result (sealed.new ≡ record sealed.old { all = sealed.old.all ++ rows_in (take count done.old.deeds) }) }
-        ensures told { OnOk result (self.new ≡ record self.old { words = self.old.words ++ words_of (take count done.old.deeds); room = self.new.room }) }
-        ensures deeds_stay { OnErr result (done.new.deeds ≡ done.old.deeds) }
+        requires { count ≤ length done.old.events }
+        ensures events { OnOk result (done.new.events ≡ drop count done.old.events) }
+        ensures rows { OnOk result (sealed.new ≡ record sealed.old { all = sealed.old.all ++ rows_in (take count done.old.events) }) }
+        ensures told { OnOk result (self.new ≡ record self.old { words = self.old.words ++ words_of (take count done.old.events); room = self.new.room }) }
+        ensures events_stay { OnErr result (done.new.events ≡ done.old.events) }
         ensures rows_stay { OnErr result (sealed.new ≡ sealed.old) }
         ensures letters_stay { OnErr result (self.new ≡ record self.old { room = self.new.room }) }
     {
@@ -148,10 +148,10 @@ fn comes_before(message: &Message, first: &Option<Message>) -> bool
 }
 
 /// That the oldest events, so many, are committed is told in the block, which has room for it.
-fn tell_committed<K: Copy>(done: &Deeds<K>, block: &mut Words, count: usize)
-    requires enough { count ≤ length done.now.deeds }
+fn tell_committed<K: Copy>(done: &DoneEvents<K>, block: &mut Words, count: usize)
+    requires enough { count ≤ length done.now.events }
     requires room { count ≤ block.old.room }
-    ensures words { block.new.words ≡ block.old.words ++ words_of (take count done.now.deeds) }
+    ensures words { block.new.words ≡ block.old.words ++ words_of (take count done.now.events) }
     ensures keeps { block.new.keeps ≡ block.old.keeps }
 {
     let events = done.events.as_slice();

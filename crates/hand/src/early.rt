@@ -5,7 +5,7 @@ ghost use Rattle.vlink.specs.Numbering.{greatest_number};
 ghost use Rattle.reverse.specs.Rules.{rules_of};
 ghost use Rattle.antimessages.specs.Counting.{is_after};
 ghost use Rattle.process_queues.specs.Past.{newest_of};
-ghost use Rattle.hand.specs.Deeds.{Deed, messages_of};
+ghost use Rattle.hand.specs.DoneEvents.{DoneEvent, messages_of};
 ghost use Rattle.hand.specs.Hands.{DoesSent};
 ghost use Rattle.hand.specs.Flow.{Flow, TookFirst};
 ghost use Rattle.hand.specs.Passing.{held};
@@ -16,7 +16,7 @@ ghost use Rattle.hand.specs.declared.early.Early.TheVariants.{Ran, Idle, Late};
 ghost use Rattle.reverse.specs.declared.sends.TheConstants.{MOST_SENT};
 
 use crate::block::Did;
-use crate::deeds::Deeds;
+use crate::done_events::DoneEvents;
 use crate::fault::HandFault;
 use crate::letters::Letters;
 use crate::members::{act, has_numbers, send_all};
@@ -39,12 +39,12 @@ pub enum Early {
 #[inline(always)]
 pub(crate) fn handle_first<R: Actor>(
     members: &mut [Option<R>],
-    done: &mut Deeds<R::Record>,
+    done: &mut DoneEvents<R::Record>,
     letters: &mut Letters,
     out: &mut Outbound,
     message: &Message,
 )
-    requires early { is_after message_order (newest_of (messages_of done.old.deeds)) message.now ≡ true }
+    requires early { is_after message_order (newest_of (messages_of done.old.events)) message.now ≡ true }
     requires able { (s : R) × (slice_get members.old message.now.receiver ≡ Some (Some s)) × (R.plain.counter s + MOST_SENT ≤ greatest_number) }
     requires room { MOST_SENT + 1 ≤ letters.old.room }
     requires events { 1 ≤ done.old.events_room }
@@ -52,9 +52,9 @@ pub(crate) fn handle_first<R: Actor>(
     requires rows { 2 ≤ done.old.rows_room }
     ensures len { length members.new ≡ length members.old }
     ensures did { (rows : Sealed) (before : Flow) → TookFirst message.now before letters.old →
-        DoesSent (rules_of R.plain) R.is_value (held members.old done.old.deeds rows before) [] (held members.new done.new.deeds rows letters.new) [] }
-    ensures done { (d : Deed R.Record) × (done.new.deeds ≡ done.old.deeds ++ d ∷ []) × (d.message ≡ message.now) }
-    ensures came { ((p : ℕ) → CameTo (rules_of R.plain) R.is_value members.old done.old.deeds p) → (p : ℕ) → CameTo (rules_of R.plain) R.is_value members.new done.new.deeds p }
+        DoesSent (rules_of R.plain) R.is_value (held members.old done.old.events rows before) [] (held members.new done.new.events rows letters.new) [] }
+    ensures done { (d : DoneEvent R.Record) × (done.new.events ≡ done.old.events ++ d ∷ []) × (d.message ≡ message.now) }
+    ensures came { ((p : ℕ) → CameTo (rules_of R.plain) R.is_value members.old done.old.events p) → (p : ℕ) → CameTo (rules_of R.plain) R.is_value members.new done.new.events p }
 {
     actor_rules_law::<R>();
     let kept = act(members, message, out);
@@ -70,18 +70,18 @@ pub(crate) fn handle_first<R: Actor>(
 #[inline(always)]
 pub(crate) fn standing<R: Actor>(
     members: &[Option<R>],
-    done: &Deeds<R::Record>,
+    done: &DoneEvents<R::Record>,
     message: &Message,
     limit: Time,
 ) -> Result<Early, HandFault>
-    ensures early { result ≡ Ok Ran → is_after message_order (newest_of (messages_of done.now.deeds)) message.now ≡ true }
+    ensures early { result ≡ Ok Ran → is_after message_order (newest_of (messages_of done.now.events)) message.now ≡ true }
     ensures able { result ≡ Ok Ran → (s : R) × (slice_get members.now message.now.receiver ≡ Some (Some s)) × (R.plain.counter s + MOST_SENT ≤ greatest_number) }
     ensures idle { result ≡ Ok Idle → limit ≤ message.now.time }
     ensures soon { result ≡ Ok Ran → message.now.time < limit }
     ensures late_soon { result ≡ Ok Late → message.now.time < limit }
-    ensures late { result ≡ Ok Late → is_after message_order (newest_of (messages_of done.now.deeds)) message.now ≡ false }
+    ensures late { result ≡ Ok Late → is_after message_order (newest_of (messages_of done.now.events)) message.now ≡ false }
     ensures exhausted { IfErr result (λ fault. fault ≡ Exhausted) }
-    ensures after { OnErr result (is_after message_order (newest_of (messages_of done.now.deeds)) message.now ≡ true) }
+    ensures after { OnErr result (is_after message_order (newest_of (messages_of done.now.events)) message.now ≡ true) }
     ensures numbers { OnErr result ((s : R) → slice_get members.now message.now.receiver ≡ Some (Some s) → greatest_number < R.plain.counter s + MOST_SENT) }
 {
     if message.time >= limit {

@@ -5,7 +5,7 @@ ghost use Rattle.vlink.specs.Order.{message_order};
 ghost use Rattle.virtual_time.specs.Law.{World, IsAscending};
 ghost use Rattle.reverse.specs.Rules.{rules_of};
 ghost use Rattle.reverse.specs.Setting.{Setting};
-ghost use Rattle.hand.specs.Deeds.{messages_of};
+ghost use Rattle.hand.specs.DoneEvents.{messages_of};
 ghost use Rattle.hand.specs.Hands.{FirstWaits, StandsForGroup};
 ghost use Rattle.hand.specs.declared.fault.HandFault.TheVariants.{OutOfMemory};
 

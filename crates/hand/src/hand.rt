@@ -4,12 +4,12 @@ ghost use Rattle.vlink.specs.declared.message.Message.{Message};
 ghost use Rattle.virtual_time.specs.Law.{World};
 ghost use Rattle.reverse.specs.Rules.{rules_of, is_before};
 ghost use Rattle.reverse.specs.Setting.{Setting};
-ghost use Rattle.hand.specs.Deeds.{Deed, messages_of};
+ghost use Rattle.hand.specs.DoneEvents.{DoneEvent, messages_of};
 ghost use Rattle.hand.specs.Hands.{DoesTold, StandsForGroup, CommitsTold, StaysDone, IsAsBefore};
 ghost use Rattle.hand.specs.Sealing.{rows_in};
 ghost use Rattle.hand.specs.declared.fault.HandFault.TheVariants.{OutOfMemory};
 
-use crate::deeds::Deeds;
+use crate::done_events::DoneEvents;
 use crate::fault::HandFault;
 use crate::letters::Letters;
 use crate::rows::Rows;
@@ -27,7 +27,7 @@ pub struct Hand<R: Actor> {
     /// The actors by their numbers; none where the process is elsewhere.
     pub(crate) members: Vec<Option<R>>,
     /// The done events in the order of their messages.
-    pub(crate) done: Deeds<R::Record>,
+    pub(crate) done: DoneEvents<R::Record>,
     /// What a rollback needs; empty between calls.
     pub(crate) undoing: Undoing<R::Record>,
     /// The rows of committed events.
@@ -44,10 +44,10 @@ impl<R: Actor> Model for Hand<R> {
 
     ghost Value = { Held R R.Record };
 
-    ghost view = { λ h. record { members = h.members.items; done = h.done.deeds; rows = h.rows; flow = h.letters } };
+    ghost view = { λ h. record { members = h.members.items; done = h.done.events; rows = h.rows; flow = h.letters } };
 
     // the state of each member came from what it has done
-    ghost invariant = { λ h. ((p : ℕ) → CameTo (rules_of R.plain) R.is_value h.members.items h.done.deeds p) × (h.undoing.aside.deeds ≡ []) × (h.undoing.back.items ≡ []) };
+    ghost invariant = { λ h. ((p : ℕ) → CameTo (rules_of R.plain) R.is_value h.members.items h.done.events p) × (h.undoing.aside.events ≡ []) × (h.undoing.back.items ≡ []) };
 }
 
 impl<R: Actor + Drop> Hand<R> {
@@ -72,7 +72,7 @@ impl<R: Actor + Drop> Hand<R> {
     {
         Ok(Hand {
             members,
-            done: Deeds::new(alloc),
+            done: DoneEvents::new(alloc),
             undoing: Undoing::new(alloc),
             rows: Rows::new(alloc),
             letters: Letters::of_offers(alloc, offers, keeps)?,
@@ -97,7 +97,7 @@ impl<R: Actor> Hand<R> {
     /// The list is in message order, so each look is at its front.
     pub fn commit(&mut self, moment: Time) -> Result<(), HandFault>
         ensures did { CommitsTold (rules_of R.plain) R.is_value moment self.old self.new }
-        ensures sealed { OnOk result ((ds : List (Deed R.Record)) × (self.old.done ≡ ds ++ self.new.done)
+        ensures sealed { OnOk result ((ds : List (DoneEvent R.Record)) × (self.old.done ≡ ds ++ self.new.done)
             × (self.new.rows ≡ record self.old.rows { all = self.old.rows.all ++ rows_in ds }) × All (λ m. m.time < moment) (messages_of ds)) }
         ensures left { OnOk result (StaysDone moment self.new) }
         ensures queue { IsPermutation self.old.flow.queue self.new.flow.queue }

@@ -6,7 +6,7 @@ ghost use Rattle.vlink.specs.Order.{message_order};
 ghost use Rattle.virtual_time.specs.Law.{IsAscending, plus_of};
 ghost use Rattle.reverse.specs.Rules.{rules_of, is_before};
 ghost use Rattle.hand.specs.Arriving.{WentOn};
-ghost use Rattle.hand.specs.Deeds.{Deed, messages_of};
+ghost use Rattle.hand.specs.DoneEvents.{DoneEvent, messages_of};
 ghost use Rattle.hand.specs.Flow.{WasTaken, WentAbroad};
 ghost use Rattle.hand.specs.Handling.{HasLater, SetAside, StopsAt};
 ghost use Rattle.hand.specs.Hands.{DoesSent};
@@ -16,7 +16,7 @@ ghost use Rattle.hand.specs.Undoing.{CameTo, HasRoomFor};
 ghost use Rattle.reverse.specs.declared.sends.TheConstants.{MOST_SENT};
 
 use crate::block::Did;
-use crate::deeds::Deeds;
+use crate::done_events::DoneEvents;
 use crate::letters::Letters;
 use crate::members::{act, is_ours};
 use crate::undoing::bring_back;
@@ -53,13 +53,17 @@ fn send_later<R: Actor>(members: &[Option<R>], letters: &mut Letters, messages: 
 }
 
 /// The newest event is set aside, if it does not come before the message and is of another process than its receiver. The answer is whether it was.
-fn set_newest_aside<K: Copy>(done: &mut Deeds<K>, aside: &mut Deeds<K>, message: &Message) -> bool
-    requires space { HasRoomFor done.old.deeds aside.old }
-    ensures aside { (all : List (Deed K)) → SetAside message_order message.now all done.old.deeds aside.old.deeds → SetAside message_order message.now all done.new.deeds aside.new.deeds }
-    ensures space { HasRoomFor done.new.deeds aside.new }
-    ensures again { (more : List (Deed K)) → HasRoomFor (more ++ aside.old.deeds) done.old → HasRoomFor (more ++ aside.new.deeds) done.new }
-    ensures fewer { result ≡ true → length done.new.deeds + 1 ≡ length done.old.deeds }
-    ensures stops { result ≡ false → StopsAt message_order message.now done.new.deeds }
+fn set_newest_aside<K: Copy>(
+    done: &mut DoneEvents<K>,
+    aside: &mut DoneEvents<K>,
+    message: &Message,
+) -> bool
+    requires space { HasRoomFor done.old.events aside.old }
+    ensures aside { (all : List (DoneEvent K)) → SetAside message_order message.now all done.old.events aside.old.events → SetAside message_order message.now all done.new.events aside.new.events }
+    ensures space { HasRoomFor done.new.events aside.new }
+    ensures again { (more : List (DoneEvent K)) → HasRoomFor (more ++ aside.old.events) done.old → HasRoomFor (more ++ aside.new.events) done.new }
+    ensures fewer { result ≡ true → length done.new.events + 1 ≡ length done.old.events }
+    ensures stops { result ≡ false → StopsAt message_order message.now done.new.events }
 {
     if done.is_before(message) || done.newest_is_for(message.receiver) {
         return false;
@@ -69,12 +73,12 @@ fn set_newest_aside<K: Copy>(done: &mut Deeds<K>, aside: &mut Deeds<K>, message:
 }
 
 /// The newest events are set aside, up to one that comes before the message or is of its receiver.
-fn set_aside<K: Copy>(done: &mut Deeds<K>, aside: &mut Deeds<K>, message: &Message)
-    requires empty { aside.old.deeds ≡ [] }
-    requires space { HasRoomFor done.old.deeds aside.old }
-    ensures aside { SetAside message_order message.now done.old.deeds done.new.deeds aside.new.deeds }
-    ensures again { (more : List (Deed K)) → HasRoomFor more done.old → HasRoomFor (more ++ aside.new.deeds) done.new }
-    ensures stops { StopsAt message_order message.now done.new.deeds }
+fn set_aside<K: Copy>(done: &mut DoneEvents<K>, aside: &mut DoneEvents<K>, message: &Message)
+    requires empty { aside.old.events ≡ [] }
+    requires space { HasRoomFor done.old.events aside.old }
+    ensures aside { SetAside message_order message.now done.old.events done.new.events aside.new.events }
+    ensures again { (more : List (DoneEvent K)) → HasRoomFor more done.old → HasRoomFor (more ++ aside.new.events) done.new }
+    ensures stops { StopsAt message_order message.now done.new.events }
 {
     'events: while set_newest_aside(done, aside, message) {}
 }
@@ -83,28 +87,28 @@ fn set_aside<K: Copy>(done: &mut Deeds<K>, aside: &mut Deeds<K>, message: &Messa
 /// members stay behind its own. There is room for all that comes of it.
 pub(crate) fn handle_late<R: Actor>(
     members: &mut [Option<R>],
-    done: &mut Deeds<R::Record>,
-    aside: &mut Deeds<R::Record>,
+    done: &mut DoneEvents<R::Record>,
+    aside: &mut DoneEvents<R::Record>,
     letters: &mut Letters,
     out: &mut Outbound,
     message: &Message,
 )
     requires among { Contains letters.old.queue message.now }
     requires first { All (λ x. is_before x message.now ≡ false) letters.old.queue }
-    requires not_done { IsAscending message_order (messages_of done.old.deeds) → All (λ x. x ≢ message.now) (messages_of done.old.deeds) }
+    requires not_done { IsAscending message_order (messages_of done.old.events) → All (λ x. x ≢ message.now) (messages_of done.old.events) }
     requires able { (s : R) × (slice_get members.old message.now.receiver ≡ Some (Some s)) × (R.plain.counter s + MOST_SENT ≤ greatest_number) }
-    requires came { (p : ℕ) → CameTo (rules_of R.plain) R.is_value members.old done.old.deeds p }
-    requires empty { aside.old.deeds ≡ [] }
-    requires space { HasRoomFor done.old.deeds aside.old }
+    requires came { (p : ℕ) → CameTo (rules_of R.plain) R.is_value members.old done.old.events p }
+    requires empty { aside.old.events ≡ [] }
+    requires space { HasRoomFor done.old.events aside.old }
     requires room { MOST_SENT + 1 ≤ letters.old.room }
     requires events { 1 ≤ done.old.events_room }
     requires sends { MOST_SENT ≤ done.old.sends_room }
     requires rows { 2 ≤ done.old.rows_room }
     ensures len { length members.new ≡ length members.old }
-    ensures did { (rows : Sealed) → DoesSent (rules_of R.plain) R.is_value (held members.old done.old.deeds rows letters.old) [] (held members.new done.new.deeds rows letters.new) [] }
-    ensures came { (p : ℕ) → CameTo (rules_of R.plain) R.is_value members.new done.new.deeds p }
-    ensures empty { aside.new.deeds ≡ [] }
-    ensures handled { (length done.new.deeds ≡ length done.old.deeds + 1) ⊎ HasLater message_order message.now done.old.deeds }
+    ensures did { (rows : Sealed) → DoesSent (rules_of R.plain) R.is_value (held members.old done.old.events rows letters.old) [] (held members.new done.new.events rows letters.new) [] }
+    ensures came { (p : ℕ) → CameTo (rules_of R.plain) R.is_value members.new done.new.events p }
+    ensures empty { aside.new.events ≡ [] }
+    ensures handled { (length done.new.events ≡ length done.old.events + 1) ⊎ HasLater message_order message.now done.old.events }
 {
     actor_rules_law::<R>();
     set_aside(done, aside, message);

@@ -5,18 +5,18 @@ ghost use Rattle.vlink.specs.Order.{message_order};
 ghost use Rattle.vlink.specs.declared.message.Message.{Message};
 ghost use Rattle.virtual_time.specs.Law.{IsAscending};
 ghost use Rattle.process_queues.specs.Past.{newest_of};
-ghost use Rattle.hand.specs.Deeds.{Deed, messages_of};
+ghost use Rattle.hand.specs.DoneEvents.{DoneEvent, messages_of};
 ghost use Rattle.hand.specs.Undoing.{HasRoomFor, sent_in};
 
-use crate::deeds::{Deeds, Event};
+use crate::done_events::{DoneEvents, Event};
 use crate::trail::Trail;
 use std::alloc::AllocError;
 use vlink::{Message, order_law};
 
-impl<K: Copy> Deeds<K> {
+impl<K: Copy> DoneEvents<K> {
     /// The message of the newest event, if there is one.
     pub(crate) fn newest(&self) -> Option<&Message>
-        ensures { option_copied result ≡ newest_of (messages_of self.now.deeds) }
+        ensures { option_copied result ≡ newest_of (messages_of self.now.events) }
     {
         match self.events.back() {
             Some(event) => Some(&event.message),
@@ -26,8 +26,8 @@ impl<K: Copy> Deeds<K> {
 
     /// Whether the newest event, if there is one, is of this process.
     pub(crate) fn newest_is_for(&self, process: u16) -> bool
-        ensures last { (front : List (Deed K)) (d : Deed K) → self.now.deeds ≡ front ++ d ∷ [] → result ≡ (d.message.receiver == process) }
-        ensures newest { (m : Message) → newest_of (messages_of self.now.deeds) ≡ Some m → result ≡ (m.receiver == process) }
+        ensures last { (front : List (DoneEvent K)) (d : DoneEvent K) → self.now.events ≡ front ++ d ∷ [] → result ≡ (d.message.receiver == process) }
+        ensures newest { (m : Message) → newest_of (messages_of self.now.events) ≡ Some m → result ≡ (m.receiver == process) }
     {
         match self.newest() {
             Some(message) => message.receiver == process,
@@ -37,31 +37,31 @@ impl<K: Copy> Deeds<K> {
 
     /// How many events there are.
     pub(crate) fn len(&self) -> usize
-        ensures { result ≡ length self.now.deeds }
+        ensures { result ≡ length self.now.events }
     {
         self.events.len()
     }
 
     /// How many messages they sent in all.
     pub(crate) fn sent_count(&self) -> usize
-        ensures { result ≡ sent_in self.now.deeds }
+        ensures { result ≡ sent_in self.now.events }
     {
         self.sends.len()
     }
 
     /// Whether the message is that of an event. Where it comes after the newest one, none is looked for.
     pub(crate) fn has(&self, message: &Message) -> bool
-        ensures yes { result ≡ true → Contains (messages_of self.now.deeds) message.now }
-        ensures no { result ≡ false → IsAscending message_order (messages_of self.now.deeds) → All (λ x. x ≢ message.now) (messages_of self.now.deeds) }
+        ensures yes { result ≡ true → Contains (messages_of self.now.events) message.now }
+        ensures no { result ≡ false → IsAscending message_order (messages_of self.now.events) → All (λ x. x ≢ message.now) (messages_of self.now.events) }
     {
         order_law();
         !self.is_before(message) && is_among(&self.events, message)
     }
 
     /// Makes room for all events of the other list besides.
-    pub(crate) fn reserve_for(&mut self, other: &Deeds<K>) -> Result<(), AllocError>
-        ensures room { OnOk result (HasRoomFor other.now.deeds self.new) }
-        ensures same { self.new.deeds ≡ self.old.deeds }
+    pub(crate) fn reserve_for(&mut self, other: &DoneEvents<K>) -> Result<(), AllocError>
+        ensures room { OnOk result (HasRoomFor other.now.events self.new) }
+        ensures same { self.new.events ≡ self.old.events }
     {
         self.room = 0;
         self.events.reserve(other.events.len())?;
@@ -71,13 +71,13 @@ impl<K: Copy> Deeds<K> {
     }
 
     /// The newest event, which there is, becomes the newest of the other list, which has room for all that are here.
-    pub(crate) fn move_newest(&mut self, other: &mut Deeds<K>)
-        requires some { 0 < length self.old.deeds }
-        requires room { HasRoomFor self.old.deeds other.old }
-        ensures moved { (d : Deed K) × (self.old.deeds ≡ self.new.deeds ++ d ∷ []) × (other.new.deeds ≡ other.old.deeds ++ d ∷ [])
-            × ((ds : List (Deed K)) → HasRoomFor ds self.old → HasRoomFor (d ∷ ds) self.new) }
-        ensures room { HasRoomFor self.new.deeds other.new }
-        ensures back { HasRoomFor other.old.deeds self.old → HasRoomFor other.new.deeds self.new }
+    pub(crate) fn move_newest(&mut self, other: &mut DoneEvents<K>)
+        requires some { 0 < length self.old.events }
+        requires room { HasRoomFor self.old.events other.old }
+        ensures moved { (d : DoneEvent K) × (self.old.events ≡ self.new.events ++ d ∷ []) × (other.new.events ≡ other.old.events ++ d ∷ [])
+            × ((ds : List (DoneEvent K)) → HasRoomFor ds self.old → HasRoomFor (d ∷ ds) self.new) }
+        ensures room { HasRoomFor self.new.events other.new }
+        ensures back { HasRoomFor other.old.events self.old → HasRoomFor other.new.events self.new }
     {
         let Some(event) = self.events.pop_back() else {
             unreachable!()
@@ -92,12 +92,12 @@ impl<K: Copy> Deeds<K> {
 
     /// The newest event, which there is, is taken off. What it sent goes to `back`, the last first, which has room for all that was sent.
     pub(crate) fn pop_newest(&mut self, back: &mut Vec<Message>) -> Event<K>
-        requires some { 0 < length self.old.deeds }
-        requires room { vec_len back.old + sent_in self.old.deeds ≤ vec_capacity back.old }
-        ensures popped { (d : Deed K) × (self.old.deeds ≡ self.new.deeds ++ d ∷ []) × (back.new.items ≡ back.old.items ++ reverse d.sent)
+        requires some { 0 < length self.old.events }
+        requires room { vec_len back.old + sent_in self.old.events ≤ vec_capacity back.old }
+        ensures popped { (d : DoneEvent K) × (self.old.events ≡ self.new.events ++ d ∷ []) × (back.new.items ≡ back.old.items ++ reverse d.sent)
             × (result.message ≡ d.message) × (result.kept ≡ d.kept) }
-        ensures room { vec_len back.new + sent_in self.new.deeds ≤ vec_capacity back.new }
-        ensures space { (ds : List (Deed K)) → HasRoomFor ds self.old → HasRoomFor ds self.new }
+        ensures room { vec_len back.new + sent_in self.new.events ≤ vec_capacity back.new }
+        ensures space { (ds : List (DoneEvent K)) → HasRoomFor ds self.old → HasRoomFor ds self.new }
     {
         let Some(event) = self.events.pop_back() else {
             unreachable!()

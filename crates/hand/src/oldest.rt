@@ -5,10 +5,10 @@ ghost use Rattle.vlink.specs.Order.{message_order};
 ghost use Rattle.virtual_time.specs.Law.{World, IsAscending, earlier};
 ghost use Rattle.reverse.specs.Rules.{rules_of};
 ghost use Rattle.reverse.specs.Setting.{Setting};
-ghost use Rattle.hand.specs.Deeds.{messages_of};
+ghost use Rattle.hand.specs.DoneEvents.{messages_of};
 ghost use Rattle.hand.specs.Hands.{StandsForGroup, is_ours};
 
-use crate::deeds::Deeds;
+use crate::done_events::DoneEvents;
 use crate::hand::Hand;
 use reverse::{Actor, actor_rules_law};
 use vlink::Time;
@@ -42,10 +42,10 @@ impl<R: Actor> Hand<R> {
     }
 }
 
-impl<K: Copy> Deeds<K> {
+impl<K: Copy> DoneEvents<K> {
     /// The moment of the oldest event, if there is one.
     fn oldest(&self) -> Option<Time>
-        ensures { result ≡ option_map (λ m. m.time) (slice_get (messages_of self.now.deeds) 0) }
+        ensures { result ≡ option_map (λ m. m.time) (slice_get (messages_of self.now.events) 0) }
     {
         match self.events.front() {
             Some(event) => Some(event.message.time),

@@ -102,7 +102,7 @@ impl Queue {
         let Some(far) = self.lists.take_far(MANY) else {
             return;
         };
-        self.offers = sorted(far);
+        self.offers = sort_down(far);
     }
 
     /// Makes room for so many messages more: as long as no other call comes between, so many calls of `push_reserved` have it.
@@ -140,7 +140,7 @@ impl Queue {
 }
 
 /// The messages in their order, the first of them at the end.
-fn sorted(messages: Vec<Message>) -> Vec<Message>
+fn sort_down(messages: Vec<Message>) -> Vec<Message>
     ensures falling { IsSortedBy (λ x y. is_before y x) result.items }
     ensures same { IsPermutation messages.items result.items }
 {

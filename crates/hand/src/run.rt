@@ -8,7 +8,7 @@ ghost use Rattle.reverse.specs.Rules.{rules_of, is_before};
 ghost use Rattle.reverse.specs.Setting.{Setting};
 ghost use Rattle.antimessages.specs.Counting.{is_after};
 ghost use Rattle.process_queues.specs.Past.{newest_of};
-ghost use Rattle.hand.specs.Deeds.{Deed, messages_of};
+ghost use Rattle.hand.specs.DoneEvents.{DoneEvent, messages_of};
 ghost use Rattle.hand.specs.Handling.{IsHandled};
 ghost use Rattle.hand.specs.Hands.{DoesTold, IsAsBefore, StandsForGroup};
 ghost use Rattle.hand.specs.declared.fault.HandFault.TheVariants.{Exhausted};
@@ -40,7 +40,7 @@ impl<R: Actor> Hand<R> {
             × Contains self.old.flow.queue m × All (λ x. is_before x m ≡ false) self.old.flow.queue }
         ensures still { result ≡ Ok Late → IsAsBefore self.old self.new }
         ensures idle_still { result ≡ Ok Idle → IsAsBefore self.old self.new }
-        ensures ran { result ≡ Ok Ran → (d : Deed R.Record) × (self.new.done ≡ self.old.done ++ d ∷ [])
+        ensures ran { result ≡ Ok Ran → (d : DoneEvent R.Record) × (self.new.done ≡ self.old.done ++ d ∷ [])
             × Contains self.old.flow.queue d.message × All (λ x. is_before x d.message ≡ false) self.old.flow.queue × (d.message.time < limit) }
         ensures soon { result ≡ Ok Late → (m : Message) × Contains self.old.flow.queue m × (m.time < limit) }
         ensures exhausted { result ≡ Err Exhausted → (m : Message) × Contains self.old.flow.queue m × All (λ x. is_before x m ≡ false) self.old.flow.queue

@@ -20,7 +20,7 @@ impl Table {
     }
 
     /// The same table, for one journal more. It is refused only where memory is, or the table has 2^63 journals.
-    pub fn shared(&self) -> Result<Table, AllocError> {
+    pub fn share(&self) -> Result<Table, AllocError> {
         Ok(Table {
             written: self.written.clone()?,
         })

@@ -26,8 +26,8 @@ record IsLine (nodes : List NodePlan) (earlier links : List Link) (x y place : �
   out : line.from_port ≡ port_at nodes (earlier ++ before) x y
   in' : line.to_port ≡ port_at nodes (earlier ++ before) y x
 
--- one of the two directions of a link that joins the nodes
-record IsDirection (nodes : List NodePlan) (earlier : List Link) (link : Link) (later : List LinePlan) (x y : ℕ) : Type 0 where
+-- one of the two lines of a link that joins the nodes
+record IsLineOfLink (nodes : List NodePlan) (earlier : List Link) (link : Link) (later : List LinePlan) (x y : ℕ) : Type 0 where
   line : LinePlan
   read : slice_get (directions nodes earlier link ++ later) (cond (link.a == x) 0 1) ≡ Some line
   from : line.from ≡ x
@@ -35,10 +35,10 @@ record IsDirection (nodes : List NodePlan) (earlier : List Link) (link : Link) (
   out : line.from_port ≡ port_at nodes earlier x y
   in' : line.to_port ≡ port_at nodes earlier y x
 
-direction : (nodes : List NodePlan) (earlier : List Link) (link : Link) (later : List LinePlan) (x y : ℕ) → joins x y link ≡ true → IsDirection nodes earlier link later x y
-direction nodes earlier link later x y joined = go (link.a == x) refl (goes x y link) refl (goes y x link) refl joined
+line-of-link : (nodes : List NodePlan) (earlier : List Link) (link : Link) (later : List LinePlan) (x y : ℕ) → joins x y link ≡ true → IsLineOfLink nodes earlier link later x y
+line-of-link nodes earlier link later x y joined = go (link.a == x) refl (goes x y link) refl (goes y x link) refl joined
   where
-    forth : link.a ≡ x → link.b ≡ y → (link.a == x) ≡ true → IsDirection nodes earlier link later x y
+    forth : link.a ≡ x → link.b ≡ y → (link.a == x) ≡ true → IsLineOfLink nodes earlier link later x y
     forth a b e = record {
       line = record { from = link.a; from_port = port_at nodes earlier link.a link.b; to = link.b; to_port = port_at nodes earlier link.b link.a; byte_ns = link.byte_ns; propagation_ns = link.propagation_ns };
       read = rw e refl;
@@ -48,7 +48,7 @@ direction nodes earlier link later x y joined = go (link.a == x) refl (goes x y 
       in' = rw (a, b) refl;
     }
 
-    back : link.a ≡ y → link.b ≡ x → (link.a == x) ≡ false → IsDirection nodes earlier link later x y
+    back : link.a ≡ y → link.b ≡ x → (link.a == x) ≡ false → IsLineOfLink nodes earlier link later x y
     back a b e = record {
       line = record { from = link.b; from_port = port_at nodes earlier link.b link.a; to = link.a; to_port = port_at nodes earlier link.a link.b; byte_ns = link.byte_ns; propagation_ns = link.propagation_ns };
       read = rw e refl;
@@ -58,7 +58,7 @@ direction nodes earlier link later x y joined = go (link.a == x) refl (goes x y 
       in' = rw (a, b) refl;
     }
 
-    go : (first : Bool) → (link.a == x) ≡ first → (one : Bool) → goes x y link ≡ one → (two : Bool) → goes y x link ≡ two → (one || two) ≡ true → IsDirection nodes earlier link later x y
+    go : (first : Bool) → (link.a == x) ≡ first → (one : Bool) → goes x y link ≡ one → (two : Bool) → goes y x link ≡ two → (one || two) ≡ true → IsLineOfLink nodes earlier link later x y
     go first e true f two g h = let same = goes-true x y link f in
         let here : (link.a == x) ≡ true = grind (arith, nat_tests) in forth same.0 same.1 here
     go true e false f true g h = let same = goes-true y x link g in
@@ -76,7 +76,7 @@ line-there nodes earlier (link ∷ links) x y place found = go (joins x y link) 
   where
     here : joins x y link ≡ true → IsLine nodes earlier (link ∷ links) x y 0
     here joined =
-        let d = direction nodes earlier link (each_after (directions nodes) (earlier ++ link ∷ []) links) x y joined in
+        let d = line-of-link nodes earlier link (each_after (directions nodes) (earlier ++ link ∷ []) links) x y joined in
         let place_is : 2 * 0 + cond (link.a == x) 0 1 ≡ cond (link.a == x) 0 1 = omega arith in
         record {
           before = [];

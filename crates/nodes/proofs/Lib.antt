@@ -4,7 +4,7 @@ pub mod PortLemmas
 pub mod SendingLemmas
 pub mod VlLemmas
 pub mod WayLemmas
-pub mod WireLemmas
+pub mod LineAheadLemmas
 pub mod MakingLemmas
 pub mod NumberLemmas
 pub mod OpeningLaws

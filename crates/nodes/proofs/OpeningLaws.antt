@@ -4,7 +4,7 @@ use Rattle.nodes.specs.declared.source.Source.{Source}
 use Rattle.network.specs.declared.wiring.Way.{Way}
 use Rattle.network.specs.Words.{is_none, Plan, NodePlan, VlPlan, IsAccepted, lines_of, process_count}
 use Rattle.nodes.specs.declared.opening.meeting.Side.TheVariants.{Out}
-use Rattle.nodes.specs.Words.{ways_at, with_ways, leaves_by, wire_among, wires_of, outlet_of, ports_of, source_of, node_opening, equipment_opening, line_opening, opening, AllWires, IsPlacedEquipment, IsPlaced, IsWiredEquipment, IsWired}
+use Rattle.nodes.specs.Words.{ways_at, with_ways, leaves_by, line_ahead_among, lines_ahead_of, outlet_of, ports_of, source_of, node_opening, equipment_opening, line_opening, opening, AllAhead, IsPlacedEquipment, IsPlaced, IsWiredEquipment, IsWired}
 use Rattle.std.specs.List.{AllByRecursion, range_with_len}
 use Rattle.std.proofs.lemmas.List.Elements.{All-from_recursion}
 use Rattle.std.proofs.lemmas.Option.{slice_get_within, none-some}
@@ -15,17 +15,17 @@ use Rattle.network.specs.declared.limits.TheConstants.{GREATEST_PORTS}
 use Rattle.network.proofs.BuildLemmas.{line-read, length-lines}
 use Rattle.network.proofs.PortLemmas.{line-within}
 use Rattle.network.proofs.LimitLemmas.{kind-read, link-read}
-use Rattle.nodes.specs.declared.ports.Wire.{Wire}
+use Rattle.nodes.specs.declared.ports.LineAhead.{LineAhead}
 use Rattle.nodes.specs.declared.equipment.Equipment.TheVariants as equipment
 
--- what holds of each line, as the wire of a process behind these, holds of the wire that is found
-wire-holds : (P : Wire → Type 0) (n q process : ℕ) (lines : List LinePlan) →
-    ((k : ℕ) (line : LinePlan) → slice_get lines k ≡ Some line → P (record { line = process + k; byte_ns = line.byte_ns })) → IfSome (wire_among n q process lines) P
-wire-holds P n q process [] h = tt
-wire-holds P n q process (line ∷ lines) h =
-    go (leaves_by n q line) (wire-holds P n q (process + 1) lines (λ k other there. subst (λ j. P (record { line = j; byte_ns = other.byte_ns })) (omega arith) (h (suc k) other there)))
+-- what holds of each line, as that of a process behind these, holds of the one that a port leads into
+ahead-holds : (P : LineAhead → Type 0) (n q process : ℕ) (lines : List LinePlan) →
+    ((k : ℕ) (line : LinePlan) → slice_get lines k ≡ Some line → P (record { line = process + k; byte_ns = line.byte_ns })) → IfSome (line_ahead_among n q process lines) P
+ahead-holds P n q process [] h = tt
+ahead-holds P n q process (line ∷ lines) h =
+    go (leaves_by n q line) (ahead-holds P n q (process + 1) lines (λ k other there. subst (λ j. P (record { line = j; byte_ns = other.byte_ns })) (omega arith) (h (suc k) other there)))
   where
-    go : (b : Bool) → IfSome (wire_among n q (process + 1) lines) P → IfSome (cond b (Some (record { line = process; byte_ns = line.byte_ns })) (wire_among n q (process + 1) lines)) P
+    go : (b : Bool) → IfSome (line_ahead_among n q (process + 1) lines) P → IfSome (cond b (Some (record { line = process; byte_ns = line.byte_ns })) (line_ahead_among n q (process + 1) lines)) P
     go true later = subst (λ j. P (record { line = j; byte_ns = line.byte_ns })) (omega arith) (h 0 line refl)
     go false later = later
 
@@ -33,12 +33,12 @@ all-mapped : {X Y : Type 0} (P : Y → Type 0) (f : X → Y) (xs : List X) → (
 all-mapped P f [] h = tt
 all-mapped P f (x ∷ xs) h = (h x, all-mapped P f xs h)
 
--- what holds of each wire holds of the wires of the ports that are made for them
-outlets-hold : (P : Wire → Type 0) (bytes : ℕ) (wires : List (Option Wire)) → AllByRecursion (λ wire. IfSome wire P) wires →
-    AllByRecursion (λ slot. IfSome slot (λ outlet. P outlet.wire)) (map (option_map (outlet_of bytes)) wires)
+-- what holds of each of these lines holds of those that the ports lead into which are made for them
+outlets-hold : (P : LineAhead → Type 0) (bytes : ℕ) (lines_ahead : List (Option LineAhead)) → AllByRecursion (λ ahead. IfSome ahead P) lines_ahead →
+    AllByRecursion (λ slot. IfSome slot (λ outlet. P outlet.ahead)) (map (option_map (outlet_of bytes)) lines_ahead)
 outlets-hold P bytes [] h = tt
-outlets-hold P bytes (Some wire ∷ wires) h = (h.0, outlets-hold P bytes wires h.1)
-outlets-hold P bytes (None ∷ wires) h = (tt, outlets-hold P bytes wires h.1)
+outlets-hold P bytes (Some ahead ∷ lines_ahead) h = (h.0, outlets-hold P bytes lines_ahead h.1)
+outlets-hold P bytes (None ∷ lines_ahead) h = (tt, outlets-hold P bytes lines_ahead h.1)
 
 all-read : {X : Type 0} (P : X → Type 0) (xs : List X) → ((k : ℕ) (x : X) → slice_get xs k ≡ Some x → P x) → AllByRecursion P xs
 all-read P [] h = tt
@@ -60,22 +60,22 @@ none-beyond (x ∷ xs) zero e = absurd (none-some x (sym e))
 none-beyond (x ∷ xs) (suc k) e = let rest = none-beyond xs k e in omega arith
 
 module _ (plan : Plan) (accepted : IsAccepted plan) where
-  wires-hold : (P : Wire → Type 0) → ((k : ℕ) (line : LinePlan) → slice_get (lines_of plan) k ≡ Some line → P (record { line = length plan.nodes + k; byte_ns = line.byte_ns })) →
-      (n count bytes : ℕ) → AllWires P (ports_of plan n count bytes)
-  unfolding wires_of
-  wires-hold P h n count bytes =
-      All-from_recursion (λ slot. IfSome slot (λ outlet. P outlet.wire)) _ (outlets-hold P bytes (wires_of plan n count)
-      (all-mapped (λ wire. IfSome wire P) (λ q. wire_among n q (length plan.nodes) (lines_of plan)) (range_with_len 0 count)
-      (λ q. wire-holds P n q (length plan.nodes) (lines_of plan) h)))
+  lines_ahead-hold : (P : LineAhead → Type 0) → ((k : ℕ) (line : LinePlan) → slice_get (lines_of plan) k ≡ Some line → P (record { line = length plan.nodes + k; byte_ns = line.byte_ns })) →
+      (n count bytes : ℕ) → AllAhead P (ports_of plan n count bytes)
+  unfolding lines_ahead_of
+  lines_ahead-hold P h n count bytes =
+      All-from_recursion (λ slot. IfSome slot (λ outlet. P outlet.ahead)) _ (outlets-hold P bytes (lines_ahead_of plan n count)
+      (all-mapped (λ ahead. IfSome ahead P) (λ q. line_ahead_among n q (length plan.nodes) (lines_of plan)) (range_with_len 0 count)
+      (λ q. ahead-holds P n q (length plan.nodes) (lines_of plan) h)))
 
-  slow-wires : (n count bytes : ℕ) → AllWires (λ wire. 1 ≤ wire.byte_ns) (ports_of plan n count bytes)
-  slow-wires = wires-hold (λ wire. 1 ≤ wire.byte_ns) (λ k line there. (line-within plan k line accepted there).times.byte)
+  slow-lines_ahead : (n count bytes : ℕ) → AllAhead (λ ahead. 1 ≤ ahead.byte_ns) (ports_of plan n count bytes)
+  slow-lines_ahead = lines_ahead-hold (λ ahead. 1 ≤ ahead.byte_ns) (λ k line there. (line-within plan k line accepted there).times.byte)
 
   line-process : (k : ℕ) (line : LinePlan) → slice_get (lines_of plan) k ≡ Some line → length plan.nodes + k < process_count plan
   line-process k line there = omega (arith, slice_get_within (lines_of plan) k line there, length-lines plan.nodes [] plan.links)
 
-  near-wires : (n count bytes : ℕ) → AllWires (λ wire. wire.line < process_count plan) (ports_of plan n count bytes)
-  near-wires = wires-hold (λ wire. wire.line < process_count plan) line-process
+  near-lines_ahead : (n count bytes : ℕ) → AllAhead (λ ahead. ahead.line < process_count plan) (ports_of plan n count bytes)
+  near-lines_ahead = lines_ahead-hold (λ ahead. ahead.line < process_count plan) line-process
 
   has-bag : VlPlan → Type 0
   has-bag vl = 1 ≤ vl.link.bag_ms
@@ -87,13 +87,13 @@ module _ (plan : Plan) (accepted : IsAccepted plan) where
       (all-read has-bag plan.vls (λ k vl there. (link-read plan k vl.link accepted (ap (option_map (λ vl. vl.link)) there)).least_bag)))
 
   node-placed : (n : ℕ) (node : NodePlan) → slice_get plan.nodes n ≡ Some node → (k : NodeKind) → node.kind ≡ k → IsPlacedEquipment (node_opening plan n node.port_bytes k)
-  node-placed n node there kind.EndSystem e = (slow-wires n 2 node.port_bytes, spaced (ways_at plan n Out))
+  node-placed n node there kind.EndSystem e = (slow-lines_ahead n 2 node.port_bytes, spaced (ways_at plan n Out))
   node-placed n node there (kind.Switch net latency_ns) e =
-      (slow-wires n GREATEST_PORTS node.port_bytes, (kind-read plan n (kind.Switch net latency_ns) accepted (ap (option_map (λ node. node.kind)) there ∙ ap Some e)).0)
+      (slow-lines_ahead n GREATEST_PORTS node.port_bytes, (kind-read plan n (kind.Switch net latency_ns) accepted (ap (option_map (λ node. node.kind)) there ∙ ap Some e)).0)
 
   node-wired : (n : ℕ) (node : NodePlan) (k : NodeKind) → IsWiredEquipment (process_count plan) (node_opening plan n node.port_bytes k)
-  node-wired n node kind.EndSystem = near-wires n 2 node.port_bytes
-  node-wired n node (kind.Switch net latency_ns) = near-wires n GREATEST_PORTS node.port_bytes
+  node-wired n node kind.EndSystem = near-lines_ahead n 2 node.port_bytes
+  node-wired n node (kind.Switch net latency_ns) = near-lines_ahead n GREATEST_PORTS node.port_bytes
 
   -- process p behind the nodes is a line
   behind : (p : ℕ) → p < process_count plan → slice_get plan.nodes p ≡ None → p - length plan.nodes < length (lines_of plan)

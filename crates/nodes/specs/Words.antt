@@ -12,10 +12,10 @@ pub use Rattle.nodes.specs.rules.Line.{LineState}
 pub use Rattle.nodes.specs.rules.Meeting.{first_port, is_by, meeting, meetings, ways_at, with_ways}
 unfoldable pub use Rattle.nodes.specs.rules.Meeting.{ports_by}
 pub use Rattle.nodes.specs.rules.Node.{NodeState, after, handled}
-pub use Rattle.nodes.specs.rules.Opening.{end_system_opening, equipment_opening, leaves_by, line_opening, node_opening, opening, outlet_of, ports_of, reception_of, source_of, switch_opening, transit_of, wire_among}
-unfoldable pub use Rattle.nodes.specs.rules.Opening.{wires_of}
+pub use Rattle.nodes.specs.rules.Opening.{end_system_opening, equipment_opening, leaves_by, line_opening, node_opening, opening, outlet_of, ports_of, reception_of, source_of, switch_opening, transit_of, line_ahead_among}
+unfoldable pub use Rattle.nodes.specs.rules.Opening.{lines_ahead_of}
 pub use Rattle.nodes.specs.rules.Outputs.{marked_from}
-pub use Rattle.nodes.specs.rules.Placed.{AllWires, IsPlaced, IsPlacedEquipment, IsWired, IsWiredEquipment}
+pub use Rattle.nodes.specs.rules.Placed.{AllAhead, IsPlaced, IsPlacedEquipment, IsWired, IsWiredEquipment}
 pub use Rattle.nodes.specs.rules.Ports.{PortsState, exists}
 pub use Rattle.nodes.specs.rules.Simulation.{simulation_of}
 pub use Rattle.nodes.specs.rules.Switch.{SwitchState, entered, entered_reply, forwarded, transit_at, transit_number}

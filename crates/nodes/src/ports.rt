@@ -18,7 +18,7 @@ use vlink::{Body, Cause, Frame, Time, busy_ns, last_bit_ns};
 
 /// The line that a port leads into.
 #[derive(Clone, Copy, Debug, PartialEq, Eq)]
-pub struct Wire {
+pub struct LineAhead {
     /// The process of the line.
     pub line: u16,
     /// How long a byte takes, in ns.
@@ -28,7 +28,7 @@ pub struct Wire {
 /// An output port, and the line that it leads into.
 #[derive(Debug, Drop)]
 pub struct Outlet {
-    pub wire: Wire,
+    pub ahead: LineAhead,
     pub port: Port,
 }
 
@@ -102,7 +102,7 @@ impl Ports {
         let slot = self.outlets.get_mut(usize::from(port))?;
         if let Some(outlet) = slot {
             let kept = outlet.port.put(frame, priority);
-            answer_put(out, at, port, outlet.wire, frame, kept);
+            answer_put(out, at, port, outlet.ahead, frame, kept);
             Some(kept)
         } else {
             None
@@ -124,7 +124,7 @@ impl Ports {
         let slot = self.outlets.get_mut(usize::from(port))?;
         if let Some(outlet) = slot {
             let kept = outlet.port.free();
-            answer_free(out, at, port, outlet.wire, &kept);
+            answer_free(out, at, port, outlet.ahead, &kept);
             Some(PortRecord::Free(kept))
         } else {
             None
@@ -160,14 +160,21 @@ impl Ports {
 }
 
 /// Sends and notes what follows from a port's answer to a frame put.
-fn answer_put(out: &mut Outbound, at: Time, port: u8, wire: Wire, frame: &Frame, kept: PutRecord)
+fn answer_put(
+    out: &mut Outbound,
+    at: Time,
+    port: u8,
+    ahead: LineAhead,
+    frame: &Frame,
+    kept: PutRecord,
+)
     requires room { length out.old.messages + 2 ≤ MOST_SENT }
     requires notes { length out.old.notes < 2 }
     requires numbers { out.old.sender.counter + 2 ≤ greatest_number }
-    ensures { (priority : Priority) → out.new ≡ replied out.old (answered out.old.sender.number at port wire (Put frame.now priority) (put_answer frame.now kept)) }
+    ensures { (priority : Priority) → out.new ≡ replied out.old (answered out.old.sender.number at port ahead (Put frame.now priority) (put_answer frame.now kept)) }
 {
     match kept {
-        PutRecord::AtOnce => start(out, at, port, wire, frame),
+        PutRecord::AtOnce => start(out, at, port, ahead, frame),
         PutRecord::Kept(_) => {}
         PutRecord::Nothing => out.lose(Cause::PortFull, frame),
     }
@@ -175,23 +182,23 @@ fn answer_put(out: &mut Outbound, at: Time, port: u8, wire: Wire, frame: &Frame,
 
 /// Sends what follows from a port's answer to a Free.
 #[inline(always)]
-fn answer_free(out: &mut Outbound, at: Time, port: u8, wire: Wire, kept: &FreeRecord)
+fn answer_free(out: &mut Outbound, at: Time, port: u8, ahead: LineAhead, kept: &FreeRecord)
     requires room { length out.old.messages + 2 ≤ MOST_SENT }
     requires numbers { out.old.sender.counter + 2 ≤ greatest_number }
-    ensures { out.new ≡ replied out.old (answered out.old.sender.number at port wire Free (free_answer kept.now)) }
+    ensures { out.new ≡ replied out.old (answered out.old.sender.number at port ahead Free (free_answer kept.now)) }
 {
     if let FreeRecord::Popped(_, frame) = kept {
-        start(out, at, port, wire, frame);
+        start(out, at, port, ahead, frame);
     }
 }
 
 /// The frame starts: its last bit is carried into the line, and then the port is free.
-fn start(out: &mut Outbound, at: Time, port: u8, wire: Wire, frame: &Frame)
+fn start(out: &mut Outbound, at: Time, port: u8, ahead: LineAhead, frame: &Frame)
     requires room { length out.old.messages + 2 ≤ MOST_SENT }
     requires numbers { out.old.sender.counter + 2 ≤ greatest_number }
-    ensures { out.new ≡ replied out.old (start out.old.sender.number at port wire frame.now) }
+    ensures { out.new ≡ replied out.old (start out.old.sender.number at port ahead frame.now) }
 {
-    let byte_ns = u32::from(wire.byte_ns);
+    let byte_ns = u32::from(ahead.byte_ns);
     let size = frame.size;
     // Its contract says that this is at most 1518 bytes.
     let _bytes = size.bytes();
@@ -200,7 +207,7 @@ fn start(out: &mut Outbound, at: Time, port: u8, wire: Wire, frame: &Frame)
     let number = out.number();
     out.send_both(
         last_bit,
-        wire.line,
+        ahead.line,
         Body::Carry { frame: *frame },
         free,
         number,

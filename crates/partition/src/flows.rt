@@ -15,13 +15,13 @@ pub(crate) struct Flow {
 /// What each line carries, by its number.
 pub(crate) fn flows_of(alloc: Global, network: &Network) -> Result<Vec<Flow>, AllocError> {
     let mut flows = Vec::with_capacity(alloc, network.line_count())?;
-    for line in 0..network.line_count() {
-        let direction = network.line(line);
-        let from = usize::from(direction.from);
+    for number in 0..network.line_count() {
+        let line = network.line(number);
+        let from = usize::from(line.from);
         flows.push(Flow {
             from,
-            to: usize::from(direction.to),
-            frames: frames_out(network, network.departures(from), direction.from_port),
+            to: usize::from(line.to),
+            frames: frames_out(network, network.departures(from), line.from_port),
         })?;
     }
     Ok(flows)

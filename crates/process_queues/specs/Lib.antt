@@ -1,3 +1,4 @@
 pub mod Past
 pub mod Queues
 pub mod Committing
+pub mod Running

@@ -1,11 +1,12 @@
 //! The next event is run.
-ghost use Rattle.std.specs.Prelude.{◌≡◌, ◌+◌, ◌<◌, ◌↔◌, IsSome, None, Ok, OnOk, OnErr, IfOk};
+ghost use Rattle.std.specs.Prelude.{◌≡◌, ◌+◌, ◌<◌, ◌↔◌, IsSome, Err, OnErr, IfOk};
 ghost use Rattle.vlink.specs.Numbering.{greatest_number};
-ghost use Rattle.virtual_time.specs.Law.{run_one, next_of};
+ghost use Rattle.virtual_time.specs.Law.{next_of};
 ghost use Rattle.reverse.specs.Rules.{rules_of};
 ghost use Rattle.vlink.specs.Order.{message_order};
 ghost use Rattle.process_queues.specs.declared.fault.ProcFault.TheVariants.{Exhausted};
-ghost use Rattle.process_queues.specs.Queues.{AtEachPart, Does, next_in, state_in};
+ghost use Rattle.process_queues.specs.Queues.{AtEachPart, next_in, state_in};
+ghost use Rattle.process_queues.specs.Running.{RunsNext};
 ghost use Rattle.reverse.specs.declared.sends.TheConstants.{MOST_SENT};
 
 use crate::fault::ProcFault;
@@ -17,14 +18,9 @@ impl<R: Actor> Process<R> {
     /// The first present message that is not done is handled: it joins the done events, and what it sends goes to the outbox.
     /// The answer is that message, or none where there is none.
     pub fn run(&mut self) -> Result<Option<Message>, ProcFault>
-        ensures ran { OnOk result (Does (rules_of R.plain) R.is_value (λ opening. run_one (rules_of R.plain)) self.old.queues self.new.queues) }
-        ensures handled { IfOk result (λ message. AtEachPart (rules_of R.plain) R.is_value self.old.queues (λ opening part. message ≡ next_of message_order part)) }
-        ensures next { IfOk result (λ message. message ≡ next_in self.old.queues) }
-        ensures tray { self.new.queues.tray ≡ self.old.queues.tray }
-        ensures left { self.new.queues.left ≡ self.old.queues.left }
+        ensures ran { IfOk result (λ message. RunsNext (rules_of R.plain) R.is_value message self.old.queues self.new.queues) }
         ensures exhausted { (result ≡ Err Exhausted) ↔
             IsSome (next_in self.old.queues) × (greatest_number < R.plain.counter (state_in self.old.queues) + MOST_SENT) }
-        ensures idle { result ≡ Ok None → self.new.queues ≡ self.old.queues }
         ensures refused { OnErr result (AtEachPart (rules_of R.plain) R.is_value self.old.queues (λ opening part. IsSome (next_of message_order part))) }
         ensures unchanged { OnErr result (self.new.queues ≡ self.old.queues) }
     {
@@ -34,14 +30,9 @@ impl<R: Actor> Process<R> {
 
     /// Does what `run` does. `out` is room for what the event sends and notes: a caller that handles one event after another makes it once.
     pub fn run_with(&mut self, out: &mut Outbound) -> Result<Option<Message>, ProcFault>
-        ensures ran { OnOk result (Does (rules_of R.plain) R.is_value (λ opening. run_one (rules_of R.plain)) self.old.queues self.new.queues) }
-        ensures handled { IfOk result (λ message. AtEachPart (rules_of R.plain) R.is_value self.old.queues (λ opening part. message ≡ next_of message_order part)) }
-        ensures next { IfOk result (λ message. message ≡ next_in self.old.queues) }
-        ensures tray { self.new.queues.tray ≡ self.old.queues.tray }
-        ensures left { self.new.queues.left ≡ self.old.queues.left }
+        ensures ran { IfOk result (λ message. RunsNext (rules_of R.plain) R.is_value message self.old.queues self.new.queues) }
         ensures exhausted { (result ≡ Err Exhausted) ↔
             IsSome (next_in self.old.queues) × (greatest_number < R.plain.counter (state_in self.old.queues) + MOST_SENT) }
-        ensures idle { result ≡ Ok None → self.new.queues ≡ self.old.queues }
         ensures refused { OnErr result (AtEachPart (rules_of R.plain) R.is_value self.old.queues (λ opening part. IsSome (next_of message_order part))) }
         ensures unchanged { OnErr result (self.new.queues ≡ self.old.queues) }
     {

@@ -156,7 +156,7 @@ impl Outbound {
         };
         // Its contract says that this is a moment, and the first is not after it.
         let _ns = second_time.ns();
-        self.put(Time::known(first_ns), first_receiver, first);
+        self.put(Time::of_known(first_ns), first_receiver, first);
         self.put(second_time, second_receiver, second);
     }
 

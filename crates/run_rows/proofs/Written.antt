@@ -77,9 +77,9 @@ module _ {X : Type 0} (old : WrittenTrace) (res : Result X TraceFault) (refused 
       (subst (λ (r : Result X TraceFault). IfErr r (λ fault. fault ≡ Out Device → failures ≡ failed + 1)) (refused (Out Device) told) device) refl
 
 -- what is told is as said, where each cause that is tried first is, and what comes after
-told : {X F : Type 0} (P : F → Type 0) (cause : Option F) (res : Result X F) → ((fault : F) → cause ≡ Some fault → res ≡ Err fault) →
+by-cause : {X F : Type 0} (P : F → Type 0) (cause : Option F) (res : Result X F) → ((fault : F) → cause ≡ Some fault → res ≡ Err fault) →
     ((fault : F) → cause ≡ Some fault → P fault) → (cause ≡ None → IfErr res P) → IfErr res P
-told P cause res refused first rest = go cause refl
+by-cause P cause res refused first rest = go cause refl
   where
     go : (o : Option _) → cause ≡ o → IfErr res P
     go (Some fault) e = subst (λ r. IfErr r P) (sym (refused fault e)) (first fault e)
@@ -107,7 +107,7 @@ pub segment-told : {X : Type 0} (g : Gathering) (segment : SegmentRows) → segm
     ((fault : SegmentFault) → segment_fault g segment ≡ Some fault → res ≡ Err fault) → (segment_fault g segment ≡ None → IfErr res (λ fault. fault ≡ OutOfMemory)) →
     IfErr res (λ fault. fault ≢ OutOfMemory → IsPlaceFault fault)
 segment-told {X} g segment run within res refused memory =
-    told _ (segment_fault g segment) res refused (λ fault e other. segment-place g segment run within fault e) (λ none. go res (memory none))
+    by-cause _ (segment_fault g segment) res refused (λ fault e other. segment-place g segment run within fault e) (λ none. go res (memory none))
   where
     go : (r : Result X SegmentFault) → IfErr r (λ fault. fault ≡ OutOfMemory) → IfErr r (λ fault. fault ≢ OutOfMemory → IsPlaceFault fault)
     go (Ok x) m = tt
@@ -125,7 +125,7 @@ pub batch-told : {X : Type 0} (old : WrittenTrace) (batch : BatchRows) (res : Re
     ((fault : TraceFault) → batch_fault old batch ≡ Some fault → res ≡ Err fault) →
     (batch_fault old batch ≡ None → IfErr res (λ fault. (why : OutFault) × (fault ≡ Out why))) → IfErr res IsFaultOfTrace
 batch-told old batch res refused out =
-    told IsFaultOfTrace (batch_fault old batch) res refused (batch-place old batch) (λ none. out-told res (out none))
+    by-cause IsFaultOfTrace (batch_fault old batch) res refused (batch-place old batch) (λ none. out-told res (out none))
 
 -- an end that is refused
 end-place : (old : WrittenTrace) (fault : TraceFault) → end_fault old ≡ Some fault → IsFaultOfTrace fault
@@ -138,7 +138,7 @@ end-place old (Segment OutOfMemory) e = absurd (grind (arith, common_steps))
 pub end-told : {X : Type 0} (old : WrittenTrace) (res : Result X TraceFault) → ((fault : TraceFault) → end_fault old ≡ Some fault → res ≡ Err fault) →
     (end_fault old ≡ None → lacks_head old ≡ false → IsOk res) → (lacks_head old ≡ true → IfErr res (λ fault. (why : OutFault) × (fault ≡ Out why))) →
     IfErr res IsFaultOfTrace
-end-told {X} old res refused whole out = told IsFaultOfTrace (end_fault old) res refused (end-place old) (λ none. go none (lacks_head old) refl)
+end-told {X} old res refused whole out = by-cause IsFaultOfTrace (end_fault old) res refused (end-place old) (λ none. go none (lacks_head old) refl)
   where
     go : end_fault old ≡ None → (b : Bool) → lacks_head old ≡ b → IfErr res IsFaultOfTrace
     go none true lacks = out-told res (out lacks)

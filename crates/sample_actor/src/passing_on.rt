@@ -6,7 +6,7 @@ ghost use Rattle.reverse.specs.declared.sends.TheConstants.{MOST_SENT};
 
 use crate::passing::Passing;
 use reverse::Sends;
-use vlink::{Body, Message, Time};
+use vlink::{Body, Message, Time, process_number};
 
 /// How many processes messages go to.
 const RECEIVERS: u64 = 5;
@@ -27,7 +27,7 @@ pub(crate) fn pass_on(actor: &mut Passing, out: &mut Sends, ns: u64)
     }
     out.messages.push(Message {
         time,
-        receiver: (ns % RECEIVERS) as u16,
+        receiver: process_number((ns % RECEIVERS) as usize),
         sender: u32::from(actor.number),
         number: actor.counter,
         body: Body::PortFree { port: 0 },

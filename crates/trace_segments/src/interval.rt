@@ -15,7 +15,7 @@ pub fn width(until: Time) -> Time
     ensures value { result ≡ interval_width until }
     ensures few { (k : ℕ) → HasInterval until k → k < 1024 }
 {
-    Time::known(until.ns() / MOST + 1)
+    Time::of_known(until.ns() / MOST + 1)
 }
 
 /// There is an interval `k`.
@@ -31,8 +31,8 @@ pub fn cut(until: Time, k: u64) -> Time
     ensures { result ≡ cut until k }
 {
     if has_interval(until, k) {
-        Time::known(k * width(until).ns())
+        Time::of_known(k * width(until).ns())
     } else {
-        Time::known(until.ns() + 1)
+        Time::of_known(until.ns() + 1)
     }
 }

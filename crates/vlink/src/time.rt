@@ -65,7 +65,7 @@ impl Time {
 
     /// The moment at `ns` nanoseconds, where that is known to be one.
     #[inline(always)]
-    pub fn known(ns: u64) -> Self
+    pub fn of_known(ns: u64) -> Self
         requires { ns ≤ GREATEST_NS }
         ensures { result ≡ ns }
     {

@@ -19,7 +19,7 @@ use Rattle.reverse.specs.declared.sends.Sends.{Sends}
 use Rattle.reverse.proofs.outbound.Outbound.TheSendSync as outbound
 use Rattle.antimessages.proofs.tally.Tally.TheSendSync as tally
 use Rattle.gvt.proofs.floors.Floors.TheSendSync as floors
-use Rattle.hand.proofs.deeds.Deeds.TheSendSync as deeds
+use Rattle.hand.proofs.done_events.DoneEvents.TheSendSync as done_events
 use Rattle.hand.proofs.queue.Queue.TheSendSync as queue
 use Rattle.hand.proofs.undoing.Undoing.TheSendSync as undoing
 use Rattle.hand.specs.contracts.block.Words as Words
@@ -74,7 +74,7 @@ rows-send = view_send _ _ _ _ _ (declared_send RowsIn.the_type (search (row.the_
 hand-send : (R K : RattleType) (g : ActorGhosts R.Denot K.Denot) (h : ReversibleGhosts R.Denot Message Sends K.Denot)
     → IsSend R → IsSend K → IsSend (Hand.the_row R K g h)
 hand-send R K g h s t = view_send _ _ _ _ _ (declared_send (HandIn.the_type R K g h)
-    (search (option.the_send, deeds.the_send, undoing.the_send, rows-send, letters-send, outbound.the_send, sendable, crosses) depth 20))
+    (search (option.the_send, done_events.the_send, undoing.the_send, rows-send, letters-send, outbound.the_send, sendable, crosses) depth 20))
 
 -- ---- a group in hand, and what the groups share
 steps-send : IsSend Steps.the_row

@@ -11,7 +11,7 @@ ghost use Rattle.worker_pool.specs.Runs.{IsOfWorld, IsEnded, HaveGoneBy};
 use crate::counted::moment_of;
 use crate::group_work::work_ahead;
 use crate::leaving::Leaving;
-use crate::network_run::{NetworkRun, Of};
+use crate::network_run::{NetworkRun, OfGroups};
 use crate::pace::Pace;
 use crate::rounds::seat::NetworkGroup;
 use crate::run_fault::RunFault;
@@ -37,7 +37,7 @@ pub(crate) struct Unlocked<'n, J: NetworkRun> {
 /// Whether this group is number `place`, has seen a GVT later than the end, and has no step that is not in the journal: then its processes are those
 /// of the journal.
 fn is_of_world<J: NetworkRun>(
-    exchange: &GroupExchange<Node, Of<J>>,
+    exchange: &GroupExchange<Node, OfGroups<J>>,
     group: &NetworkGroup<J>,
     place: usize,
     until: Time,

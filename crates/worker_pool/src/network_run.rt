@@ -5,11 +5,11 @@ pub use run_rows::NetworkRun;
 use std::marker::PhantomData;
 
 /// The run of a network, as a run of its nodes and lines in groups.
-pub struct Of<J: NetworkRun> {
+pub struct OfGroups<J: NetworkRun> {
     of: PhantomData<J>,
 }
 
-impl<J: NetworkRun> GroupRun<Node> for Of<J> {
+impl<J: NetworkRun> GroupRun<Node> for OfGroups<J> {
     ghost use Rattle.seqsim.specs.Networks.{setting_of};
 
     ghost setting = { setting_of J.plan };

@@ -81,7 +81,7 @@ impl<J: NetworkRun> Unlocked<'_, J> {
         let Some(mut tables) = tables else {
             return Err(AllocError);
         };
-        let behind = Time::known(self.network.until().ns() + 1);
+        let behind = Time::of_known(self.network.until().ns() + 1);
         for place in 0..self.groups.len() {
             let group = &self.groups[place];
             let from = moment_of(own.as_slice(), end, place);

@@ -8,7 +8,7 @@ ghost use Rattle.group_exchange.specs.Effects.{AreWaiting};
 ghost use Rattle.worker_pool.specs.Outcomes.{LackNumbers};
 ghost use Rattle.worker_pool.specs.Runs.{most_steps};
 
-use crate::network_run::{NetworkRun, Of};
+use crate::network_run::{NetworkRun, OfGroups};
 use crate::rounds::SECTIONS_PER_GVT;
 use crate::rounds::seat::NetworkGroup;
 use crate::run_fault::RunFault;
@@ -35,7 +35,7 @@ pub(crate) fn most_steps(keeps: bool) -> u64
 /// Clauses see it as the exchange.
 #[derive(Drop)]
 pub(crate) struct Shared<J: NetworkRun> {
-    pub inner: GroupExchange<Node, Of<J>>,
+    pub inner: GroupExchange<Node, OfGroups<J>>,
     pub sections: u64,
 }
 
@@ -53,7 +53,7 @@ impl<J: NetworkRun> Model for Shared<J> {
 
 impl<J: NetworkRun> Shared<J> {
     /// The exchange.
-    pub(crate) fn as_exchange(&self) -> &GroupExchange<Node, Of<J>>
+    pub(crate) fn as_exchange(&self) -> &GroupExchange<Node, OfGroups<J>>
         ensures { result.now ≡ self.now }
     {
         &self.inner

@@ -76,7 +76,7 @@ fn play_script<J: NetworkRun, K: NetworkRun>(
     requires each_first { length J.names ≡ process_count network.now }
     requires each_second { length K.names ≡ process_count network.now }
 {
-    let mut first = stage_of::<J>(alloc, network, table.shared()?, first, limit)?;
+    let mut first = stage_of::<J>(alloc, network, table.share()?, first, limit)?;
     let mut second = stage_of::<K>(alloc, network, table, second, limit)?;
     let mut told = String::new(alloc);
     for word in script.as_str().split(' ') {

@@ -19,7 +19,7 @@ take:7:0:0 take:7:0:0 take:7:0:2 take:8:0:1 take:7:2:0 take:7:0:1 take:7:1:0 tak
 /// The words of a row tell what it says.
 pub fn is_told(alloc: Global, row: &str) -> Result<bool, Fail> {
     let (script, told) = row.split_once(" => ").ok_or("no script")?;
-    let mut gather = Gather::new(alloc, 7, 2, Time::known(9))?;
+    let mut gather = Gather::new(alloc, 7, 2, Time::of_known(9))?;
     let mut found = String::new(alloc);
     for word in script.split(' ') {
         if !found.is_empty() {
@@ -63,7 +63,7 @@ fn tell_taken(
     gather: &mut Gather,
     told: &mut String,
 ) -> Result<(), Fail> {
-    let until = Time::known(9);
+    let until = Time::of_known(9);
     let segment = segment_of(alloc, &[], word.first, word.second, word.third, until)?;
     tell_answer(gather.take(segment.ok_or("no interval")?), told)
 }

@@ -23,7 +23,7 @@ use Rattle.redundancy.specs.Redundancy.{redundancy}
 use Rattle.redundancy.specs.declared.delivery.Delivery.{Delivery}
 use Rattle.redundancy.specs.declared.delivery.Delivery.TheVariants as delivery
 use Rattle.nodes.specs.declared.change.Change.TheVariants as change
-use Rattle.nodes.specs.declared.ports.Wire.{Wire}
+use Rattle.nodes.specs.declared.ports.LineAhead.{LineAhead}
 use Rattle.nodes.specs.declared.vl_end.VlEnd.{VlEnd}
 use Rattle.nodes.specs.declared.receiving.Receiving.{Receiving}
 use Rattle.nodes.specs.declared.source.Source.{Source}
@@ -32,10 +32,10 @@ use Rattle.reverse.specs.Sending.{Wish, Reply, silent, joined, loss}
 use Rattle.nodes.specs.rules.Ports.{PortsState, changed, exists, reply}
 use Rattle.nodes.specs.rules.Finding.{Found, find}
 use Rattle.nodes.specs.rules.EndSystem.{EndSystemState, EndSystemOutcome, source_at, source_number, reception_number, ending_on, unmoved, is_on, port_of, copy, copied, copied_reply, released_out, released_reply, asked, full, regulated, offered_frame, check_of, received_reply, checked, delivered, taken_in, freed, end_system}
-use Rattle.nodes.specs.rules.Placed.{AllWires}
+use Rattle.nodes.specs.rules.Placed.{AllAhead}
 use Rattle.nodes.specs.laws.Places.{All-there, found-there}
 use Rattle.nodes.specs.laws.Replies.{IsQuiet, silent-quiet, loss-quiet, quiet-all, joined-all}
-use Rattle.nodes.specs.laws.Ports.{WireMeets, wires-stay, reply-all}
+use Rattle.nodes.specs.laws.Ports.{AheadMeets, lines_ahead-stay, reply-all}
 use Rattle.nodes.specs.laws.Regulator.{bag-stays}
 
 -- K holds of each of the four things that end system n makes of a message at moment t: nothing changes and nothing is sent; a frame goes
@@ -87,24 +87,24 @@ end_system-cases K n t s is (body.Arrive q frame) = go (exists s.ports q) (find 
 end_system-cases K n t s is (body.Enqueue q frame) = is.quiet silent silent-quiet
 end_system-cases K n t s is (body.Carry frame) = is.quiet silent silent-quiet
 
-copied-wires : (P : Wire → Type 0) (end : VlEnd) (net : Net) (frame : Frame) (ports : PortsState) → AllWires P ports → AllWires P (copied end net frame ports)
-copied-wires P end net frame ports h =
-    cond_both (is_on end net) (changed (port_of net) (copy net frame) ports) ports (λ now. AllWires P now)
-    (λ e. wires-stay P (port_of net) (copy net frame) ports h) (λ e. h)
+copied-lines_ahead : (P : LineAhead → Type 0) (end : VlEnd) (net : Net) (frame : Frame) (ports : PortsState) → AllAhead P ports → AllAhead P (copied end net frame ports)
+copied-lines_ahead P end net frame ports h =
+    cond_both (is_on end net) (changed (port_of net) (copy net frame) ports) ports (λ now. AllAhead P now)
+    (λ e. lines_ahead-stay P (port_of net) (copy net frame) ports h) (λ e. h)
 
-released-wires : (P : Wire → Type 0) (end : VlEnd) (a : RegAnswer) (ports : PortsState) → AllWires P ports → AllWires P (released_out end a ports)
-released-wires P end (answer.Released frame) ports h = copied-wires P end B frame (copied end A frame ports) (copied-wires P end A frame ports h)
-released-wires P end answer.Kept ports h = h
-released-wires P end answer.Dropped ports h = h
-released-wires P end answer.Nothing ports h = h
+released-lines_ahead : (P : LineAhead → Type 0) (end : VlEnd) (a : RegAnswer) (ports : PortsState) → AllAhead P ports → AllAhead P (released_out end a ports)
+released-lines_ahead P end (answer.Released frame) ports h = copied-lines_ahead P end B frame (copied end A frame ports) (copied-lines_ahead P end A frame ports h)
+released-lines_ahead P end answer.Kept ports h = h
+released-lines_ahead P end answer.Dropped ports h = h
+released-lines_ahead P end answer.Nothing ports h = h
 
 -- what holds of each line of a port stays, and of each BAG of a regulator
-pub end_system-wires : (P : Wire → Type 0) (n t : ℕ) (b : Body) (s : EndSystemState) → AllWires P s.ports → AllWires P (end_system n t b s).state.ports
-end_system-wires P n t b s all = end_system-cases (λ o. AllWires P o.state.ports) n t s (record {
+pub end_system-lines_ahead : (P : LineAhead → Type 0) (n t : ℕ) (b : Body) (s : EndSystemState) → AllAhead P s.ports → AllAhead P (end_system n t b s).state.ports
+end_system-lines_ahead P n t b s all = end_system-cases (λ o. AllAhead P o.state.ports) n t s (record {
   quiet = λ r q. all;
   receives = λ frame found h. all;
-  frees = λ q. wires-stay P q Free s.ports all;
-  asks = λ vl e otherwise found m h. released-wires P found.entry.end (regulator.out found.entry.regulator e).answer s.ports all;
+  frees = λ q. lines_ahead-stay P q Free s.ports all;
+  asks = λ vl e otherwise found m h. released-lines_ahead P found.entry.end (regulator.out found.entry.regulator e).answer s.ports all;
 }) b
 
 pub end_system-bags : (P : ℕ → Type 0) (n t : ℕ) (b : Body) (s : EndSystemState) →
@@ -123,15 +123,15 @@ end_system-bags P n t b s all = end_system-cases (λ o. All (λ source. P source
 
 -- both copies of a frame
 copied_reply-all : (P : Wish → Type 0) (n t : ℕ) (end : VlEnd) (net : Net) (frame : Frame) (ports : PortsState) →
-    AllWires (WireMeets P n t) ports → All P (copied_reply n t end net frame ports).wishes
+    AllAhead (AheadMeets P n t) ports → All P (copied_reply n t end net frame ports).wishes
 copied_reply-all P n t end net frame ports h =
     cond_both (is_on end net) (reply n t (port_of net) (copy net frame) ports) silent (λ r. All P r.wishes)
     (λ e. reply-all P n t (port_of net) (copy net frame) ports h) (λ e. All-nil P)
 
 released_reply-all : (P : Wish → Type 0) (n t : ℕ) (end : VlEnd) (a : RegAnswer) (ports : PortsState) →
-    AllWires (WireMeets P n t) ports → All P (released_reply n t end a ports).wishes
+    AllAhead (AheadMeets P n t) ports → All P (released_reply n t end a ports).wishes
 released_reply-all P n t end (answer.Released frame) ports h =
-    let rest = copied-wires (WireMeets P n t) end A frame ports h in
+    let rest = copied-lines_ahead (AheadMeets P n t) end A frame ports h in
     joined-all P (copied_reply n t end A frame ports) (copied_reply n t end B frame (copied end A frame ports))
     (copied_reply-all P n t end A frame ports h) (copied_reply-all P n t end B frame (copied end A frame ports) rest)
 released_reply-all P n t end answer.Kept ports h = All-nil P
@@ -151,14 +151,14 @@ asked-all P n vl None h = All-nil P
 asked-all P n vl (Some at) h = All-cons P _ [] h (All-nil P)
 
 -- what is sent has P, if what starts into the lines does, and each Release that a regulator asks for at moment t
-pub end_system-all : (P : Wish → Type 0) (n t : ℕ) (b : Body) (s : EndSystemState) → AllWires (WireMeets P n t) s.ports →
+pub end_system-all : (P : Wish → Type 0) (n t : ℕ) (b : Body) (s : EndSystemState) → AllAhead (AheadMeets P n t) s.ports →
     ((vl : VlId) (e : RegEvent) (found : Found Source) → moment_of e ≡ t → source_at s vl ≡ Some found →
     IfSome (regulator.out found.entry.regulator e).release_at (λ at. P (record { time = at; receiver = n; body = body.Release found.entry.end.vl }))) →
     All P (end_system n t b s).reply.wishes
-end_system-all P n t b s wires asks = end_system-cases (λ o. All P o.reply.wishes) n t s (record {
+end_system-all P n t b s lines_ahead asks = end_system-cases (λ o. All P o.reply.wishes) n t s (record {
   quiet = λ r q. quiet-all P r q;
   receives = λ frame found h. quiet-all P (received_reply t frame found.entry.receiving) (received-quiet t frame found.entry.receiving);
-  frees = λ q. reply-all P n t q Free s.ports wires;
+  frees = λ q. reply-all P n t q Free s.ports lines_ahead;
   asks = λ vl e otherwise found m h.
       let source = found.entry in
       let out = regulator.out source.regulator e in
@@ -166,5 +166,5 @@ end_system-all P n t b s wires asks = end_system-cases (λ o. All P o.reply.wish
       joined-all P (joined (full e out.answer) ask) (released_reply n t source.end out.answer s.ports)
       (joined-all P (full e out.answer) ask (quiet-all P (full e out.answer) (full-quiet e out.answer))
       (asked-all P n source.end.vl out.release_at (asks vl e found m h)))
-      (released_reply-all P n t source.end out.answer s.ports wires);
+      (released_reply-all P n t source.end out.answer s.ports lines_ahead);
 }) b

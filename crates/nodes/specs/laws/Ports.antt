@@ -17,12 +17,12 @@ use Rattle.output_port.specs.declared.event.PortEvent.TheVariants.{Put, Free}
 use Rattle.output_port.specs.declared.event.PortAnswer.{PortAnswer}
 use Rattle.output_port.specs.declared.event.PortAnswer.TheVariants as answer
 use Rattle.nodes.specs.declared.ports.Outlet.{Outlet}
-use Rattle.nodes.specs.declared.ports.Wire.{Wire}
+use Rattle.nodes.specs.declared.ports.LineAhead.{LineAhead}
 use Rattle.reverse.specs.Plain.{CameFrom}
 use Rattle.reverse.specs.Sending.{Wish, Reply, silent, loss}
 use Rattle.nodes.specs.rules.Ports.{PortsState, changed, changed_at, outlet_at, port_kept, port_put_kept, reply, reply_at, answered, start}
 use Rattle.nodes.specs.undoing.Ports.{restored, restored_at, IsPortValue, IsLastAtPort}
-use Rattle.nodes.specs.rules.Placed.{AllWires}
+use Rattle.nodes.specs.rules.Placed.{AllAhead}
 use Rattle.nodes.specs.laws.Places.{All-there, get-set, set-back, set-same}
 use Rattle.nodes.specs.laws.Replies.{IsQuiet, silent-quiet, loss-quiet, quiet-all}
 
@@ -91,24 +91,24 @@ put-undone q frame priority ports = go (outlet_at ports q) refl
         ∙ restored-back q (Put frame priority) ports outlet is
 
 -- what holds of each line holds of the line of port q
-pub wire-there : (P : Wire → Type 0) (ports : PortsState) (q : ℕ) (outlet : Outlet) → AllWires P ports → outlet_at ports q ≡ Some outlet → P outlet.wire
-wire-there P ports q outlet h is = All-there (λ slot. IfSome slot (λ outlet. P outlet.wire)) ports q (Some outlet) h (there ports q outlet is)
+pub ahead-there : (P : LineAhead → Type 0) (ports : PortsState) (q : ℕ) (outlet : Outlet) → AllAhead P ports → outlet_at ports q ≡ Some outlet → P outlet.ahead
+ahead-there P ports q outlet h is = All-there (λ slot. IfSome slot (λ outlet. P outlet.ahead)) ports q (Some outlet) h (there ports q outlet is)
 
 -- the lines of the ports stay, and so does what holds of each
-pub wires-stay : (P : Wire → Type 0) (q : ℕ) (e : PortEvent) (ports : PortsState) → AllWires P ports → AllWires P (changed q e ports)
-wires-stay P q e ports h = go (outlet_at ports q) refl
+pub lines_ahead-stay : (P : LineAhead → Type 0) (q : ℕ) (e : PortEvent) (ports : PortsState) → AllAhead P ports → AllAhead P (changed q e ports)
+lines_ahead-stay P q e ports h = go (outlet_at ports q) refl
   where
-    go : (o : Option Outlet) → outlet_at ports q ≡ o → AllWires P (changed_at q e ports o)
+    go : (o : Option Outlet) → outlet_at ports q ≡ o → AllAhead P (changed_at q e ports o)
     go (Some outlet) is =
-        All-set (λ slot. IfSome slot (λ outlet. P outlet.wire)) ports q (Some (record outlet { port = port.after outlet.port e })) (wire-there P ports q outlet h is) h
+        All-set (λ slot. IfSome slot (λ outlet. P outlet.ahead)) ports q (Some (record outlet { port = port.after outlet.port e })) (ahead-there P ports q outlet h is) h
     go None is = h
 
 -- K holds of what follows, if it holds where nothing is sent, and where a frame starts into the line of the port
 pub reply-cases : (K : Reply → Type 0) (n t q : ℕ) (e : PortEvent) (ports : PortsState) → ((r : Reply) → IsQuiet r → K r) →
-    ((outlet : Outlet) (frame : Frame) → outlet_at ports q ≡ Some outlet → K (start n t q outlet.wire frame)) → K (reply n t q e ports)
+    ((outlet : Outlet) (frame : Frame) → outlet_at ports q ≡ Some outlet → K (start n t q outlet.ahead frame)) → K (reply n t q e ports)
 reply-cases K n t q e ports quiet starts = go (outlet_at ports q) refl
   where
-    by_answer : (outlet : Outlet) (e : PortEvent) (a : PortAnswer) → outlet_at ports q ≡ Some outlet → K (answered n t q outlet.wire e a)
+    by_answer : (outlet : Outlet) (e : PortEvent) (a : PortAnswer) → outlet_at ports q ≡ Some outlet → K (answered n t q outlet.ahead e a)
     by_answer outlet e (answer.Started frame) h = starts outlet frame h
     by_answer outlet (Put frame priority) answer.Dropped h = quiet (loss PortFull frame) (loss-quiet PortFull frame)
     by_answer outlet Free answer.Dropped h = quiet silent silent-quiet
@@ -121,22 +121,22 @@ reply-cases K n t q e ports quiet starts = go (outlet_at ports q) refl
     go None h = quiet silent silent-quiet
 
 -- what a frame that starts asks to be sent: its last bit is carried into the line, and then the port is free
-abbrev pub carrying : ℕ → Wire → Frame → Wish
-carrying t wire frame = record { time = t + last_bit_after frame.size wire.byte_ns; receiver = wire.line; body = Carry frame }
+abbrev pub carrying : ℕ → LineAhead → Frame → Wish
+carrying t ahead frame = record { time = t + last_bit_after frame.size ahead.byte_ns; receiver = ahead.line; body = Carry frame }
 
-abbrev pub freeing : ℕ → ℕ → ℕ → Wire → Frame → Wish
-freeing n t q wire frame = record { time = t + busy_for frame.size wire.byte_ns; receiver = n; body = PortFree q }
+abbrev pub freeing : ℕ → ℕ → ℕ → LineAhead → Frame → Wish
+freeing n t q ahead frame = record { time = t + busy_for frame.size ahead.byte_ns; receiver = n; body = PortFree q }
 
 -- both have P, for each frame that starts into this line at moment t
-abbrev pub WireMeets : (Wish → Type 0) → ℕ → ℕ → Wire → Type 0
-WireMeets P n t wire = (q : ℕ) (frame : Frame) → P (carrying t wire frame) × P (freeing n t q wire frame)
+abbrev pub AheadMeets : (Wish → Type 0) → ℕ → ℕ → LineAhead → Type 0
+AheadMeets P n t ahead = (q : ℕ) (frame : Frame) → P (carrying t ahead frame) × P (freeing n t q ahead frame)
 
-pub reply-all : (P : Wish → Type 0) (n t q : ℕ) (e : PortEvent) (ports : PortsState) → AllWires (WireMeets P n t) ports →
+pub reply-all : (P : Wish → Type 0) (n t q : ℕ) (e : PortEvent) (ports : PortsState) → AllAhead (AheadMeets P n t) ports →
     All P (reply n t q e ports).wishes
 reply-all P n t q e ports h = reply-cases (λ r. All P r.wishes) n t q e ports (quiet-all P) starts
   where
-    starts : (outlet : Outlet) (frame : Frame) → outlet_at ports q ≡ Some outlet → All P (start n t q outlet.wire frame).wishes
+    starts : (outlet : Outlet) (frame : Frame) → outlet_at ports q ≡ Some outlet → All P (start n t q outlet.ahead frame).wishes
     starts outlet frame is =
-        let wire = outlet.wire in
-        let both = wire-there (WireMeets P n t) ports q outlet h is q frame in
-        All-cons P (carrying t wire frame) (freeing n t q wire frame ∷ []) both.0 (All-cons P (freeing n t q wire frame) [] both.1 (All-nil P))
+        let ahead = outlet.ahead in
+        let both = ahead-there (AheadMeets P n t) ports q outlet h is q frame in
+        All-cons P (carrying t ahead frame) (freeing n t q ahead frame ∷ []) both.0 (All-cons P (freeing n t q ahead frame) [] both.1 (All-nil P))

@@ -14,12 +14,12 @@ use Rattle.nodes.specs.declared.change.Change.TheVariants as change
 use Rattle.nodes.specs.declared.transit.Transit.{Transit}
 use Rattle.reverse.specs.Sending.{Wish, Reply, silent, loss}
 use Rattle.nodes.specs.rules.Finding.{Found}
-use Rattle.nodes.specs.declared.ports.Wire.{Wire}
+use Rattle.nodes.specs.declared.ports.LineAhead.{LineAhead}
 use Rattle.nodes.specs.rules.Ports.{exists}
 use Rattle.nodes.specs.rules.Switch.{SwitchState, SwitchOutcome, transit_at, outputs_of, entered_reply, judged, taken_in, put, at_port, switch, unmoved}
-use Rattle.nodes.specs.rules.Placed.{AllWires}
+use Rattle.nodes.specs.rules.Placed.{AllAhead}
 use Rattle.nodes.specs.laws.Replies.{IsQuiet, silent-quiet, loss-quiet, quiet-all}
-use Rattle.nodes.specs.laws.Ports.{WireMeets, wires-stay, reply-all}
+use Rattle.nodes.specs.laws.Ports.{AheadMeets, lines_ahead-stay, reply-all}
 
 -- K holds of each of the three things that switch n makes of a message at moment t: nothing changes and nothing is sent; a port is asked to
 -- do something; a frame comes to the account of its virtual link
@@ -47,15 +47,15 @@ switch-cases K n t s is (Enqueue q frame) = go (exists s.ports q) (transit_at s 
 switch-cases K n t s is (Carry frame) = is.quiet silent silent-quiet
 
 -- the delay stays, and what holds of each line of a port
-pub record StaysSwitch (P : Wire → Type 0) (s now : SwitchState) : Type 0 where
+pub record StaysSwitch (P : LineAhead → Type 0) (s now : SwitchState) : Type 0 where
   pub latency : now.latency ≡ s.latency
-  pub wires : AllWires P now.ports
+  pub lines_ahead : AllAhead P now.ports
 
-pub switch-stays : (P : Wire → Type 0) (n t : ℕ) (body : Body) (s : SwitchState) → AllWires P s.ports → StaysSwitch P s (switch n t body s).state
+pub switch-stays : (P : LineAhead → Type 0) (n t : ℕ) (body : Body) (s : SwitchState) → AllAhead P s.ports → StaysSwitch P s (switch n t body s).state
 switch-stays P n t body s h = switch-cases (λ o. StaysSwitch P s o.state) n t s (record {
-  quiet = λ r q. record { latency = refl; wires = h };
-  at_ports = λ q e. record { latency = refl; wires = wires-stay P q e s.ports h };
-  takes = λ q frame found is. record { latency = refl; wires = h };
+  quiet = λ r q. record { latency = refl; lines_ahead = h };
+  at_ports = λ q e. record { latency = refl; lines_ahead = lines_ahead-stay P q e s.ports h };
+  takes = λ q frame found is. record { latency = refl; lines_ahead = h };
 }) body
 
 -- a frame is put to output q
@@ -74,10 +74,10 @@ entered-all P n t delay q frame transit puts = go (transit.input == q) (nat_lt t
     go false c v = All-nil P
 
 -- what is sent has P, if what starts into the lines does, and each frame that is put to an output after the delay
-pub switch-all : (P : Wish → Type 0) (n t : ℕ) (body : Body) (s : SwitchState) → AllWires (WireMeets P n t) s.ports →
+pub switch-all : (P : Wish → Type 0) (n t : ℕ) (body : Body) (s : SwitchState) → AllAhead (AheadMeets P n t) s.ports →
     ((q : ℕ) (frame : Frame) → P (wish_to n (t + s.latency) frame q)) → All P (switch n t body s).reply.wishes
-switch-all P n t body s wires puts = switch-cases (λ o. All P o.reply.wishes) n t s (record {
+switch-all P n t body s lines_ahead puts = switch-cases (λ o. All P o.reply.wishes) n t s (record {
   quiet = λ r q. quiet-all P r q;
-  at_ports = λ q e. reply-all P n t q e s.ports wires;
+  at_ports = λ q e. reply-all P n t q e s.ports lines_ahead;
   takes = λ q frame found is. entered-all P n t s.latency q frame found.entry (λ q. puts q frame);
 }) body

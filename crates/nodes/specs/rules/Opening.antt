@@ -25,7 +25,7 @@ use Rattle.nodes.specs.declared.opening.meeting.Side.TheVariants.{Out, In}
 use Rattle.nodes.specs.declared.equipment.Equipment.{Equipment}
 use Rattle.nodes.specs.declared.equipment.Equipment.TheVariants as equipment
 use Rattle.nodes.specs.declared.ports.Outlet.{Outlet}
-use Rattle.nodes.specs.declared.ports.Wire.{Wire}
+use Rattle.nodes.specs.declared.ports.LineAhead.{LineAhead}
 use Rattle.nodes.specs.declared.receiving.Receiving.{Receiving}
 use Rattle.nodes.specs.declared.reception.Reception.{Reception}
 use Rattle.nodes.specs.declared.source.Source.{Source}
@@ -45,24 +45,24 @@ abbrev pub leaves_by : ℕ → ℕ → LinePlan → Bool
 leaves_by n q line = (line.from == n) && (line.from_port == q)
 
 -- the first of these lines that does; they are the processes from `process` on
-abbrev pub wire_among : ℕ → ℕ → ℕ → List LinePlan → Option Wire
-wire_among n q process [] = None
-wire_among n q process (line ∷ lines) =
+abbrev pub line_ahead_among : ℕ → ℕ → ℕ → List LinePlan → Option LineAhead
+line_ahead_among n q process [] = None
+line_ahead_among n q process (line ∷ lines) =
     if leaves_by n q line
     then Some (record { line = process; byte_ns = line.byte_ns })
-    else wire_among n q (process + 1) lines
+    else line_ahead_among n q (process + 1) lines
 
--- the wires of the ports 0, 1, .. of node n: the lines are the processes behind the nodes
-unfoldable pub wires_of : Plan → ℕ → ℕ → List (Option Wire)
-wires_of plan n count = map (λ q. wire_among n q (length plan.nodes) (lines_of plan)) (range_with_len 0 count)
+-- the lines that the ports 0, 1, .. of node n lead into: they are the processes behind the nodes
+unfoldable pub lines_ahead_of : Plan → ℕ → ℕ → List (Option LineAhead)
+lines_ahead_of plan n count = map (λ q. line_ahead_among n q (length plan.nodes) (lines_of plan)) (range_with_len 0 count)
 
--- the port that leads into a wire: so many bytes may wait there
-abbrev pub outlet_of : ℕ → Wire → Outlet
-outlet_of bytes wire = record { wire = wire; port = port.opening bytes }
+-- the port that leads into a line: so many bytes may wait there
+abbrev pub outlet_of : ℕ → LineAhead → Outlet
+outlet_of bytes ahead = record { ahead = ahead; port = port.opening bytes }
 
--- a port for each wire
+-- a port for each of these lines
 abbrev pub ports_of : Plan → ℕ → ℕ → ℕ → PortsState
-ports_of plan n count bytes = map (option_map (outlet_of bytes)) (wires_of plan n count)
+ports_of plan n count bytes = map (option_map (outlet_of bytes)) (lines_ahead_of plan n count)
 
 -- ---- end systems: port 0 leads to network A and port 1 to network B
 

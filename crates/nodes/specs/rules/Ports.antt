@@ -15,7 +15,7 @@ use Rattle.output_port.specs.declared.event.PutRecord.{PutRecord}
 use Rattle.nodes.specs.declared.change.Change.{Change}
 use Rattle.nodes.specs.declared.change.Change.TheVariants as change
 use Rattle.nodes.specs.declared.ports.Outlet.{Outlet}
-use Rattle.nodes.specs.declared.ports.Wire.{Wire}
+use Rattle.nodes.specs.declared.ports.LineAhead.{LineAhead}
 use Rattle.reverse.specs.Sending.{Reply, silent, loss}
 
 -- for each port number the port and the line that it leads into, if there is such a port
@@ -34,23 +34,23 @@ abbrev pub port_at : PortsState → ℕ → Option PortState
 port_at ports q = option_map (λ outlet. outlet.port) (outlet_at ports q)
 
 -- at moment t node n starts the frame at port q: its last bit is carried into the line, and then the port is free
-abbrev pub start : ℕ → ℕ → ℕ → Wire → Frame → Reply
-start n t q wire frame = record {
+abbrev pub start : ℕ → ℕ → ℕ → LineAhead → Frame → Reply
+start n t q ahead frame = record {
   wishes =
-      record { time = t + last_bit_after frame.size wire.byte_ns; receiver = wire.line; body = Carry frame }
-      ∷ record { time = t + busy_for frame.size wire.byte_ns; receiver = n; body = PortFree q }
+      record { time = t + last_bit_after frame.size ahead.byte_ns; receiver = ahead.line; body = Carry frame }
+      ∷ record { time = t + busy_for frame.size ahead.byte_ns; receiver = n; body = PortFree q }
       ∷ [];
   notes = [];
 }
 
 -- what follows from a port's answer: a frame that it starts goes out, and one that it drops is lost
-abbrev pub answered : ℕ → ℕ → ℕ → Wire → PortEvent → PortAnswer → Reply
-answered n t q wire e (answer.Started frame) = start n t q wire frame
-answered n t q wire (Put frame priority) answer.Dropped = loss PortFull frame
-answered n t q wire Free answer.Dropped = silent
-answered n t q wire e answer.Kept = silent
-answered n t q wire e answer.Idle = silent
-answered n t q wire e answer.Nothing = silent
+abbrev pub answered : ℕ → ℕ → ℕ → LineAhead → PortEvent → PortAnswer → Reply
+answered n t q ahead e (answer.Started frame) = start n t q ahead frame
+answered n t q ahead (Put frame priority) answer.Dropped = loss PortFull frame
+answered n t q ahead Free answer.Dropped = silent
+answered n t q ahead e answer.Kept = silent
+answered n t q ahead e answer.Idle = silent
+answered n t q ahead e answer.Nothing = silent
 
 -- port q is asked to do something: nothing changes where there is no such port
 abbrev pub changed_at : ℕ → PortEvent → PortsState → Option Outlet → PortsState
@@ -62,7 +62,7 @@ changed q e ports = changed_at q e ports (outlet_at ports q)
 
 -- what then follows
 abbrev pub reply_at : ℕ → ℕ → ℕ → PortEvent → Option Outlet → Reply
-reply_at n t q e (Some outlet) = answered n t q outlet.wire e (port.out outlet.port e)
+reply_at n t q e (Some outlet) = answered n t q outlet.ahead e (port.out outlet.port e)
 reply_at n t q e None = silent
 
 abbrev pub reply : ℕ → ℕ → ℕ → PortEvent → PortsState → Reply

@@ -2,9 +2,9 @@
 ghost use Rattle.std.specs.Prelude.{◌≡◌, ℕ, ◌+◌, ◌<◌, ◌&&◌, None, Some, is_none, if◌then◌else◌, length, slice_index_or, vec_len, IfOk};
 ghost use Rattle.std.specs.Option.{option_map};
 ghost use Rattle.network.specs.Words.{lines_of};
-ghost use Rattle.nodes.specs.rules.Opening.{leaves_by, wires_of, outlet_of, ports_of};
+ghost use Rattle.nodes.specs.rules.Opening.{leaves_by, lines_ahead_of, outlet_of, ports_of};
 
-use crate::ports::{Outlet, Ports, Wire};
+use crate::ports::{LineAhead, Outlet, Ports};
 use network::{LinePlan, Network};
 use output_port::Port;
 use std::alloc::{AllocError, Global};
@@ -21,46 +21,50 @@ fn process_of(network: &Network, line: usize) -> u16
     process_number(network.node_count() + line)
 }
 
-/// Notes the wire of a line at its port, where the line leaves this node and the port has none yet.
-fn note_line(wires: &mut Vec<Option<Wire>>, node: u16, line: LinePlan, wire: Wire)
-    ensures stored { (q : ℕ) → q < vec_len wires.old →
-        slice_index_or wires.new.items q None ≡ (if leaves_by node q line && is_none (slice_index_or wires.old.items q None) then Some wire else slice_index_or wires.old.items q None) }
-    ensures len { vec_len wires.new ≡ vec_len wires.old }
+/// Notes a line at the port that leads into it, where the line leaves this node and the port has none yet.
+fn note_line(lines_ahead: &mut Vec<Option<LineAhead>>, node: u16, line: LinePlan, ahead: LineAhead)
+    ensures stored { (q : ℕ) → q < vec_len lines_ahead.old →
+        slice_index_or lines_ahead.new.items q None ≡ (if leaves_by node q line && is_none (slice_index_or lines_ahead.old.items q None) then Some ahead else slice_index_or lines_ahead.old.items q None) }
+    ensures len { vec_len lines_ahead.new ≡ vec_len lines_ahead.old }
 {
     let port = usize::from(line.from_port);
-    if line.from == node && port < wires.len() && wires[port].is_none() {
-        wires[port] = Some(wire);
+    if line.from == node && port < lines_ahead.len() && lines_ahead[port].is_none() {
+        lines_ahead[port] = Some(ahead);
     }
 }
 
-/// The wires of the first `count` ports of a node. It looks at each line once.
-fn wires_of(
+/// The lines that the first `count` ports of a node lead into. It looks at each line once.
+fn lines_ahead_of(
     alloc: Global,
     network: &Network,
     node: u16,
     count: usize,
-) -> Result<Vec<Option<Wire>>, AllocError>
-    ensures { IfOk result (λ wires. wires.items ≡ wires_of network.now node count) }
+) -> Result<Vec<Option<LineAhead>>, AllocError>
+    ensures { IfOk result (λ lines_ahead. lines_ahead.items ≡ lines_ahead_of network.now node count) }
 {
-    let mut wires = vec![in alloc; None; count]?;
+    let mut lines_ahead = vec![in alloc; None; count]?;
     for k in 0..network.line_count() {
         let line = network.line(k);
-        let wire = Wire {
+        let ahead = LineAhead {
             line: process_of(network, k),
             byte_ns: line.byte_ns,
         };
-        note_line(&mut wires, node, line, wire);
+        note_line(&mut lines_ahead, node, line, ahead);
     }
-    Ok(wires)
+    Ok(lines_ahead)
 }
 
-/// The port that leads into a wire: so many bytes may wait there.
-fn outlet_of(alloc: Global, wire: Option<Wire>, bytes: u32) -> Result<Option<Outlet>, AllocError>
-    ensures { IfOk result (λ outlet. outlet ≡ option_map (outlet_of bytes) wire) }
+/// The port that leads into a line: so many bytes may wait there.
+fn outlet_of(
+    alloc: Global,
+    ahead: Option<LineAhead>,
+    bytes: u32,
+) -> Result<Option<Outlet>, AllocError>
+    ensures { IfOk result (λ outlet. outlet ≡ option_map (outlet_of bytes) ahead) }
 {
-    let Some(wire) = wire else { return Ok(None) };
+    let Some(ahead) = ahead else { return Ok(None) };
     let port = Port::new(alloc, bytes)?;
-    Ok(Some(Outlet { wire, port }))
+    Ok(Some(Outlet { ahead, port }))
 }
 
 /// The first `count` ports of a node, at each of which so many bytes may wait.
@@ -73,10 +77,10 @@ pub fn ports_of(
 ) -> Result<Ports, AllocError>
     ensures { IfOk result (λ ports. ports ≡ ports_of network.now node count bytes) }
 {
-    let wires = wires_of(alloc, network, node, count)?;
+    let lines_ahead = lines_ahead_of(alloc, network, node, count)?;
     let mut outlets = Vec::new(alloc);
-    for wire in &wires {
-        outlets.push(outlet_of(alloc, *wire, bytes)?)?;
+    for ahead in &lines_ahead {
+        outlets.push(outlet_of(alloc, *ahead, bytes)?)?;
     }
     Ok(Ports::new(outlets))
 }

@@ -12,7 +12,7 @@ use vlink::{Body, Message, Time};
 
 // Tells how many rows the run of an actor with this counter gives, or why it is given up. It ends at 4 ns, so that nothing is sent.
 pub(crate) fn tell(alloc: Global, told: &mut String, counter: u64) -> Result<(), ProcFault> {
-    let mut actor = Summing::new(Time::known(4));
+    let mut actor = Summing::new(Time::of_known(4));
     actor.counter = counter;
     match rows(alloc, actor) {
         Ok(rows) => Ok(write!(told, "{rows} ")?),

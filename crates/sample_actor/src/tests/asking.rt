@@ -26,7 +26,7 @@ pub(crate) fn look_at(
         process.next(),
         process.floor(),
         process.committed(),
-        process.committable(Time::known(GREATEST_NS), usize::MAX),
+        process.committable(Time::of_known(GREATEST_NS), usize::MAX),
     )
 }
 

@@ -48,7 +48,7 @@ fn open_stage(alloc: Global, count: u64) -> Result<Stage, HandFault> {
     let mut members = Vec::new(alloc);
     for process in 0..PROCESSES {
         let member = if u64::from(process) < count {
-            Some(Passing::new(process, Time::known(LATEST_NS)))
+            Some(Passing::new(process, Time::of_known(LATEST_NS)))
         } else {
             None
         };
@@ -165,7 +165,7 @@ fn tell_before(stage: &mut Stage, limit: Time) -> Result<(), HandFault> {
 }
 
 fn tell_floor(stage: &mut Stage) -> Result<(), HandFault> {
-    let floor = stage.hand.floor(Time::known(LATEST_NS + 1)).ns();
+    let floor = stage.hand.floor(Time::of_known(LATEST_NS + 1)).ns();
     Ok(write!(stage.told, "{floor} ")?)
 }
 

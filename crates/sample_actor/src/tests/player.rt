@@ -42,7 +42,7 @@ fn open_stage(alloc: Global) -> Result<Stage, ProcFault> {
     Ok(Stage {
         process: Process::new(alloc, actor(0))?,
         mail: Mail::new(alloc, 3)?,
-        floors: Floors::new(alloc, 3, Time::known(LATEST_NS))?,
+        floors: Floors::new(alloc, 3, Time::of_known(LATEST_NS))?,
         told,
     })
 }
@@ -126,7 +126,7 @@ fn tell_number(told: &mut String, answer: Option<u64>) -> Result<(), ProcFault> 
 
 // The test actor with this counter.
 pub(crate) fn actor(counter: u64) -> Summing {
-    let mut actor = Summing::new(Time::known(LATEST_NS));
+    let mut actor = Summing::new(Time::of_known(LATEST_NS));
     actor.counter = counter;
     actor
 }

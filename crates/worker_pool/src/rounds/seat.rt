@@ -1,10 +1,10 @@
 //! A group, and how far it has come.
-use crate::network_run::{NetworkRun, Of};
+use crate::network_run::{NetworkRun, OfGroups};
 use group_exchange::Group;
 use nodes::Node;
 
 /// A group of the run.
-pub(crate) type NetworkGroup<J> = Group<Node, Of<J>>;
+pub(crate) type NetworkGroup<J> = Group<Node, OfGroups<J>>;
 
 /// A group, and how far it has come.
 #[derive(Drop)]

@@ -8,7 +8,7 @@ use super::{
     PIECE, TRIES,
 };
 use crate::group_work::work_ahead;
-use crate::network_run::{NetworkRun, Of};
+use crate::network_run::{NetworkRun, OfGroups};
 use crate::run_fault::RunFault;
 use crate::shared::Shared;
 use exchange::Gate;
@@ -349,7 +349,7 @@ impl<'s, 'n, J: NetworkRun, G: Gate, T: Wait> Worker<'s, 'n, J, G, T> {
 /// Lowers for each group the moment, in ns, to the least of the letters that this group has for it.
 fn list_letters<J: NetworkRun>(
     letters_ns: &mut [u64],
-    exchange: &GroupExchange<Node, Of<J>>,
+    exchange: &GroupExchange<Node, OfGroups<J>>,
     group: &NetworkGroup<J>,
 ) {
     for letter in group.abroad() {

@@ -4,7 +4,7 @@ use Rattle.hand.proofs.committing.tell_committed.Given as goal
 
 abbrev pub invariant-loop-place : goal.invariant-loop-place
 invariant-loop-place g l = record {
-  words : l.block.words ≡ l.initial.block.words ++ words_of (take l.place l.done.deeds);
+  words : l.block.words ≡ l.initial.block.words ++ words_of (take l.place l.done.events);
   keeps : l.block.keeps ≡ l.initial.block.keeps;
   room : l.count ≤ l.block.room + l.place;
 }

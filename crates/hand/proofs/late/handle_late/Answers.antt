@@ -5,7 +5,7 @@ use Rattle.vlink.specs.Order.{message_order}
 use Rattle.virtual_time.specs.Law.{rows_of, plus_of}
 use Rattle.reverse.specs.Rules.{rules_of}
 use Rattle.hand.specs.Arriving.{WentOn}
-use Rattle.hand.specs.Deeds.{Deed, deed_of, messages_of}
+use Rattle.hand.specs.DoneEvents.{DoneEvent, done_event_of, messages_of}
 use Rattle.hand.specs.Hands.{DoesSent}
 use Rattle.hand.specs.Passing.{held}
 use Rattle.hand.specs.Undoing.{CameTo, HasRoomFor}
@@ -21,15 +21,15 @@ pub returns-then-not-is_before-clause-did : goal.returns-then-not-is_before-clau
 returns-then-not-is_before-clause-did g c = λ rows.
     let r = rules_of g.R.Reversible.plain in
     let V = g.R.Reversible.is_value in
-    let e = set-back message_order c.args.message.now c.args.done.now.deeds c.set_aside.new.done.deeds c.set_aside.new.aside.deeds c.bring_back.new.done.deeds c.set_aside.ensures.aside c.bring_back.ensures.done in
-    subst (λ ds. DoesSent r V (held c.args.members.now c.args.done.now.deeds rows c.args.letters.now) [] (held c.args.members.now ds rows c.args.letters.now) []) (sym e)
-    (does-nothing r V (held c.args.members.now c.args.done.now.deeds rows c.args.letters.now) [])
+    let e = set-back message_order c.args.message.now c.args.done.now.events c.set_aside.new.done.events c.set_aside.new.aside.events c.bring_back.new.done.events c.set_aside.ensures.aside c.bring_back.ensures.done in
+    subst (λ ds. DoesSent r V (held c.args.members.now c.args.done.now.events rows c.args.letters.now) [] (held c.args.members.now ds rows c.args.letters.now) []) (sym e)
+    (does-nothing r V (held c.args.members.now c.args.done.now.events rows c.args.letters.now) [])
 
 pub returns-then-not-is_before-clause-came : goal.returns-then-not-is_before-clause-came
 returns-then-not-is_before-clause-came g c =
     let r = rules_of g.R.Reversible.plain in
     let V = g.R.Reversible.is_value in
-    let e = set-back message_order c.args.message.now c.args.done.now.deeds c.set_aside.new.done.deeds c.set_aside.new.aside.deeds c.bring_back.new.done.deeds c.set_aside.ensures.aside c.bring_back.ensures.done in
+    let e = set-back message_order c.args.message.now c.args.done.now.events c.set_aside.new.done.events c.set_aside.new.aside.events c.bring_back.new.done.events c.set_aside.ensures.aside c.bring_back.ensures.done in
     subst (λ ds. (p : ℕ) → CameTo r V c.args.members.now ds p) (sym e) c.requires.came
 
 pub bring_back-requires : goal.bring_back-requires
@@ -39,7 +39,7 @@ pub act-kept-requires-clause-within : goal.act-kept-requires-clause-within
 act-kept-requires-clause-within g c = slice_get_within c.args.members.now c.args.message.now.receiver (Some c.requires.able.0) c.requires.able.1
 
 -- the event, as it is kept
-event : (g : Over) (c : After-notes g) → Deed g.row.R-Record.Denot
+event : (g : Over) (c : After-notes g) → DoneEvent g.row.R-Record.Denot
 event g c = record {
   message = c.args.message.now;
   kept = c.act-kept.result;
@@ -47,7 +47,7 @@ event g c = record {
   rows = rows_of message_order c.args.message.now c.notes.result.now;
 }
 
-roomy : (g : Over) (c : After-notes g) → HasRoomFor (event g c ∷ c.set_aside.new.aside.deeds) c.set_aside.new.done
+roomy : (g : Over) (c : After-notes g) → HasRoomFor (event g c ∷ c.set_aside.new.aside.events) c.set_aside.new.done
 unfolding event
 roomy g c =
     let k : length (rows_of message_order c.args.message.now c.notes.result.now) ≡ length c.notes.result.now =
@@ -74,19 +74,19 @@ push_reserved-requires-clause-rows g c =
 
 pub bring_back-requires-2 : goal.bring_back-requires-2
 unfolding event
-bring_back-requires-2 g c = c.push_reserved.ensures.left c.set_aside.new.aside.deeds (roomy g (goal.at.bring_back-requires-2 g c).After-notes)
+bring_back-requires-2 g c = c.push_reserved.ensures.left c.set_aside.new.aside.events (roomy g (goal.at.bring_back-requires-2 g c).After-notes)
 
 -- what is done afterwards
 now-done : (g : Over) (c : After-bring_back-2 g) →
-    c.bring_back-2.new.done.deeds ≡ (c.set_aside.new.done.deeds ++ deed_of (rules_of g.R.Reversible.plain) c.requires.able.0 c.args.message.now ∷ []) ++ reverse c.set_aside.new.aside.deeds
+    c.bring_back-2.new.done.events ≡ (c.set_aside.new.done.events ++ done_event_of (rules_of g.R.Reversible.plain) c.requires.able.0 c.args.message.now ∷ []) ++ reverse c.set_aside.new.aside.events
 now-done g c =
     let m = c.args.message.now in
     let s = c.requires.able.0 in
     let at = c.requires.able.1 in
     let sends = c.messages.ensures.messages ∙ c.act-kept.ensures.messages s at in
     let notes = c.notes.ensures.notes ∙ c.act-kept.ensures.notes s at in
-    c.bring_back-2.ensures.done ∙ ap (λ z. z ++ reverse c.set_aside.new.aside.deeds) (c.push_reserved.ensures.deeds ∙
-    (λ j. c.set_aside.new.done.deeds ++ record { message = m; kept = c.act-kept.ensures.saved s at j; sent = sends j; rows = rows_of message_order m (notes j) } ∷ []))
+    c.bring_back-2.ensures.done ∙ ap (λ z. z ++ reverse c.set_aside.new.aside.events) (c.push_reserved.ensures.events ∙
+    (λ j. c.set_aside.new.done.events ++ record { message = m; kept = c.act-kept.ensures.saved s at j; sent = sends j; rows = rows_of message_order m (notes j) } ∷ []))
 
 pub returns-clause-came : goal.returns-clause-came
 returns-clause-came g c =
@@ -95,8 +95,8 @@ returns-clause-came g c =
     let m = c.args.message.now in
     let s = c.requires.able.0 in
     let at = c.requires.able.1 in
-    subst (λ ms. (p : ℕ) → CameTo (rules_of plain) V ms c.bring_back-2.new.done.deeds p) (sym (c.act-kept.ensures.members s at))
-    (late-came plain V c.actor_rules_law.ensures.order c.actor_rules_law.ensures.undoes c.args.members.now c.args.done.now.deeds c.set_aside.new.done.deeds c.set_aside.new.aside.deeds c.bring_back-2.new.done.deeds (record { all = []; left = 0 })
+    subst (λ ms. (p : ℕ) → CameTo (rules_of plain) V ms c.bring_back-2.new.done.events p) (sym (c.act-kept.ensures.members s at))
+    (late-came plain V c.actor_rules_law.ensures.order c.actor_rules_law.ensures.undoes c.args.members.now c.args.done.now.events c.set_aside.new.done.events c.set_aside.new.aside.events c.bring_back-2.new.done.events (record { all = []; left = 0 })
     c.args.letters.now c.take_first.new.self c.tell.new.self c.send_later.new.letters m s at (c.act-kept.ensures.valid s at) c.set_aside.ensures.aside (search rules)
     (now-done g (goal.at.returns-clause-came g c).After-bring_back-2) c.requires.came)
 
@@ -113,19 +113,19 @@ returns-clause-did g c = λ rows.
     let again = c.messages-2.ensures.messages ∙ c.act-kept.ensures.messages s at in
     let went = subst (λ xs. WentOn (set c.args.members.now m.receiver (Some (plain.after s m))) (map plus_of xs) c.tell.new.self c.send_later.new.letters) again
     (subst (λ ms. WentOn ms (map plus_of c.messages-2.result.now) c.tell.new.self c.send_later.new.letters) members c.send_later.ensures.went) in
-    subst (λ ms. DoesSent r V (held c.args.members.now c.args.done.now.deeds rows c.args.letters.now) [] (held ms c.bring_back-2.new.done.deeds rows c.send_later.new.letters) []) (sym members)
-    (late-handles plain V O c.actor_rules_law.ensures.undoes c.args.members.now c.args.done.now.deeds c.set_aside.new.done.deeds c.set_aside.new.aside.deeds c.bring_back-2.new.done.deeds rows
+    subst (λ ms. DoesSent r V (held c.args.members.now c.args.done.now.events rows c.args.letters.now) [] (held ms c.bring_back-2.new.done.events rows c.send_later.new.letters) []) (sym members)
+    (late-handles plain V O c.actor_rules_law.ensures.undoes c.args.members.now c.args.done.now.events c.set_aside.new.done.events c.set_aside.new.aside.events c.bring_back-2.new.done.events rows
     c.args.letters.now c.take_first.new.self c.tell.new.self c.send_later.new.letters m s at (c.act-kept.ensures.valid s at) c.set_aside.ensures.aside (search rules)
-    (now-done g (goal.at.returns-clause-did g c).After-bring_back-2) c.requires.first (λ up. none-among O (messages_of c.args.done.now.deeds) m (c.requires.not_done up))
+    (now-done g (goal.at.returns-clause-did g c).After-bring_back-2) c.requires.first (λ up. none-among O (messages_of c.args.done.now.events) m (c.requires.not_done up))
     c.take_first.ensures.taken c.take_first.ensures.others c.tell.ensures.told went c.send_later.ensures.queue c.send_later.ensures.extra)
 
 pub returns-then-not-is_before-clause-handled : goal.returns-then-not-is_before-clause-handled
 returns-then-not-is_before-clause-handled g c =
-    inr (has-later c.actor_rules_law.ensures.order c.args.message.now c.args.done.now.deeds c.set_aside.new.done.deeds c.set_aside.new.aside.deeds c.set_aside.ensures.aside
+    inr (has-later c.actor_rules_law.ensures.order c.args.message.now c.args.done.now.events c.set_aside.new.done.events c.set_aside.new.aside.events c.set_aside.ensures.aside
     c.set_aside.ensures.stops (search rules))
 
 pub returns-clause-handled : goal.returns-clause-handled
 returns-clause-handled g c =
-    inl (one-more c.actor_rules_law.ensures.order c.args.message.now c.args.done.now.deeds c.set_aside.new.done.deeds c.set_aside.new.aside.deeds c.set_aside.ensures.aside
-    c.bring_back-2.new.done.deeds (deed_of (rules_of g.R.Reversible.plain) c.requires.able.0 c.args.message.now)
+    inl (one-more c.actor_rules_law.ensures.order c.args.message.now c.args.done.now.events c.set_aside.new.done.events c.set_aside.new.aside.events c.set_aside.ensures.aside
+    c.bring_back-2.new.done.events (done_event_of (rules_of g.R.Reversible.plain) c.requires.able.0 c.args.message.now)
     (now-done g (goal.at.returns-clause-handled g c).After-bring_back-2))

@@ -4,21 +4,21 @@ use Rattle.vlink.specs.declared.message.Message.{Message}
 use Rattle.vlink.specs.Order.{message_order}
 use Rattle.antimessages.specs.Counting.{is_after}
 use Rattle.process_queues.specs.Past.{newest_of}
-use Rattle.hand.specs.Deeds.{Deed, messages_of}
+use Rattle.hand.specs.DoneEvents.{DoneEvent, messages_of}
 use Rattle.hand.specs.Handling.{SetAside}
 use Rattle.hand.specs.Undoing.{HasRoomFor}
-use Rattle.hand.proofs.LateDeeds.{messages-append}
+use Rattle.hand.proofs.LateDone.{messages-append}
 use Rattle.hand.proofs.LateEvent.{aside-more}
-use Rattle.hand.proofs.NewestDeed.{newest-last}
+use Rattle.hand.proofs.NewestDone.{newest-last}
 use Rattle.hand.proofs.Rooms.{room-behind}
 use Rattle.hand.proofs.late.set_newest_aside.Goals.{then-is_before-via-then-is_before, then-is_before-via-else-is_before+then-newest_is_for}
 use Rattle.hand.proofs.late.set_newest_aside.Goals as goal
 
-some-newest : {K : Type 0} (ds : List (Deed K)) (m : Message) → is_after message_order (newest_of (messages_of ds)) m ≡ false → 0 < length ds
+some-newest : {K : Type 0} (ds : List (DoneEvent K)) (m : Message) → is_after message_order (newest_of (messages_of ds)) m ≡ false → 0 < length ds
 some-newest [] m e = absurd (both_ways true e refl)
 some-newest (d ∷ ds) m e = omega arith
 
-late-newest : {K : Type 0} (ds front : List (Deed K)) (d : Deed K) (m : Message) → ds ≡ front ++ d ∷ [] → is_after message_order (newest_of (messages_of ds)) m ≡ false →
+late-newest : {K : Type 0} (ds front : List (DoneEvent K)) (d : DoneEvent K) (m : Message) → ds ≡ front ++ d ∷ [] → is_after message_order (newest_of (messages_of ds)) m ≡ false →
     message_order.less d.message m ≡ false
 late-newest ds front d m e h =
     sym (ap (λ z. is_after message_order z m) (ap (λ z. newest_of (messages_of z)) e ∙ (ap newest_of (messages-append front (d ∷ [])) ∙ newest-last (messages_of front) d.message))) ∙ h
@@ -29,17 +29,17 @@ returns-clause-aside g c = λ all a.
     let d = c.move_newest.ensures.moved.0 in
     let was = c.move_newest.ensures.moved.1 in
     let now = c.move_newest.ensures.moved.2 in
-    let left = c.move_newest.new.self.deeds in
+    let left = c.move_newest.new.self.events in
     subst (λ z. SetAside message_order m all left z) (sym now)
-    (aside-more message_order m all left c.args.aside.now.deeds d
-    (late-newest c.args.done.now.deeds left d m was (search rules)) (search rules)
-    (subst (λ z. SetAside message_order m all z c.args.aside.now.deeds) was a))
+    (aside-more message_order m all left c.args.aside.now.events d
+    (late-newest c.args.done.now.events left d m was (search rules)) (search rules)
+    (subst (λ z. SetAside message_order m all z c.args.aside.now.events) was a))
 
 pub returns-clause-again : goal.returns-clause-again
 returns-clause-again g c = λ more h.
     let d = c.move_newest.ensures.moved.0 in
     let now = c.move_newest.ensures.moved.2 in
-    let aside = c.args.aside.now.deeds in
+    let aside = c.args.aside.now.events in
     subst (λ z. HasRoomFor (more ++ z) c.move_newest.new.self) (sym now) (room-behind more aside d c.move_newest.new.self (c.move_newest.ensures.moved.3 (more ++ aside) h))
 
 pub returns-then-is_before-clause-stops : goal.returns-then-is_before-clause-stops

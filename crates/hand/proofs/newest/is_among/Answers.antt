@@ -1,6 +1,6 @@
 use Rattle.std.proofs.Common.{◌≢◌, ◌<◌, ◌≤◌, All, length, map, subst, arith, refl}
 use Rattle.std.proofs.lemmas.List.{take_all, length-map}
-use Rattle.hand.proofs.NewestDeed.{none-more}
+use Rattle.hand.proofs.NewestDone.{none-more}
 use Rattle.hand.proofs.newest.is_among.Goals as goal
 
 pub loop-place-preserved : goal.loop-place-preserved

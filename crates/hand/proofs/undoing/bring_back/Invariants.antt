@@ -4,9 +4,9 @@ use Rattle.hand.proofs.undoing.bring_back.Given as goal
 
 abbrev pub invariant-events : goal.invariant-events
 invariant-events g l = record {
-  done : l.done.deeds ++ reverse l.aside.deeds ≡ l.initial.done.deeds ++ reverse l.initial.aside.deeds;
-  room : HasRoomFor l.aside.deeds l.done;
+  done : l.done.events ++ reverse l.aside.events ≡ l.initial.done.events ++ reverse l.initial.aside.events;
+  room : HasRoomFor l.aside.events l.done;
 }
 
 abbrev pub decreases-events : goal.decreases-events
-decreases-events g l = length l.aside.deeds
+decreases-events g l = length l.aside.events

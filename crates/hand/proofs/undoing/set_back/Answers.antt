@@ -5,19 +5,19 @@ use Rattle.hand.proofs.undoing.set_back.Goals as goal
 
 pub events-init : goal.events-init
 events-init g c = record {
-  rolls = rolls-none (rules_of g.R.Reversible.plain) g.R.Reversible.is_value c.args.message.now _ c.args.undoing.now.aside.deeds c.args.undoing.now.back.items c.requires.empty c.requires.none_back;
+  rolls = rolls-none (rules_of g.R.Reversible.plain) g.R.Reversible.is_value c.args.message.now _ c.args.undoing.now.aside.events c.args.undoing.now.back.items c.requires.empty c.requires.none_back;
   came = c.requires.came;
   others = refl;
   room = omega arith;
   enough = c.requires.room;
   space = c.requires.space;
   sends = c.requires.sends;
-  again = room-none c.args.undoing.now.aside.deeds c.args.done.now c.requires.empty;
+  again = room-none c.args.undoing.now.aside.events c.args.done.now c.requires.empty;
 }
 
 pub step_back-requires-clause-room : goal.step_back-requires-clause-room
 step_back-requires-clause-room g c =
-    let n = some-late c.args.message.now c.events.done.deeds (sym c.is_before.ensures ∙ c.events-test.true) in
+    let n = some-late c.args.message.now c.events.done.events (sym c.is_before.ensures ∙ c.events-test.true) in
     let i = c.events.invariant.room in
     let j = c.events.invariant.enough in
     omega arith

@@ -6,13 +6,13 @@ use Rattle.trace_segments.proofs.interval.cut.Goals as goal
 
 pub returns-then-has_interval : goal.returns-then-has_interval
 returns-then-has_interval c =
-    c.known.ensures
+    c.of_known.ensures
     ∙ ap (λ (w : ℕ). c.args.k * w) (c.ns.ensures.value ∙ c.width.ensures.value)
     ∙ sym (cut-inside c.args.until c.args.k (c.if-has_interval.ensures.0 refl))
 
 pub returns-else-has_interval : goal.returns-else-has_interval
 returns-else-has_interval c =
-    c.known-else-has_interval.ensures
+    c.of_known-else-has_interval.ensures
     ∙ ap (λ (n : ℕ). n + 1) c.ns-else-has_interval.ensures.value
     ∙ sym (cut-behind until k (behind (cases_lt until (k * interval_width until))))
   where

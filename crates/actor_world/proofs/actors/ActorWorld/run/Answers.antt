@@ -1,4 +1,4 @@
-use Rattle.std.proofs.Common.{◌≡◌, map, slice_get, Some, Ok, Err, sym, ap, ◌∙◌, is_some}
+use Rattle.std.proofs.Common.{◌≡◌, map, slice_get, Some, Err, sym, ap, ◌∙◌, is_some}
 use Rattle.std.proofs.lemmas.Result.{err_from_is_err_and}
 use Rattle.virtual_time.specs.declared.moved.Move.TheVariants.{Ran}
 use Rattle.process_queues.specs.Queues.{InHand}
@@ -30,10 +30,10 @@ pub returns-in_default : goal.returns-in_default
 returns-in_default g c =
     let none = c.in_default.is in
     let unchanged = queues-same c.self.inside.processes.items c.from.result c.index_mut.result.now c.run_with.new.self c.index_mut.ensures.value
-    (c.run_with.ensures.idle (c.in_ok-_message.was ∙ ap (λ z. Ok z) none)) in
+    (c.in_ok-_message.ensures.ran.idle none) in
     rw (sym c.self.view_is)
     (moved-none _ _ _ _ _ _ _ _ (here g (goal.at.returns-in_default g c).After-index_mut) Ran
-    (λ x part h. ap is_some (sym (c.in_ok-_message.ensures.handled (x.opening c.args.process) part h) ∙ none)) _ unchanged)
+    (λ x part h. ap is_some (sym (c.in_ok-_message.ensures.ran.handled (x.opening c.args.process) part h) ∙ none)) _ unchanged)
 
 pub returns : goal.returns
 returns g c =
@@ -41,5 +41,5 @@ returns g c =
     let at = here g (goal.at.returns g c).After-index_mut in
     rw (sym c.self.view_is)
     (moved-did _ _ _ _ _ _ _ _ at Ran (has-numbers _ _ _ _ _ _ _ _ at R (λ n. let d = c.in_ok-_message.ensures.exhausted.1 n in cc))
-    (λ x part h. ap is_some (sym (c.in_ok-_message.ensures.handled (x.opening c.args.process) part h) ∙ c.in-Some.is))
-    _ c.in_ok-_message.ensures.ran c.run_with.ensures.left _ (queues-set c.self.inside.processes.items c.args.process c.from.result c.run_with.new.self c.from.ensures))
+    (λ x part h. ap is_some (sym (c.in_ok-_message.ensures.ran.handled (x.opening c.args.process) part h) ∙ c.in-Some.is))
+    _ c.in_ok-_message.ensures.ran.ran c.in_ok-_message.ensures.ran.left _ (queues-set c.self.inside.processes.items c.args.process c.from.result c.run_with.new.self c.from.ensures))

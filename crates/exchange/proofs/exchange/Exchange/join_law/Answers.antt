@@ -10,21 +10,21 @@ use Rattle.exchange.proofs.exchange.Exchange.join_law.Goals.{After-agree_law}
 use Rattle.exchange.proofs.exchange.Exchange.join_law.Goals as goal
 
 -- the standing in hand is the one that the exchange has of it
-told : (g : Over) (c : After-agree_law g) → c.held.inside.standing ≡ standing_of (map (λ (b : LeftHalf Standing). b.value) c.self.inside.marks.items) c.held.inside.number
-told g c =
+same-standing : (g : Over) (c : After-agree_law g) → c.held.inside.standing ≡ standing_of (map (λ (b : LeftHalf Standing). b.value) c.self.inside.marks.items) c.held.inside.number
+same-standing g c =
     let marks = c.self.inside.marks.items in
     let within : c.held.inside.number < length marks =
     omega (arith, length-map marks (λ (b : LeftHalf Standing). b.value), c.self.invariant.2.marked.count, c.held.invariant.0.number_is) in
     sym (c.agree_law.ensures ∙ c.held.invariant.1.value) ∙ half-told marks c.from.result c.held.inside.number c.from.ensures _ within c.index-half.ensures
 
 pub returns-clause-same : goal.returns-clause-same
-returns-clause-same g c = rw (sym c.self.view_is, sym c.held.view_is) (marks-agree c.self.invariant.2 c.held.invariant.0 (told g (goal.at.returns-clause-same g c).After-agree_law))
+returns-clause-same g c = rw (sym c.self.view_is, sym c.held.view_is) (marks-agree c.self.invariant.2 c.held.invariant.0 (same-standing g (goal.at.returns-clause-same g c).After-agree_law))
 
 pub returns-clause-part : goal.returns-clause-part
-returns-clause-part g c = rw (sym c.self.view_is, sym c.held.view_is) (all-joined c.self.invariant.2 c.held.invariant.0 (told g (goal.at.returns-clause-part g c).After-agree_law)).part
+returns-clause-part g c = rw (sym c.self.view_is, sym c.held.view_is) (all-joined c.self.invariant.2 c.held.invariant.0 (same-standing g (goal.at.returns-clause-part g c).After-agree_law)).part
 
 pub returns-clause-enabled : goal.returns-clause-enabled
-returns-clause-enabled g c = rw (sym c.self.view_is, sym c.held.view_is) (all-joined c.self.invariant.2 c.held.invariant.0 (told g (goal.at.returns-clause-enabled g c).After-agree_law)).enabled
+returns-clause-enabled g c = rw (sym c.self.view_is, sym c.held.view_is) (all-joined c.self.invariant.2 c.held.invariant.0 (same-standing g (goal.at.returns-clause-enabled g c).After-agree_law)).enabled
 
 pub returns-clause-own : goal.returns-clause-own
-returns-clause-own g c = rw (sym c.self.view_is, sym c.held.view_is) (all-joined c.self.invariant.2 c.held.invariant.0 (told g (goal.at.returns-clause-own g c).After-agree_law)).own
+returns-clause-own g c = rw (sym c.self.view_is, sym c.held.view_is) (all-joined c.self.invariant.2 c.held.invariant.0 (same-standing g (goal.at.returns-clause-own g c).After-agree_law)).own

@@ -11,7 +11,7 @@ pub invariant_of-self-in-Ok : goal.invariant_of-self-in-Ok
 invariant_of-self-in-Ok g c =
     let h = c.self.invariant.0 in (
       holds-moved h (c.actor_law.ensures g.J.ActorRun.setting h.laid) Ran (ap is_some (sym (c.in-Some.ensures.stands _ _ h.stands))) c.run_with.new.self.queues
-          (c.in-Ok.ensures.ran _ _ h.stands) c.run_with.ensures.left c.push.new.self c.in_ok-push.ensures.pushed,
+          (c.in-Ok.ensures.ran.ran _ _ h.stands) c.in-Ok.ensures.ran.left c.push.new.self c.in_ok-push.ensures.pushed,
       c.self.invariant.1,
     )
 

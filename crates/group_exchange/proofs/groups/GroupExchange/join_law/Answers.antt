@@ -8,8 +8,8 @@ use Rattle.group_exchange.proofs.groups.GroupExchange.join_law.Goals.{After-agre
 use Rattle.group_exchange.proofs.groups.GroupExchange.join_law.Goals as goal
 
 -- the standing in hand is the one that the exchange has of it
-told : (g : Over) (c : After-agree_law g) → slice_get (map (λ (b : LeftHalf Standing). b.value) c.self.inside.marks.items) c.group.inside.number ≡ Some c.group.inside.standing
-told g c =
+same-standing : (g : Over) (c : After-agree_law g) → slice_get (map (λ (b : LeftHalf Standing). b.value) c.self.inside.marks.items) c.group.inside.number ≡ Some c.group.inside.standing
+same-standing g c =
     let marks = c.self.inside.marks.items in
     let within : c.group.inside.number < length marks =
     omega (arith, length-map marks (λ (b : LeftHalf Standing). b.value), c.self.invariant.3.marked.count, c.group.invariant.0.number_is) in
@@ -17,23 +17,23 @@ told g c =
 
 pub returns-clause-same : goal.returns-clause-same
 returns-clause-same g c = rw (sym c.self.view_is, sym c.group.view_is)
-    (sym (mark-told _ c.group.inside.number c.group.inside.standing (told g (goal.at.returns-clause-same g c).After-agree_law) c.group.invariant.3))
+    (sym (mark-told _ c.group.inside.number c.group.inside.standing (same-standing g (goal.at.returns-clause-same g c).After-agree_law) c.group.invariant.3))
 
 pub returns-clause-within : goal.returns-clause-within
 returns-clause-within g c = rw (sym c.group.view_is) c.group.invariant.0.number_is
 
 pub returns-clause-seen : goal.returns-clause-seen
 returns-clause-seen g c = rw (sym c.self.view_is, sym c.group.view_is)
-    (seen-low c.self.invariant.3 c.group.inside.number c.group.inside.standing (told g (goal.at.returns-clause-seen g c).After-agree_law))
+    (seen-low c.self.invariant.3 c.group.inside.number c.group.inside.standing (same-standing g (goal.at.returns-clause-seen g c).After-agree_law))
 
 pub returns-clause-stands : goal.returns-clause-stands
 returns-clause-stands g c = rw (sym c.self.view_is, sym c.group.view_is)
-    (it-stands c.self.invariant.3 c.group.inside.number c.group.inside.standing (told g (goal.at.returns-clause-stands g c).After-agree_law)).same
+    (it-stands c.self.invariant.3 c.group.inside.number c.group.inside.standing (same-standing g (goal.at.returns-clause-stands g c).After-agree_law)).same
 
 pub returns-clause-enabled : goal.returns-clause-enabled
 returns-clause-enabled g c = rw (sym c.self.view_is, sym c.group.view_is)
-    (enabled-now c.self.invariant.3 c.group.inside.number c.group.inside.standing (told g (goal.at.returns-clause-enabled g c).After-agree_law) c.group.invariant.0)
+    (enabled-now c.self.invariant.3 c.group.inside.number c.group.inside.standing (same-standing g (goal.at.returns-clause-enabled g c).After-agree_law) c.group.invariant.0)
 
 pub returns-clause-parts : goal.returns-clause-parts
 returns-clause-parts g c = rw (sym c.self.view_is, sym c.group.view_is)
-    (parts-now c.self.invariant.3 c.group.inside.number c.group.inside.standing (told g (goal.at.returns-clause-parts g c).After-agree_law) c.group.invariant.0)
+    (parts-now c.self.invariant.3 c.group.inside.number c.group.inside.standing (same-standing g (goal.at.returns-clause-parts g c).After-agree_law) c.group.invariant.0)

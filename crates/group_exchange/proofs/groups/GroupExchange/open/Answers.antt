@@ -33,7 +33,7 @@ invariant_of-exchange g c =
     let standings = map (λ (b : LeftHalf Standing). b.value) c.groups_of.new.lefts.items in (
       (let none = ap length c.new-2.ensures.steps in omega arith),
       c.requires.most,
-      omega (arith, c.known-end.ensures, c.ns.ensures.value, end),
+      omega (arith, c.of_known-end.ensures, c.ns.ensures.value, end),
       kept-opened c.requires.layout c.requires.grouped L.order
           c.in_ok-boxes.boxes (c.in_ok-boxes.ensures.owners ∙ c.requires.owners) (c.in_ok-boxes.ensures.count ∙ groups)
           (λ h i. c.in_ok-boxes.ensures.letters h (subst (λ n. h < n) (sym groups) i) ∙ (λ j. for_group message_order (c.requires.owners j) h (map plus_of (c.requires.opens.offered j))))

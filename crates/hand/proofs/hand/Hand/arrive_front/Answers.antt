@@ -12,12 +12,12 @@ use Rattle.hand.proofs.hand.Hand.arrive_front.Goals as goal
 
 -- after room was made
 roomy : (g : Over) (c : After-reserve g) → DoesSent (rules_of g.R.Reversible.plain) g.R.Reversible.is_value c.args.self.now []
-    (held c.self.inside.members.items c.self.inside.done.deeds c.self.inside.rows c.reserve.new.self) []
+    (held c.self.inside.members.items c.self.inside.done.events c.self.inside.rows c.reserve.new.self) []
 roomy g c =
     still g.R.Reversible.plain g.R.Reversible.is_value c.actor_rules_law.ensures.order c.actor_rules_law.ensures.undoes c.args.self.now
-    (held c.self.inside.members.items c.self.inside.done.deeds c.self.inside.rows c.reserve.new.self)
-    (subst (λ h. IsAsBefore h (held c.self.inside.members.items c.self.inside.done.deeds c.self.inside.rows c.reserve.new.self)) c.self.view_is
-    (as-roomy c.self.inside.members.items c.self.inside.done.deeds c.self.inside.done.deeds c.self.inside.rows c.self.inside.letters c.reserve.new.self refl c.reserve.ensures.same))
+    (held c.self.inside.members.items c.self.inside.done.events c.self.inside.rows c.reserve.new.self)
+    (subst (λ h. IsAsBefore h (held c.self.inside.members.items c.self.inside.done.events c.self.inside.rows c.reserve.new.self)) c.self.view_is
+    (as-roomy c.self.inside.members.items c.self.inside.done.events c.self.inside.done.events c.self.inside.rows c.self.inside.letters c.reserve.new.self refl c.reserve.ensures.same))
 
 pub returns-in_default-clause-did : goal.returns-in_default-clause-did
 returns-in_default-clause-did g c = does-nothing (rules_of g.R.Reversible.plain) g.R.Reversible.is_value c.args.self.now []
@@ -36,12 +36,12 @@ returns-in_err-arrive-clause-did g c =
     let r = rules_of g.R.Reversible.plain in
     let V = g.R.Reversible.is_value in
     let rows = c.self.inside.rows in
-    subst (λ ms. DoesSent r V c.args.self.now [] (held ms c.arrive.new.done.deeds rows c.arrive.new.letters) [])
+    subst (λ ms. DoesSent r V c.args.self.now [] (held ms c.arrive.new.done.events rows c.arrive.new.letters) [])
     (sym (with_items_is c.self.inside.members c.arrive.new.members (c.arrive.ensures.len ∙ c.deref_mut.ensures.len) ∙ (c.in_err-arrive.ensures.members ∙ c.deref_mut.ensures.value)))
     (still g.R.Reversible.plain V c.actor_rules_law.ensures.order c.actor_rules_law.ensures.undoes c.args.self.now
-    (held c.self.inside.members.items c.arrive.new.done.deeds rows c.arrive.new.letters)
-    (subst (λ h. IsAsBefore h (held c.self.inside.members.items c.arrive.new.done.deeds rows c.arrive.new.letters)) c.self.view_is
-    (as-roomy c.self.inside.members.items c.self.inside.done.deeds c.arrive.new.done.deeds rows c.self.inside.letters c.arrive.new.letters c.in_err-arrive.ensures.done
+    (held c.self.inside.members.items c.arrive.new.done.events rows c.arrive.new.letters)
+    (subst (λ h. IsAsBefore h (held c.self.inside.members.items c.arrive.new.done.events rows c.arrive.new.letters)) c.self.view_is
+    (as-roomy c.self.inside.members.items c.self.inside.done.events c.arrive.new.done.events rows c.self.inside.letters c.arrive.new.letters c.in_err-arrive.ensures.done
     (c.in_err-arrive.ensures.letters ∙ ap {A = Flow} (λ (z : Flow). record z { room = c.arrive.new.letters.room }) c.reserve.ensures.same))))
 
 pub returns-clause-did : goal.returns-clause-did
@@ -49,9 +49,9 @@ returns-clause-did g c =
     let r = rules_of g.R.Reversible.plain in
     let V = g.R.Reversible.is_value in
     let rows = c.self.inside.rows in
-    subst (λ ms. DoesSent r V c.args.self.now [] (held ms c.arrive.new.done.deeds rows c.arrive.new.letters) [])
+    subst (λ ms. DoesSent r V c.args.self.now [] (held ms c.arrive.new.done.events rows c.arrive.new.letters) [])
     (sym (with_items_is c.self.inside.members c.arrive.new.members (c.arrive.ensures.len ∙ c.deref_mut.ensures.len)))
-    (does-both r V c.args.self.now (held c.self.inside.members.items c.self.inside.done.deeds rows c.reserve.new.self)
-    (held c.arrive.new.members c.arrive.new.done.deeds rows c.arrive.new.letters) [] [] [] (roomy g (goal.at.returns-clause-did g c).After-reserve)
-    (subst (λ ms. DoesSent r V (held ms c.self.inside.done.deeds rows c.reserve.new.self) [] (held c.arrive.new.members c.arrive.new.done.deeds rows c.arrive.new.letters) [])
+    (does-both r V c.args.self.now (held c.self.inside.members.items c.self.inside.done.events rows c.reserve.new.self)
+    (held c.arrive.new.members c.arrive.new.done.events rows c.arrive.new.letters) [] [] [] (roomy g (goal.at.returns-clause-did g c).After-reserve)
+    (subst (λ ms. DoesSent r V (held ms c.self.inside.done.events rows c.reserve.new.self) [] (held c.arrive.new.members c.arrive.new.done.events rows c.arrive.new.letters) [])
     c.deref_mut.ensures.value (c.in_ok-arrive.ensures.did rows)))

@@ -7,7 +7,7 @@ use Rattle.hand.specs.Flow.{Flow}
 use Rattle.hand.specs.Hands.{IsAsBefore}
 use Rattle.hand.specs.Undoing.{CameTo}
 use Rattle.hand.specs.Passing.{held}
-use Rattle.hand.specs.Deeds.{messages_of}
+use Rattle.hand.specs.DoneEvents.{messages_of}
 use Rattle.hand.specs.Sealing.{CanCommit, Stays, rows_in}
 use Rattle.hand.proofs.Still.{as-first, as-both, as-roomy, first-again, on-err, told-after, waits-after}
 use Rattle.hand.proofs.Came.{dropped-came}
@@ -23,57 +23,57 @@ count_early-count-requires g c =
     c.first-first.ensures.among c.first-first.ensures.first c.first-first.ensures.none
 
 -- after a look at the first message
-looked : (g : Over) (c : After-first-first g) → IsAsBefore c.args.self.now (held c.self.inside.members.items c.self.inside.done.deeds c.self.inside.rows c.first-first.new.self)
+looked : (g : Over) (c : After-first-first g) → IsAsBefore c.args.self.now (held c.self.inside.members.items c.self.inside.done.events c.self.inside.rows c.first-first.new.self)
 looked g c =
-    subst (λ h. IsAsBefore h (held c.self.inside.members.items c.self.inside.done.deeds c.self.inside.rows c.first-first.new.self)) c.self.view_is
-    (as-first c.self.inside.members.items c.self.inside.done.deeds c.self.inside.rows c.self.inside.letters c.first-first.new.self c.first-first.ensures.same c.first-first.ensures.others)
+    subst (λ h. IsAsBefore h (held c.self.inside.members.items c.self.inside.done.events c.self.inside.rows c.first-first.new.self)) c.self.view_is
+    (as-first c.self.inside.members.items c.self.inside.done.events c.self.inside.rows c.self.inside.letters c.first-first.new.self c.first-first.ensures.same c.first-first.ensures.others)
 
 -- and then room was made
-refused : (g : Over) (c : After-first-first g) (done : _) (rows : _) (flow : _) → done ≡ c.self.inside.done.deeds → rows ≡ c.self.inside.rows →
+refused : (g : Over) (c : After-first-first g) (done : _) (rows : _) (flow : _) → done ≡ c.self.inside.done.events → rows ≡ c.self.inside.rows →
     flow ≡ record c.first-first.new.self { room = flow.room } → IsAsBefore c.args.self.now (held c.self.inside.members.items done rows flow)
 refused g c done rows flow d r e =
     subst (λ z. IsAsBefore c.args.self.now (held c.self.inside.members.items done z flow)) (sym r)
-    (as-both c.args.self.now (held c.self.inside.members.items c.self.inside.done.deeds c.self.inside.rows c.first-first.new.self)
+    (as-both c.args.self.now (held c.self.inside.members.items c.self.inside.done.events c.self.inside.rows c.first-first.new.self)
     (held c.self.inside.members.items done c.self.inside.rows flow) (looked g c)
-    (as-roomy c.self.inside.members.items c.self.inside.done.deeds done c.self.inside.rows c.first-first.new.self flow d e))
+    (as-roomy c.self.inside.members.items c.self.inside.done.events done c.self.inside.rows c.first-first.new.self flow d e))
 
 pub returns-in_err-commit-clause-did : goal.returns-in_err-commit-clause-did
 returns-in_err-commit-clause-did g c =
     commits-nothing g.R.Reversible.plain g.R.Reversible.is_value c.actor_rules_law.ensures.order c.actor_rules_law.ensures.undoes c.args.moment c.args.self.now
-    (held c.self.inside.members.items c.commit.new.done.deeds c.commit.new.sealed c.commit.new.self)
-    (refused g (goal.at.returns-in_err-commit-clause-did g c).After-first-first c.commit.new.done.deeds c.commit.new.sealed c.commit.new.self
-    c.in_err-commit.ensures.deeds_stay c.in_err-commit.ensures.rows_stay c.in_err-commit.ensures.letters_stay)
+    (held c.self.inside.members.items c.commit.new.done.events c.commit.new.sealed c.commit.new.self)
+    (refused g (goal.at.returns-in_err-commit-clause-did g c).After-first-first c.commit.new.done.events c.commit.new.sealed c.commit.new.self
+    c.in_err-commit.ensures.events_stay c.in_err-commit.ensures.rows_stay c.in_err-commit.ensures.letters_stay)
 
 pub returns-in_err-commit-clause-unchanged : goal.returns-in_err-commit-clause-unchanged
 returns-in_err-commit-clause-unchanged g c =
     on-err c.from_residual.result _
-    (refused g (goal.at.returns-in_err-commit-clause-unchanged g c).After-first-first c.commit.new.done.deeds c.commit.new.sealed c.commit.new.self
-    c.in_err-commit.ensures.deeds_stay c.in_err-commit.ensures.rows_stay c.in_err-commit.ensures.letters_stay)
+    (refused g (goal.at.returns-in_err-commit-clause-unchanged g c).After-first-first c.commit.new.done.events c.commit.new.sealed c.commit.new.self
+    c.in_err-commit.ensures.events_stay c.in_err-commit.ensures.rows_stay c.in_err-commit.ensures.letters_stay)
 
 pub returns-clause-did : goal.returns-clause-did
 returns-clause-did g c =
     let r = rules_of g.R.Reversible.plain in
     let V = g.R.Reversible.is_value in
     let n = c.count_early-count.result in
-    let deeds = c.self.inside.done.deeds in
-    let mid = held c.self.inside.members.items deeds c.self.inside.rows c.first-first.new.self in
-    let new = held c.self.inside.members.items c.commit.new.done.deeds c.commit.new.sealed c.commit.new.self in
+    let events = c.self.inside.done.events in
+    let mid = held c.self.inside.members.items events c.self.inside.rows c.first-first.new.self in
+    let new = held c.self.inside.members.items c.commit.new.done.events c.commit.new.sealed c.commit.new.self in
     commits-both r V c.args.moment c.args.self.now mid new
     (commits-nothing g.R.Reversible.plain V c.actor_rules_law.ensures.order c.actor_rules_law.ensures.undoes c.args.moment c.args.self.now mid (looked g (goal.at.returns-clause-did g c).After-first-first))
-    (commits-many g.R.Reversible.plain V c.actor_rules_law.ensures.order c.actor_rules_law.ensures.undoes c.args.moment (take n deeds) mid new (drop n deeds) refl (sym (take-append-drop n deeds))
-    c.in_ok-commit.ensures.deeds c.in_ok-commit.ensures.rows c.in_ok-commit.ensures.told
-    (of-messages (CanCommit c.args.moment c.first-first.new.self) n deeds c.count_early-count.ensures.early))
+    (commits-many g.R.Reversible.plain V c.actor_rules_law.ensures.order c.actor_rules_law.ensures.undoes c.args.moment (take n events) mid new (drop n events) refl (sym (take-append-drop n events))
+    c.in_ok-commit.ensures.events c.in_ok-commit.ensures.rows c.in_ok-commit.ensures.told
+    (of-messages (CanCommit c.args.moment c.first-first.new.self) n events c.count_early-count.ensures.early))
 
 pub returns-clause-left : goal.returns-clause-left
 returns-clause-left g c =
-    subst (λ ds. IfSome (slice_get (messages_of ds) 0) (Stays c.args.moment c.commit.new.self)) (sym c.in_ok-commit.ensures.deeds)
-    (subst (λ f. IfSome (slice_get (messages_of (drop c.count_early-count.result c.self.inside.done.deeds)) 0) (Stays c.args.moment f)) (sym c.in_ok-commit.ensures.told)
-    (oldest-then (Stays c.args.moment c.first-first.new.self) c.count_early-count.result c.self.inside.done.deeds c.count_early-count.ensures.left))
+    subst (λ ds. IfSome (slice_get (messages_of ds) 0) (Stays c.args.moment c.commit.new.self)) (sym c.in_ok-commit.ensures.events)
+    (subst (λ f. IfSome (slice_get (messages_of (drop c.count_early-count.result c.self.inside.done.events)) 0) (Stays c.args.moment f)) (sym c.in_ok-commit.ensures.told)
+    (oldest-then (Stays c.args.moment c.first-first.new.self) c.count_early-count.result c.self.inside.done.events c.count_early-count.ensures.left))
 
 pub invariant_of-self-2 : goal.invariant_of-self-2
 invariant_of-self-2 g c = (
-  subst (λ ds. (p : ℕ) → CameTo (rules_of g.R.Reversible.plain) g.R.Reversible.is_value c.self.inside.members.items ds p) (sym c.in_ok-commit.ensures.deeds)
-      (dropped-came (rules_of g.R.Reversible.plain) c.actor_rules_law.ensures.order g.R.Reversible.is_value c.self.inside.members.items c.count_early-count.result c.self.inside.done.deeds c.self.invariant.0),
+  subst (λ ds. (p : ℕ) → CameTo (rules_of g.R.Reversible.plain) g.R.Reversible.is_value c.self.inside.members.items ds p) (sym c.in_ok-commit.ensures.events)
+      (dropped-came (rules_of g.R.Reversible.plain) c.actor_rules_law.ensures.order g.R.Reversible.is_value c.self.inside.members.items c.count_early-count.result c.self.inside.done.events c.self.invariant.0),
   c.self.invariant.1,
   c.self.invariant.2,
 )
@@ -81,13 +81,13 @@ invariant_of-self-2 g c = (
 pub returns-clause-sealed : goal.returns-clause-sealed
 returns-clause-sealed g c =
     let n = c.count_early-count.result in
-    let deeds = c.self.inside.done.deeds in
-    let early : All (λ m. m.time < c.args.moment) (take n (messages_of deeds)) =
-    All-weaker (CanCommit c.args.moment c.first-first.new.self) (λ m. m.time < c.args.moment) (λ m k. k.early) (take n (messages_of deeds)) c.count_early-count.ensures.early in (
-      take n deeds,
-      ap (λ h. h.done) (sym c.self.view_is) ∙ (sym (take-append-drop n deeds) ∙ ap (λ ds. take n deeds ++ ds) (sym c.in_ok-commit.ensures.deeds)),
-      c.in_ok-commit.ensures.rows ∙ ap (λ h. record h.rows { all = h.rows.all ++ rows_in (take n deeds) }) c.self.view_is,
-      subst (λ ms. All (λ m. m.time < c.args.moment) ms) (take-map (λ d. d.message) n deeds) early,
+    let events = c.self.inside.done.events in
+    let early : All (λ m. m.time < c.args.moment) (take n (messages_of events)) =
+    All-weaker (CanCommit c.args.moment c.first-first.new.self) (λ m. m.time < c.args.moment) (λ m k. k.early) (take n (messages_of events)) c.count_early-count.ensures.early in (
+      take n events,
+      ap (λ h. h.done) (sym c.self.view_is) ∙ (sym (take-append-drop n events) ∙ ap (λ ds. take n events ++ ds) (sym c.in_ok-commit.ensures.events)),
+      c.in_ok-commit.ensures.rows ∙ ap (λ h. record h.rows { all = h.rows.all ++ rows_in (take n events) }) c.self.view_is,
+      subst (λ ms. All (λ m. m.time < c.args.moment) ms) (take-map (λ d. d.message) n events) early,
     )
 
 -- what became of the letters, whatever joined the block

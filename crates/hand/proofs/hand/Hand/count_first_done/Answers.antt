@@ -5,7 +5,7 @@ use Rattle.vlink.specs.Order.{message_order}
 use Rattle.reverse.specs.Rules.{rules_of, is_before}
 use Rattle.virtual_time.specs.Law.{plus_of}
 use Rattle.antimessages.specs.Counting.{HaveSameCounts}
-use Rattle.hand.specs.Deeds.{messages_of}
+use Rattle.hand.specs.DoneEvents.{messages_of}
 use Rattle.hand.specs.Flow.{Flow}
 use Rattle.hand.specs.Hands.{IsAsBefore}
 use Rattle.hand.specs.Passing.{held}
@@ -18,12 +18,12 @@ use Rattle.hand.proofs.hand.Hand.count_first_done.Goals as goal
 
 -- after a look at the first message
 looked : (g : Over) (c : After-first g) → CountedBeside (rules_of g.R.Reversible.plain) g.R.Reversible.is_value c.args.self.now
-    (held c.self.inside.members.items c.self.inside.done.deeds c.self.inside.rows c.first.new.self)
+    (held c.self.inside.members.items c.self.inside.done.events c.self.inside.rows c.first.new.self)
 looked g c =
     counted-as g.R.Reversible.plain g.R.Reversible.is_value c.actor_rules_law.ensures.order c.actor_rules_law.ensures.undoes c.args.self.now
-    (held c.self.inside.members.items c.self.inside.done.deeds c.self.inside.rows c.first.new.self)
-    (subst (λ h. IsAsBefore h (held c.self.inside.members.items c.self.inside.done.deeds c.self.inside.rows c.first.new.self)) c.self.view_is
-    (as-first c.self.inside.members.items c.self.inside.done.deeds c.self.inside.rows c.self.inside.letters c.first.new.self c.first.ensures.same c.first.ensures.others))
+    (held c.self.inside.members.items c.self.inside.done.events c.self.inside.rows c.first.new.self)
+    (subst (λ h. IsAsBefore h (held c.self.inside.members.items c.self.inside.done.events c.self.inside.rows c.first.new.self)) c.self.view_is
+    (as-first c.self.inside.members.items c.self.inside.done.events c.self.inside.rows c.self.inside.letters c.first.new.self c.first.ensures.same c.first.ensures.others))
 
 pub returns-in_default-clause-stands : goal.returns-in_default-clause-stands
 returns-in_default-clause-stands g c = (looked g (goal.at.returns-in_default-clause-stands g c).After-first).stands
@@ -33,7 +33,7 @@ returns-in_default-clause-others g c = (looked g (goal.at.returns-in_default-cla
 
 pub returns-in_default-clause-waits : goal.returns-in_default-clause-waits
 returns-in_default-clause-waits g c = λ e up.
-    nothing-waits (held c.self.inside.members.items c.self.inside.done.deeds c.self.inside.rows c.first.new.self)
+    nothing-waits (held c.self.inside.members.items c.self.inside.done.events c.self.inside.rows c.first.new.self)
     (nothing-left c.self.inside.letters.queue c.first.new.self.queue c.first.ensures.same c.in_default.ensures.none)
 
 pub returns-then-not-has-clause-stands : goal.returns-then-not-has-clause-stands
@@ -44,7 +44,7 @@ returns-then-not-has-clause-others g c = (looked g (goal.at.returns-then-not-has
 
 pub returns-then-not-has-clause-waits : goal.returns-then-not-has-clause-waits
 returns-then-not-has-clause-waits g c = λ e up.
-    front-waits c.actor_rules_law.ensures.order (held c.self.inside.members.items c.self.inside.done.deeds c.self.inside.rows c.first.new.self) c.in-Some.message
+    front-waits c.actor_rules_law.ensures.order (held c.self.inside.members.items c.self.inside.done.events c.self.inside.rows c.first.new.self) c.in-Some.message
     (first-least c.actor_rules_law.ensures.order c.in-Some.message c.self.inside.letters.queue c.first.new.self.queue c.first.ensures.same c.in-Some.ensures.among c.in-Some.ensures.first)
     (c.if-not-has.ensures.no refl up)
 
@@ -58,9 +58,9 @@ count_again-requires-clause-first g c =
 
 -- nothing was counted
 refused : (g : Over) (c : After-first g) (now : Flow) → now ≡ c.first.new.self → CountedBeside (rules_of g.R.Reversible.plain) g.R.Reversible.is_value c.args.self.now
-    (held c.self.inside.members.items c.self.inside.done.deeds c.self.inside.rows now)
+    (held c.self.inside.members.items c.self.inside.done.events c.self.inside.rows now)
 refused g c now e =
-    subst (λ z. CountedBeside (rules_of g.R.Reversible.plain) g.R.Reversible.is_value c.args.self.now (held c.self.inside.members.items c.self.inside.done.deeds c.self.inside.rows z)) (sym e)
+    subst (λ z. CountedBeside (rules_of g.R.Reversible.plain) g.R.Reversible.is_value c.args.self.now (held c.self.inside.members.items c.self.inside.done.events c.self.inside.rows z)) (sym e)
     (looked g c)
 
 pub returns-in_err-count_again-clause-stands : goal.returns-in_err-count_again-clause-stands
@@ -72,15 +72,15 @@ returns-in_err-count_again-clause-others g c =
     (refused g (goal.at.returns-in_err-count_again-clause-others g c).After-first c.count_again.new.self c.in_err-count_again.ensures.unchanged).others
 
 -- it counts beside
-counted : (g : Over) (c : After-first g) (m : Message) (now : Flow) → Contains (messages_of c.self.inside.done.deeds) m → IsPermutation c.first.new.self.queue (m ∷ now.queue) →
+counted : (g : Over) (c : After-first g) (m : Message) (now : Flow) → Contains (messages_of c.self.inside.done.events) m → IsPermutation c.first.new.self.queue (m ∷ now.queue) →
     HaveSameCounts message_order now.extra (plus_of m ∷ c.first.new.self.extra) → now ≡ record c.first.new.self { queue = now.queue; extra = now.extra; room = now.room } →
-    CountedBeside (rules_of g.R.Reversible.plain) g.R.Reversible.is_value c.args.self.now (held c.self.inside.members.items c.self.inside.done.deeds c.self.inside.rows now)
+    CountedBeside (rules_of g.R.Reversible.plain) g.R.Reversible.is_value c.args.self.now (held c.self.inside.members.items c.self.inside.done.events c.self.inside.rows now)
 counted g c m now there queue extra others =
     counted-both (rules_of g.R.Reversible.plain) g.R.Reversible.is_value c.args.self.now
-    (held c.self.inside.members.items c.self.inside.done.deeds c.self.inside.rows c.first.new.self) (held c.self.inside.members.items c.self.inside.done.deeds c.self.inside.rows now) (looked g c)
-    (counted-again (rules_of g.R.Reversible.plain) g.R.Reversible.is_value c.actor_rules_law.ensures.order c.self.inside.members.items c.self.inside.done.deeds c.self.inside.rows m c.first.new.self now
+    (held c.self.inside.members.items c.self.inside.done.events c.self.inside.rows c.first.new.self) (held c.self.inside.members.items c.self.inside.done.events c.self.inside.rows now) (looked g c)
+    (counted-again (rules_of g.R.Reversible.plain) g.R.Reversible.is_value c.actor_rules_law.ensures.order c.self.inside.members.items c.self.inside.done.events c.self.inside.rows m c.first.new.self now
     (record {
-      is_done = contains-in c.actor_rules_law.ensures.order (messages_of c.self.inside.done.deeds) m there;
+      is_done = contains-in c.actor_rules_law.ensures.order (messages_of c.self.inside.done.events) m there;
       queue = queue;
       extra = extra;
       tray = ap (λ z. z.tray) others;

@@ -12,8 +12,8 @@ returns-clause-delivered g c = λ x v soon stands.
     let r = rules_of g.R.Reversible.plain in
     let V = g.R.Reversible.is_value in
     let e = c.deliver_reserved.ensures.delivered in
-    let old = held c.self.inside.members.items c.self.inside.done.deeds c.self.inside.rows c.self.inside.letters in
-    let new = held c.self.inside.members.items c.self.inside.done.deeds c.self.inside.rows c.deliver_reserved.new.self in
+    let old = held c.self.inside.members.items c.self.inside.done.events c.self.inside.rows c.self.inside.letters in
+    let new = held c.self.inside.members.items c.self.inside.done.events c.self.inside.rows c.deliver_reserved.new.self in
     let s = subst (StandsForGroup r V x v) (sym c.self.view_is) stands in
     stands-taken r V x v old new c.args.letter refl refl refl (ap (λ z. z.queue) e) (ap (λ z. z.extra) e) (ap (λ z. z.tray) e)
     (subst (λ h. is_ours h.members c.args.letter.message.receiver ≡ true) (sym c.self.view_is) c.requires.ours) soon [] [] v.mail

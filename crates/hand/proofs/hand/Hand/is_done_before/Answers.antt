@@ -1,7 +1,7 @@
 use Rattle.std.proofs.Common.{◌≡◌, slice_get, option_map, sym, ap, ◌∙◌}
 use Rattle.reverse.specs.Rules.{rules_of}
-use Rattle.hand.specs.Deeds.{messages_of}
-use Rattle.hand.proofs.OldestDeed.{first-early, first-late, from-first, none-of}
+use Rattle.hand.specs.DoneEvents.{messages_of}
+use Rattle.hand.proofs.OldestDone.{first-early, first-late, from-first, none-of}
 use Rattle.hand.proofs.hand.Hand.is_done_before.Given.{Over}
 use Rattle.hand.proofs.hand.Hand.is_done_before.Goals.{After-oldest}
 use Rattle.hand.proofs.hand.Hand.is_done_before.Goals as goal

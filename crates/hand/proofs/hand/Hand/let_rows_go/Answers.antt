@@ -13,10 +13,10 @@ use Rattle.hand.proofs.hand.Hand.let_rows_go.Goals.{After-let_go}
 use Rattle.hand.proofs.hand.Hand.let_rows_go.Goals as goal
 
 -- what is told of it is what was told of its rows
-kept : (g : Over) (c : After-let_go g) → held c.self.inside.members.items c.self.inside.done.deeds c.let_go.new.self c.self.inside.letters
+kept : (g : Over) (c : After-let_go g) → held c.self.inside.members.items c.self.inside.done.events c.let_go.new.self c.self.inside.letters
     ≡ record c.args.self.now { rows = record c.args.self.now.rows { left = c.let_go.new.self.left } }
 kept g c =
-    (λ j. held c.self.inside.members.items c.self.inside.done.deeds (record { all = c.let_go.ensures.all j; left = c.let_go.new.self.left }) c.self.inside.letters) ∙
+    (λ j. held c.self.inside.members.items c.self.inside.done.events (record { all = c.let_go.ensures.all j; left = c.let_go.new.self.left }) c.self.inside.letters) ∙
     (λ j. record (c.self.view_is j) { rows = record (c.self.view_is j).rows { left = c.let_go.new.self.left } })
 
 gone : (g : Over) (c : After-let_go g) → (count : ℕ) × (c.let_go.new.self.left ≡ c.args.self.now.rows.left + count)
@@ -28,12 +28,12 @@ gone g c =
     (ap (λ h. h.rows) c.self.view_is) c.let_go.ensures.gone
 
 stands : (g : Over) (c : After-let_go g) (x : Setting _) (v : World Message _) → StandsForGroup (rules_of g.R.Reversible.plain) g.R.Reversible.is_value x v c.args.self.now →
-    StandsForGroup (rules_of g.R.Reversible.plain) g.R.Reversible.is_value x v (held c.self.inside.members.items c.self.inside.done.deeds c.let_go.new.self c.self.inside.letters)
+    StandsForGroup (rules_of g.R.Reversible.plain) g.R.Reversible.is_value x v (held c.self.inside.members.items c.self.inside.done.events c.let_go.new.self c.self.inside.letters)
 stands g c x v s =
     let r = rules_of g.R.Reversible.plain in
     let V = g.R.Reversible.is_value in
-    let old = held c.self.inside.members.items c.self.inside.done.deeds c.self.inside.rows c.self.inside.letters in
-    let new = held c.self.inside.members.items c.self.inside.done.deeds c.let_go.new.self c.self.inside.letters in
+    let old = held c.self.inside.members.items c.self.inside.done.events c.self.inside.rows c.self.inside.letters in
+    let new = held c.self.inside.members.items c.self.inside.done.events c.let_go.new.self c.self.inside.letters in
     let t = subst (StandsForGroup r V x v) (sym c.self.view_is) s in
     stands-kept r c.actor_rules_law.ensures.order V c.actor_rules_law.ensures.undoes x v old new [] [] refl refl c.let_go.ensures.all (λ y. refl) refl refl (λ q. refl) t.elsewhere t
 

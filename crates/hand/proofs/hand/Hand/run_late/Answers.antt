@@ -5,7 +5,7 @@ use Rattle.vlink.specs.declared.message.Message.{Message}
 use Rattle.vlink.specs.Order.{message_order}
 use Rattle.virtual_time.specs.Law.{IsAscending}
 use Rattle.reverse.specs.Rules.{rules_of, is_before}
-use Rattle.hand.specs.Deeds.{messages_of}
+use Rattle.hand.specs.DoneEvents.{messages_of}
 use Rattle.hand.specs.Handling.{HasLater}
 use Rattle.hand.specs.Hands.{DoesSent, IsAsBefore}
 use Rattle.hand.specs.Passing.{held}
@@ -21,12 +21,12 @@ use Rattle.hand.proofs.hand.Hand.run_late.Goals as goal
 
 -- after a look at the first message
 looked : (g : Over) (c : After-first g) → DoesSent (rules_of g.R.Reversible.plain) g.R.Reversible.is_value c.args.self.now []
-    (held c.self.inside.members.items c.self.inside.done.deeds c.self.inside.rows c.first.new.self) []
+    (held c.self.inside.members.items c.self.inside.done.events c.self.inside.rows c.first.new.self) []
 looked g c =
     still g.R.Reversible.plain g.R.Reversible.is_value c.actor_rules_law.ensures.order c.actor_rules_law.ensures.undoes c.args.self.now
-    (held c.self.inside.members.items c.self.inside.done.deeds c.self.inside.rows c.first.new.self)
-    (subst (λ h. IsAsBefore h (held c.self.inside.members.items c.self.inside.done.deeds c.self.inside.rows c.first.new.self)) c.self.view_is
-    (as-first c.self.inside.members.items c.self.inside.done.deeds c.self.inside.rows c.self.inside.letters c.first.new.self c.first.ensures.same c.first.ensures.others))
+    (held c.self.inside.members.items c.self.inside.done.events c.self.inside.rows c.first.new.self)
+    (subst (λ h. IsAsBefore h (held c.self.inside.members.items c.self.inside.done.events c.self.inside.rows c.first.new.self)) c.self.view_is
+    (as-first c.self.inside.members.items c.self.inside.done.events c.self.inside.rows c.self.inside.letters c.first.new.self c.first.ensures.same c.first.ensures.others))
 
 pub count_again-requires-clause-among : goal.count_again-requires-clause-among
 count_again-requires-clause-among g c =
@@ -38,7 +38,7 @@ count_again-requires-clause-first g c =
 
 pub returns-in_err-count_again-clause-did : goal.returns-in_err-count_again-clause-did
 returns-in_err-count_again-clause-did g c =
-    subst (λ ls. DoesSent (rules_of g.R.Reversible.plain) g.R.Reversible.is_value c.args.self.now [] (held c.self.inside.members.items c.self.inside.done.deeds c.self.inside.rows ls) [])
+    subst (λ ls. DoesSent (rules_of g.R.Reversible.plain) g.R.Reversible.is_value c.args.self.now [] (held c.self.inside.members.items c.self.inside.done.events c.self.inside.rows ls) [])
     (sym c.in_err-count_again.ensures.unchanged) (looked g (goal.at.returns-in_err-count_again-clause-did g c).After-first)
 
 pub returns-then-has-clause-did : goal.returns-then-has-clause-did
@@ -47,7 +47,7 @@ returns-then-has-clause-did g c =
     let V = g.R.Reversible.is_value in
     let O = c.actor_rules_law.ensures.order in
     let members = c.self.inside.members.items in
-    let done = c.self.inside.done.deeds in
+    let done = c.self.inside.done.events in
     let rows = c.self.inside.rows in
     does-both r V c.args.self.now (held members done rows c.first.new.self) (held members done rows c.count_again.new.self) [] [] []
     (looked g (goal.at.returns-then-has-clause-did g c).After-first)
@@ -76,28 +76,28 @@ returns-then-not-has_numbers-clause-exhausted g c = λ e. (
 )
 
 -- after room was made
-as-it-was : (g : Over) (c : After-reserve g) (later : _) → later ≡ c.self.inside.done.deeds → c.reserve.new.self ≡ record c.first.new.self { room = c.reserve.new.self.room } →
+as-it-was : (g : Over) (c : After-reserve g) (later : _) → later ≡ c.self.inside.done.events → c.reserve.new.self ≡ record c.first.new.self { room = c.reserve.new.self.room } →
     IsAsBefore c.args.self.now (held c.self.inside.members.items later c.self.inside.rows c.reserve.new.self)
-as-it-was g c later deeds same =
+as-it-was g c later events same =
     let members = c.self.inside.members.items in
-    let done = c.self.inside.done.deeds in
+    let done = c.self.inside.done.events in
     let rows = c.self.inside.rows in
     as-both c.args.self.now (held members done rows c.first.new.self) (held members later rows c.reserve.new.self)
     (subst (λ h. IsAsBefore h (held members done rows c.first.new.self)) c.self.view_is
     (as-first members done rows c.self.inside.letters c.first.new.self c.first.ensures.same c.first.ensures.others))
-    (as-roomy members done later rows c.first.new.self c.reserve.new.self deeds same)
+    (as-roomy members done later rows c.first.new.self c.reserve.new.self events same)
 
 roomy : (g : Over) (c : After-reserve g) → c.reserve.new.self ≡ record c.first.new.self { room = c.reserve.new.self.room } →
-    DoesSent (rules_of g.R.Reversible.plain) g.R.Reversible.is_value c.args.self.now [] (held c.self.inside.members.items c.self.inside.done.deeds c.self.inside.rows c.reserve.new.self) []
+    DoesSent (rules_of g.R.Reversible.plain) g.R.Reversible.is_value c.args.self.now [] (held c.self.inside.members.items c.self.inside.done.events c.self.inside.rows c.reserve.new.self) []
 roomy g c same =
     still g.R.Reversible.plain g.R.Reversible.is_value c.actor_rules_law.ensures.order c.actor_rules_law.ensures.undoes c.args.self.now
-    (held c.self.inside.members.items c.self.inside.done.deeds c.self.inside.rows c.reserve.new.self) (as-it-was g c c.self.inside.done.deeds refl same)
+    (held c.self.inside.members.items c.self.inside.done.events c.self.inside.rows c.reserve.new.self) (as-it-was g c c.self.inside.done.events refl same)
 
-roomier : (g : Over) (c : After-reserve-2 g) (b : After-reserve g) → c.reserve-2.new.self.deeds ≡ b.self.inside.done.deeds → b.reserve.new.self ≡ record b.first.new.self { room = b.reserve.new.self.room } →
-    DoesSent (rules_of g.R.Reversible.plain) g.R.Reversible.is_value b.args.self.now [] (held b.self.inside.members.items c.reserve-2.new.self.deeds b.self.inside.rows b.reserve.new.self) []
-roomier g c b deeds same =
+roomier : (g : Over) (c : After-reserve-2 g) (b : After-reserve g) → c.reserve-2.new.self.events ≡ b.self.inside.done.events → b.reserve.new.self ≡ record b.first.new.self { room = b.reserve.new.self.room } →
+    DoesSent (rules_of g.R.Reversible.plain) g.R.Reversible.is_value b.args.self.now [] (held b.self.inside.members.items c.reserve-2.new.self.events b.self.inside.rows b.reserve.new.self) []
+roomier g c b events same =
     still g.R.Reversible.plain g.R.Reversible.is_value b.actor_rules_law.ensures.order b.actor_rules_law.ensures.undoes b.args.self.now
-    (held b.self.inside.members.items c.reserve-2.new.self.deeds b.self.inside.rows b.reserve.new.self) (as-it-was g b c.reserve-2.new.self.deeds deeds same)
+    (held b.self.inside.members.items c.reserve-2.new.self.events b.self.inside.rows b.reserve.new.self) (as-it-was g b c.reserve-2.new.self.events events same)
 
 pub returns-in_err-reserve-clause-did : goal.returns-in_err-reserve-clause-did
 returns-in_err-reserve-clause-did g c = roomy g (goal.at.returns-in_err-reserve-clause-did g c).After-reserve c.reserve.ensures.same
@@ -123,16 +123,16 @@ returns-clause-did g c =
     let r = rules_of g.R.Reversible.plain in
     let V = g.R.Reversible.is_value in
     let rows = c.self.inside.rows in
-    subst (λ ms. DoesSent r V c.args.self.now [] (held ms c.handle_late.new.done.deeds rows c.handle_late.new.letters) [])
+    subst (λ ms. DoesSent r V c.args.self.now [] (held ms c.handle_late.new.done.events rows c.handle_late.new.letters) [])
     (sym (with_items_is c.self.inside.members c.handle_late.new.members (c.handle_late.ensures.len ∙ c.deref_mut.ensures.len)))
-    (does-both r V c.args.self.now (held c.self.inside.members.items c.reserve-2.new.self.deeds rows c.reserve.new.self) (held c.handle_late.new.members c.handle_late.new.done.deeds rows c.handle_late.new.letters)
+    (does-both r V c.args.self.now (held c.self.inside.members.items c.reserve-2.new.self.events rows c.reserve.new.self) (held c.handle_late.new.members c.handle_late.new.done.events rows c.handle_late.new.letters)
     [] [] [] (roomier g (goal.at.returns-clause-did g c).After-reserve-2 (goal.at.returns-clause-did g c).After-reserve c.reserve-2.ensures.same c.reserve.ensures.same)
-    (subst (λ ms. DoesSent r V (held ms c.reserve-2.new.self.deeds rows c.reserve.new.self) [] (held c.handle_late.new.members c.handle_late.new.done.deeds rows c.handle_late.new.letters) [])
+    (subst (λ ms. DoesSent r V (held ms c.reserve-2.new.self.events rows c.reserve.new.self) [] (held c.handle_late.new.members c.handle_late.new.done.events rows c.handle_late.new.letters) [])
     c.deref_mut.ensures.value (c.handle_late.ensures.did rows)))
 
 pub invariant_of-self-2 : goal.invariant_of-self-2
 invariant_of-self-2 g c = (
-  subst (λ ms. (p : ℕ) → CameTo (rules_of g.R.Reversible.plain) g.R.Reversible.is_value ms c.handle_late.new.done.deeds p)
+  subst (λ ms. (p : ℕ) → CameTo (rules_of g.R.Reversible.plain) g.R.Reversible.is_value ms c.handle_late.new.done.events p)
       (sym (with_items_is c.self.inside.members c.handle_late.new.members (c.handle_late.ensures.len ∙ c.deref_mut.ensures.len))) c.handle_late.ensures.came,
   c.handle_late.ensures.empty,
   c.self.invariant.2,

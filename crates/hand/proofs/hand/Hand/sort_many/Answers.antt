@@ -6,5 +6,5 @@ use Rattle.hand.proofs.hand.Hand.sort_many.Goals as goal
 
 pub returns : goal.returns
 returns g c =
-    subst (λ h. IsAsBefore h (held c.self.inside.members.items c.self.inside.done.deeds c.self.inside.rows c.sort_many.new.self)) c.self.view_is
-    (as-first c.self.inside.members.items c.self.inside.done.deeds c.self.inside.rows c.self.inside.letters c.sort_many.new.self c.sort_many.ensures.queue c.sort_many.ensures.others)
+    subst (λ h. IsAsBefore h (held c.self.inside.members.items c.self.inside.done.events c.self.inside.rows c.sort_many.new.self)) c.self.view_is
+    (as-first c.self.inside.members.items c.self.inside.done.events c.self.inside.rows c.self.inside.letters c.sort_many.new.self c.sort_many.ensures.queue c.sort_many.ensures.others)

@@ -40,8 +40,8 @@ last w now e L n rows k =
     subst (λ (z : NetworkWorld). AreFound z n rows → (steps : List Step) → IsAfter z steps → AreCommittedRows z.plan steps rows) e (λ found steps h.
     rows-all (simulation_of w.plan) L steps rows (subst (λ (m : ℕ). AreRowsBelow (simulation_of w.plan) (after w.plan steps) m rows) k (found steps h)))
 
-told : (w now : NetworkWorld) → w ≡ now → (tables : TableLists) (rows : List Row) → tables ≡ tables_of w.plan rows → tables ≡ tables_of now.plan rows
-told w now e tables rows = subst (λ (z : NetworkWorld). tables ≡ tables_of z.plan rows) e
+tables-now : (w now : NetworkWorld) → w ≡ now → (tables : TableLists) (rows : List Row) → tables ≡ tables_of w.plan rows → tables ≡ tables_of now.plan rows
+tables-now w now e tables rows = subst (λ (z : NetworkWorld). tables ≡ tables_of z.plan rows) e
 
 pub loop-process-init : goal.loop-process-init
 loop-process-init c =
@@ -84,7 +84,7 @@ returns c =
     let v = c.process_count-process-end.ensures.value in let a = c.loop-process-test.false in let b = c.loop-process.auto.process-end in omega arith in
     ok-weaker (AreOfCounted w.plan c.loop-process.tables) (AreOfCommitted c.args.self.now) (λ tables are. (
       now.0,
-      told w c.args.self.now c.self.view_is tables now.0 (are now.0 (counting w c.args.self.now c.self.view_is c.loop-process.tables now.0 now.1)),
+      tables-now w c.args.self.now c.self.view_is tables now.0 (are now.0 (counting w c.args.self.now c.self.view_is c.loop-process.tables now.0 now.1)),
       last w c.args.self.now c.self.view_is c.network_law.ensures c.loop-process.process now.0 k now.2,
     ))
     c.tables-2.result c.tables-2.ensures

@@ -45,13 +45,13 @@ loop-place-preserved g c =
     let rows = c.rows_between.result.now in
     let from : c.moment_of-from.result ≡ moment_of own end n = c.moment_of-from.ensures ∙ ap (λ z. moment_of z end n) c.as_slice.ensures.value in
     let at = read-at items n group (omega arith) c.index-group.ensures in
-    let behind : c.known-behind.result ≡ plan.until + 1 = (let until = ap (λ (p : Plan). p.until) c.args.self.now.planned in omega arith) in
+    let behind : c.of_known-behind.result ≡ plan.until + 1 = (let until = ap (λ (p : Plan). p.until) c.args.self.now.planned in omega arith) in
     subst (AreCountedOf plan owners own end (n + 1)) (sym c.in_ok-tables.ensures)
     (one-of-groups plan owners own end (subst HasLawfulRows c.args.self.now.planned c.rows_law.ensures) c.batches_in_order_law.ensures.beginning n
     c.loop-place.tables c.loop-place.invariant rows
     (subst (λ (z : ℕ). AreOfGroup plan owners n z (plan.until + 1) rows) from
     (subst (λ (to : ℕ). AreOfGroup plan owners n c.moment_of-from.result to rows) behind
-    (in-run plan owners c.args.self.now.exchange.steps items c.requires.ended n group at c.moment_of-from.result c.known-behind.result rows behind c.rows_between.ensures.whole))))
+    (in-run plan owners c.args.self.now.exchange.steps items c.requires.ended n group at c.moment_of-from.result c.of_known-behind.result rows behind c.rows_between.ensures.whole))))
 
 pub returns : goal.returns
 returns g c =
