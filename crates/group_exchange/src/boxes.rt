@@ -58,13 +58,6 @@ impl Boxes {
         Ok(Boxes { boxes, owners })
     }
 
-    /// How many groups there are.
-    pub fn groups(&self) -> usize
-        ensures { result ≡ length self.now.boxes }
-    {
-        self.boxes.len()
-    }
-
     /// The group of this process. None: there is no such process.
     pub fn owner(&self, process: u16) -> Option<u16>
         ensures is { result ≡ slice_get self.now.owners process }
