@@ -5,7 +5,7 @@ ghost use Rattle.vlink.specs.Order.{message_order};
 ghost use Rattle.group_exchange.specs.Boxing.{HasRoom, box_of, for_group};
 ghost use Rattle.group_exchange.specs.Telling.{waiting_for};
 
-use crate::carrying::{count_for, empty, least_time, make_room, owner_of, push_all, put_all};
+use crate::carrying::{clear_box, count_for, least_time, make_room, owner_of, push_all, put_all};
 use antimessages::OutOfMemory;
 use std::alloc::Global;
 use std::marker::Model;
@@ -58,13 +58,6 @@ impl Boxes {
         Ok(Boxes { boxes, owners })
     }
 
-    /// How many groups there are.
-    pub fn groups(&self) -> usize
-        ensures { result ≡ length self.now.boxes }
-    {
-        self.boxes.len()
-    }
-
     /// The group of this process. None: there is no such process.
     pub fn owner(&self, process: u16) -> Option<u16>
         ensures is { result ≡ slice_get self.now.owners process }
@@ -83,7 +76,7 @@ impl Boxes {
     }
 
     /// How many letters are on their way to a process; 0 where there is no such process.
-    pub fn waiting(&self, process: u16) -> u32
+    pub fn waiting_count(&self, process: u16) -> u32
         ensures { result ≡ waiting_for self.now process }
     {
         match owner_of(&self.owners, process) {
@@ -121,11 +114,11 @@ impl Boxes {
         ensures count { length self.new.boxes ≡ length self.old.boxes }
         ensures owners { self.new.owners ≡ self.old.owners }
     {
-        empty(&mut self.boxes[usize::from(group)]);
+        clear_box(&mut self.boxes[usize::from(group)]);
     }
 
     /// The least time of all letters, or the moment where that is earlier.
-    pub fn earliest(&self, moment: Time) -> Time
+    pub fn earliest_time(&self, moment: Time) -> Time
         ensures { result ≡ lowest moment (times_of message_order (flat_map (λ box. box) self.now.boxes)) }
     {
         least_time(&self.boxes, moment)

@@ -91,7 +91,7 @@ fn push<T: Copy>(items: &mut Vec<T>, item: T) -> Result<(), OutOfMemory>
 }
 
 /// All items leave a box. Room for many is given back: the offers of a run lie there at the start, and so many letters do not come again.
-pub(crate) fn empty<T: Drop>(items: &mut Vec<T>)
+pub(crate) fn clear_box<T: Drop>(items: &mut Vec<T>)
     ensures items { items.new.items ≡ [] }
 {
     items.clear();

@@ -55,13 +55,13 @@ fn list_word(steps: &mut Vec<Step>, did: Did, boxes: &Boxes)
             steps.push_reserved(Step::Post { process });
         }
         Did::Home { process } => {
-            let place = boxes.waiting(process);
+            let place = boxes.waiting_count(process);
             let process = u32::from(process);
             steps.push_reserved(Step::Take { process, place });
             steps.push_reserved(Step::Arrive { process });
         }
         Did::Taken { process } => {
-            let place = boxes.waiting(process);
+            let place = boxes.waiting_count(process);
             let process = u32::from(process);
             steps.push_reserved(Step::Take { process, place });
         }

@@ -98,7 +98,7 @@ fn reserve_post<R: Actor>(
     if hand.count_done().is_err() {
         return Err(PoolFault::OutOfMemory);
     }
-    boxes.reserve(hand.abroad().len())?;
+    boxes.reserve(hand.letters_abroad().len())?;
     journal.reserve(count as usize)
 }
 
@@ -127,6 +127,6 @@ fn post_reserved<R: Actor>(
 {
     let words = hand.next_block(alloc);
     journal.post(&words, boxes, words.steps());
-    boxes.post_reserved(hand.abroad());
+    boxes.post_reserved(hand.letters_abroad());
     hand.clear_abroad();
 }

@@ -30,7 +30,7 @@ pub fn publish<R: Actor, J: GroupRun<R>>(
     actor_law::<R>();
     let gvt = exchange
         .boxes
-        .earliest(earliest_floor(&exchange.floors, exchange.end));
+        .earliest_time(earliest_floor(&exchange.floors, exchange.end));
     if gvt == exchange.gvt {
         return Ok(gvt);
     }

@@ -21,24 +21,24 @@ impl<R: Actor, J: GroupRun<R>> Group<R, J> {
     }
 
     /// The GVT that it saw, in ns.
-    pub fn seen(&self) -> Time
+    pub fn gvt_seen(&self) -> Time
         ensures { result ≡ self.now.seen }
     {
         self.standing.seen
     }
 
     /// The moment, in ns, before which rows of its committed events may have left. None has where it is 0.
-    pub fn gone(&self) -> Time
+    pub fn gone_before(&self) -> Time
         ensures { result ≡ self.now.gone }
     {
         self.gone
     }
 
     /// The letters for other groups that wait to be posted, in order.
-    pub fn abroad(&self) -> &[Letter]
+    pub fn letters_abroad(&self) -> &[Letter]
         ensures { result.now ≡ self.now.held.flow.abroad }
     {
-        self.hand.abroad()
+        self.hand.letters_abroad()
     }
 
     /// The moment of the first message of its queue, in ns, if there is one; of letters that are still in the tray it says nothing.

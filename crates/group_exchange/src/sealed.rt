@@ -77,12 +77,12 @@ impl<R: Actor, J: GroupRun<R>> Group<R, J> {
     {
         actor_law::<R>();
         let _refused = self.hand.let_rows_go(moment);
-        self.gone = later(self.gone, moment);
+        self.gone = later_of(self.gone, moment);
     }
 }
 
 /// The later of two moments.
-fn later(one: Time, other: Time) -> Time
+fn later_of(one: Time, other: Time) -> Time
     ensures { result ≡ max one other }
 {
     one.max(other)

@@ -60,18 +60,6 @@ impl Words {
         }
     }
 
-    /// Whether there is room for so many more.
-    #[inline(always)]
-    pub(crate) fn has_room(&self, more: usize) -> bool
-        ensures { result ≡ true → more ≤ self.now.room }
-    {
-        let told = more <= self.told.capacity() - self.told.len();
-        match &self.kept {
-            Some(kept) => told && more <= kept.capacity() - kept.len(),
-            None => told,
-        }
-    }
-
     /// Makes room for so many more: as long as no other call comes between, so many calls of `push_reserved` have it. Where they are not kept it
     /// takes no memory.
     #[inline(always)]

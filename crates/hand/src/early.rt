@@ -68,7 +68,7 @@ pub(crate) fn handle_first<R: Actor>(
 /// What becomes of the first message of a group: whether it is earlier than the limit, comes after all that the group has done, and its receiver is a
 /// member with numbers left for what one event can send.
 #[inline(always)]
-pub(crate) fn standing<R: Actor>(
+pub(crate) fn early_of<R: Actor>(
     members: &[Option<R>],
     done: &DoneEvents<R::Record>,
     message: &Message,

@@ -116,7 +116,7 @@ impl<R: Actor> Hand<R> {
     pub fn rows(&self) -> &[Row]
         ensures { result.now ≡ drop self.now.rows.left self.now.rows.all }
     {
-        self.rows.there()
+        self.rows.as_slice()
     }
 
     /// The oldest rows that have not left do so, while they are earlier than the moment, in ns. A refusal leaves all as it was.

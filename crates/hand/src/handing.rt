@@ -53,7 +53,7 @@ impl<R: Actor> Hand<R> {
     }
 
     /// The letters that were posted for others, in order.
-    pub fn abroad(&self) -> &[Letter]
+    pub fn letters_abroad(&self) -> &[Letter]
         ensures letters { result.now ≡ self.now.flow.abroad }
         ensures mail { (x : Setting R) (v : World Message R) → StandsForGroup (rules_of R.plain) R.is_value x v self.now → (q : ℕ) → v.mail q ≡ received_by message_order q result.now }
     {

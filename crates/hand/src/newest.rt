@@ -15,7 +15,7 @@ use vlink::{Message, order_law};
 
 impl<K: Copy> DoneEvents<K> {
     /// The message of the newest event, if there is one.
-    pub(crate) fn newest(&self) -> Option<&Message>
+    pub(crate) fn newest_message(&self) -> Option<&Message>
         ensures { option_copied result ≡ newest_of (messages_of self.now.events) }
     {
         match self.events.back() {
@@ -29,7 +29,7 @@ impl<K: Copy> DoneEvents<K> {
         ensures last { (front : List (DoneEvent K)) (d : DoneEvent K) → self.now.events ≡ front ++ d ∷ [] → result ≡ (d.message.receiver == process) }
         ensures newest { (m : Message) → newest_of (messages_of self.now.events) ≡ Some m → result ≡ (m.receiver == process) }
     {
-        match self.newest() {
+        match self.newest_message() {
             Some(message) => message.receiver == process,
             None => false,
         }

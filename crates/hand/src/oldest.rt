@@ -18,7 +18,7 @@ impl<R: Actor> Hand<R> {
     pub fn oldest(&self) -> Option<Time>
         ensures { result ≡ option_map (λ m. m.time) (slice_get (messages_of self.now.done) 0) }
     {
-        self.done.oldest()
+        self.done.oldest_time()
     }
 
     /// Whether each done event is committed.
@@ -38,13 +38,13 @@ impl<R: Actor> Hand<R> {
             (p : ℕ) → is_ours self.now.members p ≡ true → earlier message_order moment (v.parts p).done ≡ [] }
     {
         actor_rules_law::<R>();
-        is_early(self.done.oldest(), moment)
+        is_early(self.done.oldest_time(), moment)
     }
 }
 
 impl<K: Copy> DoneEvents<K> {
     /// The moment of the oldest event, if there is one.
-    fn oldest(&self) -> Option<Time>
+    fn oldest_time(&self) -> Option<Time>
         ensures { result ≡ option_map (λ m. m.time) (slice_get (messages_of self.now.events) 0) }
     {
         match self.events.front() {

@@ -34,8 +34,8 @@ impl Rows {
         }
     }
 
-    /// Those that have not left.
-    pub(crate) fn there(&self) -> &[Row]
+    /// Those that have not left, the oldest first.
+    pub(crate) fn as_slice(&self) -> &[Row]
         ensures { result.now ≡ drop self.now.left self.now.all }
     {
         &self.there

@@ -15,7 +15,7 @@ ghost use Rattle.hand.specs.declared.fault.HandFault.TheVariants.{Exhausted};
 ghost use Rattle.hand.specs.declared.early.Early.TheVariants.{Ran, Idle, Late};
 ghost use Rattle.reverse.specs.declared.sends.TheConstants.{MOST_SENT};
 
-use crate::early::{Early, handle_first, standing};
+use crate::early::{Early, early_of, handle_first};
 use crate::fault::HandFault;
 use crate::hand::Hand;
 use crate::late::handle_late;
@@ -54,7 +54,7 @@ impl<R: Actor> Hand<R> {
         let Some(message) = self.letters.pop() else {
             return Ok(Early::Idle);
         };
-        let early = standing(&self.members, &self.done, &message, limit);
+        let early = early_of(&self.members, &self.done, &message, limit);
         match early {
             Ok(Early::Ran) => {
                 handle_first(

@@ -45,14 +45,6 @@ impl<T: Copy + Drop> Trail<T> {
         self.all.len() - self.left
     }
 
-    /// For how many more there is room.
-    #[inline(always)]
-    pub(crate) fn room(&self) -> usize
-        ensures { result ≡ self.now.room }
-    {
-        self.all.capacity() - self.all.len()
-    }
-
     /// Makes room for so many more.
     pub(crate) fn reserve(&mut self, more: usize) -> Result<(), AllocError>
         ensures room { OnOk result (more ≤ self.new.room) }

@@ -101,12 +101,12 @@ impl<J: NetworkRun> Counted<J> {
         rows_law(network);
         batches_in_order_law();
         let number = usize::from(group.number());
-        let to = group.seen();
+        let to = group.gvt_seen();
         if number >= self.own.len() || !group.is_committed_before(to) {
             return Ok(());
         }
         let from = moment_of(self.own.as_slice(), self.end, number);
-        if from.ns() < group.gone().ns() || to.ns() < from.ns() {
+        if from.ns() < group.gone_before().ns() || to.ns() < from.ns() {
             return Ok(());
         }
         let Some(tables) = self.tables.take() else {

@@ -47,7 +47,7 @@ fn is_of_world<J: NetworkRun>(
 {
     if usize::from(group.number()) != place
         || group.has_block()
-        || group.seen().ns() <= until.ns()
+        || group.gvt_seen().ns() <= until.ns()
     {
         return false;
     }
@@ -114,7 +114,7 @@ impl<J: NetworkRun> Unlocked<'_, J> {
     {
         for place in 0..self.groups.len() {
             let group = &self.groups[place];
-            if group.gone().ns() > moment_of(own, end, place).ns() {
+            if group.gone_before().ns() > moment_of(own, end, place).ns() {
                 return false;
             }
         }

@@ -29,7 +29,7 @@ pub(crate) fn next_group_segment<J: NetworkRun>(
     ensures given { IfOk result (λ segment. MatchOption segment (group.new ≡ group.old) (λ p. group.new.gone ≡ p.to)) }
     ensures refused { OnErr result (group.new ≡ group.old) }
 {
-    let Some(k) = interval_at(until, group.gone()) else {
+    let Some(k) = interval_at(until, group.gone_before()) else {
         return Ok(None);
     };
     let Some(segment) = sealed_segment(alloc, group, k, until)? else {

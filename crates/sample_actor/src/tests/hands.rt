@@ -171,7 +171,7 @@ fn tell_floor(stage: &mut Stage) -> Result<(), HandFault> {
 
 // The letters for others, which leave.
 fn tell_abroad(stage: &mut Stage) -> Result<(), HandFault> {
-    for letter in stage.hand.abroad() {
+    for letter in stage.hand.letters_abroad() {
         stage.told.push_str(match letter.sign {
             Sign::Plus => "+",
             Sign::Minus => "-",

@@ -152,7 +152,7 @@ impl<'s, 'n, J: NetworkRun, G: Gate, T: Wait> Worker<'s, 'n, J, G, T> {
 
     /// Whether the next event of the group is due, where that is what is before the limit, in ns, and the window.
     fn is_due(&self, seat: &Seat<J>, limit_ns: u64) -> bool {
-        let seen_ns = seat.group.seen().ns();
+        let seen_ns = seat.group.gvt_seen().ns();
         seat.next_ns < limit_ns.min(seen_ns.saturating_add(self.common.pace.window_ns))
     }
 
@@ -160,7 +160,7 @@ impl<'s, 'n, J: NetworkRun, G: Gate, T: Wait> Worker<'s, 'n, J, G, T> {
     /// comes before its next event; or its next event waits for GVT; or nothing is due, and GVT is much further on, or what it did was not posted for a
     /// while.
     fn is_to_meet(&self, seat: &Seat<J>, limit_ns: u64) -> bool {
-        if seat.unposted >= MOST_UNPOSTED || !seat.group.abroad().is_empty() {
+        if seat.unposted >= MOST_UNPOSTED || !seat.group.letters_abroad().is_empty() {
             return true;
         }
         let letter_ns = self.common.moments.letter_ns(seat.group.number());
@@ -170,7 +170,7 @@ impl<'s, 'n, J: NetworkRun, G: Gate, T: Wait> Worker<'s, 'n, J, G, T> {
         if self.is_due(seat, limit_ns) {
             return false;
         }
-        let seen_ns = seat.group.seen().ns();
+        let seen_ns = seat.group.gvt_seen().ns();
         let gvt_ns = self.common.moments.gvt_ns();
         if seat.next_ns < limit_ns {
             return seat.group.has_block() || gvt_ns > seen_ns;
@@ -184,7 +184,7 @@ impl<'s, 'n, J: NetworkRun, G: Gate, T: Wait> Worker<'s, 'n, J, G, T> {
     /// count. Then the other groups are told.
     fn meet(&mut self, seat: &mut Seat<J>) -> Result<(), RunFault<J>> {
         let number = seat.group.number();
-        let seen_ns = seat.group.seen().ns();
+        let seen_ns = seat.group.gvt_seen().ns();
         let waits = seat.next_ns >= seen_ns.saturating_add(self.common.pace.window_ns);
         let mut exchange = locked_soon(self.rt, &self.common.exchange);
         let shared = &mut exchange.value;
@@ -232,7 +232,7 @@ impl<'s, 'n, J: NetworkRun, G: Gate, T: Wait> Worker<'s, 'n, J, G, T> {
     /// Whether a group that has handled so many messages in its turn is to meet the others: it has letters for them, or a letter waits that comes before
     /// its next event.
     fn ends_turn(&self, seat: &Seat<J>, handled: u32) -> bool {
-        if handled >= MOST_WITH_LETTERS && !seat.group.abroad().is_empty() {
+        if handled >= MOST_WITH_LETTERS && !seat.group.letters_abroad().is_empty() {
             return true;
         }
         self.common.moments.letter_ns(seat.group.number()) <= seat.next_ns
@@ -247,7 +247,7 @@ impl<'s, 'n, J: NetworkRun, G: Gate, T: Wait> Worker<'s, 'n, J, G, T> {
         limit_ns: u64,
     ) -> Result<u32, RunFault<J>> {
         let ahead_ns = limit_ns
-            .saturating_sub(group.seen().ns())
+            .saturating_sub(group.gvt_seen().ns())
             .min(self.common.pace.window_ns);
         match work_ahead(group, most, ahead_ns, self.gate) {
             Ok(count) => Ok(count),
@@ -352,7 +352,7 @@ fn list_letters<J: NetworkRun>(
     exchange: &GroupExchange<Node, OfGroups<J>>,
     group: &NetworkGroup<J>,
 ) {
-    for letter in group.abroad() {
+    for letter in group.letters_abroad() {
         if let Some(owner) = exchange.owner(letter.message.receiver) {
             lower(letters_ns, usize::from(owner), letter.message.time.ns());
         }

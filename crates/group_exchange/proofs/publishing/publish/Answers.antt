@@ -13,17 +13,17 @@ use Rattle.group_exchange.proofs.Halves.{recorded-as}
 use Rattle.group_exchange.proofs.Least.{gvt-told}
 use Rattle.group_exchange.proofs.Published.{kept-published, publishes-more, publishes-none}
 use Rattle.group_exchange.proofs.publishing.publish.Given.{Over}
-use Rattle.group_exchange.proofs.publishing.publish.Goals.{After-earliest-gvt}
+use Rattle.group_exchange.proofs.publishing.publish.Goals.{After-earliest_time-gvt}
 use Rattle.group_exchange.proofs.publishing.publish.Goals as goal
 
 -- what was found is what the step Gvt sets
-found : (g : Over) (c : After-earliest-gvt g) → c.earliest-gvt.result ≡ gvt_over (simulation_of (rules_of g.R.Reversible.plain) g.J.GroupRun.setting) g.J.GroupRun.setting.processes
+found : (g : Over) (c : After-earliest_time-gvt g) → c.earliest_time-gvt.result ≡ gvt_over (simulation_of (rules_of g.R.Reversible.plain) g.J.GroupRun.setting) g.J.GroupRun.setting.processes
     (world_after (simulation_of (rules_of g.R.Reversible.plain) g.J.GroupRun.setting) c.exchange.inside.journal.steps)
 found g c =
     let k = c.exchange.invariant.3 in
     let end : c.exchange.inside.end ≡ c.exchange.inside.floors.until + 1 = omega (arith, c.exchange.invariant.2, k.until) in
-    gvt-told k (c.actor_law.ensures g.J.GroupRun.setting k.laid) c.earliest-gvt.result
-    (c.earliest-gvt.ensures ∙ ap (λ d. lowest d (times_of message_order (flat_map (λ box. box) c.exchange.inside.boxes.boxes)))
+    gvt-told k (c.actor_law.ensures g.J.GroupRun.setting k.laid) c.earliest_time-gvt.result
+    (c.earliest_time-gvt.ensures ∙ ap (λ d. lowest d (times_of message_order (flat_map (λ box. box) c.exchange.inside.boxes.boxes)))
     (c.earliest_floor.ensures ∙ ap (λ d. lowest d c.exchange.inside.floors.floors) end))
 
 pub invariant_of-exchange : goal.invariant_of-exchange
@@ -39,12 +39,12 @@ invariant_of-exchange g c = (
 pub invariant_of-exchange-2 : goal.invariant_of-exchange-2
 invariant_of-exchange-2 g c =
     let k = c.exchange.invariant.3 in
-    let gvt = found g (goal.at.invariant_of-exchange-2 g c).After-earliest-gvt in
+    let gvt = found g (goal.at.invariant_of-exchange-2 g c).After-earliest_time-gvt in
     let longer = c.publish.ensures.steps ∙ ap (λ (ss : List Step). ss ++ Gvt ∷ []) c.reserve.ensures.steps in (
       omega (arith, ap length longer, length-append c.exchange.inside.journal.steps (Gvt ∷ []), c.if-len-exchange.false, c.len.ensures),
       c.exchange.invariant.1,
       c.exchange.invariant.2,
-      kept-published k (c.actor_law.ensures g.J.GroupRun.setting k.laid) c.earliest-gvt.result gvt c.publish.new.self.steps longer,
+      kept-published k (c.actor_law.ensures g.J.GroupRun.setting k.laid) c.earliest_time-gvt.result gvt c.publish.new.self.steps longer,
       c.exchange.invariant.4,
       c.publish.ensures.keeps ∙ (c.reserve.ensures.keeps ∙ c.exchange.invariant.5),
     )
@@ -53,31 +53,31 @@ pub returns-then-eq-clause-ok : goal.returns-then-eq-clause-ok
 returns-then-eq-clause-ok g c =
     let k = c.exchange.invariant.3 in
     let f = simulation_of (rules_of g.R.Reversible.plain) g.J.GroupRun.setting in
-    let gvt = found g (goal.at.returns-then-eq-clause-ok g c).After-earliest-gvt in
-    rw (sym c.exchange.view_is) (gvt, publishes-none f g.J.GroupRun.owners _ _ _ (ap (λ z. c.earliest-gvt.result == z) (sym k.gvt_is) ∙ (sym c.eq.ensures ∙ c.if-eq.true)) refl)
+    let gvt = found g (goal.at.returns-then-eq-clause-ok g c).After-earliest_time-gvt in
+    rw (sym c.exchange.view_is) (gvt, publishes-none f g.J.GroupRun.owners _ _ _ (ap (λ z. c.earliest_time-gvt.result == z) (sym k.gvt_is) ∙ (sym c.eq.ensures ∙ c.if-eq.true)) refl)
 
 pub returns-clause-ok : goal.returns-clause-ok
 returns-clause-ok g c =
     let k = c.exchange.invariant.3 in
     let f = simulation_of (rules_of g.R.Reversible.plain) g.J.GroupRun.setting in
-    let gvt = found g (goal.at.returns-clause-ok g c).After-earliest-gvt in
+    let gvt = found g (goal.at.returns-clause-ok g c).After-earliest_time-gvt in
     let longer = c.publish.ensures.steps ∙ ap (λ (ss : List Step). ss ++ Gvt ∷ []) c.reserve.ensures.steps in
     rw (sym c.exchange.view_is) (
       gvt,
-      publishes-more f g.J.GroupRun.owners _ _ _ (ap (λ z. c.earliest-gvt.result == z) (sym k.gvt_is) ∙ (sym c.eq.ensures ∙ c.if-eq.false))
+      publishes-more f g.J.GroupRun.owners _ _ _ (ap (λ z. c.earliest_time-gvt.result == z) (sym k.gvt_is) ∙ (sym c.eq.ensures ∙ c.if-eq.false))
           (λ i. record { steps = longer i; marks = marks_in (map (λ (b : LeftHalf Standing). b.value) c.exchange.inside.marks.items); limit = c.exchange.inside.limit }),
     )
 
 pub returns-then-eq-clause-limited : goal.returns-then-eq-clause-limited
 returns-then-eq-clause-limited g c =
     let k = c.exchange.invariant.3 in
-    let gvt = found g (goal.at.returns-then-eq-clause-limited g c).After-earliest-gvt in
+    let gvt = found g (goal.at.returns-then-eq-clause-limited g c).After-earliest_time-gvt in
     let same = eqb-true _ _ (sym c.eq.ensures ∙ c.if-eq.true) in
     rw (sym c.exchange.view_is) (λ back over. absurd (back (sym gvt ∙ (same ∙ k.gvt_is))))
 
 pub returns-then-len-exchange-clause-full : goal.returns-then-len-exchange-clause-full
 returns-then-len-exchange-clause-full g c =
     let k = c.exchange.invariant.3 in
-    let gvt = found g (goal.at.returns-then-len-exchange-clause-full g c).After-earliest-gvt in
+    let gvt = found g (goal.at.returns-then-len-exchange-clause-full g c).After-earliest_time-gvt in
     let other = sym c.eq.ensures ∙ c.if-eq.false in
     rw (sym c.exchange.view_is) (λ full. ((λ same. false≢true (sym other ∙ eq-eqb _ _ (gvt ∙ (same ∙ sym k.gvt_is)))), omega (arith, c.if-len-exchange.true, c.len.ensures)))

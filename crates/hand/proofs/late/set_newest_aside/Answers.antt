@@ -1,4 +1,4 @@
-use Rattle.std.proofs.Common.{◌≡◌, ◌<◌, true, false, List, [], ◌∷◌, ◌++◌, length, subst, refl, sym, ap, ◌∙◌, arith, eqb-true, rules}
+use Rattle.std.proofs.Common.{◌≡◌, false, List, [], ◌∷◌, ◌++◌, subst, sym, ap, ◌∙◌, eqb-true, rules}
 use Rattle.std.proofs.lemmas.Bool.{both_ways}
 use Rattle.vlink.specs.declared.message.Message.{Message}
 use Rattle.vlink.specs.Order.{message_order}
@@ -13,10 +13,6 @@ use Rattle.hand.proofs.NewestDone.{newest-last}
 use Rattle.hand.proofs.Rooms.{room-behind}
 use Rattle.hand.proofs.late.set_newest_aside.Goals.{then-is_before-via-then-is_before, then-is_before-via-else-is_before+then-newest_is_for}
 use Rattle.hand.proofs.late.set_newest_aside.Goals as goal
-
-some-newest : {K : Type 0} (ds : List (DoneEvent K)) (m : Message) → is_after message_order (newest_of (messages_of ds)) m ≡ false → 0 < length ds
-some-newest [] m e = absurd (both_ways true e refl)
-some-newest (d ∷ ds) m e = omega arith
 
 late-newest : {K : Type 0} (ds front : List (DoneEvent K)) (d : DoneEvent K) (m : Message) → ds ≡ front ++ d ∷ [] → is_after message_order (newest_of (messages_of ds)) m ≡ false →
     message_order.less d.message m ≡ false

@@ -6,7 +6,7 @@ use Rattle.hand.proofs.NewestDone.{sent_in-push}
 use Rattle.hand.proofs.Origin.{came-from, undone-came, aside-came}
 use Rattle.hand.proofs.Retreating.{rolls-undone, rolls-aside, newest-late, room-fewer}
 use Rattle.hand.proofs.undoing.step_back.Given.{Over}
-use Rattle.hand.proofs.undoing.step_back.Goals.{After-pop_newest-event, After-wait_again, After-move_newest}
+use Rattle.hand.proofs.undoing.step_back.Goals.{After-pop_newest-event, After-move_newest}
 use Rattle.hand.proofs.undoing.step_back.Goals as goal
 
 -- the newest event is of the message's receiver

@@ -12,11 +12,11 @@ invariant_of-self g c =
     let told = c.let_rows_go-refused.ensures.gone in
     let same = c.let_rows_go-refused.ensures.rows in
     let rows = ap (λ z. z.rows) same ∙ ap (λ n. record was { left = n }) told.1 in
-    let greatest = c.later-self-inside.ensures in (
+    let greatest = c.later_of-self-inside.ensures in (
       holds-again h now (ap (λ z. z.members) same) (ap (λ z. z.flow.words) same) (c.let_rows_go-refused.ensures.stands g.J.GroupRun.setting),
       c.self.invariant.1,
       ap (λ z. z.flow.keeps) same ∙ c.self.invariant.2,
       c.self.invariant.3,
       c.self.invariant.4,
-      rows-gone k now told.0 c.args.moment rows (ap (λ z. z.done) same) told.2 told.3 c.later-self-inside.result (omega (arith, greatest)) (omega (arith, greatest)),
+      rows-gone k now told.0 c.args.moment rows (ap (λ z. z.done) same) told.2 told.3 c.later_of-self-inside.result (omega (arith, greatest)) (omega (arith, greatest)),
     )

@@ -68,7 +68,7 @@ pub returns-in_default-early-clause-late : goal.returns-in_default-early-clause-
 returns-in_default-early-clause-late g c = λ e.
     let k = first g (goal.at.returns-in_default-early-clause-late g c).In-Some in (
       c.in-Some.message,
-      subst (λ ds. is_after message_order (newest_of (messages_of ds)) c.in-Some.message ≡ false) (c.reserve-2.ensures.same ∙ ap (λ h. h.done) c.self.view_is) (c.standing-early.ensures.late e),
+      subst (λ ds. is_after message_order (newest_of (messages_of ds)) c.in-Some.message ≡ false) (c.reserve-2.ensures.same ∙ ap (λ h. h.done) c.self.view_is) (c.early_of-early.ensures.late e),
       k.0,
       k.1,
     )
@@ -76,12 +76,12 @@ returns-in_default-early-clause-late g c = λ e.
 pub returns-in_default-early-clause-exhausted : goal.returns-in_default-early-clause-exhausted
 returns-in_default-early-clause-exhausted g c = λ e.
     let k = first g (goal.at.returns-in_default-early-clause-exhausted g c).In-Some in
-    let n = rw e at c.standing-early.ensures.numbers in (
+    let n = rw e at c.early_of-early.ensures.numbers in (
       c.in-Some.message,
       k.0,
       k.1,
       subst (λ ds. IsAscending message_order (messages_of ds) → All (λ x. x ≢ c.in-Some.message) (messages_of ds)) (c.reserve-2.ensures.same ∙ ap (λ h. h.done) c.self.view_is)
-          (λ up. after-none c.actor_rules_law.ensures.order c.in-Some.message (messages_of c.reserve-2.new.self.events) up (rw e at c.standing-early.ensures.after)),
+          (λ up. after-none c.actor_rules_law.ensures.order c.in-Some.message (messages_of c.reserve-2.new.self.events) up (rw e at c.early_of-early.ensures.after)),
       λ s i. n s (subst (λ ms. slice_get ms c.in-Some.message.receiver ≡ Some (Some s)) (sym c.deref.ensures.value)
           (subst (λ h. slice_get h.members c.in-Some.message.receiver ≡ Some (Some s)) (sym c.self.view_is) i)),
     )
@@ -89,7 +89,7 @@ returns-in_default-early-clause-exhausted g c = λ e.
 pub returns-in_default-early-clause-unchanged : goal.returns-in_default-early-clause-unchanged
 returns-in_default-early-clause-unchanged g c =
     let at = goal.at.returns-in_default-early-clause-unchanged g c in
-    on-err c.standing-early.result _ (back g at.After-wait_again (roomy g at.After-reserve-2))
+    on-err c.early_of-early.result _ (back g at.After-wait_again (roomy g at.After-reserve-2))
 
 pub returns-in_default-early-clause-still : goal.returns-in_default-early-clause-still
 returns-in_default-early-clause-still g c = λ e.
@@ -112,12 +112,12 @@ returns-in_default-early-clause-idle_still g c = λ e.
 pub returns-in_default-early-clause-soon : goal.returns-in_default-early-clause-soon
 returns-in_default-early-clause-soon g c = λ e.
     let k = first g (goal.at.returns-in_default-early-clause-soon g c).In-Some in
-    (c.in-Some.message, k.0, c.standing-early.ensures.late_soon e)
+    (c.in-Some.message, k.0, c.early_of-early.ensures.late_soon e)
 
 pub returns-in-Ok-Ran-clause-ran : goal.returns-in-Ok-Ran-clause-ran
 returns-in-Ok-Ran-clause-ran g c = λ _.
     let q = c.args.self.now.flow.queue in
     let k = first g (goal.at.returns-in-Ok-Ran-clause-ran g c).In-Some in
     let d = c.handle_first.ensures.done in
-    let w = subst (λ (m : Message). Contains q m × All (λ x. is_before x m ≡ false) q × (m.time < c.args.limit)) (sym d.2) (k.0, k.1, c.standing-early.ensures.soon (search rules)) in
+    let w = subst (λ (m : Message). Contains q m × All (λ x. is_before x m ≡ false) q × (m.time < c.args.limit)) (sym d.2) (k.0, k.1, c.early_of-early.ensures.soon (search rules)) in
     (d.0, d.1 ∙ ap (λ z. z ++ d.0 ∷ []) (c.reserve-2.ensures.same ∙ ap (λ h. h.done) c.self.view_is), w.0, w.1, w.2)

@@ -2,7 +2,7 @@ use Rattle.std.proofs.Common.{◌≡◌, ◌<◌, ◌-◌, length, get_or, sym, 
 use Rattle.process_queues.specs.Past.{newest_of}
 use Rattle.hand.specs.DoneEvents.{messages_of}
 use Rattle.hand.proofs.Shares.{newest-is}
-use Rattle.hand.proofs.done_events.DoneEvents.newest.Goals as goal
+use Rattle.hand.proofs.done_events.DoneEvents.newest_message.Goals as goal
 
 pub returns-in-Some : goal.returns-in-Some
 returns-in-Some g c =

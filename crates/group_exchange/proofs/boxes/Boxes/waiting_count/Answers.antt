@@ -5,8 +5,8 @@ use Rattle.vlink.specs.Order.{message_order}
 use Rattle.group_exchange.specs.Boxing.{box_of}
 use Rattle.group_exchange.specs.Telling.{box_at}
 use Rattle.group_exchange.proofs.Lists.{box-at, some-of}
-use Rattle.group_exchange.proofs.boxes.Boxes.waiting.Goals.{In-Some, After-index}
-use Rattle.group_exchange.proofs.boxes.Boxes.waiting.Goals as goal
+use Rattle.group_exchange.proofs.boxes.Boxes.waiting_count.Goals.{In-Some, After-index}
+use Rattle.group_exchange.proofs.boxes.Boxes.waiting_count.Goals as goal
 
 -- there is a box for the group of the process
 within : (c : In-Some) → c.in-Some.owner < length c.self.inside.boxes.items
