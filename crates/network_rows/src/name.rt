@@ -33,11 +33,4 @@ impl Name {
     {
         self.text.as_str()
     }
-
-    /// The name as a string of its own again. It takes no memory.
-    pub fn into_string(self) -> String
-        ensures { string_bytes result ≡ self }
-    {
-        self.text
-    }
 }

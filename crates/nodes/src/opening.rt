@@ -93,7 +93,6 @@ fn equipment(alloc: Global, network: &Network, process: u16) -> Result<Equipment
     if usize::from(process) < nodes {
         return node(alloc, network, process);
     }
-    // Its contract says that there are two lines for each link.
     let _lines = network.line_count();
     let place = usize::from(process) - nodes;
     Ok(Equipment::Line(line(alloc, network, place)?))

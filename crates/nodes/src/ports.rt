@@ -200,7 +200,6 @@ fn start(out: &mut Outbound, at: Time, port: u8, ahead: LineAhead, frame: &Frame
 {
     let byte_ns = u32::from(ahead.byte_ns);
     let size = frame.size;
-    // Its contract says that this is at most 1518 bytes.
     let _bytes = size.bytes();
     let last_bit = at.ns() + last_bit_ns(size, byte_ns);
     let free = at.ns() + busy_ns(size, byte_ns);

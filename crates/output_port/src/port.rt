@@ -93,7 +93,6 @@ impl Port {
         requires { waiting_bytes self.old + frame.size ≤ self.old.bytes }
         ensures { self.new ≡ with_waiting priority (waiting priority self.old ++ frame ∷ []) self.old }
     {
-        // Their contracts say that the frames waiting and this one have at least 64 bytes each.
         let _waiting = self.waiting_bytes();
         let _bytes = frame.size.bytes();
         self.waits = true;
@@ -108,7 +107,6 @@ impl Port {
         requires { waiting_bytes self.old + frame.size ≤ self.old.bytes }
         ensures { self.new ≡ with_waiting priority (frame ∷ waiting priority self.old) self.old }
     {
-        // Their contracts say that the frames waiting and this one have at least 64 bytes each.
         let _waiting = self.waiting_bytes();
         let _bytes = frame.size.bytes();
         self.waits = true;
@@ -135,7 +133,6 @@ impl Port {
         ensures kept { result ≡ put_kept self.old frame.now priority }
         ensures within { IsWithinBytes self.old }
     {
-        // Its contract says that the bytes waiting lie within their limit.
         let _waiting = self.waiting_bytes();
         if !self.busy {
             self.busy = true;
@@ -156,7 +153,6 @@ impl Port {
         ensures kept { saved.Free result ≡ (free self.old).kept }
         ensures within { IsWithinBytes self.old }
     {
-        // Its contract says that the bytes waiting lie within their limit.
         let _waiting = self.waiting_bytes();
         if !self.busy {
             return FreeRecord::Nothing;

@@ -154,7 +154,6 @@ impl Outbound {
         let Some(second_time) = Time::until(second_ns, self.until) else {
             return self.send(first_ns, first_receiver, first);
         };
-        // Its contract says that this is a moment, and the first is not after it.
         let _ns = second_time.ns();
         self.put(Time::of_known(first_ns), first_receiver, first);
         self.put(second_time, second_receiver, second);

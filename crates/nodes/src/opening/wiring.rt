@@ -15,7 +15,6 @@ fn process_of(network: &Network, line: usize) -> u16
     requires { line < length (lines_of network.now) }
     ensures { result ≡ length network.now.nodes + line }
 {
-    // The contracts of these two say that there are few processes.
     let _processes = network.process_count();
     let _lines = network.line_count();
     process_number(network.node_count() + line)
