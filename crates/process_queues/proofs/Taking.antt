@@ -1,5 +1,5 @@
 -- The last of a list, and what is in front of it.
-use Rattle.std.proofs.Common.{◌≡◌, ◌<◌, List, [], ◌∷◌, ◌++◌, length, refl, ap, arith, Result, Ok, Err, OnErr}
+use Rattle.std.proofs.Common.{◌≡◌, ◌<◌, List, [], ◌∷◌, ◌++◌, length, refl, ap, arith}
 
 -- two lists with one element more at the end are equal where both are
 pub snoc-equal : {A : Type 0} (xs ys : List A) (a b : A) → xs ++ a ∷ [] ≡ ys ++ b ∷ [] → (xs ≡ ys) × (a ≡ b)
@@ -19,8 +19,3 @@ pub split-last : {A : Type 0} (xs : List A) → 0 < length xs → (front : List 
 split-last [] h = absurd (omega arith)
 split-last (x ∷ []) h = ([], x, refl)
 split-last (x ∷ (y ∷ ys)) h = let k = split-last (y ∷ ys) (omega arith) in (x ∷ k.0, k.1, ap (λ z. x ∷ z) k.2)
-
--- what holds at all holds where a call is refused
-pub err-gives : {T E P : Type 0} (r : Result T E) → P → OnErr r P
-err-gives (Ok x) p = tt
-err-gives (Err e) p = p
