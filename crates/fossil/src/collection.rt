@@ -1,9 +1,8 @@
 //! Fossil collection of one process.
 ghost use Rattle.std.specs.Prelude.{◌≡◌, ◌<◌, ◌≤◌, OnOk, OnErr, IfOk};
-ghost use Rattle.vlink.specs.declared.message.Message.{Message};
-ghost use Rattle.virtual_time.specs.Law.{one_if, Part};
+ghost use Rattle.virtual_time.specs.Law.{one_if};
 ghost use Rattle.reverse.specs.Rules.{rules_of};
-ghost use Rattle.process_queues.specs.Queues.{StandsFor, Does};
+ghost use Rattle.process_queues.specs.Queues.{AtEachPart, Does};
 ghost use Rattle.fossil.specs.Committed.{is_moment_before, is_ready, committed_times, committed_below, committed_once};
 
 use antimessages::OutOfMemory;
@@ -21,10 +20,10 @@ use vlink::Time;
 /// - `reserved`: a refusal comes only where there was not room for all of them.
 pub fn commit<R: Actor>(process: &mut Process<R>, gvt: Time, n: u64) -> Result<u64, OutOfMemory>
     ensures committed { IfOk result (λ count. Does (rules_of R.plain) R.is_value (λ opening. committed_times (rules_of R.plain) count) process.old.queues process.new.queues) }
-    ensures answer { IfOk result (λ count. (opening : R) (part : Part Message R) →
-        StandsFor (rules_of R.plain) R.is_value opening part process.old.queues → count ≡ committed_below (rules_of R.plain) gvt n part) }
-    ensures one { n ≡ 1 → IfOk result (λ count. (opening : R) (part : Part Message R) →
-        StandsFor (rules_of R.plain) R.is_value opening part process.old.queues → count ≡ one_if (is_ready (rules_of R.plain) gvt part)) }
+    ensures answer { IfOk result (λ count. AtEachPart (rules_of R.plain) R.is_value process.old.queues (λ opening part.
+        count ≡ committed_below (rules_of R.plain) gvt n part)) }
+    ensures one { n ≡ 1 → IfOk result (λ count. AtEachPart (rules_of R.plain) R.is_value process.old.queues (λ opening part.
+        count ≡ one_if (is_ready (rules_of R.plain) gvt part))) }
     ensures one_part { n ≡ 1 → OnOk result (Does (rules_of R.plain) R.is_value (λ opening. committed_once (rules_of R.plain) gvt) process.old.queues process.new.queues) }
     ensures within { IfOk result (λ count. count ≤ n) }
     ensures none { IfOk result (λ count. count ≡ 0 → process.new.queues ≡ process.old.queues) }
@@ -32,8 +31,8 @@ pub fn commit<R: Actor>(process: &mut Process<R>, gvt: Time, n: u64) -> Result<u
     ensures left { process.new.queues.left ≡ process.old.queues.left }
     ensures outbox { process.new.queues.outbox ≡ process.old.queues.outbox }
     ensures unchanged { OnErr result (process.new.queues ≡ process.old.queues) }
-    ensures reserved { OnErr result ((opening : R) (part : Part Message R) →
-        StandsFor (rules_of R.plain) R.is_value opening part process.old.queues → process.old.committed_room < committed_below (rules_of R.plain) gvt n part) }
+    ensures reserved { OnErr result (AtEachPart (rules_of R.plain) R.is_value process.old.queues (λ opening part.
+        process.old.committed_room < committed_below (rules_of R.plain) gvt n part)) }
 {
     actor_rules_law::<R>();
     let count = process.committable(gvt, n as usize);

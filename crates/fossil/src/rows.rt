@@ -4,7 +4,7 @@ ghost use Rattle.std.specs.List.Sorted.{IsNonDecreasingBy, IsPartitionPoint};
 ghost use Rattle.vlink.specs.declared.message.Message.{Message};
 ghost use Rattle.virtual_time.specs.Law.{rowed, Part};
 ghost use Rattle.reverse.specs.Rules.{rules_of};
-ghost use Rattle.process_queues.specs.Queues.{StandsFor, Does, rows_there};
+ghost use Rattle.process_queues.specs.Queues.{AtEachPart, StandsFor, Does, rows_there};
 ghost use Rattle.fossil.specs.Within.{rows_within, AreInTime, AreFirstBefore, AreFrom};
 
 use process_queues::Process;
@@ -19,11 +19,11 @@ use vlink::{Row, Time};
 pub fn rows_between<R: Actor>(process: &Process<R>, from: Time, to: Time) -> &[Row]
     requires { (opening : R) × (part : Part Message R) × StandsFor (rules_of R.plain) R.is_value opening part process.now.queues
         × AreInTime (rules_of R.plain) (rowed (rules_of R.plain) opening part.committed) }
-    ensures there { (opening : R) (part : Part Message R) → StandsFor (rules_of R.plain) R.is_value opening part process.now.queues →
-        result.now ≡ rows_within (rules_of R.plain) from to (rows_there (rules_of R.plain) opening part process.now.queues) }
-    ensures whole { (opening : R) (part : Part Message R) → StandsFor (rules_of R.plain) R.is_value opening part process.now.queues →
+    ensures there { AtEachPart (rules_of R.plain) R.is_value process.now.queues (λ opening part.
+        result.now ≡ rows_within (rules_of R.plain) from to (rows_there (rules_of R.plain) opening part process.now.queues)) }
+    ensures whole { AtEachPart (rules_of R.plain) R.is_value process.now.queues (λ opening part.
         AreFirstBefore (rules_of R.plain) from process.now.queues.left (rowed (rules_of R.plain) opening part.committed) →
-        result.now ≡ rows_within (rules_of R.plain) from to (rowed (rules_of R.plain) opening part.committed) }
+        result.now ≡ rows_within (rules_of R.plain) from to (rowed (rules_of R.plain) opening part.committed)) }
 {
     rows_in_time(process.sealed(), from, to)
 }
@@ -49,16 +49,15 @@ pub fn let_rows_go<R: Actor>(process: &mut Process<R>, moment: Time)
     requires { (opening : R) × (part : Part Message R) × StandsFor (rules_of R.plain) R.is_value opening part process.old.queues
         × AreInTime (rules_of R.plain) (rowed (rules_of R.plain) opening part.committed) }
     ensures stands { Does (rules_of R.plain) R.is_value (λ opening part. part) process.old.queues process.new.queues }
-    ensures gone { (opening : R) (part : Part Message R) → StandsFor (rules_of R.plain) R.is_value opening part process.old.queues →
+    ensures gone { AtEachPart (rules_of R.plain) R.is_value process.old.queues (λ opening part.
         (count : ℕ) × (process.new.queues.left ≡ process.old.queues.left + count)
-        × AreFirstBefore (rules_of R.plain) moment count (rows_there (rules_of R.plain) opening part process.old.queues) }
-    ensures early { (opening : R) (part : Part Message R) → StandsFor (rules_of R.plain) R.is_value opening part process.old.queues →
-        (limit : ℕ) → moment ≤ limit →
+        × AreFirstBefore (rules_of R.plain) moment count (rows_there (rules_of R.plain) opening part process.old.queues)) }
+    ensures early { AtEachPart (rules_of R.plain) R.is_value process.old.queues (λ opening part. (limit : ℕ) → moment ≤ limit →
         AreFirstBefore (rules_of R.plain) limit process.old.queues.left (rowed (rules_of R.plain) opening part.committed) →
-        AreFirstBefore (rules_of R.plain) limit process.new.queues.left (rowed (rules_of R.plain) opening part.committed) }
-    ensures late { (opening : R) (part : Part Message R) → StandsFor (rules_of R.plain) R.is_value opening part process.old.queues →
+        AreFirstBefore (rules_of R.plain) limit process.new.queues.left (rowed (rules_of R.plain) opening part.committed)) }
+    ensures late { AtEachPart (rules_of R.plain) R.is_value process.old.queues (λ opening part.
         length (rowed (rules_of R.plain) opening part.committed) < 2 ^ 64 →
-        AreFrom (rules_of R.plain) moment (rows_there (rules_of R.plain) opening part process.new.queues) }
+        AreFrom (rules_of R.plain) moment (rows_there (rules_of R.plain) opening part process.new.queues)) }
 {
     let count = count_before(process.sealed(), moment);
     let _gone = process.let_rows_go(count);
