@@ -86,7 +86,7 @@ impl<R: Actor, J: ActorRun<R>> Held<R, J> {
     }
 
     /// The moment, in ns, before which rows of its committed events may have left. None has where it is 0.
-    pub fn gone(&self) -> Time
+    pub fn gone_before(&self) -> Time
         ensures { result ≡ self.now.gone }
     {
         self.gone

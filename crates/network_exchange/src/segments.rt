@@ -39,7 +39,7 @@ pub fn next_segment<J: NetworkRun>(
     ensures refused { OnErr result (held.new ≡ held.old) }
     ensures memory { IfErr result (λ fault. fault ≡ OutOfMemory) }
 {
-    let Some(k) = interval_at(until, held.gone()) else {
+    let Some(k) = interval_at(until, held.gone_before()) else {
         return Ok(None);
     };
     let Some(segment) = sealed_segment(alloc, held, k, until)? else {

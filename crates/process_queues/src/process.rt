@@ -135,14 +135,14 @@ impl<R: Actor> Process<R> {
     }
 
     /// How many rows of committed events have left, the oldest ones.
-    pub fn left(&self) -> u64
+    pub fn rows_left(&self) -> u64
         ensures { result ≡ self.now.queues.left }
     {
         self.left as u64
     }
 
     /// The oldest rows of committed events leave, `count` or all that are still there where these are fewer. The answer is how many. None
-    /// leaves beyond the greatest number that `left` can tell. It takes no memory.
+    /// leaves beyond the greatest number that `rows_left` can tell. It takes no memory.
     pub fn let_rows_go(&mut self, count: usize) -> usize
         ensures stands { Does (rules_of R.plain) R.is_value (λ opening part. part) self.old.queues self.new.queues }
         ensures left { self.new.queues.left ≡ self.old.queues.left + result }
