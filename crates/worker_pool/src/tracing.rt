@@ -10,6 +10,7 @@ ghost use Rattle.trace_tables.specs.Tables.{tables_of};
 ghost use Rattle.seqsim.specs.Networks.{AreRowsOf};
 ghost use Rattle.worker_pool.specs.Outcomes.{UsesUpNumbers};
 ghost use Rattle.worker_pool.specs.Runs.{IsEnded, IsJournalAsked, IsSummaryOf};
+ghost use Rattle.worker_pool.specs.Starts.{BeginsRun};
 ghost use Rattle.run_rows.specs.Written.{IsFaultOfTrace, IsPlaceFault, IsWritten};
 
 use crate::batches::write_batches;
@@ -115,7 +116,7 @@ fn traced_named<
     sink: S,
     watch: W,
 ) -> (Result<Traced<S>, PoolFault>, W)
-    requires names { (start.network.now ≡ J.plan) × ((start.keeps ≡ J.keeps) × ((start.pairs ≡ J.names) × (start.grouping.owners.items ≡ J.owners))) }
+    requires begins { BeginsRun J.plan J.keeps J.names J.owners start }
     requires taken { S.taken sink ≡ K.taken }
     requires failures { S.failures sink ≡ K.failures }
     ensures found { IfOk result.0 (λ t. IsSummaryOf J.plan J.keeps t.outcome.tables t.outcome.journal.items) }
