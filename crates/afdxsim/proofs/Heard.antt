@@ -6,9 +6,9 @@ use Rattle.afdxsim.specs.Orders.{IsHeard, heard_host}
 use Rattle.afdxsim.specs.Outside.{IsHost, Outside}
 use Rattle.afdxsim.specs.Progress.{HearsAsked, HearsProgress}
 
-module _ {S F O E : Type 0} (outside : Outside S F O E) {w : F → Option (List ℕ)} {x : F → ℕ} {shown : O → Option (List ℕ)} {unshown : O → ℕ}
-    {taken : E → Option (List ℕ)} {failures : E → ℕ} (law : IsHost outside w x shown unshown taken failures) where
-  told_so : (until : ℕ) (a b : E) → HearsProgress taken failures until a b → HearsProgress outside.said outside.unsaid until a b
+module _ {S F O E : Type 0} (outside : Outside S F O E) {w : F → Option (List ℕ)} {x : F → ℕ} {shown : O → Option (List ℕ)} {output_failures : O → ℕ}
+    {taken : E → Option (List ℕ)} {failures : E → ℕ} (law : IsHost outside w x shown output_failures taken failures) where
+  told_so : (until : ℕ) (a b : E) → HearsProgress taken failures until a b → HearsProgress outside.said outside.errors_failures until a b
   told_so until a b h = record {
     failed = let f = h.failed in let g = law.errors_failed a in let k = law.errors_failed b in omega arith;
     lines = λ same.
@@ -17,7 +17,7 @@ module _ {S F O E : Type 0} (outside : Outside S F O E) {w : F → Option (List 
         (lines, are, law.errors_took b ∙ (took ∙ ap (λ o. append_known o (flat_map (λ line. line) lines)) (sym (law.errors_took a))));
   }
 
-  told : (asked : Bool) (until : ℕ) (a b : E) → HearsAsked taken failures asked until a b → HearsAsked outside.said outside.unsaid asked until a b
+  told : (asked : Bool) (until : ℕ) (a b : E) → HearsAsked taken failures asked until a b → HearsAsked outside.said outside.errors_failures asked until a b
   told true until a b h = told_so until a b h
   told false until a b h = h
 
@@ -65,8 +65,8 @@ module _ {S F O E : Type 0} (outside : Outside S F O E) where
       outside.errors new ≡ outside.errors heard → P heard → P (heard_host outside old asked (outside.errors new))
   at_end asked old heard new P is same p = subst P (is ∙ ap (heard_host outside old asked) (sym same)) p
 
-module _ {S F O E : Type 0} (outside : Outside S F O E) {w : F → Option (List ℕ)} {x : F → ℕ} {shown : O → Option (List ℕ)} {unshown : O → ℕ}
-    {taken : E → Option (List ℕ)} {failures : E → ℕ} (law : IsHost outside w x shown unshown taken failures) where
+module _ {S F O E : Type 0} (outside : Outside S F O E) {w : F → Option (List ℕ)} {x : F → ℕ} {shown : O → Option (List ℕ)} {output_failures : O → ℕ}
+    {taken : E → Option (List ℕ)} {failures : E → ℕ} (law : IsHost outside w x shown output_failures taken failures) where
   -- what can be made can be made where error output heard of a run meanwhile
   pub makes_there : (asked : Bool) (old : S) (path : List ℕ) (said : E) (is_made : Bool) → outside.makes old path is_made →
       outside.makes (heard_host outside old asked said) path is_made

@@ -34,21 +34,21 @@ began taken text old new out.Device device kept = device refl
 began taken text old new out.OutOfMemory device kept = none_taken text (taken old) (taken new) (ap taken (kept (λ e. cc)))
 began taken text old new out.Layout device kept = none_taken text (taken old) (taken new) (ap taken (kept (λ e. cc)))
 
-module _ {S F O E : Type 0} (outside : Outside S F O E) {taken : F → Option (List ℕ)} {failures : F → ℕ} {shown : O → Option (List ℕ)} {unshown : O → ℕ}
-    {said : E → Option (List ℕ)} {unsaid : E → ℕ} (law : IsHost outside taken failures shown unshown said unsaid) where
+module _ {S F O E : Type 0} (outside : Outside S F O E) {taken : F → Option (List ℕ)} {failures : F → ℕ} {shown : O → Option (List ℕ)}
+    {output_failures : O → ℕ} {said : E → Option (List ℕ)} {errors_failures : E → ℕ} (law : IsHost outside taken failures shown output_failures said errors_failures) where
   -- standard output was lent and did not take a text
-  pub no_output : (has_rows : Bool) (host : S) (lent out : O) (fault : Fault) → lent ≡ outside.output host → IsFaultOfOutput has_rows unshown lent out fault →
+  pub no_output : (has_rows : Bool) (host : S) (lent out : O) (fault : Fault) → lent ≡ outside.output host → IsFaultOfOutput has_rows output_failures lent out fault →
       LacksOutput outside has_rows host (outside.with_output host out) fault
   no_output has_rows host lent out fault from met =
-      ((out, refl), subst (λ end. IsFaultOfOutput has_rows outside.unshown (outside.output host) end fault) (sym (law.output_stays host out)) (of fault met))
+      ((out, refl), subst (λ end. IsFaultOfOutput has_rows outside.output_failures (outside.output host) end fault) (sym (law.output_stays host out)) (of fault met))
     where
-      of : (fault : Fault) → IsFaultOfOutput has_rows unshown lent out fault → IsFaultOfOutput has_rows outside.unshown (outside.output host) out fault
+      of : (fault : Fault) → IsFaultOfOutput has_rows output_failures lent out fault → IsFaultOfOutput has_rows outside.output_failures (outside.output host) out fault
       of (Description fault) met = met
       of (JournalLine n) met = met
       of JournalFull met = met
       of (CannotRead path) met = met
       of (CannotWriteFile path) met = met
-      of CannotWrite met = law.output_failed out ∙ (met ∙ ap (λ n. n + 1) (ap unshown from ∙ sym (law.output_failed (outside.output host))))
+      of CannotWrite met = law.output_failed out ∙ (met ∙ ap (λ n. n + 1) (ap output_failures from ∙ sym (law.output_failed (outside.output host))))
       of Layout met = (met.0, met.1 ∙ from)
       of OutOfMemory met = met ∙ from
       of Exhausted met = met
@@ -57,7 +57,7 @@ module _ {S F O E : Type 0} (outside : Outside S F O E) {taken : F → Option (L
 
   -- a new file with this path was made, took a beginning of a text and was given back
   module _ (path : Bor (List ℕ)) (IsText : List ℕ → Type 0) (old begun new : S) (empty file : F) (text : List ℕ) (opened : begun ≡ outside.made old path.now)
-      (none : IfSome (outside.wrote empty) (λ bytes. bytes ≡ [])) (fresh : outside.unwritten empty ≡ 0) (is : IsText text)
+      (none : IfSome (outside.wrote empty) (λ bytes. bytes ≡ [])) (fresh : outside.file_failures empty ≡ 0) (is : IsText text)
       (given : new ≡ outside.closed begun path.now file) (made : outside.makes old path.now true)
       (took : IsBeginning (taken empty) (taken file) text) where
     -- so many writes of it failed

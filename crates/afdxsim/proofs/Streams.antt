@@ -18,7 +18,7 @@ module _ {S F O E : Type 0} (outside : Outside S F O E) {w : F → Option (List 
       Says outside old new text
   says lent out text from to took = λ same.
       let kept : lost out ≡ lost lent =
-      sym (law.errors_failed out) ∙ (ap outside.unsaid (sym to) ∙ (same ∙ (law.errors_failed (outside.errors old) ∙ ap lost (sym from)))) in
+      sym (law.errors_failed out) ∙ (ap outside.errors_failures (sym to) ∙ (same ∙ (law.errors_failed (outside.errors old) ∙ ap lost (sym from)))) in
       ap outside.said to ∙ (law.errors_took out ∙ (took kept ∙ ap (λ o. append_known o text) (ap heard from ∙ sym (law.errors_took (outside.errors old)))))
 
   -- what happened to one stream alone happened to both

@@ -40,7 +40,7 @@ module _ {S F O E : Type 0} (outside : Outside S F O E) where
   -- back; nothing else happened to the host
   abbrev pub BeginsFile : ℕ → List ℕ → (List ℕ → Type 0) → S → S → Type 0
   BeginsFile failed path IsText old new =
-      (file : F) × IfSome (outside.wrote file) (IsFront IsText) × (outside.unwritten file ≡ failed) ×
+      (file : F) × IfSome (outside.wrote file) (IsFront IsText) × (outside.file_failures file ≡ failed) ×
       (new ≡ outside.closed (outside.made old path) path file)
 
   -- a new file with this path was made, where there is one; nothing else happened to the host
@@ -82,7 +82,7 @@ module _ {S F O E : Type 0} (outside : Outside S F O E) where
   -- why a text, which has rows or has none, is not on standard output, and nothing else happened to the host
   abbrev pub LacksOutput : Bool → S → S → Fault → Type 0
   LacksOutput has_rows old new fault =
-      ShowsAlone old new × IsFaultOfOutput has_rows outside.unshown (outside.output old) (outside.output new) fault
+      ShowsAlone old new × IsFaultOfOutput has_rows outside.output_failures (outside.output old) (outside.output new) fault
 
   -- why the file with this path has none of these texts, which have rows or have none, and what is left of it: it could not be made; or it was,
   -- took a beginning, and a write of it failed; or no write failed, and a growth was refused or the rows were not laid out. Nothing else

@@ -28,7 +28,7 @@ module _ {S F O E : Type 0} (outside : Outside S F O E) (old : S) where
   -- once the run of the network was over, error output was `heard`: it took lines that tell how far the run was, where progress is asked for;
   -- else it took nothing
   abbrev pub IsHeard : Bool → Plan → E → Type 0
-  IsHeard asked plan heard = HearsAsked outside.said outside.unsaid asked plan.until (outside.errors old) heard
+  IsHeard asked plan heard = HearsAsked outside.said outside.errors_failures asked plan.until (outside.errors old) heard
 
   -- the host with that error output
   abbrev pub heard_host : Bool → E → S
@@ -43,7 +43,7 @@ module _ {S F O E : Type 0} (outside : Outside S F O E) (old new : S) where
 
   -- error output took this text, unless a write to it failed
   abbrev pub Says : List ℕ → Type 0
-  Says text = outside.unsaid (outside.errors new) ≡ outside.unsaid (outside.errors old) → Took outside.said (outside.errors old) (outside.errors new) text
+  Says text = outside.errors_failures (outside.errors new) ≡ outside.errors_failures (outside.errors old) → Took outside.said (outside.errors old) (outside.errors new) text
 
   -- standard output took the tables of the one-thread run of the network
   abbrev pub ShowsTables : Plan → Type 0
@@ -93,7 +93,7 @@ module _ {S F O E : Type 0} (outside : Outside S F O E) (old new : S) where
 
   -- this is told on error output, behind what it took before, and goes with this status
   abbrev pub IsTold : ℕ → Telling → Type 0
-  IsTold status telling = Told outside.said outside.unsaid (outside.errors old) (outside.errors new) status telling
+  IsTold status telling = Told outside.said outside.errors_failures (outside.errors old) (outside.errors new) status telling
 
 -- the host was `old` before, and is `new` at the end
 module _ {S F O E : Type 0} (outside : Outside S F O E) (old new : S) where

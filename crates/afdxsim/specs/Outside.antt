@@ -22,11 +22,11 @@ pub record Outside (S F O E : Type 0) : Type 1 where
   pub missed : S → List ℕ → S
   -- what a file, standard output and error output took so far, where they can tell, and how many writes to them failed
   pub wrote : F → Option (List ℕ)
-  pub unwritten : F → ℕ
+  pub file_failures : F → ℕ
   pub showed : O → Option (List ℕ)
-  pub unshown : O → ℕ
+  pub output_failures : O → ℕ
   pub said : E → Option (List ℕ)
-  pub unsaid : E → ℕ
+  pub errors_failures : E → ℕ
 
 -- the path of a file that keeps nothing of what is written into it
 abbrev pub nowhere : List ℕ
@@ -58,8 +58,8 @@ pub record IsHost {S F O E : Type 0} (outside : Outside S F O E) (file_taken : F
   pub makes_beside : (host : S) (path : List ℕ) (out : E) (is_made : Bool) → outside.makes host path is_made → outside.makes (outside.with_errors host out) path is_made
   -- of what its sinks took, and of their failures, the host tells as they do
   pub file_took : (file : F) → outside.wrote file ≡ file_taken file
-  pub file_failed : (file : F) → outside.unwritten file ≡ file_failures file
+  pub file_failed : (file : F) → outside.file_failures file ≡ file_failures file
   pub output_took : (out : O) → outside.showed out ≡ output_taken out
-  pub output_failed : (out : O) → outside.unshown out ≡ output_failures out
+  pub output_failed : (out : O) → outside.output_failures out ≡ output_failures out
   pub errors_took : (out : E) → outside.said out ≡ errors_taken out
-  pub errors_failed : (out : E) → outside.unsaid out ≡ errors_failures out
+  pub errors_failed : (out : E) → outside.errors_failures out ≡ errors_failures out

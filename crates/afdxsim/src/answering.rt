@@ -41,7 +41,7 @@ pub fn refuse_twice<H: Host>(alloc: Global, path: &str, host: &mut H) -> u8
 fn show<H: Host>(alloc: Global, text: &str, host: &mut H) -> u8
     ensures status { (result ≡ 0) ⊎ (result ≡ 4) ⊎ (result ≡ 5) }
     ensures shown { result ≡ 0 → Shows H.outside host.old host.new text.now }
-    ensures failed { result ≢ 0 → IsFaultOfOutput false H.outside.unshown (H.outside.output host.old) (H.outside.output host.new) CannotWrite }
+    ensures failed { result ≢ 0 → IsFaultOfOutput false H.outside.output_failures (H.outside.output host.old) (H.outside.output host.new) CannotWrite }
     ensures told { result ≢ 0 → TellsOne CannotWrite (IsTold H.outside host.old host.new result) }
     ensures both { ShowsBoth H.outside host.old host.new }
 {
@@ -55,7 +55,7 @@ fn show<H: Host>(alloc: Global, text: &str, host: &mut H) -> u8
 fn give_help<M: Display, H: Host>(alloc: Global, help: &M, host: &mut H) -> u8
     ensures status { (result ≡ 0) ⊎ (result ≡ 4) ⊎ (result ≡ 5) }
     ensures shown { result ≡ 0 → IfSome (M.output help.now) (Shows H.outside host.old host.new) }
-    ensures failed { result ≡ 4 → IsFaultOfOutput false H.outside.unshown (H.outside.output host.old) (H.outside.output host.new) CannotWrite }
+    ensures failed { result ≡ 4 → IsFaultOfOutput false H.outside.output_failures (H.outside.output host.old) (H.outside.output host.new) CannotWrite }
     ensures cannot_write { result ≡ 4 → TellsOne CannotWrite (IsTold H.outside host.old host.new result) }
     ensures memory { result ≡ 5 → TellsOne OutOfMemory (IsTold H.outside host.old host.new result) }
     ensures both { ShowsBoth H.outside host.old host.new }
@@ -95,7 +95,7 @@ pub fn answer<M: Display, H: Host>(alloc: Global, kind: ErrorKind, message: &M, 
     ensures only_shown { result ≡ 4 → AsksFor kind }
     ensures only_mistake { result ≡ 2 → ¬ (AsksFor kind) }
     ensures shown { result ≡ 0 → IfSome (M.output message.now) (Shows H.outside host.old host.new) }
-    ensures failed { result ≡ 4 → IsFaultOfOutput false H.outside.unshown (H.outside.output host.old) (H.outside.output host.new) CannotWrite }
+    ensures failed { result ≡ 4 → IsFaultOfOutput false H.outside.output_failures (H.outside.output host.old) (H.outside.output host.new) CannotWrite }
     ensures cannot_write { result ≡ 4 → TellsOne CannotWrite (IsTold H.outside host.old host.new result) }
     ensures said { result ≡ 2 → IfSome (M.output message.now) (Says H.outside host.old host.new) }
 {

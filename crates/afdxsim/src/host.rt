@@ -52,7 +52,7 @@ pub trait Host {
     /// and `OutOfMemory` only where it can be made and a growth was refused.
     fn make(&mut self, path: &str) -> Result<Self::File, FileFault>
         ensures empty { IfOk result (λ file. IfSome (outside.wrote file) (λ bytes. bytes ≡ [])) }
-        ensures fresh { IfOk result (λ file. outside.unwritten file ≡ 0) }
+        ensures fresh { IfOk result (λ file. outside.file_failures file ≡ 0) }
         ensures host { OnOk result (self.new ≡ outside.made self.old path.now) }
         ensures made { OnOk result (outside.makes self.old path.now true) }
         ensures refused { IfErr result (λ fault. fault ≡ Device → outside.makes self.old path.now false) }

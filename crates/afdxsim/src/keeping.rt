@@ -35,7 +35,7 @@ pub fn fault_of_file<'a>(path: &'a str, why: OutFault) -> Fault<'a>
 /// A new, empty file with this path.
 pub fn make_file<'a, H: Host>(path: &'a str, host: &mut H) -> Result<H::File, Fault<'a>>
     ensures empty { IfOk result (λ file. IfSome (H.outside.wrote file) (λ bytes. bytes ≡ [])) }
-    ensures fresh { IfOk result (λ file. H.outside.unwritten file ≡ 0) }
+    ensures fresh { IfOk result (λ file. H.outside.file_failures file ≡ 0) }
     ensures host { OnOk result (host.new ≡ H.outside.made host.old path.entry.now) }
     ensures made { OnOk result (H.outside.makes host.old path.entry.now true) }
     ensures fault { IfErr result (IsFaultOfMake H.outside path.entry host.old host.new) }

@@ -159,11 +159,11 @@ impl Host for System {
       closed = λ system _ _. system;
       missed = λ system _. system;
       wrote = ⟦<Device<File> as Sink>⟧.taken;
-      unwritten = ⟦<Device<File> as Sink>⟧.failures;
+      file_failures = ⟦<Device<File> as Sink>⟧.failures;
       showed = ⟦<Device<Stdout> as Sink>⟧.taken;
-      unshown = ⟦<Device<Stdout> as Sink>⟧.failures;
+      output_failures = ⟦<Device<Stdout> as Sink>⟧.failures;
       said = ⟦<Device<Stderr> as Sink>⟧.taken;
-      unsaid = ⟦<Device<Stderr> as Sink>⟧.failures;
+      errors_failures = ⟦<Device<Stderr> as Sink>⟧.failures;
     } };
 
     ghost lawful = { record {

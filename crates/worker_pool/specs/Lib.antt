@@ -3,3 +3,4 @@ pub mod Outcomes
 pub mod Segments
 pub mod Runs
 pub mod Gatherings
+pub mod Starts

@@ -1,8 +1,7 @@
 //! What an ended run has found.
-ghost use Rattle.std.specs.Prelude.{◌≡◌, true, List, [], IfOk, IfErr};
+ghost use Rattle.std.specs.Prelude.{◌≡◌, true, List, [], IfOk};
 ghost use Rattle.vlink.specs.Letters.{Row};
 ghost use Rattle.virtual_time.specs.Law.{steps};
-ghost use Rattle.journal.specs.declared.fault.PoolFault.TheVariants.{OutOfMemory};
 ghost use Rattle.trace_tables.specs.Tables.{tables_of};
 ghost use Rattle.seqsim.specs.Committed.{AreCommittedRows};
 ghost use Rattle.seqsim.specs.Networks.{AreRowsOf};
@@ -11,7 +10,6 @@ ghost use Rattle.worker_pool.specs.Runs.{IsEnded, IsJournalOf, HaveGoneBy};
 use crate::counted::{Counted, moment_of};
 use crate::ending::Unlocked;
 use crate::network_run::NetworkRun;
-use journal::PoolFault;
 use nodes::{Node, NodeRecord};
 use run_rows::rows_law;
 use seqsim::{network_law, rows_by_process_law};
@@ -22,13 +20,12 @@ use vlink::{Message, Note, Row, Step, Time};
 
 impl<J: NetworkRun> Unlocked<'_, J> {
     /// The steps of the run, in their order, where its journal is kept. It is refused for memory alone.
-    pub(crate) fn steps(&self, alloc: Global) -> Result<Vec<Step>, PoolFault>
+    pub(crate) fn steps(&self, alloc: Global) -> Result<Vec<Step>, AllocError>
         requires ended { IsEnded J.plan J.owners self.now.exchange.steps self.now.groups.items }
         requires keeps { J.keeps ≡ true }
-        ensures journal { IfOk result (λ steps. IsJournalOf J.plan steps.items) }
-        ensures memory { IfErr result (λ fault. fault ≡ OutOfMemory) }
+        ensures { IfOk result (λ steps. IsJournalOf J.plan steps.items) }
     {
-        Ok(Vec::from_slice(alloc, self.exchange.inner.step_list())?)
+        Vec::from_slice(alloc, self.exchange.inner.step_list())
     }
 
     /// The rows of all committed events, group by group. It is refused for memory alone.

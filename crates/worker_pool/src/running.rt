@@ -6,6 +6,7 @@ ghost use Rattle.trace_tables.specs.Tables.{tables_of};
 ghost use Rattle.seqsim.specs.Networks.{AreRowsOf};
 ghost use Rattle.worker_pool.specs.Outcomes.{CanWantWorkers, UsesUpNumbers};
 ghost use Rattle.worker_pool.specs.Runs.{IsEnded, IsJournalOf, HaveGoneBy};
+ghost use Rattle.worker_pool.specs.Starts.{BeginsRun};
 
 use crate::ending::Unlocked;
 use crate::group_opening::open_groups;
@@ -77,7 +78,7 @@ fn run_named<J: NetworkRun + Send + Sync, G: Gate + Sync, T: Threads + Wait + Sy
     gate: &G,
 ) -> Result<Outcome, PoolFault>
     requires keeps { J.keeps ≡ true }
-    requires names { (start.network.now ≡ J.plan) × ((start.keeps ≡ J.keeps) × ((start.pairs ≡ J.names) × (start.grouping.owners.items ≡ J.owners))) }
+    requires begins { BeginsRun J.plan J.keeps J.names J.owners start }
     ensures rows { IfOk result (λ o. AreRowsOf J.plan o.rows.items) }
     ensures tables { IfOk result (λ o. o.tables ≡ tables_of J.plan o.rows.items) }
     ensures finished { IfOk result (λ o. IsJournalOf J.plan o.journal.items) }

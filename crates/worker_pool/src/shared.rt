@@ -119,7 +119,7 @@ impl<J: NetworkRun> Shared<J> {
         ensures { result ≡ fault }
     {
         let _groups = self.inner.groups();
-        self.inner.fits(group);
+        let _fits = self.inner.fits(group);
         RunFault::new(fault)
     }
 }

@@ -40,9 +40,11 @@ pub(crate) struct StartOf<'n, J: NetworkRun> {
 }
 
 impl<'n, J: NetworkRun> StartOf<'n, J> {
+    ghost use Rattle.worker_pool.specs.Starts.{BeginsRun};
+
     /// The run has its names from what it begins with.
     pub(crate) fn of(start: Start<'n>) -> Self
-        requires { (start.network.now ≡ J.plan) × ((start.keeps ≡ J.keeps) × ((start.pairs ≡ J.names) × (start.grouping.owners.items ≡ J.owners))) }
+        requires { BeginsRun J.plan J.keeps J.names J.owners start }
         ensures { result.pace.workers ≡ start.entry.pace.workers }
     {
         let Start {

@@ -7,6 +7,7 @@ ghost use Rattle.trace_tables.specs.Tables.{tables_of};
 ghost use Rattle.seqsim.specs.Networks.{AreRowsOf};
 ghost use Rattle.worker_pool.specs.Outcomes.{CanWantWorkers, UsesUpNumbers};
 ghost use Rattle.worker_pool.specs.Runs.{IsEnded, IsJournalAsked, IsSummaryOf};
+ghost use Rattle.worker_pool.specs.Starts.{BeginsRun};
 
 use crate::counted::Counted;
 use crate::ending::Unlocked;
@@ -14,6 +15,7 @@ use crate::grouping::groups_for;
 use crate::leaving::Leaving;
 use crate::network_run::NetworkRun;
 use crate::pace::Pace;
+use crate::run_fault::RunFault;
 use crate::running::run_to_end;
 use crate::start::{Start, StartOf};
 use actor_run::Watch;
@@ -21,7 +23,7 @@ use exchange::Gate;
 use group_exchange::Pairs;
 use journal::PoolFault;
 use network::Network;
-use std::alloc::Global;
+use std::alloc::{AllocError, Global};
 use std::marker::Brand;
 use std::sync::Wait;
 use std::thread::Threads;
@@ -43,7 +45,7 @@ impl<J: NetworkRun> Unlocked<'_, J> {
         alloc: Global,
         counted: Option<Counted<J>>,
         with_steps: bool,
-    ) -> Result<Summary, PoolFault>
+    ) -> Result<Summary, RunFault<J>>
         requires ended { IsEnded J.plan J.owners self.now.exchange.steps self.now.groups.items }
         requires keeps { with_steps ≡ J.keeps }
         ensures found { IfOk result (λ s. IsSummaryOf J.plan J.keeps s.tables s.journal.items) }
@@ -51,25 +53,24 @@ impl<J: NetworkRun> Unlocked<'_, J> {
         ensures faults { IfErr result (λ fault. (fault ≡ OutOfMemory) ⊎ (fault ≡ Torn)) }
     {
         let Some(counted) = counted else {
-            return Err(PoolFault::Torn);
+            return Err(RunFault::other(PoolFault::Torn));
         };
         if counted.tables.is_none() {
-            return Err(PoolFault::OutOfMemory);
+            return Err(RunFault::other(PoolFault::OutOfMemory));
         }
         if !self.have_gone_by(counted.own.as_slice(), counted.end) {
-            return Err(PoolFault::Torn);
+            return Err(RunFault::other(PoolFault::Torn));
         }
         let tables = self.tables(counted)?;
         let journal = self.steps_asked(alloc, with_steps)?;
         Ok(Summary { tables, journal })
     }
 
-    /// The steps of an ended run, or none where they are not asked for.
-    fn steps_asked(&self, alloc: Global, with_steps: bool) -> Result<Vec<Step>, PoolFault>
+    /// The steps of an ended run, or none where they are not asked for. It is refused for memory alone.
+    fn steps_asked(&self, alloc: Global, with_steps: bool) -> Result<Vec<Step>, AllocError>
         requires ended { IsEnded J.plan J.owners self.now.exchange.steps self.now.groups.items }
         requires keeps { with_steps ≡ J.keeps }
-        ensures asked { IfOk result (λ steps. IsJournalAsked J.plan J.keeps steps.items) }
-        ensures memory { IfErr result (λ fault. fault ≡ OutOfMemory) }
+        ensures { IfOk result (λ steps. IsJournalAsked J.plan J.keeps steps.items) }
     {
         if with_steps {
             self.steps(alloc)
@@ -86,7 +87,7 @@ fn summary_named<J: NetworkRun + Send + Sync, G: Gate + Sync, T: Threads + Wait 
     gate: &G,
     watch: &mut W,
 ) -> Result<Summary, PoolFault>
-    requires { (start.network.now ≡ J.plan) × ((start.keeps ≡ J.keeps) × ((start.pairs ≡ J.names) × (start.grouping.owners.items ≡ J.owners))) }
+    requires { BeginsRun J.plan J.keeps J.names J.owners start }
     ensures found { IfOk result (λ s. IsSummaryOf J.plan J.keeps s.tables s.journal.items) }
     ensures exhausted { IfErr result (λ fault. fault ≡ Exhausted → UsesUpNumbers J.plan) }
     ensures spawn { IfErr result (λ fault. fault ≡ Spawn → CanWantWorkers start.entry.pace.workers (process_count J.plan)) }
@@ -98,7 +99,7 @@ fn summary_named<J: NetworkRun + Send + Sync, G: Gate + Sync, T: Threads + Wait 
     let leaving = Leaving::to_tables(counted);
     let mut ended = run_to_end::<J, G, T, W>(rt, alloc, start, gate, leaving, false, watch)?;
     let (_none, counted) = ended.leaving.close();
-    ended.summary(alloc, counted, keeps)
+    Ok(ended.summary(alloc, counted, keeps)?)
 }
 
 /// Simulates a network by workers, as `run` does, and lists no rows; the steps that were done are listed where they are asked for. Its refusals

@@ -10,6 +10,7 @@ ghost use Rattle.trace_tables.specs.Tables.{tables_of};
 ghost use Rattle.seqsim.specs.Networks.{AreRowsOf};
 ghost use Rattle.worker_pool.specs.Outcomes.{UsesUpNumbers};
 ghost use Rattle.worker_pool.specs.Runs.{IsEnded, IsJournalAsked, IsSummaryOf};
+ghost use Rattle.worker_pool.specs.Starts.{BeginsRun};
 ghost use Rattle.run_rows.specs.Written.{IsFaultOfTrace, IsPlaceFault, IsWritten};
 
 use crate::batches::write_batches;
@@ -69,13 +70,12 @@ fn traced_of<'a, J: NetworkRun, K: TraceRun, S: Sink + Drop>(
     writing: Writing<'a, J, K, S>,
     counted: Counted<J>,
     with_steps: bool,
-) -> Result<Traced<S>, PoolFault>
+) -> Result<Traced<S>, RunFault<J>>
     requires keeps { with_steps ≡ J.keeps }
     requires ended { IfOk ran (λ r. IsEnded J.plan J.owners r.0.exchange.steps r.0.groups.items) }
     requires fault { IfOk ran (λ r. IfSome r.1 IsPlaceFault) }
     ensures found { IfOk result (λ t. IsSummaryOf J.plan J.keeps t.outcome.tables t.outcome.journal.items) }
     ensures written { IfOk result (λ t. IsWritten J.plan K.taken K.failures t.written (S.taken t.sink) (S.failures t.sink)) }
-    ensures exhausted { IfErr result (λ fault. fault ≡ Exhausted → UsesUpNumbers J.plan) }
 {
     let (ended, fault) = ran?;
     let outcome = ended.summary(alloc, Some(counted), with_steps)?;
@@ -115,7 +115,7 @@ fn traced_named<
     sink: S,
     watch: W,
 ) -> (Result<Traced<S>, PoolFault>, W)
-    requires names { (start.network.now ≡ J.plan) × ((start.keeps ≡ J.keeps) × ((start.pairs ≡ J.names) × (start.grouping.owners.items ≡ J.owners))) }
+    requires begins { BeginsRun J.plan J.keeps J.names J.owners start }
     requires taken { S.taken sink ≡ K.taken }
     requires failures { S.failures sink ≡ K.failures }
     ensures found { IfOk result.0 (λ t. IsSummaryOf J.plan J.keeps t.outcome.tables t.outcome.journal.items) }
@@ -129,21 +129,20 @@ fn traced_named<
     };
     let network = start.network;
     let writing: Writing<J, K, S> = Writing::new(alloc, network, sink);
-    thread::scope(
+    let (traced, watch) = thread::scope(
         thread::scope_env(),
         rt,
-        |scope| -> (Result<Traced<S>, PoolFault>, W)
+        |scope| -> (Result<Traced<S>, RunFault<J>>, W)
             requires { network.now ≡ J.plan }
             ensures found { IfOk result.0 (λ t. IsSummaryOf J.plan J.keeps t.outcome.tables t.outcome.journal.items) }
             ensures written { IfOk result.0 (λ t. IsWritten J.plan K.taken K.failures t.written (S.taken t.sink) (S.failures t.sink)) }
-            ensures exhausted { IfErr result.0 (λ fault. fault ≡ Exhausted → UsesUpNumbers J.plan) }
             ensures watched { W.becomes watch result.1 }
         {
             let mut watch = watch;
             let Ok(writer) = scope.spawn(move || write_batches(
                 rt, network, writing, counted, batches,
             )) else {
-                return (Err(PoolFault::Spawn), watch);
+                return (Err(RunFault::other(PoolFault::Spawn)), watch);
             };
             let keeps = start.keeps;
             let ran = run_to_end(rt, alloc, start, gate, leaving, false, &mut watch);
@@ -151,7 +150,11 @@ fn traced_named<
             let (writing, counted) = writer.join(rt);
             (traced_of(alloc, ran, writing, counted, keeps), watch)
         },
-    )
+    );
+    match traced {
+        Ok(traced) => (Ok(traced), watch),
+        Err(fault) => (Err(PoolFault::from(fault)), watch),
+    }
 }
 
 /// Simulates a network by workers, as `run_summary` does, and writes the trace to the sink while the run goes on: segments of

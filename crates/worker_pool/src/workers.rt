@@ -167,7 +167,7 @@ fn give_turns<J: NetworkRun, G: Gate, T: Wait>(
     gate: &G,
     number: usize,
 ) -> Result<(), RunFault<J>> {
-    let outcome = match turns(rt, alloc, common, gate, number) {
+    let outcome = match turns_of_worker(rt, alloc, common, gate, number) {
         Err(fault) => common.stop_all(fault),
         Ok(()) => Ok(()),
     };
@@ -176,7 +176,7 @@ fn give_turns<J: NetworkRun, G: Gate, T: Wait>(
 }
 
 /// The turns that a worker gives.
-fn turns<J: NetworkRun, G: Gate, T: Wait>(
+fn turns_of_worker<J: NetworkRun, G: Gate, T: Wait>(
     rt: &T,
     alloc: Global,
     common: &Common<'_, J>,
@@ -184,5 +184,5 @@ fn turns<J: NetworkRun, G: Gate, T: Wait>(
     number: usize,
 ) -> Result<(), RunFault<J>> {
     let mut worker = Worker::new(rt, alloc, common, gate, number)?;
-    worker.turns()
+    worker.turns_until_over()
 }

@@ -145,11 +145,11 @@ impl<R: Abort + Copy + Send> Host for TellingHost<R> {
       closed = λ host _ file. record host { is_open = false; last = Some file };
       missed = λ host _. record host { has_missed = true };
       wrote = λ sheet. Some sheet.bytes.items;
-      unwritten = λ sheet. sheet.failures;
+      file_failures = λ sheet. sheet.failures;
       showed = λ sheet. Some sheet.bytes.items;
-      unshown = λ sheet. sheet.failures;
+      output_failures = λ sheet. sheet.failures;
       said = λ sheet. Some sheet.bytes.items;
-      unsaid = λ sheet. sheet.failures;
+      errors_failures = λ sheet. sheet.failures;
     } };
 
     ghost lawful = { record {

@@ -59,7 +59,7 @@ impl<'s, 'n, J: NetworkRun, G: Gate, T: Wait> Worker<'s, 'n, J, G, T> {
     }
 
     /// Gives turns until the run is over or the flag is set.
-    pub(crate) fn turns(&mut self) -> Result<(), RunFault<J>> {
+    pub(crate) fn turns_until_over(&mut self) -> Result<(), RunFault<J>> {
         let rt = self.rt;
         for _ in rt.forever() {
             if self.is_over() {

@@ -24,7 +24,7 @@ returns-clause-line g c =
     let before = c.args.host.now in
     let shown = outside.with_output before c.show_tables.new.output in
     let after = outside.with_errors shown c.say.new.errors in
-    subst (λ text. outside.unsaid (outside.errors after) ≡ outside.unsaid (outside.errors before) → Took outside.said (outside.errors before) (outside.errors after) text)
+    subst (λ text. outside.errors_failures (outside.errors after) ≡ outside.errors_failures (outside.errors before) → Took outside.said (outside.errors before) (outside.errors after) text)
     c.as_str.ensures.value
     (says outside law before after c.errors.result.now c.say.new.errors c.as_str.result.now
     (c.errors.ensures.value ∙ law.errors_beside before c.show_tables.new.output) (law.errors_stay shown c.say.new.errors) c.say.ensures.took)
