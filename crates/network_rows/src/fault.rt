@@ -14,7 +14,7 @@ pub struct Place {
 }
 
 /// What is wrong with a key of a row, in the order in which it is told.
-#[derive(Clone, Copy, Debug, PartialEq, Eq)]
+#[derive(Clone, Copy)]
 pub enum KeyFault {
     /// It is absent, and the row has to have it.
     Missing,

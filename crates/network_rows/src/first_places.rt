@@ -5,7 +5,7 @@ ghost use Rattle.network_rows.specs.Firsts.{nowhere, stored, told_fault};
 use crate::fault::{DescFault, KeyFault, Place};
 
 /// The first place of each sort of fault, while a document is gone through in its order.
-#[derive(Clone, Copy, Debug, PartialEq, Eq)]
+#[derive(Clone, Copy)]
 pub struct FirstPlaces {
     pub missing: Option<Place>,
     pub wrong_kind: Option<Place>,

@@ -46,7 +46,7 @@ pub enum Key {
 }
 
 /// A word that a text of a description may be.
-#[derive(Clone, Copy, Debug, PartialEq, Eq)]
+#[derive(Clone, Copy)]
 pub enum Word {
     Es,
     Switch,

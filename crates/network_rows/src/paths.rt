@@ -9,7 +9,7 @@ use toml::Value;
 /// A path: the names of the nodes that it goes through, the source first.
 ///
 /// Clauses see it as their list, each name as its bytes.
-#[derive(Debug, Drop)]
+#[derive(Drop)]
 pub struct Path<'a> {
     names: &'a [Value],
 }
@@ -46,7 +46,7 @@ impl<'a> Path<'a> {
 /// The paths of a virtual link on one network.
 ///
 /// Clauses see them as their list.
-#[derive(Debug, Drop)]
+#[derive(Drop)]
 pub struct Paths {
     paths: Vec<Value>,
 }

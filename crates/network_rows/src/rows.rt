@@ -13,7 +13,7 @@ pub enum NodeKind {
 }
 
 /// How fast a link is.
-#[derive(Clone, Copy, Debug, PartialEq, Eq)]
+#[derive(Clone, Copy)]
 pub enum Rate {
     Mbit10,
     Mbit100,
@@ -45,7 +45,7 @@ pub struct NodeRow {
 }
 
 /// A row of the section `link`.
-#[derive(Debug, Drop)]
+#[derive(Drop)]
 pub struct LinkRow {
     pub a: Name,
     pub b: Name,
@@ -56,7 +56,7 @@ pub struct LinkRow {
 }
 
 /// A row of the section `outage`: from `from_ns` on, and until before `to_ns`, nothing goes from the one node to the other.
-#[derive(Debug, Drop)]
+#[derive(Drop)]
 pub struct OutageRow {
     pub from: Name,
     pub to: Name,
@@ -98,7 +98,7 @@ pub struct VirtualLink {
 }
 
 /// A row of the section `vl`.
-#[derive(Debug, Drop)]
+#[derive(Drop)]
 pub struct VlRow {
     /// What is agreed of its frames.
     pub link: VirtualLink,
@@ -111,7 +111,7 @@ pub struct VlRow {
 }
 
 /// What a description says, row by row.
-#[derive(Debug, Drop)]
+#[derive(Drop)]
 pub struct Rows {
     /// The end of a run.
     pub until: Time,

@@ -2,7 +2,7 @@
 use crate::key::{Key, Word};
 
 /// Which rows have a key.
-#[derive(Clone, Copy, Debug, PartialEq, Eq)]
+#[derive(Clone, Copy)]
 pub enum Presence {
     /// Each row has it.
     Required,
@@ -15,7 +15,7 @@ pub enum Presence {
 }
 
 /// What the value at a key has to be: its type, and with it the limit.
-#[derive(Clone, Copy, Debug, PartialEq, Eq)]
+#[derive(Clone, Copy)]
 pub enum ValueType {
     /// An integer from the first number to the second.
     Integer(u64, u64),
@@ -36,7 +36,7 @@ pub enum ValueType {
 }
 
 /// A line of the table of keys.
-#[derive(Clone, Copy, Debug, PartialEq, Eq)]
+#[derive(Clone, Copy)]
 pub struct Rule {
     pub key: Key,
     /// Which rows have the key.

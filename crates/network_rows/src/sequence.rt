@@ -6,7 +6,7 @@ use std::marker::Model;
 /// Values in an order.
 ///
 /// Clauses see it as their list.
-#[derive(Debug, Drop)]
+#[derive(Drop)]
 pub struct Sequence<T> {
     items: Vec<T>,
 }
