@@ -1,5 +1,5 @@
 -- A letter that arrives: what that makes of the part, how many events it undoes, and the queues afterwards.
-use Rattle.std.proofs.Common.{◌≡◌, ℕ, ◌+◌, ◌⊎◌, inl, inr, Bool, true, false, not, cond, List, [], ◌∷◌, ◌++◌, length, map, drop, slice_get, Some, refl, sym, ap, ◌∙◌, subst, arith, ◌≢◌, length-append}
+use Rattle.std.proofs.Common.{◌≡◌, ℕ, ◌+◌, ◌⊎◌, inl, inr, Bool, true, false, not, cond, List, [], ◌∷◌, ◌++◌, length, map, drop, slice_get, Some, None, refl, sym, ap, ◌∙◌, subst, arith, ◌≢◌, length-append}
 use Rattle.std.specs.Prelude.{⊤}
 use Rattle.std.proofs.lemmas.Bool.{not_from_true}
 use Rattle.vlink.specs.declared.message.Message.{Message}
@@ -14,6 +14,7 @@ use Rattle.antimessages.specs.Counting.{HaveSameCounts, signed_count, change_by,
 use Rattle.antimessages.specs.declared.tally.Change.TheVariants.{Same}
 use Rattle.antimessages.proofs.Agreeing.{same_counts-cons}
 use Rattle.process_queues.specs.Past.{Past, BelongsTo, newest_of}
+use Rattle.process_queues.specs.Arriving.{done_since}
 use Rattle.process_queues.specs.Queues.{Queues, StandsFor, rows_there, with_done}
 use Rattle.process_queues.proofs.Beside.{with_done-same, with_done-undone}
 use Rattle.process_queues.proofs.Counting.{OfMessages, not_toggled, toggled}
@@ -26,6 +27,19 @@ use Rattle.process_queues.proofs.Rolls.{done-messages}
 front-split : (ls : List Letter) (l : Letter) → slice_get ls 0 ≡ Some l → ls ≡ l ∷ drop 1 ls
 front-split [] l e = cc
 front-split (x ∷ xs) l e = let k : x ≡ l = cc in ap (λ z. z ∷ xs) k
+
+no-front : (ls : List Letter) → slice_get ls 0 ≡ None → ls ≡ []
+no-front [] e = refl
+no-front (x ∷ xs) e = cc
+
+-- where there is no front letter nothing arrives
+module _ {S K : Type 0} {r : Rules Message S K Note} {is_value : S → Message → Type 0} {opening : S} {part : Part Message S} {q : Queues S K}
+    (h : StandsFor r is_value opening part q) (none : slice_get q.tray 0 ≡ None) where
+  pub none-answer : part.tray ≡ []
+  none-answer = sym h.tray ∙ no-front q.tray none
+
+  pub none-stands : StandsFor r is_value opening (arrive r opening part) q
+  none-stands = subst (λ z. StandsFor r is_value opening z q) (sym (ap (arrived r opening part) none-answer)) h
 
 -- what the arrival of the front letter makes of the part, and how many events that undoes
 record Arrives {S K : Type 0} (r : Rules Message S K Note) (opening : S) (part made : Part Message S) (undone : ℕ) : Type 0 where
@@ -127,12 +141,14 @@ module _ {S K : Type 0} {r : Rules Message S K Note} (R : OfMessages r) {is_valu
         let k = back n in
         (k.answer.0, same ∙ k.answer.1)
 
-    -- the events from a place on were tallied again, and the letter was
-    pub back-stands : (place : ℕ) (t t' outbox : List Letter) (q' : Queues S K) → place ≡ length (before r.order l.message (map (λ e. e.message) q.past.done)) →
-        q.tally ≡ with_done t q.past.done → HaveSameCounts message_order t' (l ∷ (map (λ e. plus_of e.message) (drop place q.past.done) ++ t)) →
+    -- the events that do not come before the letter were tallied again, and the letter was
+    pub back-stands : (t t' outbox : List Letter) (q' : Queues S K) → q.tally ≡ with_done t q.past.done →
+        HaveSameCounts message_order t' (l ∷ (map (λ e. plus_of e.message) (done_since l.message q.past.done) ++ t)) →
         outbox ≡ (rolled_back r opening l.message (tallied r l (drop 1 q.tray) part)).outbox →
         q' ≡ record q { past = past'; tally = with_done t' past'.done; tray = drop 1 q.tray; outbox = outbox } → StandsFor r is_value opening (arrive r opening part) q'
-    back-stands place t t' outbox q' at e counts o f =
+    back-stands t t' outbox q' e counts o f =
+        let place = length (before message_order l.message (map (λ e. e.message) q.past.done)) in
+        let at = ap (λ order. length (before order l.message (map (λ e. e.message) q.past.done))) (sym R.order_is) in
         let split = undone-split r R.order l.message part.done q.past.done past'.done place (done-messages h.past) h.past.ascending
         (done-messages b) at in
         arrived-stands _ _ _ _ (back n) past' (with_done t' past'.done) q' b

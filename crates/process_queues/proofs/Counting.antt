@@ -1,6 +1,5 @@
 -- The signed counts of a process, by the rules of its actor and by the order of messages.
-use Rattle.std.proofs.Common.{◌≡◌, ℕ, ◌+◌, ◌==◌, Bool, true, false, not, ◌&&◌, List, ◌∷◌, pos, ◌-ℤ◌, refl, ap, ◌∙◌, arith, ◌≢◌}
-use Rattle.std.proofs.lemmas.Bool.Decides.{nat_tests}
+use Rattle.std.proofs.Common.{◌≡◌, ℕ, ◌+◌, Bool, true, false, not, ◌&&◌, List, ◌∷◌, pos, ◌-ℤ◌, refl, ap, ◌∙◌, arith, ◌≢◌}
 use Rattle.std.proofs.lemmas.Int.{ints}
 use Rattle.vlink.specs.declared.message.Message.{Message}
 use Rattle.vlink.specs.declared.note.Note.{Note}
@@ -10,7 +9,7 @@ use Rattle.reverse.specs.Plain.{Plain, IsReversible}
 use Rattle.reverse.specs.Rules.{rules_of}
 use Rattle.vlink.specs.Order.{message_order}
 use Rattle.vlink.specs.Letters.{Letter}
-use Rattle.antimessages.specs.Counting.{signed_count, change_by, is_toggle, HaveSameCounts}
+use Rattle.antimessages.specs.Counting.{change_by, is_toggle, HaveSameCounts}
 use Rattle.antimessages.specs.declared.tally.Change.{Change}
 use Rattle.antimessages.specs.declared.tally.Change.TheVariants.{BecamePresent, BecameAbsent, Same}
 use Rattle.antimessages.proofs.Agreeing.{present-same_count, same_counts-cons, change-same_counts, toggled-is}
@@ -62,12 +61,3 @@ module _ {S K : Type 0} (r : Rules Message S K Note) (R : OfMessages r) where
 
     pub toggled : change_by message_order l b ≢ Same → is_toggled r.order l a ≡ true
     toggled n = toggled-as ∙ toggles _ n
-
-  -- the count is just 1
-  pub one-left : (m : Message) (a b : List Letter) → HaveSameCounts message_order a b → signed_count message_order m b ≡ pos 1 →
-      (pluses r.order m a == minuses r.order m a + 1) ≡ true
-  one-left m a b h e = ap (λ o. pluses o m a == minuses o m a + 1) R.order_is ∙ (let i = h m in grind (arith, nat_tests, ints))
-
-  pub not-one-left : (m : Message) (a b : List Letter) → HaveSameCounts message_order a b → signed_count message_order m b ≢ pos 1 →
-      (pluses r.order m a == minuses r.order m a + 1) ≡ false
-  not-one-left m a b h n = ap (λ o. pluses o m a == minuses o m a + 1) R.order_is ∙ (let i = h m in grind (arith, nat_tests, ints))

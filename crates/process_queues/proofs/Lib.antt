@@ -14,3 +14,5 @@ pub mod Stragglers
 pub mod Taking
 pub mod Places
 pub mod Since
+pub mod Changes
+pub mod Seals

@@ -1,13 +1,12 @@
 -- A letter of a message that does not come after all done events: whether that is done, and whether the letter makes it present or absent.
-use Rattle.std.proofs.Common.{◌≡◌, ℕ, ◌≤◌, ℤ, inl, inr, Bool, true, false, not, ◌&&◌, List, [], ◌∷◌, map, filter, pos, ◌+ℤ◌, Option, Some, slice_get, refl, sym, ap, ◌∙◌, subst, arith, ◌≢◌, IsTrue}
+use Rattle.std.proofs.Common.{◌≡◌, ℕ, ◌≤◌, ℤ, inl, inr, Bool, true, false, not, ◌&&◌, List, [], ◌∷◌, map, filter, pos, ◌+ℤ◌, Option, Some, refl, sym, ap, ◌∙◌, arith, ◌≢◌, IsTrue}
 use Rattle.std.proofs.lemmas.Int.{ints}
 use Rattle.std.proofs.lemmas.Bool.{both_ways, cases_lt}
 use Rattle.vlink.specs.declared.message.Message.{Message}
 use Rattle.vlink.specs.declared.note.Note.{Note}
 use Rattle.virtual_time.specs.declared.letter.Sign.{Sign}
 use Rattle.virtual_time.specs.declared.letter.Sign.TheVariants.{Plus, Minus}
-use Rattle.virtual_time.specs.Law.{Rules, one_if, least, same, times_in, IsIn, IsPresent, is_present, pluses, minuses, is_plus, Part, can_commit}
-use Rattle.virtual_time.proofs.Lists.{in-head}
+use Rattle.virtual_time.specs.Law.{Rules, one_if, least, same, times_in, IsIn, IsPresent, is_present, pluses, minuses, is_plus, Part}
 use Rattle.virtual_time.proofs.Order.{same_cases}
 use Rattle.virtual_time.proofs.Presence.{present-true}
 use Rattle.virtual_time.proofs.Ascending.{ascending-once}
@@ -17,14 +16,12 @@ use Rattle.antimessages.proofs.After.{first_after-is}
 use Rattle.antimessages.proofs.Changes.{change-plus_none, change-plus_some, change-minus_one, change-minus_other}
 use Rattle.antimessages.specs.Counting.{signed_count, change_by, is_after, present_after}
 use Rattle.antimessages.specs.declared.tally.Change.TheVariants.{Same}
-use Rattle.process_queues.specs.declared.past.Event.{Event}
 use Rattle.process_queues.specs.Past.{newest_of}
 use Rattle.process_queues.specs.Queues.{Queues, StandsFor, with_done, next_in}
 use Rattle.process_queues.proofs.Beside.{times, with_done-count, with_done-next, times-messages}
-use Rattle.process_queues.proofs.Counting.{OfMessages, one-left, not-one-left}
+use Rattle.process_queues.proofs.Counting.{OfMessages}
 use Rattle.process_queues.proofs.Newest.{newest-more}
 use Rattle.process_queues.proofs.Next.{here, there, after-not_done, not_done-after, after-here}
-use Rattle.process_queues.proofs.Reading.{first-done}
 use Rattle.process_queues.proofs.Rolls.{done-messages}
 
 -- a message that does not come after all done events is present just where it is done
@@ -154,19 +151,3 @@ module _ {S K : Type 0} {r : Rules Message S K Note} (R : OfMessages r) {is_valu
 
   pub beside-present : (m : Message) → next_in q ≡ Some m → IsPresent message_order t m
   beside-present m next = (first_after-is message_order R.messages (newest_of (map (λ e. e.message) q.past.done)) t m (sym next-beside ∙ next)).present
-
-  -- the oldest done event can be committed just where nothing else of its message counts
-  pub seals : (event : Event K) → slice_get q.past.done 0 ≡ Some event →
-      (signed_count message_order event.message t ≡ pos 0 → can_commit r.order part part.done ≡ true)
-      × (signed_count message_order event.message t ≢ pos 0 → can_commit r.order part part.done ≡ false)
-  seals event first =
-      let m = event.message in
-      let f = first-done h event first in
-      let a = ap (signed_count message_order m) e ∙ with_done-count R.messages m t q.past.done in
-      let b = done-times R h m in
-      let up = ascending-once r.order R.order m part.done h.past.ascending in
-      let i = subst (λ ds. IsIn r.order m ds) (sym f.1) (in-head r.order R.order m f.0) in
-      let one : times R.messages m q.past.done ≡ 1 = omega arith in (
-        λ z. ap (can_commit r.order part) f.1 ∙ one-left r R m part.tally q.tally h.counts (omega (arith, ints)),
-        λ n. ap (can_commit r.order part) f.1 ∙ not-one-left r R m part.tally q.tally h.counts (λ k. n (omega (arith, ints))),
-      )

@@ -1,17 +1,21 @@
 //! A letter arrives: it is tallied, and where it comes late the process rolls back.
-ghost use Rattle.std.specs.Prelude.{map, ◌≡◌, ◌≢◌, [], false, drop, IsTrue, MatchOption, OnOk, OnErr, IfOk, IfErr};
-ghost use Rattle.virtual_time.specs.Law.{arrive, undone_by};
+ghost use Rattle.std.specs.Prelude.{map, ◌≡◌, ◌≢◌, ◌↔◌, ◌+◌, ◌≤◌, ◌+ℤ◌, pos, [], ◌∷◌, ◌++◌, true, false, not, drop, length, slice_get, Some, IsTrue, MatchOption, OnOk, OnErr, IfOk, IfErr};
+ghost use Rattle.vlink.specs.declared.message.Message.{Message};
+ghost use Rattle.virtual_time.specs.Law.{IsIn, IsAscending, is_plus, plus_of, pluses, minuses, Part, arrive, rolled_back, undone_by};
 ghost use Rattle.reverse.specs.Rules.{rules_of};
 ghost use Rattle.vlink.specs.Order.{message_order};
-ghost use Rattle.antimessages.specs.Counting.{change_by, is_after};
+ghost use Rattle.antimessages.specs.Letters.{weight};
+ghost use Rattle.antimessages.specs.Counting.{signed_count, HaveSameCounts, change_by, is_after};
 ghost use Rattle.antimessages.specs.declared.tally.Change.TheVariants.{Same};
 ghost use Rattle.process_queues.specs.declared.fault.ProcFault.TheVariants.{OutOfMemory};
-ghost use Rattle.process_queues.specs.Past.{newest_of};
+ghost use Rattle.process_queues.specs.Past.{Rows, BelongsTo, newest_of};
+ghost use Rattle.process_queues.specs.Arriving.{Arrives, done_since};
 ghost use Rattle.process_queues.specs.Queues.{AtEachPart, Does};
 
 use crate::fault::ProcFault;
+use crate::past::Past;
 use crate::process::Process;
-use antimessages::rewind;
+use antimessages::{Change, Outbox, Tally, rewind};
 use reverse::{Actor, actor_rules_law};
 use std::collections::VecDeque;
 use vlink::{Letter, Sign};
@@ -30,30 +34,67 @@ impl<R: Actor> Process<R> {
         ensures unchanged { OnErr result (self.new.queues ≡ self.old.queues) }
         ensures memory { IfErr result (λ fault. fault ≡ OutOfMemory) }
     {
-        actor_rules_law::<R>();
-        let Some(letter) = self.tray.front().copied() else {
+        let Some(letter) = front_of(&self.tray) else {
             return Ok(None);
         };
-        if self.past.is_before(&letter.message) {
-            let change = self.tally.add(letter)?;
-            pop_front(&mut self.tray);
-            self.next = self
-                .tally
-                .next_with(self.next, &letter, change, self.past.newest());
-            return Ok(Some(0));
-        }
-        if !self.is_toggled(&letter) {
-            self.tally.add(letter)?;
-            pop_front(&mut self.tray);
-            return Ok(Some(0));
-        }
-        self.outbox.reserve(self.past.sent_since(&letter.message))?;
-        let place = self.past.done_before(&letter.message);
-        self.past.count_again(&mut self.tally, place, letter)?;
-        pop_front(&mut self.tray);
-        let undone = self.past.roll_back(&letter.message, &mut self.outbox);
-        self.next = self.tally.next_after(self.past.newest());
+        let undone = self.arrive_first(letter)?;
         Ok(Some(undone))
+    }
+
+    /// The front letter of the tray arrives. The answer is how many events that undid. A refusal changes nothing.
+    fn arrive_first(&mut self, letter: Letter) -> Result<u64, antimessages::OutOfMemory>
+        requires { slice_get self.old.queues.tray 0 ≡ Some letter }
+        ensures arrived { IfOk result (λ undone. Arrives (rules_of R.plain) R.is_value undone self.old.queues self.new.queues) }
+        ensures unchanged { OnErr result (self.new.queues ≡ self.old.queues) }
+    {
+        if self.past.is_before(&letter.message) {
+            self.arrive_ahead(letter)
+        } else if self.is_toggled(&letter) {
+            self.arrive_late(letter)
+        } else {
+            self.arrive_still(letter)
+        }
+    }
+
+    /// Does what `arrive_first` does with a letter that comes after all done events.
+    fn arrive_ahead(&mut self, letter: Letter) -> Result<u64, antimessages::OutOfMemory>
+        requires first { slice_get self.old.queues.tray 0 ≡ Some letter }
+        requires ahead { is_after message_order (newest_of (map (λ e. e.message) self.old.queues.past.done)) letter.message ≡ true }
+        ensures arrived { IfOk result (λ undone. Arrives (rules_of R.plain) R.is_value undone self.old.queues self.new.queues) }
+        ensures unchanged { OnErr result (self.new.queues ≡ self.old.queues) }
+    {
+        actor_rules_law::<R>();
+        let change = tally_front(&mut self.tally, &mut self.tray, letter)?;
+        self.next = self
+            .tally
+            .next_with(self.next, &letter, change, self.past.newest());
+        Ok(0)
+    }
+
+    /// Does what `arrive_first` does with a letter whose message stays present or absent by it.
+    fn arrive_still(&mut self, letter: Letter) -> Result<u64, antimessages::OutOfMemory>
+        requires first { slice_get self.old.queues.tray 0 ≡ Some letter }
+        requires same { change_by message_order letter self.old.queues.tally ≡ Same }
+        ensures arrived { IfOk result (λ undone. Arrives (rules_of R.plain) R.is_value undone self.old.queues self.new.queues) }
+        ensures unchanged { OnErr result (self.new.queues ≡ self.old.queues) }
+    {
+        actor_rules_law::<R>();
+        tally_front(&mut self.tally, &mut self.tray, letter)?;
+        Ok(0)
+    }
+
+    /// Does what `arrive_first` does with a letter by which its message becomes present or absent: the process rolls back.
+    fn arrive_late(&mut self, letter: Letter) -> Result<u64, antimessages::OutOfMemory>
+        requires first { slice_get self.old.queues.tray 0 ≡ Some letter }
+        requires toggled { change_by message_order letter self.old.queues.tally ≢ Same }
+        ensures arrived { IfOk result (λ undone. Arrives (rules_of R.plain) R.is_value undone self.old.queues self.new.queues) }
+        ensures unchanged { OnErr result (self.new.queues ≡ self.old.queues) }
+    {
+        actor_rules_law::<R>();
+        let undone = undo_since(&mut self.past, &mut self.tally, &mut self.outbox, letter)?;
+        pop_front(&mut self.tray);
+        self.next = self.tally.next_after(self.past.newest());
+        Ok(undone)
     }
 
     /// Whether the letter makes its message, which does not come after all done events, present or absent. Such a message is present just
@@ -64,12 +105,72 @@ impl<R: Actor> Process<R> {
         ensures same { result ≡ false → change_by message_order letter.now self.now.queues.tally ≡ Same }
     {
         actor_rules_law::<R>();
-        let is_other = match letter.sign {
-            Sign::Plus => !self.past.has_done(&letter.message),
-            Sign::Minus => self.past.has_done(&letter.message),
-        };
-        is_other && self.tally.is_zero(&letter.message)
+        is_change(&self.tally, letter, self.past.has_done(&letter.message))
     }
+}
+
+/// Whether the letter brings a message that is not done, or takes back one that is, and nothing counts of it in the tally, which is that
+/// beside the done events.
+fn is_change(tally: &Tally, letter: &Letter, is_done: bool) -> bool
+    ensures { IsTrue result ↔ (is_done ≡ not (is_plus letter.now.sign)) × (signed_count message_order letter.now.message tally.now ≡ pos 0) }
+{
+    match letter.sign {
+        Sign::Plus => !is_done && tally.is_zero(&letter.message),
+        Sign::Minus => is_done && tally.is_zero(&letter.message),
+    }
+}
+
+/// The letter, which is the front one of the tray, is tallied, and leaves the tray. The answer tells what it made of its message. A refusal
+/// changes nothing.
+fn tally_front(
+    tally: &mut Tally,
+    tray: &mut VecDeque<Letter>,
+    letter: Letter,
+) -> Result<Change, antimessages::OutOfMemory>
+    ensures count { OnOk result (signed_count message_order letter.message tally.new ≡ signed_count message_order letter.message tally.old +ℤ weight letter.sign) }
+    ensures others { OnOk result ((m : Message) → m ≢ letter.message → signed_count message_order m tally.new ≡ signed_count message_order m tally.old) }
+    ensures change { IfOk result (λ change. change ≡ change_by message_order letter tally.old) }
+    ensures tray { OnOk result (tray.new.items ≡ drop 1 tray.old.items) }
+    ensures unchanged { OnErr result (tally.new ≡ tally.old) }
+    ensures tray_unchanged { OnErr result (tray.new.items ≡ tray.old.items) }
+{
+    let change = tally.add(letter)?;
+    pop_front(tray);
+    Ok(change)
+}
+
+/// The done events that do not come before the letter's message are undone, the newest first, and what they sent goes to the outbox as
+/// antimessages, the last sent first. Their messages are tallied, and the letter is. The answer is how many events were undone. A refusal
+/// changes nothing.
+fn undo_since<R: Actor>(
+    past: &mut Past<R>,
+    tally: &mut Tally,
+    outbox: &mut Outbox,
+    letter: Letter,
+) -> Result<u64, antimessages::OutOfMemory>
+    requires some { (opening : R) × (there : Rows) × (part : Part Message R) × BelongsTo (rules_of R.plain) R.is_value opening there part past.old }
+    requires ascending { IsAscending message_order (map (λ e. e.message) past.old.done) }
+    requires not_owed { (m : Message) → IsIn message_order m (map (λ e. e.message) past.old.done) → minuses message_order m tally.old ≤ pluses message_order m tally.old }
+    ensures rolled { OnOk result ((opening : R) (there : Rows) (part : Part Message R) → BelongsTo (rules_of R.plain) R.is_value opening there part past.old →
+        BelongsTo (rules_of R.plain) R.is_value opening there (rolled_back (rules_of R.plain) opening letter.message part) past.new) }
+    ensures posted { OnOk result ((opening : R) (there : Rows) (part : Part Message R) → BelongsTo (rules_of R.plain) R.is_value opening there part past.old →
+        outbox.old.letters ≡ part.outbox → outbox.new.letters ≡ (rolled_back (rules_of R.plain) opening letter.message part).outbox) }
+    ensures counts { OnOk result (HaveSameCounts message_order tally.new (letter ∷ (map (λ e. plus_of e.message) (done_since letter.message past.old.done) ++ tally.old))) }
+    ensures count { IfOk result (λ undone. undone + length past.new.done ≡ length past.old.done) }
+    ensures unchanged { OnErr result (past.new ≡ past.old) }
+    ensures tally_unchanged { OnErr result (tally.new ≡ tally.old) }
+    ensures outbox_unchanged { OnErr result (outbox.new.letters ≡ outbox.old.letters) }
+{
+    outbox.reserve(past.sent_since(&letter.message))?;
+    past.count_again(tally, letter)?;
+    Ok(past.roll_back(&letter.message, outbox))
+}
+
+/// The front letter of the tray, if there is one.
+fn front_of(tray: &VecDeque<Letter>) -> Option<Letter>
+    ensures { result ≡ slice_get tray.now.items 0 }
+{
+    tray.front().copied()
 }
 
 /// The front letter leaves the tray. A tray that is left empty begins at its front again.

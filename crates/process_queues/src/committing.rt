@@ -1,6 +1,6 @@
 //! Events are committed, the oldest first: how many can be, room for them, and one after another.
-ghost use Rattle.std.specs.Prelude.{◌≡◌, ◌+◌, ◌<◌, ◌≤◌, ◌+ℤ◌, pos, false, true, List, map, take, Ok, OnOk, OnErr, IfOk, IfErr};
-ghost use Rattle.virtual_time.specs.Law.{IsAscending, can_commit, commit_oldest};
+ghost use Rattle.std.specs.Prelude.{◌≡◌, ◌+◌, ◌==◌, ◌<◌, ◌≤◌, ◌+ℤ◌, pos, false, true, List, map, take, Ok, OnOk, OnErr, IfOk, IfErr};
+ghost use Rattle.virtual_time.specs.Law.{IsAscending, pluses, minuses, can_commit, commit_oldest};
 ghost use Rattle.reverse.specs.Rules.{rules_of};
 ghost use Rattle.vlink.specs.Order.{message_order};
 ghost use Rattle.vlink.specs.Letters.{Letter};
@@ -61,11 +61,7 @@ impl<R: Actor> Process<R> {
         ensures memory { IfErr result (λ fault. fault ≡ OutOfMemory) }
     {
         actor_rules_law::<R>();
-        let Some(event) = self.past.oldest() else {
-            return Ok(false);
-        };
-        let message = event.message;
-        if !self.tally.is_zero(&message) {
+        if !self.can_seal() {
             return Ok(false);
         }
         if self.committed == u64::MAX {
@@ -76,6 +72,17 @@ impl<R: Actor> Process<R> {
         self.sealed += usize::from(noted);
         self.committed += 1;
         Ok(true)
+    }
+
+    /// Whether there is a done event and the signed count of the oldest one is just 1.
+    fn can_seal(&self) -> bool
+        ensures { AtEachPart (rules_of R.plain) R.is_value self.now.queues (λ opening part. result ≡ can_commit message_order part part.done) }
+    {
+        actor_rules_law::<R>();
+        match self.past.oldest() {
+            Some(event) => counts_once(&self.tally, &event.message),
+            None => false,
+        }
     }
 }
 
@@ -104,5 +111,13 @@ fn is_committable(tally: &Tally, moment: Time, message: &Message) -> bool
     ensures { (all : List Letter) → signed_count message_order message.now all ≡ signed_count message_order message.now tally.now +ℤ pos 1 →
         result ≡ is_committable message_order moment all message.now }
 {
-    message.time < moment && tally.is_zero(message)
+    message.time < moment && counts_once(tally, message)
+}
+
+/// Whether the signed count of a done message is just 1: nothing counts of it beside the letter that brought it.
+fn counts_once(tally: &Tally, message: &Message) -> bool
+    ensures { (all : List Letter) → signed_count message_order message.now all ≡ signed_count message_order message.now tally.now +ℤ pos 1 →
+        result ≡ (pluses message_order message.now all == minuses message_order message.now all + 1) }
+{
+    tally.is_zero(message)
 }

@@ -16,19 +16,25 @@ ghost use Rattle.reverse.specs.declared.sends.TheConstants.{MOST_SENT};
 use crate::order::is_before;
 use antimessages::{OutOfMemory, Outbox, rewind};
 use reverse::{Actor, MOST_SENT, Outbound, actor_rules_law};
-use std::alloc::Global;
+use std::alloc::{AllocError, Global};
 use std::collections::VecDeque;
 use std::marker::Model;
 use vlink::{Letter, Message, Note, Row, Sign, Time};
 
 /// What is kept of a done event: its message, how many messages it sent, how many rows it gave, and the record by which it is undone.
 /// The record, which can be large, comes last, since an event that is committed needs it no more.
-#[derive(Clone, Copy)]
+#[derive(Copy)]
 pub(crate) struct Event<K: Copy> {
     pub(crate) message: Message,
     pub(crate) sent: u8,
     pub(crate) noted: u8,
     pub(crate) kept: K,
+}
+
+impl<K: Copy> Clone for Event<K> {
+    fn clone(&self) -> Result<Self, AllocError> {
+        Ok(*self)
+    }
 }
 
 /// The actor with the events that it has done and not committed, oldest first, and all that they sent, in order. The rows are those of
@@ -150,10 +156,7 @@ impl<R: Actor> Past<R> {
         ensures unchanged { OnErr result (self.new ≡ self.old) }
         ensures kept { OnErr result (outbox.new.letters ≡ outbox.old.letters) }
     {
-        self.done.reserve(1)?;
-        self.sends.reserve(MOST_SENT)?;
-        self.rows.reserve(2)?;
-        outbox.reserve(MOST_SENT)?;
+        make_room(&mut self.done, &mut self.sends, &mut self.rows, outbox)?;
         // The fields are found in this order: what was sent and noted is told once the message is handled.
         self.done.push_back_reserved(Event {
             message: *message,
@@ -186,6 +189,29 @@ impl<R: Actor> Past<R> {
         rewind(&mut self.sends);
         event.noted
     }
+}
+
+/// Makes room for one event more: for what is kept of it, and for as much as it can send and note.
+fn make_room<K: Copy>(
+    done: &mut VecDeque<Event<K>>,
+    sends: &mut VecDeque<Message>,
+    rows: &mut Vec<Row>,
+    outbox: &mut Outbox,
+) -> Result<(), OutOfMemory>
+    ensures done { OnOk result (deque_len done.new + 1 ≤ deque_capacity done.new) }
+    ensures sends { OnOk result (deque_len sends.new + MOST_SENT ≤ deque_capacity sends.new) }
+    ensures rows { OnOk result (vec_len rows.new + 2 ≤ vec_capacity rows.new) }
+    ensures outbox { OnOk result (MOST_SENT ≤ outbox.new.room) }
+    ensures same_done { done.new.items ≡ done.old.items }
+    ensures same_sends { sends.new.items ≡ sends.old.items }
+    ensures same_rows { rows.new.items ≡ rows.old.items }
+    ensures same_outbox { outbox.new.letters ≡ outbox.old.letters }
+{
+    done.reserve(1)?;
+    sends.reserve(MOST_SENT)?;
+    rows.reserve(2)?;
+    outbox.reserve(MOST_SENT)?;
+    Ok(())
 }
 
 /// The messages go behind those that were sent, and as letters to the outbox. There is room for them.

@@ -1,10 +1,11 @@
 //! Before done events are undone, their messages are tallied again beside the letters that were tallied.
 ghost use Rattle.std.specs.Prelude.{◌≡◌, ◌≤◌, ◌++◌, ◌∷◌, List, map, drop, length, OnOk, OnErr};
 ghost use Rattle.vlink.specs.declared.message.Message.{Message};
-ghost use Rattle.virtual_time.specs.Law.{IsIn, plus_of, pluses, minuses};
+ghost use Rattle.virtual_time.specs.Law.{IsIn, IsAscending, plus_of, pluses, minuses};
 ghost use Rattle.vlink.specs.Order.{message_order};
 ghost use Rattle.vlink.specs.Letters.{Letter};
 ghost use Rattle.antimessages.specs.Counting.{HaveSameCounts};
+ghost use Rattle.process_queues.specs.Arriving.{done_since};
 
 use crate::past::Past;
 use antimessages::{OutOfMemory, Tally};
@@ -12,21 +13,17 @@ use reverse::{Actor, actor_rules_law};
 use vlink::{Letter, Sign};
 
 impl<R: Actor> Past<R> {
-    /// The messages of the done events from this place on are tallied, and the letter is. A refusal changes nothing: what was tallied till
-    /// then is taken out again, which takes no memory.
-    pub(crate) fn count_again(
-        &self,
-        tally: &mut Tally,
-        place: usize,
-        letter: Letter,
-    ) -> Result<(), OutOfMemory>
-        requires within { place ≤ length self.now.done }
+    /// The messages of the done events that do not come before the letter's are tallied, and the letter is. A refusal changes nothing: what
+    /// was tallied till then is taken out again, which takes no memory.
+    pub(crate) fn count_again(&self, tally: &mut Tally, letter: Letter) -> Result<(), OutOfMemory>
+        requires ascending { IsAscending message_order (map (λ e. e.message) self.now.done) }
         requires not_owed { (m : Message) → IsIn message_order m (map (λ e. e.message) self.now.done) → minuses message_order m tally.old ≤ pluses message_order m tally.old }
-        ensures counts { OnOk result (HaveSameCounts message_order tally.new (letter ∷ (map (λ e. plus_of e.message) (drop place self.now.done) ++ tally.old))) }
+        ensures counts { OnOk result (HaveSameCounts message_order tally.new (letter ∷ (map (λ e. plus_of e.message) (done_since letter.message self.now.done) ++ tally.old))) }
         ensures unchanged { OnErr result (tally.new ≡ tally.old) }
     {
         actor_rules_law::<R>();
         tally.counts_law();
+        let place = self.done_before(&letter.message);
         let tallied = self.count_back(tally, place);
         if tallied == place {
             match tally.add(letter) {

@@ -1,5 +1,5 @@
 //! Undoing what a process has done, the newest event first.
-ghost use Rattle.std.specs.Prelude.{◌≡◌, ◌+◌, ◌≤◌, ◌-◌, List, [], ◌∷◌, ◌++◌, length, map, take, drop, reverse};
+ghost use Rattle.std.specs.Prelude.{◌≡◌, ◌+◌, ◌<◌, ◌≤◌, ◌-◌, List, [], ◌∷◌, ◌++◌, length, map, take, drop, reverse};
 ghost use Rattle.std.specs.VecDeque.{deque_len};
 ghost use Rattle.vlink.specs.declared.message.Message.{Message};
 ghost use Rattle.virtual_time.specs.Law.{reached, minus_of, Part, rolled_back, undo_all};
@@ -9,7 +9,7 @@ ghost use Rattle.process_queues.specs.Queues.{AtEachPart};
 ghost use Rattle.process_queues.specs.declared.past.Event.{Event};
 
 use crate::order::is_before;
-use crate::past::Past;
+use crate::past::{Event, Past};
 use crate::process::Process;
 use antimessages::Outbox;
 use reverse::{Actor, actor_rules_law};
@@ -87,12 +87,11 @@ impl<R: Actor> Past<R> {
         ensures fewer { length self.new.done + 1 ≡ length self.old.done }
     {
         actor_rules_law::<R>();
-        if let Some(event) = self.done.pop_back() {
-            self.actor.undo(&event.message, event.kept);
-            take_back(&mut self.sends, outbox, usize::from(event.sent));
-            let rows = self.rows.len() - usize::from(event.noted);
-            self.rows.truncate(rows);
-        }
+        let event = take_newest(&mut self.done);
+        self.actor.undo(&event.message, event.kept);
+        take_back(&mut self.sends, outbox, usize::from(event.sent));
+        let rows = self.rows.len() - usize::from(event.noted);
+        self.rows.truncate(rows);
     }
 }
 
@@ -105,6 +104,14 @@ impl<R: Actor> Process<R> {
         let Process { past, .. } = self;
         past.undo_all()
     }
+}
+
+/// The newest of these events, of which there is one, leaves them.
+fn take_newest<K: Copy>(done: &mut VecDeque<Event<K>>) -> Event<K>
+    requires { 0 < deque_len done.old }
+    ensures { done.old.items ≡ done.new.items ++ result ∷ [] }
+{
+    done.pop_back().unwrap()
 }
 
 /// The last messages that were sent, so many, go to the outbox as antimessages, the last first. There is room for them.

@@ -1,4 +1,4 @@
-use Rattle.std.proofs.Common.{◌≡◌, ◌+◌, ◌≤◌, None, Some, Err, refl, sym, ap, ◌∙◌, subst, arith, IsSome}
+use Rattle.std.proofs.Common.{◌≡◌, ℕ, ◌+◌, ◌≤◌, ◌<◌, None, Some, Ok, Err, refl, sym, ap, ◌∙◌, subst, arith, IsSome}
 use Rattle.std.proofs.Math.Nat.{lt_of_not-le}
 use Rattle.std.proofs.lemmas.Result.{err_from_is_err_and}
 use Rattle.vlink.specs.Numbering.{greatest_number}
@@ -12,6 +12,15 @@ use Rattle.process_queues.proofs.Stragglers.{beside-present, found-beside}
 use Rattle.process_queues.proofs.Next.{next-stands}
 use Rattle.process_queues.proofs.Standing.{keeps, ran-stands, retallied-stands}
 use Rattle.process_queues.proofs.process.Process.run_with.Goals as goal
+
+not-ok : {A E : Type 0} (a : A) (e : E) → Ok a ≡ Err e → ⊥
+not-ok a e h = cc
+
+not-some : {A : Type 0} (a : A) → Some a ≡ None → ⊥
+not-some a h = cc
+
+not-short : (needed most : ℕ) → needed ≤ most → most < needed → ⊥
+not-short needed most enough short = omega arith
 
 pub returns-in_default : goal.returns-in_default
 returns-in_default g c =
@@ -28,7 +37,7 @@ returns-in_default g c =
         left = refl;
         idle = λ e. refl;
       };
-      exhausted = (λ e. absurd cc, λ n. absurd (let some = subst IsSome (sym none) n.0 in let k : ⊥ = cc in k));
+      exhausted = (λ e. absurd (not-ok _ _ e), λ n. absurd (let some = subst IsSome (sym none) n.0 in let k : ⊥ = cc in k));
       refused = tt;
       unchanged = tt;
     }
@@ -57,7 +66,7 @@ returns-in_err-handle g c =
     rw (fault.1 ∙ ap (λ z. Err z) fault.2)
     (record {
       ran = tt;
-      exhausted = (λ e. absurd cc, λ n. absurd (let short = n.1 in omega (arith, enough, short)));
+      exhausted = (λ e. absurd (let k : ⊥ = cc in k), λ n. absurd (not-short _ _ enough n.1));
       refused = λ opening part h. subst IsSome (sym c.in-Some.is ∙ c.next.ensures.stands opening part h) refl;
       unchanged = rw (c.in_err-handle.ensures.unchanged, c.in_err-handle.ensures.kept) (ap (λ z. z.queues) c.self.view_is);
     })
@@ -84,9 +93,9 @@ returns g c =
         next = sym c.in-Some.is ∙ c.next.ensures.next;
         tray = ap (λ z. z.queues.tray) c.self.view_is;
         left = ap (λ z. z.queues.left) c.self.view_is;
-        idle = λ e. absurd (let k : ⊥ = cc in k);
+        idle = λ e. absurd (not-some _ e);
       };
-      exhausted = (λ e. absurd cc, λ n. absurd (let short = n.1 in omega (arith, enough, short)));
+      exhausted = (λ e. absurd (not-ok _ _ e), λ n. absurd (not-short _ _ enough n.1));
       refused = tt;
       unchanged = tt;
     }

@@ -10,3 +10,8 @@ returns-clause-undone g c opening part h =
     let r = rules_of g.R.Reversible.plain in
     let k = subst (λ q. StandsFor r g.R.Reversible.is_value opening part q.queues) (sym c.self.view_is) h in
     c.undo_all.ensures _ part.done _ k.past.past_of ∙ sym (undo_all-well r (λ s. ⊤) opening (λ s e t. g.met.R.Reversible.undoes s e) part h.well)
+
+pub returns-clause-committed : goal.returns-clause-committed
+returns-clause-committed g c opening part h =
+    let k = subst (λ q. StandsFor (rules_of g.R.Reversible.plain) g.R.Reversible.is_value opening part q.queues) (sym c.self.view_is) h in
+    c.undo_all.ensures _ part.done _ k.past.past_of
