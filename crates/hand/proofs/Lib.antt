@@ -37,6 +37,7 @@ pub mod Came
 pub mod LateEvent
 pub mod Rooms
 pub mod AtPlace
+pub mod Answering
 pub mod Floors
 pub mod FrontWaits
 pub mod Leaving
