@@ -36,6 +36,8 @@ pub mod NewestDone
 pub mod Came
 pub mod LateEvent
 pub mod Rooms
+pub mod AtPlace
+pub mod Answering
 pub mod Floors
 pub mod FrontWaits
 pub mod Leaving

@@ -1,4 +1,5 @@
 pub mod Arriving
+pub mod Becoming
 pub mod Block
 pub mod DoneEvents
 pub mod Flow

@@ -1,15 +1,18 @@
 //! Letters that were taken arrive, one after another.
-ghost use Rattle.std.specs.Prelude.{◌≡◌, ◌+◌, ◌<◌, true, false, Ok, OnOk, OnErr, IfErr, IfSome, IsPermutation, length};
+ghost use Rattle.std.specs.Prelude.{◌≡◌, ◌+◌, ◌<◌, ◌≤◌, true, false, Ok, OnOk, OnErr, IfErr, IfSome, IsPermutation, length, vec_len, vec_capacity};
 ghost use Rattle.reverse.specs.Rules.{rules_of};
 ghost use Rattle.hand.specs.Hands.{DoesTold, IsAsBefore, IsQuiet};
-ghost use Rattle.hand.specs.Undoing.{sent_in};
+ghost use Rattle.hand.specs.Undoing.{HasRoomFor, sent_in};
 ghost use Rattle.hand.specs.declared.fault.HandFault.TheVariants.{OutOfMemory};
 
 use crate::arrive::arrive;
+use crate::done_events::DoneEvents;
 use crate::fault::HandFault;
 use crate::hand::Hand;
 use crate::letters::Letters;
+use crate::undoing::Undoing;
 use reverse::{Actor, actor_rules_law};
+use std::alloc::AllocError;
 use std::collections::VecDeque;
 use vlink::Letter;
 
@@ -70,11 +73,7 @@ impl<R: Actor> Hand<R> {
         let Some(letter) = self.letters.front() else {
             return Ok(false);
         };
-        let Some(room) = room_for(self.done.len(), self.done.sent_count()) else {
-            return Err(HandFault::OutOfMemory);
-        };
-        self.letters.reserve(room)?;
-        self.undoing.reserve_for(&self.done)?;
+        make_room(&self.done, &mut self.undoing, &mut self.letters)?;
         arrive(
             &mut self.members,
             &mut self.done,
@@ -106,6 +105,26 @@ fn give_back(tray: &mut VecDeque<Letter>)
     if tray.capacity() > MOST_KEPT {
         tray.shrink_to_fit();
     }
+}
+
+/// Makes room for all that comes of a letter that arrives, whatever is undone by it.
+fn make_room<K: Copy>(
+    done: &DoneEvents<K>,
+    undoing: &mut Undoing<K>,
+    letters: &mut Letters,
+) -> Result<(), AllocError>
+    ensures room { OnOk result (length done.now.events + sent_in done.now.events + 2 ≤ letters.new.room) }
+    ensures space { OnOk result (HasRoomFor done.now.events undoing.new.aside) }
+    ensures sends { OnOk result (vec_len undoing.new.back + sent_in done.now.events ≤ vec_capacity undoing.new.back) }
+    ensures aside { undoing.new.aside.events ≡ undoing.old.aside.events }
+    ensures back { undoing.new.back.items ≡ undoing.old.back.items }
+    ensures letters { letters.new ≡ record letters.old { room = letters.new.room } }
+{
+    let Some(room) = room_for(done.len(), done.sent_count()) else {
+        return Err(AllocError);
+    };
+    letters.reserve(room)?;
+    undoing.reserve_for(done)
 }
 
 /// For how many letters and words there has to be room where so many events, which sent so many messages, can be undone: none where no number tells.

@@ -7,7 +7,7 @@ use std::marker::Model;
 use std::snapshot::Snapshot;
 
 /// Steps of one member, in order.
-#[derive(Clone, Copy, Debug, PartialEq, Eq)]
+#[derive(Clone, Copy)]
 pub enum Did {
     /// Run and Post.
     Ran { process: u16 },

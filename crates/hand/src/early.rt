@@ -1,18 +1,17 @@
 //! The first message of a group is handled, where it comes after all that the group has done.
-ghost use Rattle.std.specs.Prelude.{◌≡◌, ℕ, ◌+◌, ◌<◌, ◌≤◌, ◌++◌, ◌∷◌, true, false, [], List, Some, Ok, OnErr, IfErr, length, slice_get};
+ghost use Rattle.std.specs.Prelude.{◌≡◌, ℕ, ◌+◌, ◌≤◌, ◌++◌, ◌∷◌, true, [], Some, length, slice_get};
 ghost use Rattle.vlink.specs.Order.{message_order};
 ghost use Rattle.vlink.specs.Numbering.{greatest_number};
 ghost use Rattle.reverse.specs.Rules.{rules_of};
 ghost use Rattle.antimessages.specs.Counting.{is_after};
 ghost use Rattle.process_queues.specs.Past.{newest_of};
+ghost use Rattle.hand.specs.Becoming.{Becomes};
 ghost use Rattle.hand.specs.DoneEvents.{DoneEvent, messages_of};
 ghost use Rattle.hand.specs.Hands.{DoesSent};
 ghost use Rattle.hand.specs.Flow.{Flow, TookFirst};
 ghost use Rattle.hand.specs.Passing.{held};
 ghost use Rattle.hand.specs.Rows.{Sealed};
 ghost use Rattle.hand.specs.Undoing.{CameTo};
-ghost use Rattle.hand.specs.declared.fault.HandFault.TheVariants.{Exhausted};
-ghost use Rattle.hand.specs.declared.early.Early.TheVariants.{Ran, Idle, Late};
 ghost use Rattle.reverse.specs.declared.sends.TheConstants.{MOST_SENT};
 
 use crate::block::Did;
@@ -24,7 +23,7 @@ use reverse::{Actor, Outbound, actor_rules_law};
 use vlink::{Message, Time};
 
 /// What became of the first message of a group.
-#[derive(Clone, Copy, Debug, PartialEq, Eq)]
+#[derive(Clone, Copy)]
 pub enum Early {
     /// It was handled.
     Ran,
@@ -74,15 +73,7 @@ pub(crate) fn early_of<R: Actor>(
     message: &Message,
     limit: Time,
 ) -> Result<Early, HandFault>
-    ensures early { result ≡ Ok Ran → is_after message_order (newest_of (messages_of done.now.events)) message.now ≡ true }
-    ensures able { result ≡ Ok Ran → (s : R) × (slice_get members.now message.now.receiver ≡ Some (Some s)) × (R.plain.counter s + MOST_SENT ≤ greatest_number) }
-    ensures idle { result ≡ Ok Idle → limit ≤ message.now.time }
-    ensures soon { result ≡ Ok Ran → message.now.time < limit }
-    ensures late_soon { result ≡ Ok Late → message.now.time < limit }
-    ensures late { result ≡ Ok Late → is_after message_order (newest_of (messages_of done.now.events)) message.now ≡ false }
-    ensures exhausted { IfErr result (λ fault. fault ≡ Exhausted) }
-    ensures after { OnErr result (is_after message_order (newest_of (messages_of done.now.events)) message.now ≡ true) }
-    ensures numbers { OnErr result ((s : R) → slice_get members.now message.now.receiver ≡ Some (Some s) → greatest_number < R.plain.counter s + MOST_SENT) }
+    ensures { Becomes (λ s. R.plain.counter s) members.now done.now.events message.now limit result }
 {
     if message.time >= limit {
         return Ok(Early::Idle);

@@ -40,7 +40,7 @@ impl Letters {
 }
 
 /// What an event sent goes on, and what is for members waits in the tray. There is room for it.
-fn send_later<R: Actor>(members: &[Option<R>], letters: &mut Letters, messages: &[Message])
+fn send_later<S>(members: &[Option<S>], letters: &mut Letters, messages: &[Message])
     requires { length messages.now ≤ letters.old.room }
     ensures went { WentOn members.now (map plus_of messages.now) letters.old letters.new }
     ensures queue { letters.new.queue ≡ letters.old.queue }

@@ -14,7 +14,7 @@ use vlink::Message;
 
 /// Whether the process is of the group.
 #[inline(always)]
-pub(crate) fn is_ours<R: Actor>(members: &[Option<R>], process: u16) -> bool
+pub(crate) fn is_ours<S>(members: &[Option<S>], process: u16) -> bool
     ensures { result ≡ is_ours members.now process }
 {
     match members.get(usize::from(process)) {

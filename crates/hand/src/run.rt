@@ -11,16 +11,20 @@ ghost use Rattle.process_queues.specs.Past.{newest_of};
 ghost use Rattle.hand.specs.DoneEvents.{DoneEvent, messages_of};
 ghost use Rattle.hand.specs.Handling.{IsHandled};
 ghost use Rattle.hand.specs.Hands.{DoesTold, IsAsBefore, StandsForGroup};
+ghost use Rattle.hand.specs.Undoing.{HasRoomFor};
 ghost use Rattle.hand.specs.declared.fault.HandFault.TheVariants.{Exhausted};
 ghost use Rattle.hand.specs.declared.early.Early.TheVariants.{Ran, Idle, Late};
 ghost use Rattle.reverse.specs.declared.sends.TheConstants.{MOST_SENT};
 
+use crate::done_events::DoneEvents;
 use crate::early::{Early, early_of, handle_first};
 use crate::fault::HandFault;
 use crate::hand::Hand;
 use crate::late::handle_late;
+use crate::letters::Letters;
 use crate::members::has_numbers;
 use reverse::{Actor, MOST_SENT, actor_rules_law};
+use std::alloc::AllocError;
 use vlink::Time;
 
 /// The most letters, and words beside the first, that one event gives.
@@ -49,8 +53,7 @@ impl<R: Actor> Hand<R> {
         ensures unchanged { OnErr result (IsAsBefore self.old self.new) }
     {
         actor_rules_law::<R>();
-        self.letters.reserve(MOST_LETTERS)?;
-        self.done.reserve()?;
+        make_room(&mut self.done, &mut self.letters)?;
         let Some(message) = self.letters.pop() else {
             return Ok(Early::Idle);
         };
@@ -127,9 +130,7 @@ impl<R: Actor> Hand<R> {
         if !has_numbers(&self.members, message.receiver) {
             return Err(HandFault::Exhausted);
         }
-        self.letters.reserve(MOST_LETTERS)?;
-        self.done.reserve()?;
-        self.undoing.aside.reserve_for(&self.done)?;
+        make_late_room(&mut self.done, &mut self.undoing.aside, &mut self.letters)?;
         handle_late(
             &mut self.members,
             &mut self.done,
@@ -140,4 +141,37 @@ impl<R: Actor> Hand<R> {
         );
         Ok(())
     }
+}
+
+/// Makes room for all that one event gives.
+#[inline(always)]
+fn make_room<K: Copy>(done: &mut DoneEvents<K>, letters: &mut Letters) -> Result<(), AllocError>
+    ensures room { OnOk result (MOST_SENT + 1 ≤ letters.new.room) }
+    ensures events { OnOk result (1 ≤ done.new.events_room) }
+    ensures sends { OnOk result (MOST_SENT ≤ done.new.sends_room) }
+    ensures rows { OnOk result (2 ≤ done.new.rows_room) }
+    ensures done { done.new.events ≡ done.old.events }
+    ensures letters { letters.new ≡ record letters.old { room = letters.new.room } }
+{
+    letters.reserve(MOST_LETTERS)?;
+    done.reserve()
+}
+
+/// Makes room for all that one event gives, and to set all done events aside.
+fn make_late_room<K: Copy>(
+    done: &mut DoneEvents<K>,
+    aside: &mut DoneEvents<K>,
+    letters: &mut Letters,
+) -> Result<(), AllocError>
+    ensures room { OnOk result (MOST_SENT + 1 ≤ letters.new.room) }
+    ensures events { OnOk result (1 ≤ done.new.events_room) }
+    ensures sends { OnOk result (MOST_SENT ≤ done.new.sends_room) }
+    ensures rows { OnOk result (2 ≤ done.new.rows_room) }
+    ensures space { OnOk result (HasRoomFor done.new.events aside.new) }
+    ensures done { done.new.events ≡ done.old.events }
+    ensures aside { aside.new.events ≡ aside.old.events }
+    ensures letters { letters.new ≡ record letters.old { room = letters.new.room } }
+{
+    make_room(done, letters)?;
+    aside.reserve_for(done)
 }

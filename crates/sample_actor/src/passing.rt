@@ -8,7 +8,7 @@ use vlink::{GREATEST_NS, Message, Note, Time, VlId};
 
 /// Process `number`: a message at t adds t to a sum, notes it, and is passed on twice, for t + 5 and for t + 7, unless that is after the end. What
 /// comes at t goes to process t modulo 5.
-#[derive(Debug, Drop, PartialEq, Eq)]
+#[derive(Drop)]
 pub struct Passing {
     pub number: u16,
     /// The sum of the moments so far, modulo 2^64, in ns.
@@ -21,7 +21,7 @@ pub struct Passing {
 }
 
 /// The sum and the counter before an event.
-#[derive(Clone, Copy, Debug)]
+#[derive(Clone, Copy)]
 pub struct PassRecord {
     pub sum: u64,
     pub counter: u64,

@@ -6,7 +6,7 @@ use reverse::{Actor, MOST_SENT, Reversible, Sends};
 use vlink::{Body, GREATEST_NS, Message, Time};
 
 /// Process 0: a message at t adds t to a sum, and sends one message to process 1 at t + 5, unless that is after the end.
-#[derive(Debug, Drop, PartialEq, Eq)]
+#[derive(Drop)]
 pub struct Summing {
     /// The sum of the moments so far, modulo 2^64, in ns.
     pub sum: u64,
@@ -18,7 +18,7 @@ pub struct Summing {
 }
 
 /// The sum and the counter before an event.
-#[derive(Clone, Copy, Debug)]
+#[derive(Clone, Copy)]
 pub struct SumRecord {
     pub sum: u64,
     pub counter: u64,

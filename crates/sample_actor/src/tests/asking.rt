@@ -1,55 +1,71 @@
 //! The words of a script that look at a process, and those that have a number for an answer, or none.
-use super::player::{Stage, letter, moment, two_numbers};
+use super::player::{letter, moment, tell, tell_answer, two_numbers};
 use crate::Summing;
-use gvt::horizon;
 use process_queues::{ProcFault, Process};
+use std::alloc::AllocError;
 use std::fmt::Write;
 use vlink::{GREATEST_NS, Letter, Message, Sign, Time};
 
 // What can be seen of a process: how many letters are in its tray and in its outbox, its oldest done event, the message that comes next, its
 // floor, how many events are committed, and how many more could be at the end.
-pub(crate) fn look_at(
-    process: &Process<Summing>,
-) -> (
-    usize,
-    usize,
-    Option<Time>,
-    Option<Message>,
-    Time,
-    u64,
-    usize,
-) {
-    (
-        process.tray_len(),
-        process.outbox().len(),
-        process.oldest(),
-        process.next(),
-        process.floor(),
-        process.committed(),
-        process.committable(Time::of_known(GREATEST_NS), usize::MAX),
-    )
+#[derive(Clone, Copy)]
+pub(crate) struct Seen {
+    tray: usize,
+    outbox: usize,
+    oldest: Option<Time>,
+    next: Option<Message>,
+    floor: Time,
+    committed: u64,
+    committable: usize,
+}
+
+pub(crate) fn look_at(process: &Process<Summing>) -> Seen {
+    Seen {
+        tray: process.tray_len(),
+        outbox: process.outbox().len(),
+        oldest: process.oldest(),
+        next: process.next(),
+        floor: process.floor(),
+        committed: process.committed(),
+        committable: process.committable(Time::of_known(GREATEST_NS), usize::MAX),
+    }
+}
+
+// Whether no change is to be seen.
+pub(crate) fn is_same(first: &Seen, second: &Seen) -> bool {
+    first.tray == second.tray
+        && first.outbox == second.outbox
+        && first.oldest == second.oldest
+        && first.next == second.next
+        && first.floor == second.floor
+        && first.committed == second.committed
+        && first.committable == second.committable
+}
+
+// Tells what the call answers.
+pub(crate) fn tell_asked(
+    process: &mut Process<Summing>,
+    told: &mut String,
+    call: &str,
+    rest: &str,
+) -> Result<(), ProcFault> {
+    let answer = ask(process, call, rest)?;
+    tell_answer(told, answer)?;
+    Ok(())
 }
 
 // What the call answers.
-pub(crate) fn ask(
-    process: &mut Process<Summing>,
-    call: &str,
-    rest: &str,
-) -> Result<Option<u64>, ProcFault> {
+fn ask(process: &mut Process<Summing>, call: &str, rest: &str) -> Result<Option<u64>, ProcFault> {
     match call {
-        "arrive" | "arrive?" => process.arrive(),
         "run" => time_of(process.run()),
-        "seal" => Ok(Some(u64::from(process.seal_oldest()?))),
-        "commit" => {
-            let (gvt, most) = two_numbers(rest);
-            Ok(Some(fossil::commit(process, moment(gvt), most)?))
-        }
-        _ => Ok(look(process, call, rest)),
+        "seal" => sealed(process.seal_oldest()),
+        "commit" => commit(process, rest),
+        _ => process.arrive(),
     }
 }
 
 // The moment of the message that is answered, if one is.
-fn time_of<F>(answer: Result<Option<Message>, F>) -> Result<Option<u64>, F> {
+fn time_of(answer: Result<Option<Message>, ProcFault>) -> Result<Option<u64>, ProcFault> {
     match answer {
         Ok(Some(message)) => Ok(Some(message.time.ns())),
         Ok(None) => Ok(None),
@@ -57,54 +73,71 @@ fn time_of<F>(answer: Result<Option<Message>, F>) -> Result<Option<u64>, F> {
     }
 }
 
-// What a call answers that changes nothing.
-fn look(process: &Process<Summing>, call: &str, rest: &str) -> Option<u64> {
+fn sealed(answer: Result<bool, ProcFault>) -> Result<Option<u64>, ProcFault> {
+    match answer {
+        Ok(done) => Ok(Some(u64::from(done))),
+        Err(fault) => Err(fault),
+    }
+}
+
+fn commit(process: &mut Process<Summing>, rest: &str) -> Result<Option<u64>, ProcFault> {
+    let (gvt, most) = two_numbers(rest);
+    match fossil::commit(process, moment(gvt), most) {
+        Ok(count) => Ok(Some(count)),
+        Err(_) => Err(ProcFault::OutOfMemory),
+    }
+}
+
+// Tells what a call answers that changes nothing.
+pub(crate) fn look(
+    process: &Process<Summing>,
+    told: &mut String,
+    call: &str,
+    rest: &str,
+) -> Result<(), AllocError> {
+    match call {
+        "outbox" => tell_letters(process.outbox(), told),
+        "next" => tell_next(process.next(), told),
+        "count" => write!(told, "{} ", process.count(&letter(rest).message)),
+        _ => tell_answer(told, number_of(process, call, rest)),
+    }
+}
+
+fn number_of(process: &Process<Summing>, call: &str, rest: &str) -> Option<u64> {
     match call {
         "oldest" => Some(process.oldest()?.ns()),
         "floor" => Some(process.floor().ns()),
         "tray" => Some(process.tray_len() as u64),
         "committed" => Some(process.committed()),
         "rows" => Some(process.sealed().len() as u64),
-        "committable" => {
-            let (gvt, most) = two_numbers(rest);
-            Some(process.committable(moment(gvt), most as usize) as u64)
-        }
+        "committable" => Some(committable(process, rest) as u64),
         _ => None,
     }
 }
 
-// The signed count of a message.
-pub(crate) fn tell_count(stage: &mut Stage, rest: &str) -> Result<(), ProcFault> {
-    let count = stage.process.count(&letter(rest).message);
-    write!(stage.told, "{count} ")?;
-    Ok(())
-}
-
-pub(crate) fn tell_horizon(stage: &mut Stage) -> Result<(), ProcFault> {
-    write!(stage.told, "{} ", horizon(&stage.floors, &stage.mail).ns())?;
-    Ok(())
+fn committable(process: &Process<Summing>, rest: &str) -> usize {
+    let (gvt, most) = two_numbers(rest);
+    process.committable(moment(gvt), most as usize)
 }
 
 // The message that comes next: its moment and its sender.
-pub(crate) fn tell_next(stage: &mut Stage) -> Result<(), ProcFault> {
-    match stage.process.next() {
-        Some(message) => write!(stage.told, "{}@{} ", message.time.ns(), message.sender)?,
-        None => stage.told.push_str("none ")?,
+fn tell_next(next: Option<Message>, told: &mut String) -> Result<(), AllocError> {
+    match next {
+        Some(message) => write!(told, "{}@{} ", message.time.ns(), message.sender),
+        None => tell(told, "none "),
     }
-    Ok(())
 }
 
-pub(crate) fn tell_outbox(stage: &mut Stage) -> Result<(), ProcFault> {
-    for letter in stage.process.outbox() {
-        tell_letter(letter, &mut stage.told)?;
+fn tell_letters(letters: &[Letter], told: &mut String) -> Result<(), AllocError> {
+    for letter in letters {
+        tell_letter(letter, told)?;
     }
     Ok(())
 }
 
 // The letter as it is written: its sign, its moment and its number.
-pub(crate) fn tell_letter(letter: &Letter, told: &mut String) -> Result<(), ProcFault> {
+pub(crate) fn tell_letter(letter: &Letter, told: &mut String) -> Result<(), AllocError> {
     let sign = if letter.sign == Sign::Plus { '+' } else { '-' };
     let message = letter.message;
-    write!(told, "{sign}{}.{} ", message.time.ns(), message.number)?;
-    Ok(())
+    write!(told, "{sign}{}.{} ", message.time.ns(), message.number)
 }

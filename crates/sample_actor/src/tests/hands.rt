@@ -7,13 +7,12 @@
 //! `floor`, `abroad`, `rows` and `states` tell what can be seen. Behind its answer each word tells its block, up to a full stop: a letter for what was
 //! done, and the process. `R`: a message was handled; `H` and `T`: what was sent home arrived at once, or waits; `A`: the front of the tray arrived;
 //! `C`: an event was committed.
-use super::player::{moment, number, split_at_colon};
+use super::player::{moment, number, split_at_colon, tell, tell_number, tell_refused};
 use crate::Passing;
-use hand::{Did, Hand, HandFault};
-use std::alloc::Global;
+use hand::{Did, Hand, HandFault, Words};
+use std::alloc::{AllocError, Global};
 use std::fmt::Write;
-use std::test::Fail;
-use vlink::{LATEST_NS, Letter, Message, Sign, Time};
+use vlink::{LATEST_NS, Letter, Message, Row, Sign, Time};
 
 // How many processes letters can be for.
 const PROCESSES: u16 = 5;
@@ -21,86 +20,114 @@ const PROCESSES: u16 = 5;
 #[derive(Drop)]
 struct Stage {
     hand: Hand<Passing>,
-    told: String,
     // For how many steps all blocks so far stood.
     steps: u64,
 }
 
 // What the words of the script tell, one after another.
-pub(crate) fn play(rt: &HostRuntime, script: &str) -> Result<String, Fail> {
-    let mut words = script.split_whitespace();
-    let (_, members) = split_at_colon(words.next().unwrap_or_default());
-    let alloc = rt.alloc();
-    let mut stage = match open_stage(alloc, number(members)) {
-        Ok(stage) => stage,
-        Err(_) => open_stage(alloc, number(members))?,
+pub(crate) fn play(rt: &HostRuntime, script: &str, told: &mut String) -> Result<(), HandFault> {
+    let (opening, words) = script.split_once(' ').unwrap_or((script, ""));
+    let (_, members) = split_at_colon(opening);
+    let mut stage = Stage {
+        hand: open_again(rt.alloc(), number(members))?,
+        steps: 0,
     };
-    for word in words {
-        play_word(rt, &mut stage, word)?;
-    }
-    Ok(stage.told)
+    play_words(rt, &mut stage, told, words)
 }
 
-// A group of the first processes, so many, and room for all that will be told.
-fn open_stage(alloc: Global, count: u64) -> Result<Stage, HandFault> {
-    let mut told = String::new(alloc);
-    told.reserve(4096)?;
+// A group, also where it is refused memory once.
+fn open_again(alloc: Global, count: u64) -> Result<Hand<Passing>, HandFault> {
+    match open(alloc, count) {
+        Ok(hand) => Ok(hand),
+        Err(_) => open(alloc, count),
+    }
+}
+
+// A group of the first processes, so many.
+fn open(alloc: Global, count: u64) -> Result<Hand<Passing>, HandFault> {
     let mut members = Vec::new(alloc);
+    add_members(&mut members, count)?;
+    Hand::new(alloc, members, Vec::new(alloc), true)
+}
+
+fn add_members(members: &mut Vec<Option<Passing>>, count: u64) -> Result<(), HandFault> {
     for process in 0..PROCESSES {
-        let member = if u64::from(process) < count {
-            Some(Passing::new(process, Time::of_known(LATEST_NS)))
-        } else {
-            None
-        };
-        if members.push(member).is_err() {
+        if members.push(member(process, count)).is_err() {
             return Err(HandFault::OutOfMemory);
         }
     }
-    let hand = Hand::new(alloc, members, Vec::new(alloc), true)?;
-    Ok(Stage {
-        hand,
-        told,
-        steps: 0,
-    })
+    Ok(())
+}
+
+fn member(process: u16, count: u64) -> Option<Passing> {
+    if u64::from(process) < count {
+        Some(Passing::new(process, Time::of_known(LATEST_NS)))
+    } else {
+        None
+    }
+}
+
+fn play_words(
+    rt: &HostRuntime,
+    stage: &mut Stage,
+    told: &mut String,
+    words: &str,
+) -> Result<(), HandFault> {
+    for word in words.split_whitespace() {
+        play_word(rt, stage, told, word)?;
+    }
+    Ok(())
 }
 
 // Does what one word says. Where that was refused memory, it is done again: a refused call stopped between two words of its block.
 // `tools/refuse_memory.py` counts the words that were refused memory.
-fn play_word(rt: &HostRuntime, stage: &mut Stage, word: &str) -> Result<(), HandFault> {
-    let Err(fault) = act(rt.alloc(), stage, word) else {
-        return Ok(());
-    };
-    if fault == HandFault::Exhausted {
-        return Ok(stage.told.push_str("exhausted ")?);
+fn play_word(
+    rt: &HostRuntime,
+    stage: &mut Stage,
+    told: &mut String,
+    word: &str,
+) -> Result<(), HandFault> {
+    match act(rt.alloc(), stage, told, word) {
+        Ok(()) => Ok(()),
+        Err(HandFault::Exhausted) => Ok(tell(told, "exhausted ")?),
+        Err(HandFault::OutOfMemory) => {
+            tell_refused(rt, word);
+            act(rt.alloc(), stage, told, word)
+        }
     }
-    let (call, _) = split_at_colon(word);
-    let _ = eprintln!(rt; "{call} was refused memory");
-    act(rt.alloc(), stage, word)
 }
 
-// A letter, a call that does steps, or one that tells what can be seen.
-fn act(alloc: Global, stage: &mut Stage, word: &str) -> Result<(), HandFault> {
+// A word, and what was done.
+fn act(alloc: Global, stage: &mut Stage, told: &mut String, word: &str) -> Result<(), HandFault> {
+    do_steps(&mut stage.hand, told, word)?;
+    look(&mut stage.hand, told, word, stage.steps)?;
+    tell_block(alloc, stage, told)
+}
+
+// A letter, or a call that does steps.
+fn do_steps(hand: &mut Hand<Passing>, told: &mut String, word: &str) -> Result<(), HandFault> {
     let (call, rest) = split_at_colon(word);
+    let at = moment(number(rest));
     match call {
-        "arrive" => stage.hand.arrive_all()?,
-        "commit" => stage.hand.commit(moment(number(rest)))?,
-        "run" => tell_run(stage, moment(number(rest)))?,
-        "exact" => tell_exact(stage)?,
-        "gone" => stage.hand.let_rows_go(moment(number(rest)))?,
-        "before" => tell_before(stage, moment(number(rest)))?,
-        "steps" => write!(stage.told, "{} ", stage.steps)?,
-        "next" => tell_next(stage)?,
-        "floor" => tell_floor(stage)?,
-        "abroad" => tell_abroad(stage)?,
-        "rows" => tell_rows(stage)?,
-        "states" => tell_states(stage)?,
-        _ => deliver(&mut stage.hand, word)?,
+        "arrive" => hand.arrive_all(),
+        "commit" => hand.commit(at),
+        "run" => tell_run(hand.run_next(at), told),
+        "exact" => hand.count_done(),
+        "gone" => hand.let_rows_go(at),
+        _ => deliver(hand, word),
     }
-    tell_block(alloc, stage)
+}
+
+// Whether the first message was handled, or counts beside.
+fn tell_run(ran: Result<bool, HandFault>, told: &mut String) -> Result<(), HandFault> {
+    Ok(tell(told, if ran? { "ran " } else { "idle " })?)
 }
 
 // A letter comes to a member, if it is for one.
 fn deliver(hand: &mut Hand<Passing>, word: &str) -> Result<(), HandFault> {
+    if !word.starts_with('+') && !word.starts_with('-') {
+        return Ok(());
+    }
     let letter = letter(word);
     if !hand.has(letter.message.receiver) {
         return Ok(());
@@ -108,103 +135,113 @@ fn deliver(hand: &mut Hand<Passing>, word: &str) -> Result<(), HandFault> {
     hand.deliver(letter)
 }
 
-// Whether the first message was handled, or counts beside.
-fn tell_run(stage: &mut Stage, limit: Time) -> Result<(), HandFault> {
-    let ran = stage.hand.run_next(limit)?;
-    Ok(stage.told.push_str(if ran { "ran " } else { "idle " })?)
+// What the word tells of the group once its steps are done.
+fn look(
+    hand: &mut Hand<Passing>,
+    told: &mut String,
+    word: &str,
+    steps: u64,
+) -> Result<(), AllocError> {
+    let (call, rest) = split_at_colon(word);
+    match call {
+        "steps" => tell_number(told, steps),
+        "next" => tell_next(hand.next(), told),
+        "floor" | "exact" => tell_number(told, hand.floor(Time::of_known(LATEST_NS + 1)).ns()),
+        "before" => tell_before(hand, told, moment(number(rest))),
+        "abroad" => tell_abroad(hand, told),
+        "rows" => tell_rows(hand.rows(), told),
+        "states" => tell_states(hand.members(), told),
+        _ => Ok(()),
+    }
 }
 
 // The words of the block, which ends.
-fn tell_block(alloc: Global, stage: &mut Stage) -> Result<(), HandFault> {
+fn tell_block(alloc: Global, stage: &mut Stage, told: &mut String) -> Result<(), HandFault> {
     let block = stage.hand.next_block(alloc);
-    if block.keeps() {
-        for did in block.list() {
-            tell_did(&mut stage.told, *did)?;
-        }
-    }
     stage.steps = stage.steps.saturating_add(block.steps());
-    Ok(stage.told.push_str(". ")?)
+    tell_words(&block, told)
 }
 
-fn tell_did(told: &mut String, did: Did) -> Result<(), HandFault> {
-    match did {
-        Did::Ran { process } => write!(told, "R{process} ")?,
-        Did::Home { process } => write!(told, "H{process} ")?,
-        Did::Taken { process } => write!(told, "T{process} ")?,
-        Did::Arrived { process } => write!(told, "A{process} ")?,
-        Did::Committed { process } => write!(told, "C{process} ")?,
+fn tell_words(block: &Words, told: &mut String) -> Result<(), HandFault> {
+    if block.keeps() {
+        for did in block.list() {
+            tell_did(*did, told)?;
+        }
     }
+    tell(told, ". ")?;
     Ok(())
+}
+
+fn tell_did(did: Did, told: &mut String) -> Result<(), AllocError> {
+    let (letter, process) = match did {
+        Did::Ran { process } => ('R', process),
+        Did::Home { process } => ('H', process),
+        Did::Taken { process } => ('T', process),
+        Did::Arrived { process } => ('A', process),
+        Did::Committed { process } => ('C', process),
+    };
+    write!(told, "{letter}{process} ")
 }
 
 // The first message of the queue.
-fn tell_next(stage: &mut Stage) -> Result<(), HandFault> {
-    match stage.hand.next() {
-        Some(message) => tell_message(&mut stage.told, &message),
-        None => Ok(stage.told.push_str("none ")?),
+fn tell_next(next: Option<Message>, told: &mut String) -> Result<(), AllocError> {
+    match next {
+        Some(message) => tell_message(&message, told),
+        None => tell(told, "none "),
     }
-}
-
-// The floor, once what is done already counts beside.
-fn tell_exact(stage: &mut Stage) -> Result<(), HandFault> {
-    stage.hand.count_done()?;
-    tell_floor(stage)
 }
 
 // Whether some event is done before the moment, and the oldest moment of one.
-fn tell_before(stage: &mut Stage, limit: Time) -> Result<(), HandFault> {
-    let done = stage.hand.is_done_before(limit);
-    stage.told.push_str(if done { "yes " } else { "no " })?;
-    if stage.hand.all_committed() {
-        return Ok(stage.told.push_str("none ")?);
+fn tell_before(hand: &Hand<Passing>, told: &mut String, limit: Time) -> Result<(), AllocError> {
+    let done = hand.is_done_before(limit);
+    tell(told, if done { "yes " } else { "no " })?;
+    if hand.all_committed() {
+        return tell(told, "none ");
     }
-    if let Some(oldest) = stage.hand.oldest() {
-        write!(stage.told, "{} ", oldest.ns())?;
+    match hand.oldest() {
+        Some(oldest) => tell_number(told, oldest.ns()),
+        None => Ok(()),
     }
-    Ok(())
-}
-
-fn tell_floor(stage: &mut Stage) -> Result<(), HandFault> {
-    let floor = stage.hand.floor(Time::of_known(LATEST_NS + 1)).ns();
-    Ok(write!(stage.told, "{floor} ")?)
 }
 
 // The letters for others, which leave.
-fn tell_abroad(stage: &mut Stage) -> Result<(), HandFault> {
-    for letter in stage.hand.letters_abroad() {
-        stage.told.push_str(match letter.sign {
-            Sign::Plus => "+",
-            Sign::Minus => "-",
-        })?;
-        tell_message(&mut stage.told, &letter.message)?;
+fn tell_abroad(hand: &mut Hand<Passing>, told: &mut String) -> Result<(), AllocError> {
+    tell_letters(hand.letters_abroad(), told)?;
+    hand.clear_abroad();
+    Ok(())
+}
+
+fn tell_letters(letters: &[Letter], told: &mut String) -> Result<(), AllocError> {
+    for letter in letters {
+        tell(told, if letter.sign == Sign::Plus { "+" } else { "-" })?;
+        tell_message(&letter.message, told)?;
     }
-    stage.hand.clear_abroad();
     Ok(())
 }
 
 // The events whose rows are sealed.
-fn tell_rows(stage: &mut Stage) -> Result<(), HandFault> {
-    for row in stage.hand.rows() {
-        tell_message(&mut stage.told, &row.message)?;
+fn tell_rows(rows: &[Row], told: &mut String) -> Result<(), AllocError> {
+    for row in rows {
+        tell_message(&row.message, told)?;
     }
     Ok(())
 }
 
 // The sum and the counter of each member.
-fn tell_states(stage: &mut Stage) -> Result<(), HandFault> {
-    for member in stage.hand.members() {
+fn tell_states(members: &[Option<Passing>], told: &mut String) -> Result<(), AllocError> {
+    for member in members {
         if let Some(actor) = member {
-            write!(stage.told, "{}.{} ", actor.sum, actor.counter)?;
+            write!(told, "{}.{} ", actor.sum, actor.counter)?;
         }
     }
     Ok(())
 }
 
 // A message as its letter is written, without the sign.
-fn tell_message(told: &mut String, message: &Message) -> Result<(), HandFault> {
+fn tell_message(message: &Message, told: &mut String) -> Result<(), AllocError> {
     let (ns, receiver) = (message.time.ns(), message.receiver);
     let (sender, number) = (message.sender, message.number);
-    Ok(write!(told, "{ns}:{receiver}:{sender}:{number} ")?)
+    write!(told, "{ns}:{receiver}:{sender}:{number} ")
 }
 
 // The letter that is written so.

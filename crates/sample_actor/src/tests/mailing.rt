@@ -1,47 +1,56 @@
 //! The words for mail and floors. What names a process that there is not does nothing.
 use super::asking::tell_letter;
-use super::player::{Stage, letter, moment, number, split_at_colon, two_numbers};
-use antimessages::{Mail, Outbox};
+use super::player::{letter, moment, number, split_at_colon, tell, two_numbers};
+use crate::Summing;
+use antimessages::{Mail, OutOfMemory, Outbox};
 use gvt::Floors;
-use process_queues::ProcFault;
-use std::alloc::Global;
+use process_queues::{ProcFault, Process};
+use std::alloc::{AllocError, Global};
+use vlink::Letter;
 
 fn process_of(number: u64) -> u16 {
     u16::try_from(number).unwrap_or(u16::MAX)
 }
 
 // The outbox is posted, or room for that is made.
-pub(crate) fn post(stage: &mut Stage, is_reserved: bool) -> Result<(), ProcFault> {
-    let Stage { process, mail, .. } = stage;
+pub(crate) fn post(
+    process: &mut Process<Summing>,
+    mail: &mut Mail,
+    call: &str,
+) -> Result<(), ProcFault> {
     if !process.goes_within(usize::from(mail.processes())) {
         return Ok(());
     }
-    if is_reserved {
-        process.reserve_post(mail)
-    } else {
+    if call == "post" {
         process.post(mail)
+    } else {
+        process.reserve_post(mail)
     }
 }
 
 // A letter of another process is posted in room made before: its receiver, and how it is written.
-pub(crate) fn send(alloc: Global, mail: &mut Mail, rest: &str) -> Result<(), ProcFault> {
+pub(crate) fn send(alloc: Global, mail: &mut Mail, rest: &str) -> Result<(), OutOfMemory> {
     let (receiver, written) = split_at_colon(rest);
     let mut letter = letter(written);
     letter.message.receiver = process_of(number(receiver));
     let mut outbox = Outbox::new(alloc);
-    outbox.push(letter)?;
-    if outbox.goes_within(usize::from(mail.processes())) {
-        mail.reserve(&outbox)?;
-        mail.post(&mut outbox)?;
-    }
-    Ok(())
+    post_letter(mail, &mut outbox, letter)
 }
 
-pub(crate) fn take(stage: &mut Stage, rest: &str) -> Result<(), ProcFault> {
+fn post_letter(mail: &mut Mail, outbox: &mut Outbox, letter: Letter) -> Result<(), OutOfMemory> {
+    outbox.push(letter)?;
+    if !outbox.goes_within(usize::from(mail.processes())) {
+        return Ok(());
+    }
+    mail.reserve(outbox)?;
+    mail.post(outbox)
+}
+
+pub(crate) fn take(mail: &mut Mail, told: &mut String, rest: &str) -> Result<(), AllocError> {
     let (receiver, place) = two_numbers(rest);
-    match stage.mail.take(process_of(receiver), place as usize) {
-        Some(letter) => tell_letter(&letter, &mut stage.told),
-        None => Ok(stage.told.push_str("none ")?),
+    match mail.take(process_of(receiver), place as usize) {
+        Some(letter) => tell_letter(&letter, told),
+        None => tell(told, "none "),
     }
 }
 

@@ -9,77 +9,108 @@ use crate::Summing;
 use antimessages::Mail;
 use gvt::Floors;
 use process_queues::{ProcFault, Process, sending_law};
-use std::alloc::Global;
+use std::alloc::{AllocError, Global};
 use std::fmt::Write;
-use std::test::Fail;
 use vlink::{LATEST_NS, Letter, Message, Sign, Time};
 
-// What a script acts on, the mail and the floors of three processes, and what was told.
+// What a script acts on: a process, the mail and the floors of three.
 #[derive(Drop)]
 pub(crate) struct Stage {
     pub(crate) process: Process<Summing>,
     pub(crate) mail: Mail,
     pub(crate) floors: Floors,
-    pub(crate) told: String,
 }
 
 // What the words of the script tell, one after another, and the sum and the counter of the actor once all is undone.
-pub(crate) fn play(rt: &HostRuntime, script: &str) -> Result<String, Fail> {
-    let mut stage = match open_stage(rt.alloc()) {
-        Ok(stage) => stage,
-        Err(_) => open_stage(rt.alloc())?,
-    };
-    for word in script.split_whitespace() {
-        play_word(rt, &mut stage, word)?;
+pub(crate) fn play(rt: &HostRuntime, script: &str, told: &mut String) -> Result<(), ProcFault> {
+    let mut stage = open_again(rt.alloc())?;
+    let played = play_words(rt, &mut stage, told, script);
+    let ended = tell_end(stage.process, told);
+    if played.is_err() { played } else { ended }
+}
+
+// A stage, also where it is refused memory once.
+fn open_again(alloc: Global) -> Result<Stage, ProcFault> {
+    match open(alloc) {
+        Ok(stage) => Ok(stage),
+        Err(_) => open(alloc),
     }
-    end_stage(stage)
 }
 
-// Nothing done and nothing told, and room for all that will be told.
-fn open_stage(alloc: Global) -> Result<Stage, ProcFault> {
-    let mut told = String::new(alloc);
-    told.reserve(4096)?;
-    Ok(Stage {
-        process: Process::new(alloc, actor(0))?,
-        mail: Mail::new(alloc, 3)?,
-        floors: Floors::new(alloc, 3, Time::of_known(LATEST_NS))?,
-        told,
-    })
+// Nothing done.
+fn open(alloc: Global) -> Result<Stage, ProcFault> {
+    let process = Process::new(alloc, actor(0));
+    let mail = Mail::new(alloc, 3);
+    let floors = Floors::new(alloc, 3, Time::of_known(LATEST_NS));
+    match (process, mail, floors) {
+        (Ok(process), Ok(mail), Ok(floors)) => Ok(Stage {
+            process,
+            mail,
+            floors,
+        }),
+        _ => Err(ProcFault::OutOfMemory),
+    }
 }
 
-// What was told, and the sum and the counter of the actor once all is undone.
-fn end_stage(stage: Stage) -> Result<String, Fail> {
-    let Stage {
-        process,
-        mut told,
-        ..
-    } = stage;
+// The sum and the counter of the actor once all is undone.
+fn tell_end(process: Process<Summing>, told: &mut String) -> Result<(), ProcFault> {
     sending_law::<Summing>();
     process.stands_law();
     let actor = process.undo_all();
     write!(told, "sum {} counter {}", actor.sum, actor.counter)?;
-    Ok(told)
+    Ok(())
 }
 
-// Does what one word says. A word that is refused leaves the process as it was; where that was for want of memory, it is done again, but for
-// `arrive?`. `tools/refuse_memory.py` counts the words that were refused memory.
-fn play_word(rt: &HostRuntime, stage: &mut Stage, word: &str) -> Result<(), ProcFault> {
+fn play_words(
+    rt: &HostRuntime,
+    stage: &mut Stage,
+    told: &mut String,
+    script: &str,
+) -> Result<(), ProcFault> {
+    for word in script.split_whitespace() {
+        play_word(rt, stage, told, word)?;
+    }
+    Ok(())
+}
+
+// Does what one word says. A word that is refused leaves the process as it was.
+fn play_word(
+    rt: &HostRuntime,
+    stage: &mut Stage,
+    told: &mut String,
+    word: &str,
+) -> Result<(), ProcFault> {
     let before = asking::look_at(&stage.process);
-    let Err(fault) = act(rt.alloc(), stage, word) else {
+    let Err(fault) = act(rt.alloc(), stage, told, word) else {
         return Ok(());
     };
-    if asking::look_at(&stage.process) != before {
-        stage.told.push_str("changed ")?;
+    if !asking::is_same(&before, &asking::look_at(&stage.process)) {
+        tell(told, "changed ")?;
     }
-    if fault == ProcFault::Exhausted {
-        return Ok(stage.told.push_str("exhausted ")?);
+    match fault {
+        ProcFault::Exhausted => Ok(tell(told, "exhausted ")?),
+        ProcFault::OutOfMemory => act_again(rt, stage, told, word),
     }
+}
+
+// A word that was refused memory is done again, but for `arrive?`. `tools/refuse_memory.py` counts the words that were refused memory.
+fn act_again(
+    rt: &HostRuntime,
+    stage: &mut Stage,
+    told: &mut String,
+    word: &str,
+) -> Result<(), ProcFault> {
+    tell_refused(rt, word);
+    if word == "arrive?" {
+        return Ok(tell(told, "refused ")?);
+    }
+    act(rt.alloc(), stage, told, word)
+}
+
+// The line of a word that was refused memory.
+pub(crate) fn tell_refused(rt: &HostRuntime, word: &str) {
     let (call, _) = split_at_colon(word);
     let _ = eprintln!(rt; "{call} was refused memory");
-    if word == "arrive?" {
-        return Ok(stage.told.push_str("refused ")?);
-    }
-    act(rt.alloc(), stage, word)
 }
 
 // The call that a word stands for, and what stands behind the colon.
@@ -87,40 +118,56 @@ pub(crate) fn split_at_colon(word: &str) -> (&str, &str) {
     word.split_once(':').unwrap_or((word, ""))
 }
 
-// A letter, a word without an answer, or one that tells of letters or messages.
-fn act(alloc: Global, stage: &mut Stage, word: &str) -> Result<(), ProcFault> {
+// A letter, or a call, which can be refused, or one that tells what can be seen.
+fn act(alloc: Global, stage: &mut Stage, told: &mut String, word: &str) -> Result<(), ProcFault> {
     let (call, rest) = split_at_colon(word);
     match call {
-        "counter" => stage.process = Process::new(alloc, actor(number(rest)))?,
-        "reserve_letters" => stage.process.reserve_letters(number(rest) as usize)?,
-        "reserve_rows" => stage.process.reserve_rows(number(rest) as usize)?,
-        "outbox" => asking::tell_outbox(stage)?,
-        "reserve_post" => mailing::post(stage, true)?,
-        "post" => mailing::post(stage, false)?,
-        "send" => mailing::send(alloc, &mut stage.mail, rest)?,
-        "take" => mailing::take(stage, rest)?,
-        "set" | "lower" => mailing::put(&mut stage.floors, call, rest),
-        "alone" => alone::tell(alloc, &mut stage.told, number(rest))?,
-        "back" => alone::tell_back(alloc, &mut stage.told)?,
-        "next" => asking::tell_next(stage)?,
-        "count" => asking::tell_count(stage, rest)?,
-        "horizon" => asking::tell_horizon(stage)?,
-        _ if word.starts_with('+') || word.starts_with('-') => stage.process.deliver(letter(word))?,
-        _ => tell_answer(stage, call, rest)?,
+        "counter" => set_counter(alloc, stage, number(rest)),
+        "reserve_letters" => stage.process.reserve_letters(number(rest) as usize),
+        "reserve_rows" => stage.process.reserve_rows(number(rest) as usize),
+        "post" | "reserve_post" => mailing::post(&mut stage.process, &mut stage.mail, call),
+        "send" => Ok(mailing::send(alloc, &mut stage.mail, rest)?),
+        "alone" => alone::tell(alloc, told, number(rest)),
+        "back" => alone::tell_back(alloc, told),
+        "arrive" | "arrive?" | "run" | "seal" | "commit" => {
+            asking::tell_asked(&mut stage.process, told, call, rest)
+        }
+        _ if word.starts_with('+') || word.starts_with('-') => stage.process.deliver(letter(word)),
+        _ => Ok(look(stage, told, call, rest)?),
     }
+}
+
+// A process of an actor with this counter.
+fn set_counter(alloc: Global, stage: &mut Stage, counter: u64) -> Result<(), ProcFault> {
+    stage.process = Process::new(alloc, actor(counter))?;
     Ok(())
 }
 
-// A word whose answer is a number, or none.
-fn tell_answer(stage: &mut Stage, call: &str, rest: &str) -> Result<(), ProcFault> {
-    let answer = asking::ask(&mut stage.process, call, rest)?;
-    tell_number(&mut stage.told, answer)
+// A word that nothing refuses.
+fn look(stage: &mut Stage, told: &mut String, call: &str, rest: &str) -> Result<(), AllocError> {
+    match call {
+        "take" => mailing::take(&mut stage.mail, told, rest),
+        "set" | "lower" => {
+            mailing::put(&mut stage.floors, call, rest);
+            Ok(())
+        }
+        "horizon" => tell_number(told, gvt::horizon(&stage.floors, &stage.mail).ns()),
+        _ => asking::look(&stage.process, told, call, rest),
+    }
 }
 
-fn tell_number(told: &mut String, answer: Option<u64>) -> Result<(), ProcFault> {
+pub(crate) fn tell(told: &mut String, text: &str) -> Result<(), AllocError> {
+    told.push_str(text)
+}
+
+pub(crate) fn tell_number(told: &mut String, number: u64) -> Result<(), AllocError> {
+    write!(told, "{number} ")
+}
+
+pub(crate) fn tell_answer(told: &mut String, answer: Option<u64>) -> Result<(), AllocError> {
     match answer {
-        Some(number) => Ok(write!(told, "{number} ")?),
-        None => Ok(told.push_str("none ")?),
+        Some(number) => tell_number(told, number),
+        None => tell(told, "none "),
     }
 }
 

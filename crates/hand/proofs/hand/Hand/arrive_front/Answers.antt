@@ -1,35 +1,42 @@
-use Rattle.std.proofs.Common.{[], refl, sym, ap, ◌∙◌, subst}
+use Rattle.std.proofs.Common.{◌≡◌, [], true, false, refl, sym, ap, ◌∙◌, subst}
+use Rattle.std.proofs.lemmas.Result.{err_from_is_err_and}
 use Rattle.std.proofs.lemmas.List.{with_items_is}
 use Rattle.reverse.specs.Rules.{rules_of}
 use Rattle.hand.specs.Flow.{Flow}
 use Rattle.hand.specs.Hands.{DoesSent, IsAsBefore}
 use Rattle.hand.specs.Passing.{held}
 use Rattle.hand.proofs.Telling.{does-nothing, does-both}
-use Rattle.hand.proofs.Still.{as-roomy, still}
+use Rattle.hand.proofs.Answering.{not-both, not-err}
+use Rattle.hand.proofs.Still.{as-roomy, on-err, still}
 use Rattle.hand.proofs.hand.Hand.arrive_front.Given.{Over}
-use Rattle.hand.proofs.hand.Hand.arrive_front.Goals.{After-reserve}
+use Rattle.hand.proofs.hand.Hand.arrive_front.Goals.{After-make_room, After-arrive}
 use Rattle.hand.proofs.hand.Hand.arrive_front.Goals as goal
 
 -- after room was made
-roomy : (g : Over) (c : After-reserve g) → DoesSent (rules_of g.R.Reversible.plain) g.R.Reversible.is_value c.args.self.now []
-    (held c.self.inside.members.items c.self.inside.done.events c.self.inside.rows c.reserve.new.self) []
+as-it-was : (g : Over) (c : After-make_room g) → IsAsBefore c.args.self.now (held c.self.inside.members.items c.self.inside.done.events c.self.inside.rows c.make_room.new.letters)
+as-it-was g c =
+    subst (λ h. IsAsBefore h (held c.self.inside.members.items c.self.inside.done.events c.self.inside.rows c.make_room.new.letters)) c.self.view_is
+    (as-roomy c.self.inside.members.items c.self.inside.done.events c.self.inside.done.events c.self.inside.rows c.self.inside.letters c.make_room.new.letters refl c.make_room.ensures.letters)
+
+roomy : (g : Over) (c : After-make_room g) → DoesSent (rules_of g.R.Reversible.plain) g.R.Reversible.is_value c.args.self.now []
+    (held c.self.inside.members.items c.self.inside.done.events c.self.inside.rows c.make_room.new.letters) []
 roomy g c =
     still g.R.Reversible.plain g.R.Reversible.is_value c.actor_rules_law.ensures.order c.actor_rules_law.ensures.undoes c.args.self.now
-    (held c.self.inside.members.items c.self.inside.done.events c.self.inside.rows c.reserve.new.self)
-    (subst (λ h. IsAsBefore h (held c.self.inside.members.items c.self.inside.done.events c.self.inside.rows c.reserve.new.self)) c.self.view_is
-    (as-roomy c.self.inside.members.items c.self.inside.done.events c.self.inside.done.events c.self.inside.rows c.self.inside.letters c.reserve.new.self refl c.reserve.ensures.same))
+    (held c.self.inside.members.items c.self.inside.done.events c.self.inside.rows c.make_room.new.letters) (as-it-was g c)
 
 pub returns-in_default-clause-did : goal.returns-in_default-clause-did
 returns-in_default-clause-did g c = does-nothing (rules_of g.R.Reversible.plain) g.R.Reversible.is_value c.args.self.now []
 
-pub returns-in_default-room_for-clause-did : goal.returns-in_default-room_for-clause-did
-returns-in_default-room_for-clause-did g c = does-nothing (rules_of g.R.Reversible.plain) g.R.Reversible.is_value c.args.self.now []
+pub returns-in_err-make_room-clause-did : goal.returns-in_err-make_room-clause-did
+returns-in_err-make_room-clause-did g c = roomy g (goal.at.returns-in_err-make_room-clause-did g c).After-make_room
 
-pub returns-in_err-reserve-clause-did : goal.returns-in_err-reserve-clause-did
-returns-in_err-reserve-clause-did g c = roomy g (goal.at.returns-in_err-reserve-clause-did g c).After-reserve
-
-pub returns-in_err-reserve_for-clause-did : goal.returns-in_err-reserve_for-clause-did
-returns-in_err-reserve_for-clause-did g c = roomy g (goal.at.returns-in_err-reserve_for-clause-did g c).After-reserve
+-- where the letter was refused
+refused : (g : Over) (c : After-arrive g) → c.arrive.new.done.events ≡ c.self.inside.done.events → c.arrive.new.letters ≡ record c.make_room.new.letters { room = c.arrive.new.letters.room } →
+    IsAsBefore c.args.self.now (held c.self.inside.members.items c.arrive.new.done.events c.self.inside.rows c.arrive.new.letters)
+refused g c d e =
+    subst (λ h. IsAsBefore h (held c.self.inside.members.items c.arrive.new.done.events c.self.inside.rows c.arrive.new.letters)) c.self.view_is
+    (as-roomy c.self.inside.members.items c.self.inside.done.events c.arrive.new.done.events c.self.inside.rows c.self.inside.letters c.arrive.new.letters d
+    (e ∙ ap {A = Flow} (λ (z : Flow). record z { room = c.arrive.new.letters.room }) c.make_room.ensures.letters))
 
 pub returns-in_err-arrive-clause-did : goal.returns-in_err-arrive-clause-did
 returns-in_err-arrive-clause-did g c =
@@ -40,9 +47,14 @@ returns-in_err-arrive-clause-did g c =
     (sym (with_items_is c.self.inside.members c.arrive.new.members (c.arrive.ensures.len ∙ c.deref_mut.ensures.len) ∙ (c.in_err-arrive.ensures.members ∙ c.deref_mut.ensures.value)))
     (still g.R.Reversible.plain V c.actor_rules_law.ensures.order c.actor_rules_law.ensures.undoes c.args.self.now
     (held c.self.inside.members.items c.arrive.new.done.events rows c.arrive.new.letters)
-    (subst (λ h. IsAsBefore h (held c.self.inside.members.items c.arrive.new.done.events rows c.arrive.new.letters)) c.self.view_is
-    (as-roomy c.self.inside.members.items c.self.inside.done.events c.arrive.new.done.events rows c.self.inside.letters c.arrive.new.letters c.in_err-arrive.ensures.done
-    (c.in_err-arrive.ensures.letters ∙ ap {A = Flow} (λ (z : Flow). record z { room = c.arrive.new.letters.room }) c.reserve.ensures.same))))
+    (refused g (goal.at.returns-in_err-arrive-clause-did g c).After-arrive c.in_err-arrive.ensures.done c.in_err-arrive.ensures.letters))
+
+pub returns-in_err-arrive-clause-unchanged : goal.returns-in_err-arrive-clause-unchanged
+returns-in_err-arrive-clause-unchanged g c =
+    on-err c.from_residual-in_err-arrive.result _
+    (subst (λ ms. IsAsBefore c.args.self.now (held ms c.arrive.new.done.events c.self.inside.rows c.arrive.new.letters))
+    (sym (with_items_is c.self.inside.members c.arrive.new.members (c.arrive.ensures.len ∙ c.deref_mut.ensures.len) ∙ (c.in_err-arrive.ensures.members ∙ c.deref_mut.ensures.value)))
+    (refused g (goal.at.returns-in_err-arrive-clause-unchanged g c).After-arrive c.in_err-arrive.ensures.done c.in_err-arrive.ensures.letters))
 
 pub returns-clause-did : goal.returns-clause-did
 returns-clause-did g c =
@@ -51,7 +63,46 @@ returns-clause-did g c =
     let rows = c.self.inside.rows in
     subst (λ ms. DoesSent r V c.args.self.now [] (held ms c.arrive.new.done.events rows c.arrive.new.letters) [])
     (sym (with_items_is c.self.inside.members c.arrive.new.members (c.arrive.ensures.len ∙ c.deref_mut.ensures.len)))
-    (does-both r V c.args.self.now (held c.self.inside.members.items c.self.inside.done.events rows c.reserve.new.self)
-    (held c.arrive.new.members c.arrive.new.done.events rows c.arrive.new.letters) [] [] [] (roomy g (goal.at.returns-clause-did g c).After-reserve)
-    (subst (λ ms. DoesSent r V (held ms c.self.inside.done.events rows c.reserve.new.self) [] (held c.arrive.new.members c.arrive.new.done.events rows c.arrive.new.letters) [])
+    (does-both r V c.args.self.now (held c.self.inside.members.items c.self.inside.done.events rows c.make_room.new.letters)
+    (held c.arrive.new.members c.arrive.new.done.events rows c.arrive.new.letters) [] [] [] (roomy g (goal.at.returns-clause-did g c).After-make_room)
+    (subst (λ ms. DoesSent r V (held ms c.self.inside.done.events rows c.make_room.new.letters) [] (held c.arrive.new.members c.arrive.new.done.events rows c.arrive.new.letters) [])
     c.deref_mut.ensures.value (c.in_ok-arrive.ensures.did rows)))
+
+pub returns-in_err-make_room-clause-quiet : goal.returns-in_err-make_room-clause-quiet
+returns-in_err-make_room-clause-quiet g c = λ e. not-err false _ c.from_residual.result e (err_from_is_err_and c.from_residual.result c.from_residual.ensures.1).1
+
+pub returns-in_err-make_room-clause-fewer : goal.returns-in_err-make_room-clause-fewer
+returns-in_err-make_room-clause-fewer g c = λ e. not-err true _ c.from_residual.result e (err_from_is_err_and c.from_residual.result c.from_residual.ensures.1).1
+
+pub returns-in_err-make_room-clause-memory : goal.returns-in_err-make_room-clause-memory
+returns-in_err-make_room-clause-memory g c = let p = err_from_is_err_and c.from_residual.result c.from_residual.ensures.1 in rw p.1 p.2
+
+pub returns-in_err-arrive-clause-quiet : goal.returns-in_err-arrive-clause-quiet
+returns-in_err-arrive-clause-quiet g c = λ e. not-err false _ c.from_residual-in_err-arrive.result e (err_from_is_err_and c.from_residual-in_err-arrive.result c.from_residual-in_err-arrive.ensures.1).1
+
+pub returns-in_err-arrive-clause-fewer : goal.returns-in_err-arrive-clause-fewer
+returns-in_err-arrive-clause-fewer g c = λ e. not-err true _ c.from_residual-in_err-arrive.result e (err_from_is_err_and c.from_residual-in_err-arrive.result c.from_residual-in_err-arrive.ensures.1).1
+
+pub returns-in_err-arrive-clause-memory : goal.returns-in_err-arrive-clause-memory
+returns-in_err-arrive-clause-memory g c = let p = err_from_is_err_and c.from_residual-in_err-arrive.result c.from_residual-in_err-arrive.ensures.1 in rw p.1 p.2
+
+pub returns-in_err-make_room-clause-unchanged : goal.returns-in_err-make_room-clause-unchanged
+returns-in_err-make_room-clause-unchanged g c = on-err c.from_residual.result _ (as-it-was g (goal.at.returns-in_err-make_room-clause-unchanged g c).After-make_room)
+
+pub returns-in_default-clause-fewer : goal.returns-in_default-clause-fewer
+returns-in_default-clause-fewer g c = λ e. not-both _ e refl
+
+pub returns-in_default-clause-unchanged : goal.returns-in_default-clause-unchanged
+returns-in_default-clause-unchanged g c = tt
+
+pub returns-in_default-clause-memory : goal.returns-in_default-clause-memory
+returns-in_default-clause-memory g c = tt
+
+pub returns-clause-quiet : goal.returns-clause-quiet
+returns-clause-quiet g c = λ e. not-both _ refl e
+
+pub returns-clause-unchanged : goal.returns-clause-unchanged
+returns-clause-unchanged g c = tt
+
+pub returns-clause-memory : goal.returns-clause-memory
+returns-clause-memory g c = tt

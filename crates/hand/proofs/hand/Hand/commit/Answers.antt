@@ -1,4 +1,5 @@
 use Rattle.std.proofs.Common.{ℕ, ◌≡◌, ◌<◌, ◌++◌, All, IsPermutation, List, take, drop, IfSome, slice_get, refl, sym, ap, ◌∙◌, subst}
+use Rattle.std.proofs.lemmas.Result.{err_from_is_err_and}
 use Rattle.std.proofs.lemmas.List.{take-append-drop, take-map}
 use Rattle.std.proofs.lemmas.List.Elements.{All-weaker}
 use Rattle.reverse.specs.Rules.{rules_of}
@@ -114,3 +115,18 @@ returns-clause-queue g c = waiting g (goal.at.returns-clause-queue g c).After-fi
 
 pub returns-clause-flow : goal.returns-clause-flow
 returns-clause-flow g c = changed g (goal.at.returns-clause-flow g c).After-first-first c.commit.new.self _ c.in_ok-commit.ensures.told
+
+pub returns-in_err-commit-clause-sealed : goal.returns-in_err-commit-clause-sealed
+returns-in_err-commit-clause-sealed g c = rw (err_from_is_err_and c.from_residual.result c.from_residual.ensures.1).1 tt
+
+pub returns-in_err-commit-clause-left : goal.returns-in_err-commit-clause-left
+returns-in_err-commit-clause-left g c = rw (err_from_is_err_and c.from_residual.result c.from_residual.ensures.1).1 tt
+
+pub returns-in_err-commit-clause-memory : goal.returns-in_err-commit-clause-memory
+returns-in_err-commit-clause-memory g c = let p = err_from_is_err_and c.from_residual.result c.from_residual.ensures.1 in rw p.1 p.2
+
+pub returns-clause-memory : goal.returns-clause-memory
+returns-clause-memory g c = tt
+
+pub returns-clause-unchanged : goal.returns-clause-unchanged
+returns-clause-unchanged g c = tt

@@ -1,4 +1,5 @@
-use Rattle.std.proofs.Common.{◌≡◌, ◌∷◌, Contains, IsPermutation, length, false, sym, ap, subst, refl, arith}
+use Rattle.std.proofs.Common.{◌≡◌, ◌∷◌, Contains, IsPermutation, length, false, sym, ap, subst, refl, arith, true}
+use Rattle.std.proofs.lemmas.Result.{err_from_is_err_and}
 use Rattle.std.proofs.lemmas.List.Sorted.{Contains-permutation, All-permutation, length_permutation}
 use Rattle.vlink.specs.declared.message.Message.{Message}
 use Rattle.vlink.specs.Order.{message_order}
@@ -9,6 +10,7 @@ use Rattle.hand.specs.DoneEvents.{messages_of}
 use Rattle.hand.specs.Flow.{Flow}
 use Rattle.hand.specs.Hands.{IsAsBefore}
 use Rattle.hand.specs.Passing.{held}
+use Rattle.hand.proofs.Answering.{not-both, not-err}
 use Rattle.hand.proofs.Among.{contains-in}
 use Rattle.hand.proofs.FrontWaits.{CountedBeside, counted-again, counted-as, counted-both, first-least, front-waits, nothing-left, nothing-waits}
 use Rattle.hand.proofs.Still.{as-first}
@@ -105,3 +107,30 @@ returns-clause-fewer g c = λ e.
     let b = length_permutation c.self.inside.letters.queue c.first.new.self.queue c.first.ensures.same in
     let d = ap (λ h. length h.flow.queue) c.self.view_is in
     omega arith
+
+pub returns-in_default-clause-fewer : goal.returns-in_default-clause-fewer
+returns-in_default-clause-fewer g c = λ e. not-both _ e refl
+
+pub returns-in_default-clause-memory : goal.returns-in_default-clause-memory
+returns-in_default-clause-memory g c = tt
+
+pub returns-then-not-has-clause-fewer : goal.returns-then-not-has-clause-fewer
+returns-then-not-has-clause-fewer g c = λ e. not-both _ e refl
+
+pub returns-then-not-has-clause-memory : goal.returns-then-not-has-clause-memory
+returns-then-not-has-clause-memory g c = tt
+
+pub returns-in_err-count_again-clause-waits : goal.returns-in_err-count_again-clause-waits
+returns-in_err-count_again-clause-waits g c = λ e. not-err false _ c.from_residual.result e (err_from_is_err_and c.from_residual.result c.from_residual.ensures.1).1
+
+pub returns-in_err-count_again-clause-fewer : goal.returns-in_err-count_again-clause-fewer
+returns-in_err-count_again-clause-fewer g c = λ e. not-err true _ c.from_residual.result e (err_from_is_err_and c.from_residual.result c.from_residual.ensures.1).1
+
+pub returns-in_err-count_again-clause-memory : goal.returns-in_err-count_again-clause-memory
+returns-in_err-count_again-clause-memory g c = let p = err_from_is_err_and c.from_residual.result c.from_residual.ensures.1 in rw p.1 p.2
+
+pub returns-clause-waits : goal.returns-clause-waits
+returns-clause-waits g c = λ e. not-both _ refl e
+
+pub returns-clause-memory : goal.returns-clause-memory
+returns-clause-memory g c = tt

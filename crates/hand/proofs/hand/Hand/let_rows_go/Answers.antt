@@ -1,4 +1,5 @@
 use Rattle.std.proofs.Common.{◌≡◌, ℕ, ◌+◌, ◌<◌, ◌≤◌, [], All, drop, length, take, refl, subst, sym, ap, ◌∙◌}
+use Rattle.std.proofs.lemmas.Result.{err_from_is_err_and}
 use Rattle.vlink.specs.Letters.{Row}
 use Rattle.reverse.specs.Rules.{rules_of}
 use Rattle.reverse.specs.Setting.{Setting}
@@ -54,3 +55,12 @@ returns-clause-gone g c = gone g (goal.at.returns-clause-gone g c).After-let_go
 
 pub returns-clause-stands : goal.returns-clause-stands
 returns-clause-stands g c = λ x v s. stands g (goal.at.returns-clause-stands g c).After-let_go x v s
+
+pub returns-in_err-let_go-clause-late : goal.returns-in_err-let_go-clause-late
+returns-in_err-let_go-clause-late g c = rw (err_from_is_err_and c.from_residual.result c.from_residual.ensures.1).1 tt
+
+pub returns-in_err-let_go-clause-memory : goal.returns-in_err-let_go-clause-memory
+returns-in_err-let_go-clause-memory g c = let p = err_from_is_err_and c.from_residual.result c.from_residual.ensures.1 in rw p.1 p.2
+
+pub returns-clause-memory : goal.returns-clause-memory
+returns-clause-memory g c = tt

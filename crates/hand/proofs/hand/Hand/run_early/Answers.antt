@@ -1,74 +1,81 @@
-use Rattle.std.proofs.Common.{◌≡◌, ◌≢◌, ◌<◌, List, [], ◌∷◌, ◌++◌, Some, false, All, Contains, slice_get, subst, sym, ap, ◌∙◌, refl, rules}
+use Rattle.std.proofs.Common.{◌≡◌, ◌≢◌, ℕ, ◌<◌, ◌≤◌, List, [], ◌∷◌, ◌++◌, Some, Ok, false, All, Contains, slice_get, subst, sym, ap, ◌∙◌, refl, rules, arith}
+use Rattle.std.proofs.lemmas.Result.{err_from_is_err_and}
+use Rattle.std.proofs.lemmas.List.{with_items_is}
+use Rattle.std.proofs.lemmas.List.Elements.{All-weaker}
 use Rattle.vlink.specs.declared.message.Message.{Message}
 use Rattle.vlink.specs.Order.{message_order}
-use Rattle.virtual_time.specs.Law.{IsAscending}
-use Rattle.reverse.specs.Rules.{is_before}
+use Rattle.virtual_time.specs.Law.{IsAscending, IsOrder}
+use Rattle.virtual_time.proofs.Order.{not_less-time}
+use Rattle.reverse.specs.Rules.{is_before, rules_of}
 use Rattle.antimessages.specs.Counting.{is_after}
 use Rattle.process_queues.specs.Past.{newest_of}
 use Rattle.hand.specs.DoneEvents.{messages_of}
-use Rattle.hand.specs.Hands.{IsAsBefore}
+use Rattle.hand.specs.Hands.{DoesSent, IsAsBefore}
 use Rattle.hand.specs.Passing.{held}
+use Rattle.hand.specs.declared.early.Early.TheVariants.{Ran, Idle, Late}
+use Rattle.hand.specs.declared.fault.HandFault.TheVariants.{Exhausted}
+use Rattle.hand.proofs.Answering.{not-err, not-exhausted, not-idle-late, not-idle-ran, not-ran-late}
 use Rattle.hand.proofs.NewestDone.{after-none}
 use Rattle.hand.proofs.Still.{as-both, as-empty, as-put_back, as-roomy, on-err, still, took-first}
+use Rattle.hand.proofs.Telling.{does-both}
 use Rattle.hand.proofs.hand.Hand.run_early.Given.{Over}
-use Rattle.hand.proofs.hand.Hand.run_early.Goals.{After-reserve-2, After-wait_again, In-Some}
+use Rattle.hand.proofs.hand.Hand.run_early.Goals.{After-make_room, After-wait_again, In-Some}
 use Rattle.hand.proofs.hand.Hand.run_early.Goals as goal
 
+-- where the first message is not earlier than the limit, none is
+all-late : IsOrder message_order → (limit : ℕ) (m : Message) (queue : List Message) → All (λ x. is_before x m ≡ false) queue → limit ≤ m.time → All (λ x. limit ≤ x.time) queue
+all-late O limit m queue first late =
+    All-weaker (λ x. is_before x m ≡ false) (λ x. limit ≤ x.time) (λ x b. let e = not_less-time message_order O x m b in omega (arith, late)) queue first
+
 -- after room was made
-roomy : (g : Over) (c : After-reserve-2 g) → IsAsBefore c.args.self.now (held c.self.inside.members.items c.reserve-2.new.self.events c.self.inside.rows c.reserve.new.self)
+roomy : (g : Over) (c : After-make_room g) → IsAsBefore c.args.self.now (held c.self.inside.members.items c.make_room.new.done.events c.self.inside.rows c.make_room.new.letters)
 roomy g c =
-    subst (λ h. IsAsBefore h (held c.self.inside.members.items c.reserve-2.new.self.events c.self.inside.rows c.reserve.new.self)) c.self.view_is
-    (as-roomy c.self.inside.members.items c.self.inside.done.events c.reserve-2.new.self.events c.self.inside.rows c.self.inside.letters c.reserve.new.self c.reserve-2.ensures.same c.reserve.ensures.same)
+    subst (λ h. IsAsBefore h (held c.self.inside.members.items c.make_room.new.done.events c.self.inside.rows c.make_room.new.letters)) c.self.view_is
+    (as-roomy c.self.inside.members.items c.self.inside.done.events c.make_room.new.done.events c.self.inside.rows c.self.inside.letters c.make_room.new.letters c.make_room.ensures.done c.make_room.ensures.letters)
 
-pub returns-in_err-reserve-clause-did : goal.returns-in_err-reserve-clause-did
-returns-in_err-reserve-clause-did g c =
+pub returns-in_err-make_room-clause-did : goal.returns-in_err-make_room-clause-did
+returns-in_err-make_room-clause-did g c =
     still g.R.Reversible.plain g.R.Reversible.is_value c.actor_rules_law.ensures.order c.actor_rules_law.ensures.undoes c.args.self.now
-    (held c.self.inside.members.items c.self.inside.done.events c.self.inside.rows c.reserve.new.self)
-    (subst (λ h. IsAsBefore h (held c.self.inside.members.items c.self.inside.done.events c.self.inside.rows c.reserve.new.self)) c.self.view_is
-    (as-roomy c.self.inside.members.items c.self.inside.done.events c.self.inside.done.events c.self.inside.rows c.self.inside.letters c.reserve.new.self refl c.reserve.ensures.same))
-
-pub returns-in_err-reserve-2-clause-did : goal.returns-in_err-reserve-2-clause-did
-returns-in_err-reserve-2-clause-did g c =
-    still g.R.Reversible.plain g.R.Reversible.is_value c.actor_rules_law.ensures.order c.actor_rules_law.ensures.undoes c.args.self.now
-    (held c.self.inside.members.items c.reserve-2.new.self.events c.self.inside.rows c.reserve.new.self) (roomy g (goal.at.returns-in_err-reserve-2-clause-did g c).After-reserve-2)
+    (held c.self.inside.members.items c.make_room.new.done.events c.self.inside.rows c.make_room.new.letters) (roomy g (goal.at.returns-in_err-make_room-clause-did g c).After-make_room)
 
 pub returns-in_default-clause-did : goal.returns-in_default-clause-did
 returns-in_default-clause-did g c =
     let members = c.self.inside.members.items in
-    let events = c.reserve-2.new.self.events in
+    let events = c.make_room.new.done.events in
     let rows = c.self.inside.rows in
     still g.R.Reversible.plain g.R.Reversible.is_value c.actor_rules_law.ensures.order c.actor_rules_law.ensures.undoes c.args.self.now (held members events rows c.pop.new.self)
-    (as-both c.args.self.now (held members events rows c.reserve.new.self) (held members events rows c.pop.new.self) (roomy g (goal.at.returns-in_default-clause-did g c).After-reserve-2)
-    (as-empty members events rows c.reserve.new.self c.pop.new.self c.in_default.ensures.none c.in_default.ensures.empty c.pop.ensures.others))
+    (as-both c.args.self.now (held members events rows c.make_room.new.letters) (held members events rows c.pop.new.self) (roomy g (goal.at.returns-in_default-clause-did g c).After-make_room)
+    (as-empty members events rows c.make_room.new.letters c.pop.new.self c.in_default.ensures.none c.in_default.ensures.empty c.pop.ensures.others))
 
 -- the first message waits again
-back : (g : Over) (c : After-wait_again g) (before : IsAsBefore c.args.self.now (held c.self.inside.members.items c.reserve-2.new.self.events c.self.inside.rows c.reserve.new.self)) →
-    IsAsBefore c.args.self.now (held c.self.inside.members.items c.reserve-2.new.self.events c.self.inside.rows c.wait_again.new.self)
+back : (g : Over) (c : After-wait_again g) (before : IsAsBefore c.args.self.now (held c.self.inside.members.items c.make_room.new.done.events c.self.inside.rows c.make_room.new.letters)) →
+    IsAsBefore c.args.self.now (held c.self.inside.members.items c.make_room.new.done.events c.self.inside.rows c.wait_again.new.self)
 back g c before =
     let members = c.self.inside.members.items in
-    let events = c.reserve-2.new.self.events in
+    let events = c.make_room.new.done.events in
     let rows = c.self.inside.rows in
-    as-both c.args.self.now (held members events rows c.reserve.new.self) (held members events rows c.wait_again.new.self) before
-    (as-put_back members events rows c.reserve.new.self c.pop.new.self c.wait_again.new.self c.in-Some.message c.in-Some.ensures.taken c.wait_again.ensures.waits c.wait_again.ensures.others)
+    as-both c.args.self.now (held members events rows c.make_room.new.letters) (held members events rows c.wait_again.new.self) before
+    (as-put_back members events rows c.make_room.new.letters c.pop.new.self c.wait_again.new.self c.in-Some.message c.in-Some.ensures.taken c.wait_again.ensures.waits c.wait_again.ensures.others)
 
 -- it is the first of the queue
 first : (g : Over) (c : In-Some g) → Contains c.args.self.now.flow.queue c.in-Some.message × All (λ x. is_before x c.in-Some.message ≡ false) c.args.self.now.flow.queue
 first g c =
     subst (λ (q : List Message). Contains q c.in-Some.message × All (λ x. is_before x c.in-Some.message ≡ false) q)
-    (ap (λ z. z.queue) c.reserve.ensures.same ∙ ap (λ h. h.flow.queue) c.self.view_is)
-    (took-first c.in-Some.message c.reserve.new.self c.pop.new.self c.in-Some.ensures.taken)
+    (ap (λ z. z.queue) c.make_room.ensures.letters ∙ ap (λ h. h.flow.queue) c.self.view_is)
+    (took-first c.in-Some.message c.make_room.new.letters c.pop.new.self c.in-Some.ensures.taken)
 
 pub returns-in_default-early-clause-did : goal.returns-in_default-early-clause-did
 returns-in_default-early-clause-did g c =
     let at = goal.at.returns-in_default-early-clause-did g c in
     still g.R.Reversible.plain g.R.Reversible.is_value c.actor_rules_law.ensures.order c.actor_rules_law.ensures.undoes c.args.self.now
-    (held c.self.inside.members.items c.reserve-2.new.self.events c.self.inside.rows c.wait_again.new.self) (back g at.After-wait_again (roomy g at.After-reserve-2))
+    (held c.self.inside.members.items c.make_room.new.done.events c.self.inside.rows c.wait_again.new.self) (back g at.After-wait_again (roomy g at.After-make_room))
 
 pub returns-in_default-early-clause-late : goal.returns-in_default-early-clause-late
 returns-in_default-early-clause-late g c = λ e.
-    let k = first g (goal.at.returns-in_default-early-clause-late g c).In-Some in (
+    let k = first g (goal.at.returns-in_default-early-clause-late g c).In-Some in
+    let b = rw e at c.early_of-early.ensures in (
       c.in-Some.message,
-      subst (λ ds. is_after message_order (newest_of (messages_of ds)) c.in-Some.message ≡ false) (c.reserve-2.ensures.same ∙ ap (λ h. h.done) c.self.view_is) (c.early_of-early.ensures.late e),
+      subst (λ ds. is_after message_order (newest_of (messages_of ds)) c.in-Some.message ≡ false) (c.make_room.ensures.done ∙ ap (λ h. h.done) c.self.view_is) b.1,
       k.0,
       k.1,
     )
@@ -76,48 +83,149 @@ returns-in_default-early-clause-late g c = λ e.
 pub returns-in_default-early-clause-exhausted : goal.returns-in_default-early-clause-exhausted
 returns-in_default-early-clause-exhausted g c = λ e.
     let k = first g (goal.at.returns-in_default-early-clause-exhausted g c).In-Some in
-    let n = rw e at c.early_of-early.ensures.numbers in (
+    let b = rw e at c.early_of-early.ensures in (
       c.in-Some.message,
       k.0,
       k.1,
-      subst (λ ds. IsAscending message_order (messages_of ds) → All (λ x. x ≢ c.in-Some.message) (messages_of ds)) (c.reserve-2.ensures.same ∙ ap (λ h. h.done) c.self.view_is)
-          (λ up. after-none c.actor_rules_law.ensures.order c.in-Some.message (messages_of c.reserve-2.new.self.events) up (rw e at c.early_of-early.ensures.after)),
-      λ s i. n s (subst (λ ms. slice_get ms c.in-Some.message.receiver ≡ Some (Some s)) (sym c.deref.ensures.value)
+      subst (λ ds. IsAscending message_order (messages_of ds) → All (λ x. x ≢ c.in-Some.message) (messages_of ds)) (c.make_room.ensures.done ∙ ap (λ h. h.done) c.self.view_is)
+          (λ up. after-none c.actor_rules_law.ensures.order c.in-Some.message (messages_of c.make_room.new.done.events) up b.1),
+      λ s i. b.2 s (subst (λ ms. slice_get ms c.in-Some.message.receiver ≡ Some (Some s)) (sym c.deref.ensures.value)
           (subst (λ h. slice_get h.members c.in-Some.message.receiver ≡ Some (Some s)) (sym c.self.view_is) i)),
     )
 
 pub returns-in_default-early-clause-unchanged : goal.returns-in_default-early-clause-unchanged
 returns-in_default-early-clause-unchanged g c =
     let at = goal.at.returns-in_default-early-clause-unchanged g c in
-    on-err c.early_of-early.result _ (back g at.After-wait_again (roomy g at.After-reserve-2))
+    on-err c.early_of-early.result _ (back g at.After-wait_again (roomy g at.After-make_room))
 
 pub returns-in_default-early-clause-still : goal.returns-in_default-early-clause-still
 returns-in_default-early-clause-still g c = λ e.
     let at = goal.at.returns-in_default-early-clause-still g c in
-    back g at.After-wait_again (roomy g at.After-reserve-2)
+    back g at.After-wait_again (roomy g at.After-make_room)
 
 pub returns-in_default-clause-idle_still : goal.returns-in_default-clause-idle_still
 returns-in_default-clause-idle_still g c = λ _.
     let members = c.self.inside.members.items in
-    let events = c.reserve-2.new.self.events in
+    let events = c.make_room.new.done.events in
     let rows = c.self.inside.rows in
-    as-both c.args.self.now (held members events rows c.reserve.new.self) (held members events rows c.pop.new.self) (roomy g (goal.at.returns-in_default-clause-idle_still g c).After-reserve-2)
-    (as-empty members events rows c.reserve.new.self c.pop.new.self c.in_default.ensures.none c.in_default.ensures.empty c.pop.ensures.others)
+    as-both c.args.self.now (held members events rows c.make_room.new.letters) (held members events rows c.pop.new.self) (roomy g (goal.at.returns-in_default-clause-idle_still g c).After-make_room)
+    (as-empty members events rows c.make_room.new.letters c.pop.new.self c.in_default.ensures.none c.in_default.ensures.empty c.pop.ensures.others)
 
 pub returns-in_default-early-clause-idle_still : goal.returns-in_default-early-clause-idle_still
 returns-in_default-early-clause-idle_still g c = λ e.
     let at = goal.at.returns-in_default-early-clause-idle_still g c in
-    back g at.After-wait_again (roomy g at.After-reserve-2)
+    back g at.After-wait_again (roomy g at.After-make_room)
 
 pub returns-in_default-early-clause-soon : goal.returns-in_default-early-clause-soon
 returns-in_default-early-clause-soon g c = λ e.
     let k = first g (goal.at.returns-in_default-early-clause-soon g c).In-Some in
-    (c.in-Some.message, k.0, c.early_of-early.ensures.late_soon e)
+    let b = rw e at c.early_of-early.ensures in
+    (c.in-Some.message, k.0, b.0)
 
 pub returns-in-Ok-Ran-clause-ran : goal.returns-in-Ok-Ran-clause-ran
 returns-in-Ok-Ran-clause-ran g c = λ _.
     let q = c.args.self.now.flow.queue in
     let k = first g (goal.at.returns-in-Ok-Ran-clause-ran g c).In-Some in
     let d = c.handle_first.ensures.done in
-    let w = subst (λ (m : Message). Contains q m × All (λ x. is_before x m ≡ false) q × (m.time < c.args.limit)) (sym d.2) (k.0, k.1, c.early_of-early.ensures.soon (search rules)) in
-    (d.0, d.1 ∙ ap (λ z. z ++ d.0 ∷ []) (c.reserve-2.ensures.same ∙ ap (λ h. h.done) c.self.view_is), w.0, w.1, w.2)
+    let e : c.early_of-early.result ≡ Ok Ran = search rules in
+    let b = rw e at c.early_of-early.ensures in
+    let w = subst (λ (m : Message). Contains q m × All (λ x. is_before x m ≡ false) q × (m.time < c.args.limit)) (sym d.2) (k.0, k.1, b.0) in
+    (d.0, d.1 ∙ ap (λ z. z ++ d.0 ∷ []) (c.make_room.ensures.done ∙ ap (λ h. h.done) c.self.view_is), w.0, w.1, w.2)
+
+-- nothing was answered, and the fault is want of memory
+pub returns-in_err-make_room-clause-idle : goal.returns-in_err-make_room-clause-idle
+returns-in_err-make_room-clause-idle g c = λ e. not-err Idle _ c.from_residual.result e (err_from_is_err_and c.from_residual.result c.from_residual.ensures.1).1
+
+pub returns-in_err-make_room-clause-late : goal.returns-in_err-make_room-clause-late
+returns-in_err-make_room-clause-late g c = λ e. not-err Late _ c.from_residual.result e (err_from_is_err_and c.from_residual.result c.from_residual.ensures.1).1
+
+pub returns-in_err-make_room-clause-still : goal.returns-in_err-make_room-clause-still
+returns-in_err-make_room-clause-still g c = λ e. not-err Late _ c.from_residual.result e (err_from_is_err_and c.from_residual.result c.from_residual.ensures.1).1
+
+pub returns-in_err-make_room-clause-idle_still : goal.returns-in_err-make_room-clause-idle_still
+returns-in_err-make_room-clause-idle_still g c = λ e. not-err Idle _ c.from_residual.result e (err_from_is_err_and c.from_residual.result c.from_residual.ensures.1).1
+
+pub returns-in_err-make_room-clause-ran : goal.returns-in_err-make_room-clause-ran
+returns-in_err-make_room-clause-ran g c = λ e. not-err Ran _ c.from_residual.result e (err_from_is_err_and c.from_residual.result c.from_residual.ensures.1).1
+
+pub returns-in_err-make_room-clause-soon : goal.returns-in_err-make_room-clause-soon
+returns-in_err-make_room-clause-soon g c = λ e. not-err Late _ c.from_residual.result e (err_from_is_err_and c.from_residual.result c.from_residual.ensures.1).1
+
+pub returns-in_err-make_room-clause-exhausted : goal.returns-in_err-make_room-clause-exhausted
+returns-in_err-make_room-clause-exhausted g c = λ e. not-exhausted c.from_residual.result c.from_residual.ensures.1 e
+
+pub returns-in_err-make_room-clause-unchanged : goal.returns-in_err-make_room-clause-unchanged
+returns-in_err-make_room-clause-unchanged g c = on-err c.from_residual.result _ (roomy g (goal.at.returns-in_err-make_room-clause-unchanged g c).After-make_room)
+
+pub returns-in_default-clause-late : goal.returns-in_default-clause-late
+returns-in_default-clause-late g c = λ e. not-idle-late _ refl e
+
+pub returns-in_default-clause-still : goal.returns-in_default-clause-still
+returns-in_default-clause-still g c = λ e. not-idle-late _ refl e
+
+pub returns-in_default-clause-soon : goal.returns-in_default-clause-soon
+returns-in_default-clause-soon g c = λ e. not-idle-late _ refl e
+
+pub returns-in_default-clause-ran : goal.returns-in_default-clause-ran
+returns-in_default-clause-ran g c = λ e. not-idle-ran _ refl e
+
+pub returns-in_default-clause-exhausted : goal.returns-in_default-clause-exhausted
+returns-in_default-clause-exhausted g c = λ e. not-err Idle Exhausted _ refl e
+
+pub returns-in_default-clause-unchanged : goal.returns-in_default-clause-unchanged
+returns-in_default-clause-unchanged g c = tt
+
+pub returns-in-Ok-Ran-clause-late : goal.returns-in-Ok-Ran-clause-late
+returns-in-Ok-Ran-clause-late g c = λ e. not-ran-late _ refl e
+
+pub returns-in-Ok-Ran-clause-still : goal.returns-in-Ok-Ran-clause-still
+returns-in-Ok-Ran-clause-still g c = λ e. not-ran-late _ refl e
+
+pub returns-in-Ok-Ran-clause-soon : goal.returns-in-Ok-Ran-clause-soon
+returns-in-Ok-Ran-clause-soon g c = λ e. not-ran-late _ refl e
+
+pub returns-in-Ok-Ran-clause-idle : goal.returns-in-Ok-Ran-clause-idle
+returns-in-Ok-Ran-clause-idle g c = λ e. not-idle-ran _ e refl
+
+pub returns-in-Ok-Ran-clause-idle_still : goal.returns-in-Ok-Ran-clause-idle_still
+returns-in-Ok-Ran-clause-idle_still g c = λ e. not-idle-ran _ e refl
+
+pub returns-in-Ok-Ran-clause-exhausted : goal.returns-in-Ok-Ran-clause-exhausted
+returns-in-Ok-Ran-clause-exhausted g c = λ e. not-err Ran Exhausted _ refl e
+
+pub returns-in-Ok-Ran-clause-unchanged : goal.returns-in-Ok-Ran-clause-unchanged
+returns-in-Ok-Ran-clause-unchanged g c = tt
+
+pub returns-in_default-early-clause-idle : goal.returns-in_default-early-clause-idle
+returns-in_default-early-clause-idle g c = λ e.
+    let k = first g (goal.at.returns-in_default-early-clause-idle g c).In-Some in
+    all-late c.actor_rules_law.ensures.order c.args.limit c.in-Some.message c.args.self.now.flow.queue k.1 (rw e at c.early_of-early.ensures)
+
+pub returns-in-Ok-Ran-clause-did : goal.returns-in-Ok-Ran-clause-did
+returns-in-Ok-Ran-clause-did g c =
+    let r = rules_of g.R.Reversible.plain in
+    let V = g.R.Reversible.is_value in
+    let rows = c.self.inside.rows in
+    let mid = held c.self.inside.members.items c.make_room.new.done.events rows c.make_room.new.letters in
+    let new = held c.handle_first.new.members c.handle_first.new.done.events rows c.handle_first.new.letters in
+    subst (λ ms. DoesSent r V c.args.self.now [] (held ms c.handle_first.new.done.events rows c.handle_first.new.letters) [])
+    (sym (with_items_is c.self.inside.members c.handle_first.new.members (c.handle_first.ensures.len ∙ c.deref_mut.ensures.len)))
+    (does-both r V c.args.self.now mid new [] [] []
+    (still g.R.Reversible.plain V c.actor_rules_law.ensures.order c.actor_rules_law.ensures.undoes c.args.self.now mid (roomy g (goal.at.returns-in-Ok-Ran-clause-did g c).After-make_room))
+    (subst (λ ms. DoesSent r V (held ms c.make_room.new.done.events rows c.make_room.new.letters) [] new []) c.deref_mut.ensures.value
+    (c.handle_first.ensures.did rows c.make_room.new.letters c.in-Some.ensures.taken)))
+
+third : {A B C : Type 0} → A × B × C → C
+third x = x.2
+
+pub handle_first-requires-clause-early : goal.handle_first-requires-clause-early
+handle_first-requires-clause-early g c =
+    let e : c.early_of-early.result ≡ Ok Ran = search rules in
+    let b = rw e at c.early_of-early.ensures in
+    b.1
+
+pub handle_first-requires-clause-able : goal.handle_first-requires-clause-able
+handle_first-requires-clause-able g c =
+    let e : c.early_of-early.result ≡ Ok Ran = search rules in
+    let a = third (rw e at c.early_of-early.ensures) in
+    (a.0, subst (λ ms. slice_get ms c.in-Some.message.receiver ≡ Some (Some a.0)) (c.deref.ensures.value ∙ sym c.deref_mut.ensures.value) a.1, a.2)

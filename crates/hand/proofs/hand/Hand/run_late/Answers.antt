@@ -1,4 +1,5 @@
 use Rattle.std.proofs.Common.{ℕ, ◌≡◌, ◌≢◌, ◌+◌, [], ◌∷◌, List, Some, inl, inr, false, All, Contains, IsPermutation, length, slice_get, subst, sym, ap, ◌∙◌, refl, rules}
+use Rattle.std.proofs.lemmas.Result.{err_from_is_err_and}
 use Rattle.std.proofs.lemmas.List.{with_items_is}
 use Rattle.std.proofs.lemmas.List.Sorted.{Contains-permutation, IsPermutation-trans, All-permutation}
 use Rattle.vlink.specs.declared.message.Message.{Message}
@@ -10,23 +11,29 @@ use Rattle.hand.specs.Handling.{HasLater}
 use Rattle.hand.specs.Hands.{DoesSent, IsAsBefore}
 use Rattle.hand.specs.Passing.{held}
 use Rattle.hand.specs.Undoing.{CameTo}
+use Rattle.hand.specs.declared.fault.HandFault.TheVariants.{Exhausted}
 use Rattle.hand.proofs.Among.{contains-in}
+use Rattle.hand.proofs.Answering.{not-err, not-exhausted}
 use Rattle.hand.proofs.CountsAgain.{counts-again}
 use Rattle.hand.proofs.NotLater.{not-later}
 use Rattle.hand.proofs.Telling.{does-both}
-use Rattle.hand.proofs.Still.{as-both, as-first, as-roomy, still}
+use Rattle.hand.proofs.Still.{as-both, as-first, as-roomy, on-err, still}
 use Rattle.hand.proofs.hand.Hand.run_late.Given.{Over}
-use Rattle.hand.proofs.hand.Hand.run_late.Goals.{After-first, After-reserve, After-reserve-2, In-Some}
+use Rattle.hand.proofs.hand.Hand.run_late.Goals.{After-first, After-make_late_room, In-Some}
 use Rattle.hand.proofs.hand.Hand.run_late.Goals as goal
 
 -- after a look at the first message
+as-looked : (g : Over) (c : After-first g) → IsAsBefore c.args.self.now (held c.self.inside.members.items c.self.inside.done.events c.self.inside.rows c.first.new.self)
+as-looked g c =
+    subst (λ h. IsAsBefore h (held c.self.inside.members.items c.self.inside.done.events c.self.inside.rows c.first.new.self)) c.self.view_is
+    (as-first c.self.inside.members.items c.self.inside.done.events c.self.inside.rows c.self.inside.letters c.first.new.self c.first.ensures.same c.first.ensures.others)
+
 looked : (g : Over) (c : After-first g) → DoesSent (rules_of g.R.Reversible.plain) g.R.Reversible.is_value c.args.self.now []
     (held c.self.inside.members.items c.self.inside.done.events c.self.inside.rows c.first.new.self) []
 looked g c =
     still g.R.Reversible.plain g.R.Reversible.is_value c.actor_rules_law.ensures.order c.actor_rules_law.ensures.undoes c.args.self.now
     (held c.self.inside.members.items c.self.inside.done.events c.self.inside.rows c.first.new.self)
-    (subst (λ h. IsAsBefore h (held c.self.inside.members.items c.self.inside.done.events c.self.inside.rows c.first.new.self)) c.self.view_is
-    (as-first c.self.inside.members.items c.self.inside.done.events c.self.inside.rows c.self.inside.letters c.first.new.self c.first.ensures.same c.first.ensures.others))
+    (as-looked g c)
 
 pub count_again-requires-clause-among : goal.count_again-requires-clause-among
 count_again-requires-clause-among g c =
@@ -76,46 +83,33 @@ returns-then-not-has_numbers-clause-exhausted g c = λ e. (
 )
 
 -- after room was made
-as-it-was : (g : Over) (c : After-reserve g) (later : _) → later ≡ c.self.inside.done.events → c.reserve.new.self ≡ record c.first.new.self { room = c.reserve.new.self.room } →
-    IsAsBefore c.args.self.now (held c.self.inside.members.items later c.self.inside.rows c.reserve.new.self)
-as-it-was g c later events same =
+as-it-was : (g : Over) (c : After-make_late_room g) → IsAsBefore c.args.self.now (held c.self.inside.members.items c.make_late_room.new.done.events c.self.inside.rows c.make_late_room.new.letters)
+as-it-was g c =
     let members = c.self.inside.members.items in
     let done = c.self.inside.done.events in
     let rows = c.self.inside.rows in
-    as-both c.args.self.now (held members done rows c.first.new.self) (held members later rows c.reserve.new.self)
+    as-both c.args.self.now (held members done rows c.first.new.self) (held members c.make_late_room.new.done.events rows c.make_late_room.new.letters)
     (subst (λ h. IsAsBefore h (held members done rows c.first.new.self)) c.self.view_is
     (as-first members done rows c.self.inside.letters c.first.new.self c.first.ensures.same c.first.ensures.others))
-    (as-roomy members done later rows c.first.new.self c.reserve.new.self events same)
+    (as-roomy members done c.make_late_room.new.done.events rows c.first.new.self c.make_late_room.new.letters c.make_late_room.ensures.done c.make_late_room.ensures.letters)
 
-roomy : (g : Over) (c : After-reserve g) → c.reserve.new.self ≡ record c.first.new.self { room = c.reserve.new.self.room } →
-    DoesSent (rules_of g.R.Reversible.plain) g.R.Reversible.is_value c.args.self.now [] (held c.self.inside.members.items c.self.inside.done.events c.self.inside.rows c.reserve.new.self) []
-roomy g c same =
+roomy : (g : Over) (c : After-make_late_room g) → DoesSent (rules_of g.R.Reversible.plain) g.R.Reversible.is_value c.args.self.now []
+    (held c.self.inside.members.items c.make_late_room.new.done.events c.self.inside.rows c.make_late_room.new.letters) []
+roomy g c =
     still g.R.Reversible.plain g.R.Reversible.is_value c.actor_rules_law.ensures.order c.actor_rules_law.ensures.undoes c.args.self.now
-    (held c.self.inside.members.items c.self.inside.done.events c.self.inside.rows c.reserve.new.self) (as-it-was g c c.self.inside.done.events refl same)
+    (held c.self.inside.members.items c.make_late_room.new.done.events c.self.inside.rows c.make_late_room.new.letters) (as-it-was g c)
 
-roomier : (g : Over) (c : After-reserve-2 g) (b : After-reserve g) → c.reserve-2.new.self.events ≡ b.self.inside.done.events → b.reserve.new.self ≡ record b.first.new.self { room = b.reserve.new.self.room } →
-    DoesSent (rules_of g.R.Reversible.plain) g.R.Reversible.is_value b.args.self.now [] (held b.self.inside.members.items c.reserve-2.new.self.events b.self.inside.rows b.reserve.new.self) []
-roomier g c b events same =
-    still g.R.Reversible.plain g.R.Reversible.is_value b.actor_rules_law.ensures.order b.actor_rules_law.ensures.undoes b.args.self.now
-    (held b.self.inside.members.items c.reserve-2.new.self.events b.self.inside.rows b.reserve.new.self) (as-it-was g b c.reserve-2.new.self.events events same)
-
-pub returns-in_err-reserve-clause-did : goal.returns-in_err-reserve-clause-did
-returns-in_err-reserve-clause-did g c = roomy g (goal.at.returns-in_err-reserve-clause-did g c).After-reserve c.reserve.ensures.same
-
-pub returns-in_err-reserve-2-clause-did : goal.returns-in_err-reserve-2-clause-did
-returns-in_err-reserve-2-clause-did g c = roomier g (goal.at.returns-in_err-reserve-2-clause-did g c).After-reserve-2 (goal.at.returns-in_err-reserve-2-clause-did g c).After-reserve c.reserve-2.ensures.same c.reserve.ensures.same
-
-pub returns-in_err-reserve_for-clause-did : goal.returns-in_err-reserve_for-clause-did
-returns-in_err-reserve_for-clause-did g c = roomier g (goal.at.returns-in_err-reserve_for-clause-did g c).After-reserve-2 (goal.at.returns-in_err-reserve_for-clause-did g c).After-reserve c.reserve-2.ensures.same c.reserve.ensures.same
+pub returns-in_err-make_late_room-clause-did : goal.returns-in_err-make_late_room-clause-did
+returns-in_err-make_late_room-clause-did g c = roomy g (goal.at.returns-in_err-make_late_room-clause-did g c).After-make_late_room
 
 pub handle_late-requires-clause-among : goal.handle_late-requires-clause-among
 handle_late-requires-clause-among g c =
-    subst (λ (xs : List Message). Contains xs c.in-Some.message) (sym (ap (λ z. z.queue) c.reserve.ensures.same))
+    subst (λ (xs : List Message). Contains xs c.in-Some.message) (sym (ap (λ z. z.queue) c.make_late_room.ensures.letters))
     (Contains-permutation c.self.inside.letters.queue c.first.new.self.queue c.in-Some.message c.first.ensures.same c.in-Some.ensures.among)
 
 pub handle_late-requires-clause-first : goal.handle_late-requires-clause-first
 handle_late-requires-clause-first g c =
-    subst (λ (xs : List Message). All (λ x. is_before x c.in-Some.message ≡ false) xs) (sym (ap (λ z. z.queue) c.reserve.ensures.same))
+    subst (λ (xs : List Message). All (λ x. is_before x c.in-Some.message ≡ false) xs) (sym (ap (λ z. z.queue) c.make_late_room.ensures.letters))
     (All-permutation (λ (x : Message). is_before x c.in-Some.message ≡ false) c.self.inside.letters.queue c.first.new.self.queue c.first.ensures.same c.in-Some.ensures.first)
 
 pub returns-clause-did : goal.returns-clause-did
@@ -125,9 +119,9 @@ returns-clause-did g c =
     let rows = c.self.inside.rows in
     subst (λ ms. DoesSent r V c.args.self.now [] (held ms c.handle_late.new.done.events rows c.handle_late.new.letters) [])
     (sym (with_items_is c.self.inside.members c.handle_late.new.members (c.handle_late.ensures.len ∙ c.deref_mut.ensures.len)))
-    (does-both r V c.args.self.now (held c.self.inside.members.items c.reserve-2.new.self.events rows c.reserve.new.self) (held c.handle_late.new.members c.handle_late.new.done.events rows c.handle_late.new.letters)
-    [] [] [] (roomier g (goal.at.returns-clause-did g c).After-reserve-2 (goal.at.returns-clause-did g c).After-reserve c.reserve-2.ensures.same c.reserve.ensures.same)
-    (subst (λ ms. DoesSent r V (held ms c.reserve-2.new.self.events rows c.reserve.new.self) [] (held c.handle_late.new.members c.handle_late.new.done.events rows c.handle_late.new.letters) [])
+    (does-both r V c.args.self.now (held c.self.inside.members.items c.make_late_room.new.done.events rows c.make_late_room.new.letters) (held c.handle_late.new.members c.handle_late.new.done.events rows c.handle_late.new.letters)
+    [] [] [] (roomy g (goal.at.returns-clause-did g c).After-make_late_room)
+    (subst (λ ms. DoesSent r V (held ms c.make_late_room.new.done.events rows c.make_late_room.new.letters) [] (held c.handle_late.new.members c.handle_late.new.done.events rows c.handle_late.new.letters) [])
     c.deref_mut.ensures.value (c.handle_late.ensures.did rows)))
 
 pub invariant_of-self-2 : goal.invariant_of-self-2
@@ -158,7 +152,7 @@ pub returns-clause-ran : goal.returns-clause-ran
 returns-clause-ran g c = λ x v stands.
     let m = c.in-Some.message in
     let k = first g (goal.at.returns-clause-ran g c).In-Some in
-    let same = c.reserve-2.ensures.same ∙ ap (λ h. h.done) c.self.view_is in
+    let same = c.make_late_room.ensures.done ∙ ap (λ h. h.done) c.self.view_is in
     let able : (s : g.row.R.Denot) × (slice_get c.args.self.now.members m.receiver ≡ Some (Some s)) =
     let a = c.if-not-has_numbers.ensures.yes refl in
     (a.0, subst (λ ms. slice_get ms m.receiver ≡ Some (Some a.0)) (c.deref.ensures.value ∙ ap (λ h. h.members) c.self.view_is) a.1) in
@@ -172,3 +166,41 @@ returns-clause-ran g c = λ x v stands.
             (subst (HasLater message_order m) same l))
       ],
     )
+
+pub returns-in_err-count_again-clause-ran : goal.returns-in_err-count_again-clause-ran
+returns-in_err-count_again-clause-ran g c = rw (err_from_is_err_and c.from_residual.result c.from_residual.ensures.1).1 tt
+
+pub returns-in_err-count_again-clause-exhausted : goal.returns-in_err-count_again-clause-exhausted
+returns-in_err-count_again-clause-exhausted g c = λ e. not-exhausted c.from_residual.result c.from_residual.ensures.1 e
+
+pub returns-in_err-count_again-clause-unchanged : goal.returns-in_err-count_again-clause-unchanged
+returns-in_err-count_again-clause-unchanged g c =
+    on-err c.from_residual.result _ (subst (λ ls. IsAsBefore c.args.self.now (held c.self.inside.members.items c.self.inside.done.events c.self.inside.rows ls))
+    (sym c.in_err-count_again.ensures.unchanged) (as-looked g (goal.at.returns-in_err-count_again-clause-unchanged g c).After-first))
+
+pub returns-then-has-clause-exhausted : goal.returns-then-has-clause-exhausted
+returns-then-has-clause-exhausted g c = λ e. not-err _ Exhausted _ refl e
+
+pub returns-then-has-clause-unchanged : goal.returns-then-has-clause-unchanged
+returns-then-has-clause-unchanged g c = tt
+
+pub returns-then-not-has_numbers-clause-ran : goal.returns-then-not-has_numbers-clause-ran
+returns-then-not-has_numbers-clause-ran g c = tt
+
+pub returns-then-not-has_numbers-clause-unchanged : goal.returns-then-not-has_numbers-clause-unchanged
+returns-then-not-has_numbers-clause-unchanged g c = as-looked g (goal.at.returns-then-not-has_numbers-clause-unchanged g c).After-first
+
+pub returns-in_err-make_late_room-clause-ran : goal.returns-in_err-make_late_room-clause-ran
+returns-in_err-make_late_room-clause-ran g c = rw (err_from_is_err_and c.from_residual-in_err-make_late_room.result c.from_residual-in_err-make_late_room.ensures.1).1 tt
+
+pub returns-in_err-make_late_room-clause-exhausted : goal.returns-in_err-make_late_room-clause-exhausted
+returns-in_err-make_late_room-clause-exhausted g c = λ e. not-exhausted c.from_residual-in_err-make_late_room.result c.from_residual-in_err-make_late_room.ensures.1 e
+
+pub returns-in_err-make_late_room-clause-unchanged : goal.returns-in_err-make_late_room-clause-unchanged
+returns-in_err-make_late_room-clause-unchanged g c = on-err c.from_residual-in_err-make_late_room.result _ (as-it-was g (goal.at.returns-in_err-make_late_room-clause-unchanged g c).After-make_late_room)
+
+pub returns-clause-exhausted : goal.returns-clause-exhausted
+returns-clause-exhausted g c = λ e. not-err _ Exhausted _ refl e
+
+pub returns-clause-unchanged : goal.returns-clause-unchanged
+returns-clause-unchanged g c = tt
