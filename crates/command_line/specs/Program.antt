@@ -1,7 +1,9 @@
 -- The words that the program knows: its commands and their arguments.
-use Rattle.std.specs.Prelude.{ℕ, true, Some, codes}
-use Rattle.clap.specs.Words.{App, Rule, Text, new_app, new_rule, with_rule, with_subcommand}
+use Rattle.std.specs.Prelude.{◌≡◌, ℕ, false, true, Some, codes}
+use Rattle.clap.specs.Words.{App, Rule, Text, app_of, new_app, new_rule, with_rule, with_subcommand}
 use Rattle.clap.specs.Simple.{on_top}
+use Rattle.clap.specs.declared.builder.command.Command.{Command}
+use Rattle.clap.specs.declared.builder.command.Command.TheViews.{out-Command}
 use Rattle.clap.specs.declared.builder.action.ArgAction.TheVariants.{SetTrue}
 use Rattle.clap.specs.declared.builder.value_parser.ValueParser.TheVariants.{Unsigned}
 use Rattle.vlink.specs.declared.time.TheConstants.{LATEST_NS}
@@ -22,33 +24,36 @@ flag_rule id = record (new_rule id) { long = Some id; action = Some SetTrue }
 abbrev pub number_rule : Text → ℕ → Rule
 number_rule id most = record (file_rule id) { parser = Some (Unsigned 1 most) }
 
+-- `NAME NET`
+abbrev pub network_app : Text → App
+network_app name = with_rule (new_app name) (path_rule (codes "NET"))
+
+-- `[--workers N] [--turn N] [--window NS]` more
+abbrev pub with_paces : App → App
+with_paces a =
+    with_rule
+    (with_rule (with_rule a (number_rule (codes "workers") 64)) (number_rule (codes "turn") 256))
+    (number_rule (codes "window") LATEST_NS)
+
+-- `[--trace FILE] [--progress]` more
+abbrev pub with_outputs : App → App
+with_outputs a = with_rule (with_rule a (file_rule (codes "trace"))) (flag_rule (codes "progress"))
+
 -- `check NET`
 abbrev pub check_app : App
-check_app = with_rule (new_app (codes "check")) (path_rule (codes "NET"))
+check_app = network_app (codes "check")
 
 -- `seq NET [--trace FILE] [--progress]`
 abbrev pub seq_app : App
-seq_app =
-    with_rule (with_rule (with_rule (new_app (codes "seq")) (path_rule (codes "NET"))) (file_rule (codes "trace"))) (flag_rule (codes "progress"))
+seq_app = with_outputs (network_app (codes "seq"))
 
 -- `run NET [--workers N] [--turn N] [--window NS] [--journal FILE] [--trace FILE] [--progress]`
 abbrev pub run_app : App
-run_app =
-    with_rule
-    (with_rule
-    (with_rule
-    (with_rule
-    (with_rule
-    (with_rule (with_rule (new_app (codes "run")) (path_rule (codes "NET"))) (number_rule (codes "workers") 64))
-    (number_rule (codes "turn") 256))
-    (number_rule (codes "window") LATEST_NS))
-    (file_rule (codes "journal")))
-    (file_rule (codes "trace")))
-    (flag_rule (codes "progress"))
+run_app = with_outputs (with_rule (with_paces (network_app (codes "run"))) (file_rule (codes "journal")))
 
 -- `replay NET STEPS`
 abbrev pub replay_app : App
-replay_app = with_rule (with_rule (new_app (codes "replay")) (path_rule (codes "NET"))) (path_rule (codes "STEPS"))
+replay_app = with_rule (network_app (codes "replay")) (path_rule (codes "STEPS"))
 
 -- the program without its commands: a command has to be named, the program's own name is not among the words, and `--version` asks for its version
 abbrev pub bare_program : App
@@ -60,3 +65,8 @@ program =
     with_subcommand
     (with_subcommand (with_subcommand (with_subcommand bare_program check_app.top) seq_app.top) run_app.top)
     replay_app.top
+
+-- the command knows just this, and has no argument that is its subcommands' too
+pub record Knows (command : Command) (known : App) : Type 0 where
+  pub app : app_of command ≡ known
+  pub local : (out-Command command).has_globals ≡ false

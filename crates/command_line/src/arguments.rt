@@ -20,7 +20,15 @@ pub(crate) fn file<'a>(alloc: Global, id: &'a str, help: &'a str) -> Arg<'a>
     ensures rule { rule_of result ≡ file_rule id.entry.now }
     ensures local { result.global ≡ false }
 {
-    Arg::new(alloc, id).long(id).value_name("FILE").help(help)
+    valued(alloc, id, "FILE", help)
+}
+
+/// What may be named with a value: `--id UNIT`.
+fn valued<'a>(alloc: Global, id: &'a str, unit: &'a str, help: &'a str) -> Arg<'a>
+    ensures rule { rule_of result ≡ file_rule id.entry.now }
+    ensures local { result.global ≡ false }
+{
+    Arg::new(alloc, id).long(id).value_name(unit).help(help)
 }
 
 /// A flag that may be named: `--id`.
@@ -45,9 +53,5 @@ pub(crate) fn number<'a>(
     ensures rule { rule_of result ≡ record (file_rule id.entry.now) { parser = Some parser.entry } }
     ensures local { result.global ≡ false }
 {
-    Arg::new(alloc, id)
-        .long(id)
-        .value_name(unit)
-        .value_parser(parser)
-        .help(help)
+    valued(alloc, id, unit, help).value_parser(parser)
 }

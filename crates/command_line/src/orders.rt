@@ -1,7 +1,7 @@
 //! What the program is ordered to do: a command with its values.
 
 /// A command of the program.
-#[derive(Debug, PartialEq, Eq, Drop)]
+#[derive(Drop)]
 pub enum Order {
     /// `check NET`.
     Check(Check),
@@ -14,14 +14,14 @@ pub enum Order {
 }
 
 /// Judge a network.
-#[derive(Debug, PartialEq, Eq, Drop)]
+#[derive(Drop)]
 pub struct Check {
     /// The path of the network's description.
     pub net: String,
 }
 
 /// Run a network on one thread.
-#[derive(Debug, PartialEq, Eq, Drop)]
+#[derive(Drop)]
 pub struct Seq {
     /// The path of the network's description.
     pub net: String,
@@ -32,7 +32,7 @@ pub struct Seq {
 }
 
 /// Run a network by Time Warp on several threads.
-#[derive(Debug, PartialEq, Eq, Drop)]
+#[derive(Drop)]
 pub struct Run {
     /// The path of the network's description.
     pub net: String,
@@ -51,7 +51,7 @@ pub struct Run {
 }
 
 /// Run a network by the steps of a journal.
-#[derive(Debug, PartialEq, Eq, Drop)]
+#[derive(Drop)]
 pub struct Replay {
     /// The path of the network's description.
     pub net: String,

@@ -1,20 +1,15 @@
 //! The words that the program knows, and what its help says.
 ghost use Rattle.std.specs.Prelude.{◌≡◌, IfOk, false};
-ghost use Rattle.clap.specs.Words.{app_of};
-ghost use Rattle.clap.specs.declared.builder.command.Command.TheViews.{out-Command};
-ghost use Rattle.command_line.specs.Program.{check_app, program, replay_app, run_app, seq_app};
+ghost use Rattle.clap.specs.Words.{App, Rule, app_of, new_app, rule_of, with_rule, with_subcommand};
+ghost use Rattle.command_line.specs.Program.{Knows, bare_program, check_app, network_app, program, replay_app, run_app, seq_app, with_outputs, with_paces};
 
 use crate::arguments::{file, flag, path};
 use crate::paces::{turn, window, workers};
-use clap::Command;
+use clap::{Arg, Command};
 use std::alloc::{AllocError, Global};
 
 /// What `--version` prints behind the program's name.
 const VERSION: &str = "0.1.0";
-
-const NET: &str = "The network's description, a TOML file";
-
-const TRACE: &str = "Writes each delivery and each drop to this file, as CSV";
 
 const PROGRESS: &str =
     "Says on error output, at most four times a second, how far the run is and how long it may still take";
@@ -26,72 +21,160 @@ const EXAMPLES: &str =
 pub(crate) fn program<'a>(alloc: Global) -> Result<Command<'a>, AllocError>
     ensures { IfOk result (λ command. app_of command ≡ program) }
 {
-    Command::new(alloc, "afdxsim")
-        .about("Simulates an AFDX network, on one thread or on several with the same result.")
-        .version(VERSION)
-        .after_help(EXAMPLES)
-        .bin_name("afdxsim")?
-        .no_binary_name(true)
-        .subcommand_required(true)
-        .subcommand(check(alloc)?)?
-        .subcommand(seq(alloc)?)?
-        .subcommand(run(alloc)?)?
-        .subcommand(replay(alloc)?)
+    let checks = with_command(bare_program(alloc), check(alloc));
+    let simulates = with_command(checks, seq(alloc));
+    let runs = with_command(simulates, run(alloc));
+    with_command(runs, replay(alloc))
+}
+
+/// The program without its commands.
+fn bare_program<'a>(alloc: Global) -> Result<Command<'a>, AllocError>
+    ensures { IfOk result (λ command. Knows command bare_program) }
+{
+    let program = titled(
+        alloc,
+        "afdxsim",
+        "Simulates an AFDX network, on one thread or on several with the same result.",
+        EXAMPLES,
+    );
+    Ok(
+        program
+            .bin_name("afdxsim")?
+            .version(VERSION)
+            .no_binary_name(true)
+            .subcommand_required(true),
+    )
 }
 
 fn check<'a>(alloc: Global) -> Result<Command<'a>, AllocError>
-    ensures app { IfOk result (λ command. app_of command ≡ check_app) }
-    ensures local { IfOk result (λ command. (out-Command command).has_globals ≡ false) }
+    ensures { IfOk result (λ command. Knows command check_app) }
 {
-    Command::new(alloc, "check")
-        .about("Reads a description, and counts its processes, virtual links and offered frames")
-        .after_help(
-            "Example: afdxsim check examples/n1.toml\n\nIt tells the first fault; tools/explain.py tells all of them at once, each with its line.",
-        )
-        .arg(path(alloc, "NET", NET))
+    of_network(
+        alloc,
+        "check",
+        "Reads a description, and counts its processes, virtual links and offered frames",
+        "Example: afdxsim check examples/n1.toml\n\nIt tells the first fault; tools/explain.py tells all of them at once, each with its line.",
+    )
 }
 
 fn seq<'a>(alloc: Global) -> Result<Command<'a>, AllocError>
-    ensures app { IfOk result (λ command. app_of command ≡ seq_app) }
-    ensures local { IfOk result (λ command. (out-Command command).has_globals ≡ false) }
+    ensures { IfOk result (λ command. Knows command seq_app) }
 {
-    Command::new(alloc, "seq")
-        .about("Simulates the network on one thread, and prints its tables as CSV")
-        .after_help("Example: afdxsim seq examples/n1.toml --trace t.csv")
-        .arg(path(alloc, "NET", NET))?
-        .arg(file(alloc, "trace", TRACE))?
-        .arg(flag(alloc, "progress", PROGRESS))
+    let command = of_network(
+        alloc,
+        "seq",
+        "Simulates the network on one thread, and prints its tables as CSV",
+        "Example: afdxsim seq examples/n1.toml --trace t.csv",
+    );
+    with_outputs(alloc, command)
 }
 
 fn run<'a>(alloc: Global) -> Result<Command<'a>, AllocError>
-    ensures app { IfOk result (λ command. app_of command ≡ run_app) }
-    ensures local { IfOk result (λ command. (out-Command command).has_globals ≡ false) }
+    ensures { IfOk result (λ command. Knows command run_app) }
 {
-    Command::new(alloc, "run")
-        .about("Simulates the network on several threads, and prints its tables as CSV")
-        .after_help("Example: afdxsim run examples/n1.toml --workers 8 --journal steps.txt")
-        .arg(path(alloc, "NET", NET))?
-        .arg(workers(alloc))?
-        .arg(turn(alloc))?
-        .arg(window(alloc))?
-        .arg(file(
+    let command = of_network(
+        alloc,
+        "run",
+        "Simulates the network on several threads, and prints its tables as CSV",
+        "Example: afdxsim run examples/n1.toml --workers 8 --journal steps.txt",
+    );
+    let journals = with_arg(
+        with_paces(alloc, command),
+        file(
             alloc,
             "journal",
             "Writes the run's steps to this file, for replay",
-        ))?
-        .arg(file(alloc, "trace", TRACE))?
-        .arg(flag(alloc, "progress", PROGRESS))
+        ),
+    );
+    with_outputs(alloc, journals)
 }
 
 fn replay<'a>(alloc: Global) -> Result<Command<'a>, AllocError>
-    ensures app { IfOk result (λ command. app_of command ≡ replay_app) }
-    ensures local { IfOk result (λ command. (out-Command command).has_globals ≡ false) }
+    ensures { IfOk result (λ command. Knows command replay_app) }
 {
-    Command::new(alloc, "replay")
-        .about(
-            "Simulates the network by the steps of a journal, and prints the tables of what is final as CSV",
-        )
-        .after_help("Example: afdxsim replay examples/n1.toml steps.txt")
-        .arg(path(alloc, "NET", NET))?
-        .arg(path(alloc, "STEPS", "The journal that run wrote by --journal"))
+    let command = of_network(
+        alloc,
+        "replay",
+        "Simulates the network by the steps of a journal, and prints the tables of what is final as CSV",
+        "Example: afdxsim replay examples/n1.toml steps.txt",
+    );
+    with_arg(
+        command,
+        path(alloc, "STEPS", "The journal that run wrote by --journal"),
+    )
+}
+
+/// A command that has to be given the path of a network's description.
+fn of_network<'a>(
+    alloc: Global,
+    name: &'a str,
+    about: &'a str,
+    example: &'a str,
+) -> Result<Command<'a>, AllocError>
+    ensures { IfOk result (λ command. Knows command (network_app name.entry.now)) }
+{
+    titled(alloc, name, about, example).arg(path(
+        alloc,
+        "NET",
+        "The network's description, a TOML file",
+    ))
+}
+
+/// A command without arguments.
+fn titled<'a>(alloc: Global, name: &'a str, about: &'a str, example: &'a str) -> Command<'a>
+    ensures { Knows result (new_app name.entry.now) }
+{
+    Command::new(alloc, name).about(about).after_help(example)
+}
+
+/// A command that may also be given the numbers that set the pace of a run.
+fn with_paces<'a>(
+    alloc: Global,
+    command: Result<Command<'a>, AllocError>,
+) -> Result<Command<'a>, AllocError>
+    ensures { (known : App) → IfOk command.entry (λ one. Knows one known) → IfOk result (λ new. Knows new (with_paces known)) }
+{
+    let workers = with_arg(command, workers(alloc));
+    let turns = with_arg(workers, turn(alloc));
+    with_arg(turns, window(alloc))
+}
+
+/// A command that may also be told to write the trace, and to say how far it is.
+fn with_outputs<'a>(
+    alloc: Global,
+    command: Result<Command<'a>, AllocError>,
+) -> Result<Command<'a>, AllocError>
+    ensures { (known : App) → IfOk command.entry (λ one. Knows one known) → IfOk result (λ new. Knows new (with_outputs known)) }
+{
+    let traces = with_arg(
+        command,
+        file(
+            alloc,
+            "trace",
+            "Writes each delivery and each drop to this file, as CSV",
+        ),
+    );
+    with_arg(traces, flag(alloc, "progress", PROGRESS))
+}
+
+/// A command with one more argument. Want of memory is passed on.
+fn with_arg<'a>(
+    command: Result<Command<'a>, AllocError>,
+    arg: Arg<'a>,
+) -> Result<Command<'a>, AllocError>
+    ensures { (known : App) (rule : Rule) → IfOk command.entry (λ one. Knows one known) → rule_of arg.entry ≡ rule → arg.entry.global ≡ false
+        → IfOk result (λ new. Knows new (with_rule known rule)) }
+{
+    command?.arg(arg)
+}
+
+/// A program with one more command. Want of memory is passed on.
+fn with_command<'a>(
+    program: Result<Command<'a>, AllocError>,
+    command: Result<Command<'a>, AllocError>,
+) -> Result<Command<'a>, AllocError>
+    ensures { (known added : App) → IfOk program.entry (λ one. Knows one known) → IfOk command.entry (λ one. Knows one added)
+        → IfOk result (λ new. Knows new (with_subcommand known added.top)) }
+{
+    program?.subcommand(command?)
 }

@@ -1,5 +1,5 @@
 -- Rows of committed events that left a process: the first ones, so many, which are of moments before one.
-use Rattle.std.proofs.Common.{◌≡◌, ℕ, ◌<◌, ◌≤◌, Bool, true, false, cond, All, List, [], ◌∷◌, ◌++◌, take, Option, Some, None, refl, sym, ap, ◌∙◌, subst, arith, append-nil, append_assoc}
+use Rattle.std.proofs.Common.{◌≡◌, ℕ, ◌<◌, ◌≤◌, Bool, true, false, cond, max, All, List, [], ◌∷◌, ◌++◌, take, Option, Some, None, refl, sym, ap, ◌∙◌, subst, arith, append-nil, append_assoc}
 use Rattle.std.proofs.lemmas.List.{take-append-le}
 use Rattle.std.proofs.lemmas.List.Elements.{All-nil}
 use Rattle.vlink.specs.declared.message.Message.{Message}
@@ -19,6 +19,10 @@ module _ {S K : Type 0} (r : Rules Message S K Note) where
   -- what is earlier than a moment is earlier than a later one
   pub gone-later : (moment later : ℕ) → moment ≤ later → (n : ℕ) (rows : List Row) → AreFirstBefore r moment n rows → AreFirstBefore r later n rows
   gone-later moment later le n rows h i d lt = let a = h i d lt in omega arith
+
+  -- what left, and what is earlier than another moment, is earlier than the later one of both
+  pub gone-max : (gone moment later : ℕ) → later ≡ max gone moment → (gone ≤ later) × (moment ≤ later)
+  gone-max gone moment later is = (omega arith, omega arith)
 
   module _ (o : S) where
     -- each act leaves the committed events or puts some behind them

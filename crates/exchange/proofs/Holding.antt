@@ -12,7 +12,7 @@ use Rattle.virtual_time.proofs.SafePart.{acted-safe, world-safe}
 use Rattle.reverse.specs.Setting.{Setting, simulation_of}
 use Rattle.antimessages.specs.Letters.{Store}
 use Rattle.gvt.specs.Horizon.{Floors}
-use Rattle.process_queues.specs.Queues.{Queues, StandsFor}
+use Rattle.process_queues.specs.Queues.{Queues, StandsFor, Does}
 use Rattle.fossil.specs.Within.{AreFirstBefore}
 use Rattle.exchange.specs.declared.mark.Standing.{Standing}
 use Rattle.exchange.specs.Keeps.{IsRecorded, Holds}
@@ -41,6 +41,27 @@ pub record Joined {S K : Type 0} (f : Simulation Message S K Note) (es : List (E
   pub own : acts ≡ own_in p es
 
 module _ {S K : Type 0} {r : Rules Message S K Note} {number end : S → ℕ} {is_placed : S → Type 0} {x : Setting S} where
+  module _ {is_value : S → Message → Type 0} {p seen gone : ℕ} {block : List Move} {own : List (Act Message)} {q : Queues S K}
+      (h : Holds r number end is_placed x is_value p seen gone block own q) where
+    -- it is as it was
+    pub holds-still : (q' : Queues S K) → q' ≡ q → (block' : List Move) → block' ≡ block → Holds r number end is_placed x is_value p seen gone block' own q'
+    holds-still q' same block' kept =
+        subst (λ b. Holds r number end is_placed x is_value p seen gone b own q') (sym kept)
+        (subst (λ z. Holds r number end is_placed x is_value p seen gone block own z) (sym same) h)
+
+    -- more rows have left it
+    pub holds-gone : (q' : Queues S K) → Does r is_value (λ opening part. part) q q' → (gone' : ℕ) →
+        AreFirstBefore r gone' q'.left (rowed r (x.opening p) (after_moves r (x.opening p) block (after_own (simulation_of r x) p own)).committed) →
+        Holds r number end is_placed x is_value p seen gone' block own q'
+    holds-gone q' does gone' early = record {
+      laid = h.laid;
+      number_is = h.number_is;
+      stands = does _ _ h.stands;
+      safe = h.safe;
+      gone_early = early;
+      enabled = h.enabled;
+    }
+
   module _ {is_value : S → Message → Type 0} {p seen gone : ℕ} {block : List Move} {own : List (Act Message)} {q : Queues S K}
       (h : Holds r number end is_placed x is_value p seen gone block own q) (L : Laws (simulation_of r x)) where
     -- it does one step more

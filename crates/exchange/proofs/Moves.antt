@@ -38,6 +38,11 @@ module _ {S K : Type 0} (f : Simulation Message S K Note) where
         gone = gone;
       }
 
+  -- and with a block that is as it was
+  pub still-view : (p : ℕ) (own : List (Act Message)) (place : Option ℕ) (seen gone : ℕ) (ms : List Move) (h : HeldState S) → in_hand p own place seen gone ms ≡ h → (ms' : List Move) → ms' ≡ ms →
+      in_hand p own place seen gone ms' ≡ h
+  still-view p own place seen gone ms h is ms' e = ap (in_hand p own place seen gone) e ∙ is
+
   -- and after one step more
   pub moved-view : (p : ℕ) (own : List (Act Message)) (place : Option ℕ) (seen gone : ℕ) (ms : List Move) (m : Move) (h : HeldState S) → in_hand p own place seen gone ms ≡ h → (ms' : List Move) → ms' ≡ ms ++ m ∷ [] →
       in_hand p own place seen gone ms' ≡ moved_by f (m ∷ []) h

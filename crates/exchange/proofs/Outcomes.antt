@@ -1,5 +1,5 @@
--- What a call gives that is known to succeed, and what is said of one that is refused.
-use Rattle.std.proofs.Common.{◌≡◌, false, Result, Ok, Err, OnErr, sym, subst, IsOk, OnOk, IfErr, IsErrAnd, is_err}
+-- What a call gives that is known to succeed or to be refused.
+use Rattle.std.proofs.Common.{◌≡◌, false, true, Result, Ok, Err, OnErr, sym, subst, IsOk, OnOk, IfErr, IsErrAnd, is_err}
 
 pub when-ok : {T E P : Type 0} (r : Result T E) → IsOk r → OnOk r P → P
 when-ok (Ok v) i h = h
@@ -9,10 +9,9 @@ pub when-no-err : {T E P : Type 0} (r : Result T E) → is_err r ≡ false → O
 when-no-err (Ok v) e h = h
 when-no-err (Err d) e h = absurd (cc)
 
--- what holds at all holds where a call is refused
-pub on-err : {T E P : Type 0} (r : Result T E) → P → OnErr r P
-on-err (Ok v) p = tt
-on-err (Err e) p = p
+pub when-err : {T E P : Type 0} (r : Result T E) → is_err r ≡ true → OnErr r P → P
+when-err (Ok v) e h = absurd (cc)
+when-err (Err d) e h = h
 
 -- what holds of the fault of a call holds where it is passed on
 pub if-err : {T E : Type 0} (P : E → Type 0) (e : E) (r : Result T E) → IsErrAnd r (λ z. z ≡ e) → P e → IfErr r P

@@ -1,5 +1,5 @@
 //! What a process does alone.
-ghost use Rattle.std.specs.Prelude.{◌≡◌, ◌≢◌, ◌<◌, ◌≤◌, ◌+◌, ◌⊎◌, ◌↔◌, ℕ, true, false, [], ◌∷◌, length, replicate, OnOk, IfOk, OnErr, IfErr, Err, Some, IsSome, IsTrue};
+ghost use Rattle.std.specs.Prelude.{◌≡◌, ◌≢◌, ◌<◌, ◌≤◌, ◌+◌, ◌⊎◌, ◌↔◌, ℕ, true, false, [], ◌∷◌, length, replicate, OnOk, IfOk, OnErr, IfErr, Err, IsSome, IsTrue, is_some};
 ghost use Rattle.vlink.specs.Order.{message_order};
 ghost use Rattle.vlink.specs.declared.message.Message.{Message};
 ghost use Rattle.vlink.specs.Numbering.{greatest_number};
@@ -14,7 +14,6 @@ ghost use Rattle.reverse.specs.declared.sends.TheConstants.{MOST_SENT};
 use crate::gate::Gate;
 use crate::held::Held;
 use crate::run_of::ActorRun;
-use fossil::is_early;
 use journal::PoolFault;
 use reverse::{Actor, actor_law};
 use virtual_time::Move;
@@ -75,7 +74,9 @@ impl<R: Actor, J: ActorRun<R>> Held<R, J> {
         ensures memory { IfErr result (λ fault. fault ≡ OutOfMemory) }
     {
         actor_law::<R>();
-        self.block.push(self.alloc, Move::Arrived)?;
+        if self.block.push(self.alloc, Move::Arrived).is_err() {
+            return Err(PoolFault::OutOfMemory);
+        }
         match self.process.arrive() {
             Ok(_undone) => Ok(()),
             Err(_fault) => {
@@ -92,41 +93,46 @@ impl<R: Actor, J: ActorRun<R>> Held<R, J> {
         ensures faults { IfErr result (λ fault. (fault ≡ OutOfMemory) ⊎ (fault ≡ Exhausted)) }
     {
         for run in 0..turn {
-            if !self.run_next(window, gate)? {
+            if !self.is_due(window) {
                 return Ok(());
             }
+            self.run_next(gate)?;
         }
         Ok(())
     }
 
-    /// The next message is handled, if there is one that is earlier than the GVT seen and `window`, in ns. The answer is whether there was.
-    fn run_next<G: Gate>(&mut self, window: u64, gate: &G) -> Result<bool, PoolFault>
-        ensures ran { IfOk result (λ ran. ran ≡ true → self.new ≡ moved_by (simulation_of (rules_of R.plain) J.setting) (Ran ∷ []) self.old) }
-        ensures early { IfOk result (λ ran. ran ≡ true → IsDueBefore (simulation_of (rules_of R.plain) J.setting) (self.old.mark.seen + window) self.old.part) }
-        ensures idle { IfOk result (λ ran. ran ≡ false → IsIdleBefore (simulation_of (rules_of R.plain) J.setting) (self.old.mark.seen + window) self.old.part) }
-        ensures stays { IfOk result (λ ran. ran ≡ false → self.new ≡ self.old) }
+    /// Whether there is a message that can be handled and is earlier than the GVT seen and `window`, in ns.
+    fn is_due(&self, window: u64) -> bool
+        ensures due { result ≡ true → IsDueBefore (simulation_of (rules_of R.plain) J.setting) (self.now.mark.seen + window) self.now.part }
+        ensures idle { result ≡ false → IsIdleBefore (simulation_of (rules_of R.plain) J.setting) (self.now.mark.seen + window) self.now.part }
+    {
+        match self.process.next() {
+            Some(message) => is_within(message.time, self.standing.seen, window),
+            None => false,
+        }
+    }
+
+    /// The next message, which there is, is handled.
+    fn run_next<G: Gate>(&mut self, gate: &G) -> Result<(), PoolFault>
+        requires { is_some (next_of message_order self.old.part) ≡ true }
+        ensures ran { OnOk result (self.new ≡ moved_by (simulation_of (rules_of R.plain) J.setting) (Ran ∷ []) self.old) }
         ensures unchanged { OnErr result (self.new ≡ self.old) }
-        ensures due { OnErr result (IsDueBefore (simulation_of (rules_of R.plain) J.setting) (self.old.mark.seen + window) self.old.part) }
         ensures numbers { IfErr result (λ fault. (fault ≡ Exhausted) ↔ WantsNumbers (simulation_of (rules_of R.plain) J.setting) self.old.part) }
         ensures faults { IfErr result (λ fault. (fault ≡ OutOfMemory) ⊎ (fault ≡ Exhausted)) }
     {
         actor_law::<R>();
-        let Some(message) = self.process.next() else {
-            return Ok(false);
-        };
-        if !is_within(message.time, self.standing.seen, window) {
-            return Ok(false);
-        }
         if !self.process.has_numbers() {
             return Err(PoolFault::Exhausted);
         }
-        self.block.push(self.alloc, Move::Ran)?;
+        if self.block.push(self.alloc, Move::Ran).is_err() {
+            return Err(PoolFault::OutOfMemory);
+        }
         gate.before(self.number, self.runs);
         match self.process.run_with(&mut self.out) {
             Ok(_message) => {
                 gate.after(self.number, self.runs);
                 self.runs = self.runs.saturating_add(1);
-                Ok(true)
+                Ok(())
             }
             Err(_fault) => {
                 self.block.pop();
@@ -141,34 +147,27 @@ impl<R: Actor, J: ActorRun<R>> Held<R, J> {
             × (earlier message_order self.old.mark.seen self.new.part.done ≡ [])) }
         ensures some { IfErr result (λ fault. StopsAtCommit (simulation_of (rules_of R.plain) J.setting) self.old self.new fault) }
     {
-        loop {
-            if !self.commit_oldest()? {
-                return Ok(());
-            }
+        let seen = self.mark().seen;
+        while !self.is_committed_before(seen) {
+            self.commit_oldest()?;
         }
+        Ok(())
     }
 
-    /// The oldest done event is committed, if it is earlier than the GVT seen. The answer is whether it was.
-    fn commit_oldest(&mut self) -> Result<bool, PoolFault>
-        ensures committed { IfOk result (λ done. done ≡ true → self.new ≡ moved_by (simulation_of (rules_of R.plain) J.setting) (Committed ∷ []) self.old) }
-        ensures fewer { IfOk result (λ done. done ≡ true → length self.new.part.done < length self.old.part.done) }
-        ensures none { IfOk result (λ done. done ≡ false → earlier message_order self.old.mark.seen self.old.part.done ≡ []) }
-        ensures stays { IfOk result (λ done. done ≡ false → self.new ≡ self.old) }
+    /// The oldest done event is committed. There is one that is earlier than the GVT seen.
+    fn commit_oldest(&mut self) -> Result<(), PoolFault>
+        requires { earlier message_order self.old.mark.seen self.old.part.done ≢ [] }
+        ensures committed { OnOk result (self.new ≡ moved_by (simulation_of (rules_of R.plain) J.setting) (Committed ∷ []) self.old) }
+        ensures fewer { OnOk result (length self.new.part.done < length self.old.part.done) }
         ensures unchanged { OnErr result (self.new ≡ self.old) }
-        ensures left { OnErr result (earlier message_order self.old.mark.seen self.old.part.done ≢ []) }
         ensures memory { IfErr result (λ fault. fault ≡ OutOfMemory) }
     {
         actor_law::<R>();
-        if !is_early(self.process.oldest(), self.standing.seen) {
-            return Ok(false);
+        if self.block.push(self.alloc, Move::Committed).is_err() {
+            return Err(PoolFault::OutOfMemory);
         }
-        self.block.push(self.alloc, Move::Committed)?;
         match self.process.seal_oldest() {
-            Ok(true) => Ok(true),
-            Ok(false) => {
-                self.block.pop();
-                Ok(false)
-            }
+            Ok(_done) => Ok(()),
             Err(_fault) => {
                 self.block.pop();
                 Err(PoolFault::OutOfMemory)

@@ -24,16 +24,22 @@ impl Clusters {
             of: Vec::with_capacity(alloc, network.node_count())?,
             sums: Vec::new(alloc),
         };
-        for node in 0..network.node_count() {
-            if is_switch(network, node) {
-                clusters.of.push(Some(clusters.sums.len()))?;
-                clusters.sums.push(sum_at(loads, node))?;
-            } else {
-                clusters.of.push(None)?;
-            }
-        }
+        clusters.begin(network, loads)?;
         clusters.take_in(network, flows, loads);
         Ok(clusters)
+    }
+
+    /// Each switch is a cluster.
+    fn begin(&mut self, network: &Network, loads: &[u64]) -> Result<(), AllocError> {
+        for node in 0..network.node_count() {
+            if is_switch(network, node) {
+                self.of.push(Some(self.sums.len()))?;
+                self.sums.push(sum_at(loads, node))?;
+            } else {
+                self.of.push(None)?;
+            }
+        }
+        Ok(())
     }
 
     /// The cluster of a node.

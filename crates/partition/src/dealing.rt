@@ -12,10 +12,21 @@ struct Load {
 
 /// Each node, that with most to do first, goes to the group that has least to do.
 pub(crate) fn deal(alloc: Global, loads: &[u64], groups: usize) -> Result<Owners, AllocError> {
+    let mut left = by_events(alloc, loads)?;
     let mut owners = Owners {
         of: vec![in alloc; 0usize; loads.len()]?,
         sums: vec![in alloc; 0u64; groups]?,
     };
+    for dealt in 0..loads.len() {
+        if let Some(load) = left.pop() {
+            give(&mut owners, load);
+        }
+    }
+    Ok(owners)
+}
+
+/// What each node has to do, that with most last.
+fn by_events(alloc: Global, loads: &[u64]) -> Result<Vec<Load>, AllocError> {
     let mut left = Vec::with_capacity(alloc, loads.len())?;
     for node in 0..loads.len() {
         left.push(Load {
@@ -24,14 +35,14 @@ pub(crate) fn deal(alloc: Global, loads: &[u64], groups: usize) -> Result<Owners
         })?;
     }
     left.sort()?;
-    for dealt in 0..loads.len() {
-        if let Some(load) = left.pop() {
-            let group = least(&owners.sums);
-            add(&mut owners.sums, group, load.events);
-            if let Some(place) = owners.of.get_mut(load.node) {
-                *place = group;
-            }
-        }
+    Ok(left)
+}
+
+/// The node goes to the group that has least to do.
+fn give(owners: &mut Owners, load: Load) {
+    let group = least(&owners.sums);
+    add(&mut owners.sums, group, load.events);
+    if let Some(place) = owners.of.get_mut(load.node) {
+        *place = group;
     }
-    Ok(owners)
 }

@@ -6,8 +6,9 @@ use crate::clusters::Clusters;
 use crate::dealing::deal;
 use crate::flows::{Flow, add, flows_of, least, loads_of, sum_at};
 use crate::joining::join_all;
+use crate::matrix::Matrix;
 use crate::moving::Owners;
-use crate::packing::{group_of, pack};
+use crate::packing::{Packed, group_of, pack};
 use network::Network;
 use std::alloc::{AllocError, Global};
 use vlink::process_number;
@@ -38,9 +39,23 @@ pub fn groups_of(alloc: Global, network: &Network, groups: u16) -> Result<Vec<u1
     ensures all { IfOk result (λ places. length places.items ≡ process_count network.now) }
     ensures within { IfOk result (λ places. All (λ group. group < groups) places.items) }
 {
-    let flows = flows_of(alloc, network)?;
-    let loads = loads_of(alloc, network, &flows)?;
-    let owners = owners_of(alloc, network, &flows, &loads, usize::from(groups))?;
+    let owners = owners_in(alloc, network, usize::from(groups))?;
+    let places = places_of(alloc, network, &owners, groups);
+    drop(owners);
+    places
+}
+
+/// The group of each process, where each node has one: that of a line is the one of the node to which it leads.
+fn places_of(
+    alloc: Global,
+    network: &Network,
+    owners: &Owners,
+    groups: u16,
+) -> Result<Vec<u16>, AllocError>
+    requires { 1 ≤ groups }
+    ensures all { IfOk result (λ places. length places.items ≡ process_count network.now) }
+    ensures within { IfOk result (λ places. All (λ group. group < groups) places.items) }
+{
     let last = usize::from(groups) - 1;
     let mut places = Vec::with_capacity(alloc, usize::from(network.process_count()))?;
     for node in 0..network.node_count() {
@@ -53,7 +68,20 @@ pub fn groups_of(alloc: Global, network: &Network, groups: u16) -> Result<Vec<u1
     Ok(places)
 }
 
-/// The group of each node.
+/// The group of each node of a network.
+fn owners_in(alloc: Global, network: &Network, groups: usize) -> Result<Owners, AllocError>
+    requires { 1 ≤ groups }
+{
+    let flows = flows_of(alloc, network)?;
+    let owners = match loads_of(alloc, network, &flows) {
+        Ok(loads) => owners_of(alloc, network, &flows, &loads, groups),
+        Err(fault) => Err(fault),
+    };
+    drop(flows);
+    owners
+}
+
+/// The same where what the lines carry and what the nodes have to do are known.
 fn owners_of(
     alloc: Global,
     network: &Network,
@@ -63,34 +91,76 @@ fn owners_of(
 ) -> Result<Owners, AllocError>
     requires { 1 ≤ groups }
 {
-    let even = all(loads) / groups as u64;
-    let most = even.saturating_add(even / 20);
     let mut clusters = Clusters::new(alloc, network, flows, loads)?;
-    if groups > clusters.sums.len() {
-        return deal(alloc, loads, groups);
-    }
-    let between = join_all(alloc, &mut clusters, flows, groups, most)?;
-    let mut packed = pack(
+    let owners = if groups > clusters.sums.len() {
+        deal(alloc, loads, groups)
+    } else {
+        let even = all(loads) / groups as u64;
+        join_and_pack(alloc, &mut clusters, network, flows, loads, groups, even)
+    };
+    drop(clusters);
+    owners
+}
+
+/// The same where there are no more groups than clusters, and each group is to have about so much to do.
+fn join_and_pack(
+    alloc: Global,
+    clusters: &mut Clusters,
+    network: &Network,
+    flows: &[Flow],
+    loads: &[u64],
+    groups: usize,
+    even: u64,
+) -> Result<Owners, AllocError> {
+    let most = even.saturating_add(even / 20);
+    let between = join_all(alloc, clusters, flows, groups, most)?;
+    let packed = pack_homes(
         alloc,
-        &clusters,
+        clusters,
         &between,
+        loads,
         groups,
         even.saturating_add(even / 10),
-    )?;
+    );
+    drop(between);
+    let mut owners = packed?;
+    owners.improve(alloc, network, flows, loads, most)?;
+    Ok(owners)
+}
+
+/// Each cluster goes to a group that has at most so much to do, if one has, and its nodes with it.
+fn pack_homes(
+    alloc: Global,
+    clusters: &Clusters,
+    between: &Matrix,
+    loads: &[u64],
+    groups: usize,
+    most: u64,
+) -> Result<Owners, AllocError> {
+    let mut packed = pack(alloc, clusters, between, groups, most)?;
+    let of = homes(alloc, clusters, &mut packed, loads)?;
+    Ok(Owners {
+        of,
+        sums: packed.sums,
+    })
+}
+
+/// The group of each node, where each cluster has one.
+fn homes(
+    alloc: Global,
+    clusters: &Clusters,
+    packed: &mut Packed,
+    loads: &[u64],
+) -> Result<Vec<usize>, AllocError> {
     let mut of = Vec::with_capacity(alloc, loads.len())?;
     for node in 0..loads.len() {
         let group = match clusters.at(node) {
-            Some(cluster) => group_of(&packed, cluster),
+            Some(cluster) => group_of(packed, cluster),
             None => None,
         };
         of.push(home(&mut packed.sums, group, sum_at(loads, node)))?;
     }
-    let mut owners = Owners {
-        of,
-        sums: packed.sums,
-    };
-    owners.improve(alloc, network, flows, loads, most)?;
-    Ok(owners)
+    Ok(of)
 }
 
 /// The group that was found for a node; where none was, the node joins the one that has least to do.

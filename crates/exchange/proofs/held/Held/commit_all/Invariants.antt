@@ -5,9 +5,9 @@ use Rattle.reverse.specs.Setting.{simulation_of}
 use Rattle.exchange.specs.Effects.{moved_by}
 use Rattle.exchange.proofs.held.Held.commit_all.Given as goal
 
-abbrev pub invariant-loop : goal.invariant-loop
-invariant-loop g l =
+abbrev pub invariant-loop-seen : goal.invariant-loop-seen
+invariant-loop-seen g l =
     (commits : ℕ) × (l.self ≡ moved_by (simulation_of (rules_of g.R.Reversible.plain) g.J.ActorRun.setting) (replicate commits Committed) l.fn.self)
 
-abbrev pub decreases-loop : goal.decreases-loop
-decreases-loop g l = length l.self.part.done
+abbrev pub decreases-loop-seen : goal.decreases-loop-seen
+decreases-loop-seen g l = length l.self.part.done

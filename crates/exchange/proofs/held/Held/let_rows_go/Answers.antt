@@ -1,6 +1,12 @@
+use Rattle.std.proofs.Common.{◌≡◌, max, sym, ap, rules, arith}
+use Rattle.std.proofs.lemmas.Grind.{common_steps}
 use Rattle.reverse.specs.Rules.{rules_of}
 use Rattle.reverse.specs.Setting.{simulation_of}
 use Rattle.fossil.proofs.RowTimes.{committed-in-time}
+use Rattle.exchange.specs.Views.{place_of, own_of}
+use Rattle.exchange.proofs.Gone.{gone-later, gone-max}
+use Rattle.exchange.proofs.Holding.{holds-gone}
+use Rattle.exchange.proofs.Moves.{in_hand}
 use Rattle.exchange.proofs.held.Held.let_rows_go.Goals as goal
 
 pub let_rows_go-requires : goal.let_rows_go-requires
@@ -8,3 +14,22 @@ let_rows_go-requires g c =
     let h = c.self.invariant.0 in
     let f = simulation_of (rules_of g.R.Reversible.plain) g.J.ActorRun.setting in
     (_, _, h.stands, committed-in-time f (c.actor_law.ensures g.J.ActorRun.setting h.laid) c.self.inside.number c.self.inside.standing.seen _ h.safe)
+
+pub invariant_of-self : goal.invariant_of-self
+invariant_of-self g c =
+    let r = rules_of g.R.Reversible.plain in
+    let h = c.self.invariant.0 in
+    let gone = c.max-self-inside.result in
+    let is-max : gone ≡ max c.self.inside.gone c.args.moment = first_of (search rules, grind (arith, common_steps)) in
+    let late = gone-max r c.self.inside.gone c.args.moment gone is-max in (
+      holds-gone h c.let_rows_go.new.process.queues c.let_rows_go.ensures.stands gone
+          (c.let_rows_go.ensures.early _ _ h.stands gone late.1 (gone-later r c.self.inside.gone gone late.0 _ _ h.gone_early)),
+      c.self.invariant.1,
+    )
+
+pub returns : goal.returns
+returns g c =
+    let h = c.self.inside in
+    let f = simulation_of (rules_of g.R.Reversible.plain) g.J.ActorRun.setting in
+    let is-max : c.max-self-inside.result ≡ max h.gone c.args.moment = first_of (search rules, grind (arith, common_steps)) in
+    rw (sym c.self.view_is) (ap (λ n. in_hand f h.number (own_of h.number h.standing.last) (place_of h.standing.last) h.standing.seen n h.block) is-max)

@@ -1,5 +1,5 @@
 use Rattle.std.proofs.Common.{◌≡◌, ◌<◌, ◌+◌, All, length}
-use Rattle.partition.proofs.groups.groups_of.Given as goal
+use Rattle.partition.proofs.groups.places_of.Given as goal
 
 abbrev pub invariant-loop-node : goal.invariant-loop-node
 invariant-loop-node l = (length l.places.items ≡ l.node) × All (λ group. group < l.groups) l.places.items
