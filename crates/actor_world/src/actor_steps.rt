@@ -22,7 +22,6 @@ impl<R: Actor> ActorWorld<R> {
     /// Does one step. What is held for a world is afterwards what the step makes of that world; a step that is not enabled, and one that
     /// is refused, leave it as it was. Steps that are not enabled and Gvt take no memory. `Exhausted` comes exactly at Run of a process
     /// that has a next message, and not enough numbers left for what one event can send.
-    #[tactic(auto, using(crate::proofs::Answering::answers))]
     pub fn step(&mut self, step: Step) -> Result<Done, StepFault>
         requires { IsAWorld (rules_of R.plain) R.number R.end R.is_placed R.is_value self.old }
         ensures stands { OnOk result (AtEachWorld (rules_of R.plain) R.number R.end R.is_placed R.is_value self.old
@@ -40,6 +39,18 @@ impl<R: Actor> ActorWorld<R> {
         if self.names_none(&step) {
             return Err(StepFault::NoProcess);
         }
+        self.step_there(step)
+    }
+
+    /// Does a step that names no process, or one that there is.
+    #[tactic(auto, using(crate::proofs::Answering::answers))]
+    fn step_there(&mut self, step: Step) -> Result<Done, StepFault>
+        requires world { IsAWorld (rules_of R.plain) R.number R.end R.is_placed R.is_value self.old }
+        requires there { names_none (length self.old.processes) step ≡ false }
+        requires few { length self.old.processes < 65536 }
+        ensures stepped { IsStepped (rules_of R.plain) R.number R.end R.is_placed R.is_value step self.old self.new result }
+        ensures gvt { step ≡ Gvt → result ≡ Ok Did }
+    {
         match step {
             Step::Take { process, place } => self.take(number_of(process), place),
             Step::Arrive { process } => self.arrive(number_of(process)),

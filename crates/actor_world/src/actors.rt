@@ -64,10 +64,9 @@ impl<R: Actor + Drop> ActorWorld<R> {
     {
         actor_rules_law::<R>();
         let count = process_number(actors.len());
-        let letters = plus_letters(alloc, offers)?;
-        let mail = Mail::with_letters(alloc, count, &letters)?;
-        let floors = Floors::new(alloc, count, until)?;
         let processes = processes_of(alloc, actors)?;
+        let mail = Mail::with_letters(alloc, count, &plus_letters(alloc, offers)?)?;
+        let floors = Floors::new(alloc, count, until)?;
         Ok(ActorWorld {
             processes,
             mail,

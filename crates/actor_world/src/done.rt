@@ -1,6 +1,6 @@
 //! What becomes of a step of a world.
 /// What became of a step that was not refused.
-#[derive(Clone, Copy, Debug, PartialEq, Eq)]
+#[derive(Clone, Copy)]
 pub enum Done {
     /// It was done.
     Did,

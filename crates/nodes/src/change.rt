@@ -13,7 +13,7 @@ use output_port::{PortRecord, PutRecord};
 use policer::AccountRecord;
 
 /// What an event changed in a node: the place of the element that it changed, and what that kept of it.
-#[derive(Clone, Copy, Debug, PartialEq, Eq)]
+#[derive(Clone, Copy)]
 pub enum Change {
     /// No element changed.
     Nothing,

@@ -16,7 +16,7 @@ use reverse::Outbound;
 use vlink::{Frame, Net, Time};
 
 /// What became of the copies of a frame at the ports of A and B: nothing, where none was put.
-#[derive(Clone, Copy, Debug, PartialEq, Eq)]
+#[derive(Clone, Copy)]
 pub struct CopiesRecord {
     pub a: PutRecord,
     pub b: PutRecord,

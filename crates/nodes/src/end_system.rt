@@ -29,7 +29,7 @@ use vlink::{Body, Cause, Frame, FrameSize, Message, Net, Time, VlId};
 /// checks and delivers those that come (ARINC 664 Part 7).
 ///
 /// Its virtual links stand by rising number.
-#[derive(Debug, Drop)]
+#[derive(Drop)]
 pub struct EndSystem {
     sources: Vec<Source>,
     receptions: Vec<Reception>,

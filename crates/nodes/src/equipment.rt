@@ -17,7 +17,7 @@ use reverse::Outbound;
 use vlink::{Message, VlId};
 
 /// What a node is.
-#[derive(Debug, Drop)]
+#[derive(Drop)]
 pub enum Equipment {
     EndSystem(EndSystem),
     Switch(Switch),

@@ -12,7 +12,7 @@ use std::marker::Model;
 use vlink::{Body, Cause, Frame, Message, Time};
 
 /// One direction of a link. It has no state that changes.
-#[derive(Debug, Drop)]
+#[derive(Drop)]
 pub struct Line {
     to: u16,
     to_port: u8,

@@ -17,7 +17,7 @@ use std::marker::Model;
 use vlink::{Message, Time, VlId};
 
 /// What undoing an event of a node takes: how many messages it sent, and what it changed.
-#[derive(Clone, Copy, Debug, PartialEq, Eq)]
+#[derive(Clone, Copy)]
 pub struct NodeRecord {
     pub sends: u8,
     pub change: Change,
@@ -26,7 +26,7 @@ pub struct NodeRecord {
 /// A node of a network, or one direction of a link, as a process that handles messages.
 ///
 /// Clauses see its number, the end of the run and the number of its next message, and the state of what it is.
-#[derive(Debug, Drop)]
+#[derive(Drop)]
 pub struct Node {
     number: u16,
     until: Time,

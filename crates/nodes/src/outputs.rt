@@ -10,7 +10,7 @@ use std::marker::Model;
 /// The output ports of a virtual link at a switch. They stand also in a list, so that a frame goes to each without a look at the others.
 ///
 /// Clauses see them as a mark for each port.
-#[derive(Debug, Drop)]
+#[derive(Drop)]
 pub struct Outputs {
     ports: ArrayVec<u8, GREATEST_PORTS>,
     marks: [bool; GREATEST_PORTS],

@@ -17,7 +17,7 @@ use std::marker::Model;
 use vlink::{Body, Cause, Frame, Time, busy_ns, last_bit_ns};
 
 /// The line that a port leads into.
-#[derive(Clone, Copy, Debug, PartialEq, Eq)]
+#[derive(Clone, Copy)]
 pub struct LineAhead {
     /// The process of the line.
     pub line: u16,
@@ -26,14 +26,14 @@ pub struct LineAhead {
 }
 
 /// An output port, and the line that it leads into.
-#[derive(Debug, Drop)]
+#[derive(Drop)]
 pub struct Outlet {
     pub ahead: LineAhead,
     pub port: Port,
 }
 
 /// The output ports of a node: for each port number the port and its line, if there is such a port.
-#[derive(Debug, Drop)]
+#[derive(Drop)]
 pub struct Ports {
     outlets: Vec<Option<Outlet>>,
 }

@@ -12,7 +12,7 @@ use reverse::{Outbound, Reversible};
 use vlink::{Cause, Frame, Net, Note, Time};
 
 /// What undoing a frame takes: the check of its network as it was, and redundancy management as it was if it saw the frame.
-#[derive(Clone, Copy, Debug, PartialEq, Eq)]
+#[derive(Clone, Copy)]
 pub struct ReceivingRecord {
     pub net: Net,
     pub check: Option<u8>,
@@ -21,7 +21,7 @@ pub struct ReceivingRecord {
 
 /// What checks the frames of one virtual link at a receiver: integrity checking on each network, and then redundancy
 /// management (ARINC 664 Part 7).
-#[derive(Clone, Copy, Debug, PartialEq, Eq)]
+#[derive(Clone, Copy)]
 pub struct Receiving {
     pub a: Integrity,
     pub b: Integrity,

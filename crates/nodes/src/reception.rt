@@ -6,7 +6,7 @@ use crate::receiving::Receiving;
 use crate::vl_end::VlEnd;
 
 /// A virtual link at an end system where it ends.
-#[derive(Debug, Drop)]
+#[derive(Drop)]
 pub struct Reception {
     pub end: VlEnd,
     pub receiving: Receiving,

@@ -16,7 +16,7 @@ use reverse::{Outbound, Reversible};
 use vlink::{Body, Cause, Time, VlId};
 
 /// A virtual link at the end system where it begins.
-#[derive(Debug, Drop)]
+#[derive(Drop)]
 pub struct Source {
     pub end: VlEnd,
     pub regulator: BagRegulator,

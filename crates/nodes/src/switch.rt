@@ -24,7 +24,7 @@ use vlink::{Body, Cause, Frame, Message, Time, VlId};
 /// (ARINC 664 Part 7; that the delay is one fixed time is this project's profile).
 ///
 /// The virtual links that go through it stand by rising number.
-#[derive(Debug, Drop)]
+#[derive(Drop)]
 pub struct Switch {
     latency_ns: u32,
     transits: Vec<Transit>,

@@ -8,7 +8,7 @@ use policer::Account;
 use vlink::{FrameSize, VlId};
 
 /// A virtual link at a switch that it goes through.
-#[derive(Debug, Drop)]
+#[derive(Drop)]
 pub struct Transit {
     pub vl: VlId,
     /// The greatest size of its frames.

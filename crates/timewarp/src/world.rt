@@ -52,10 +52,7 @@ impl World {
         ensures network { IfOk result (λ world. world.plan ≡ network) }
         ensures memory { IfErr result (λ fault. fault ≡ OutOfMemory) }
     {
-        layout_law(&network);
-        let offers = offers(alloc, &network)?;
-        let nodes = nodes_of(alloc, &network)?;
-        let actors = ActorWorld::new(alloc, nodes, &offers, network.until())?;
+        let actors = opened(alloc, &network)?;
         Ok(World { network, actors })
     }
 
@@ -138,4 +135,16 @@ impl World {
         world_law(&self.network);
         self.actors.undo_all(process)
     }
+}
+
+/// The processes of a network at the start, with their offers in the mail.
+fn opened(alloc: Global, network: &Network) -> Result<ActorWorld<Node>, StepFault>
+    ensures opens { IfOk result (λ actors. IsAfter (record { plan = network.now; held = actors }) []) }
+    ensures memory { IfErr result (λ fault. fault ≡ OutOfMemory) }
+{
+    layout_law(network);
+    let _processes = network.process_count();
+    let offers = offers(alloc, network)?;
+    let nodes = nodes_of(alloc, network)?;
+    ActorWorld::new(alloc, nodes, &offers, network.until())
 }

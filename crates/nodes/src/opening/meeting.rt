@@ -14,14 +14,14 @@ use network::{GREATEST_PORTS, Network, VirtualLink, Way};
 use std::alloc::{AllocError, Global};
 
 /// Whether virtual links leave a node or come in.
-#[derive(Clone, Copy, Debug, PartialEq, Eq)]
+#[derive(Clone, Copy)]
 pub enum Side {
     Out,
     In,
 }
 
 /// A virtual link that leaves a node, or comes in there.
-#[derive(Clone, Copy, Debug, PartialEq, Eq)]
+#[derive(Clone, Copy)]
 pub struct Meeting {
     pub link: VirtualLink,
     /// The first port by which it does so.

@@ -1,5 +1,5 @@
 //! Which line each port leads into.
-ghost use Rattle.std.specs.Prelude.{◌≡◌, ℕ, ◌+◌, ◌<◌, ◌&&◌, None, Some, is_none, if◌then◌else◌, length, slice_index_or, vec_len, IfOk};
+ghost use Rattle.std.specs.Prelude.{◌≡◌, ℕ, ◌+◌, ◌<◌, ◌&&◌, None, Some, is_none, if◌then◌else◌, length, map, slice_index_or, vec_len, IfOk};
 ghost use Rattle.std.specs.Option.{option_map};
 ghost use Rattle.network.specs.Words.{lines_of};
 ghost use Rattle.nodes.specs.rules.Opening.{leaves_by, lines_ahead_of, outlet_of, ports_of};
@@ -66,6 +66,21 @@ fn outlet_of(
     Ok(Some(Outlet { ahead, port }))
 }
 
+/// The ports that lead into these lines, at each of which so many bytes may wait.
+fn outlets_of(
+    alloc: Global,
+    lines_ahead: &[Option<LineAhead>],
+    bytes: u32,
+) -> Result<Vec<Option<Outlet>>, AllocError>
+    ensures { IfOk result (λ outlets. outlets.items ≡ map (option_map (outlet_of bytes)) lines_ahead.now) }
+{
+    let mut outlets = Vec::new(alloc);
+    for ahead in lines_ahead {
+        outlets.push(outlet_of(alloc, *ahead, bytes)?)?;
+    }
+    Ok(outlets)
+}
+
 /// The first `count` ports of a node, at each of which so many bytes may wait.
 pub fn ports_of(
     alloc: Global,
@@ -77,9 +92,5 @@ pub fn ports_of(
     ensures { IfOk result (λ ports. ports ≡ ports_of network.now node count bytes) }
 {
     let lines_ahead = lines_ahead_of(alloc, network, node, count)?;
-    let mut outlets = Vec::new(alloc);
-    for ahead in &lines_ahead {
-        outlets.push(outlet_of(alloc, *ahead, bytes)?)?;
-    }
-    Ok(Ports::new(outlets))
+    Ok(Ports::new(outlets_of(alloc, &lines_ahead, bytes)?))
 }

@@ -38,3 +38,30 @@ returns-in_err-do_all-clause-exhausted c = λ e.
       stands.there,
       subst (λ (plan : Plan). IsExhausted (simulation_of plan) x (after plan (take n c.args.steps.now))) c.in_ok-replay.ensures.network met,
     )
+
+pub returns-in_err-replay-clause-safe : goal.returns-in_err-replay-clause-safe
+returns-in_err-replay-clause-safe c = λ n. c.world_law.ensures.safe (take n c.args.steps.now)
+
+pub returns-in_err-replay-clause-whole : goal.returns-in_err-replay-clause-whole
+returns-in_err-replay-clause-whole c = λ n. c.world_law.ensures.whole (take n c.args.steps.now)
+
+pub returns-in_err-replay-clause-balances : goal.returns-in_err-replay-clause-balances
+returns-in_err-replay-clause-balances c = λ n. c.world_law.ensures.counts (take n c.args.steps.now)
+
+pub returns-in_err-do_all-clause-safe : goal.returns-in_err-do_all-clause-safe
+returns-in_err-do_all-clause-safe c = λ n. c.world_law.ensures.safe (take n c.args.steps.now)
+
+pub returns-in_err-do_all-clause-whole : goal.returns-in_err-do_all-clause-whole
+returns-in_err-do_all-clause-whole c = λ n. c.world_law.ensures.whole (take n c.args.steps.now)
+
+pub returns-in_err-do_all-clause-balances : goal.returns-in_err-do_all-clause-balances
+returns-in_err-do_all-clause-balances c = λ n. c.world_law.ensures.counts (take n c.args.steps.now)
+
+pub returns-clause-safe : goal.returns-clause-safe
+returns-clause-safe c = λ n. c.world_law.ensures.safe (take n c.args.steps.now)
+
+pub returns-clause-whole : goal.returns-clause-whole
+returns-clause-whole c = λ n. c.world_law.ensures.whole (take n c.args.steps.now)
+
+pub returns-clause-balances : goal.returns-clause-balances
+returns-clause-balances c = λ n. c.world_law.ensures.counts (take n c.args.steps.now)

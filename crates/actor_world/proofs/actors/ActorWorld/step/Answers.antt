@@ -1,23 +1,37 @@
-use Rattle.std.proofs.Common.{sym, ap, ◌∙◌}
-use Rattle.virtual_time.specs.declared.step.Step.TheVariants.{Take, Arrive, Run, Post, Commit}
-use Rattle.actor_world.proofs.Answering.{stands-at}
+use Rattle.std.proofs.Common.{sym, ◌∙◌}
+use Rattle.actor_world.proofs.Holding.{the_same}
+use Rattle.actor_world.proofs.Answering.{answer-enabled, answer-stands, none-exhausted}
 use Rattle.actor_world.proofs.actors.ActorWorld.step.Goals as goal
 
-pub returns-in-Take-clause-stands : goal.returns-in-Take-clause-stands
-returns-in-Take-clause-stands g c =
-    stands-at _ _ _ _ _ _ _ _ _ (c.in-Take.is ∙ ap (λ p. Take p c.in-Take.place) (sym c.number_of.ensures)) _ c.take.ensures
+pub returns-then-names_none-clause-stands : goal.returns-then-names_none-clause-stands
+returns-then-names_none-clause-stands g c = tt
 
-pub returns-in-Arrive-clause-stands : goal.returns-in-Arrive-clause-stands
-returns-in-Arrive-clause-stands g c = stands-at _ _ _ _ _ _ _ _ _ (c.in-Arrive.is ∙ ap Arrive (sym c.number_of-in-Arrive.ensures)) _ c.arrive.ensures
+pub returns-then-names_none-clause-enabled : goal.returns-then-names_none-clause-enabled
+returns-then-names_none-clause-enabled g c = tt
 
-pub returns-in-Run-clause-stands : goal.returns-in-Run-clause-stands
-returns-in-Run-clause-stands g c = stands-at _ _ _ _ _ _ _ _ _ (c.in-Run.is ∙ ap Run (sym c.number_of-in-Run.ensures)) _ c.run.ensures
+pub returns-then-names_none-clause-unchanged : goal.returns-then-names_none-clause-unchanged
+returns-then-names_none-clause-unchanged g c = λ e. the_same c.args.self.now
 
-pub returns-in-Post-clause-stands : goal.returns-in-Post-clause-stands
-returns-in-Post-clause-stands g c = stands-at _ _ _ _ _ _ _ _ _ (c.in-Post.is ∙ ap Post (sym c.number_of-in-Post.ensures)) _ c.post.ensures
+pub returns-then-names_none-clause-exhausted : goal.returns-then-names_none-clause-exhausted
+returns-then-names_none-clause-exhausted g c = λ x laid steps h. (
+  λ e. absurd cc,
+  λ d. absurd (none-exhausted _ _ _ _ _ _ c.args.self.now c.args.self.now (sym c.names_none.ensures.answer ∙ c.if-names_none.true) x laid steps h d),
+)
 
-pub returns-in-Gvt-clause-stands : goal.returns-in-Gvt-clause-stands
-returns-in-Gvt-clause-stands g c = stands-at _ _ _ _ _ _ _ _ _ c.in-Gvt.is _ c.publish.ensures.stepped
+pub returns-clause-stands : goal.returns-clause-stands
+returns-clause-stands g c = answer-stands _ _ _ _ _ _ _ _ c.step_there.result c.step_there.ensures.stepped
 
-pub returns-in-Commit-clause-stands : goal.returns-in-Commit-clause-stands
-returns-in-Commit-clause-stands g c = stands-at _ _ _ _ _ _ _ _ _ (c.in-Commit.is ∙ ap Commit (sym c.number_of-in-Commit.ensures)) _ c.commit.ensures
+pub returns-clause-enabled : goal.returns-clause-enabled
+returns-clause-enabled g c = answer-enabled _ _ _ _ _ _ _ _ c.step_there.result c.step_there.ensures.stepped
+
+pub returns-clause-unchanged : goal.returns-clause-unchanged
+returns-clause-unchanged g c = c.step_there.ensures.stepped.unchanged
+
+pub returns-clause-exhausted : goal.returns-clause-exhausted
+returns-clause-exhausted g c = c.step_there.ensures.stepped.exhausted
+
+pub returns-clause-memory : goal.returns-clause-memory
+returns-clause-memory g c = c.step_there.ensures.stepped.memory
+
+pub returns-clause-gvt : goal.returns-clause-gvt
+returns-clause-gvt g c = c.step_there.ensures.gvt
