@@ -16,6 +16,21 @@ module _ {S K : Type 0} where
     others = refl;
   }
 
+  -- messages that are done count beside
+  pub group-counted : (g : GroupState S K) (new : Held S K) → new ≡ record g.held { flow = record g.held.flow { queue = new.flow.queue; extra = new.flow.extra; room = new.flow.room } } →
+      IsGroupAsBefore g (record g { held = new })
+  group-counted g new e = record {
+    members = ap (λ (z : Held S K). z.members) e;
+    done = ap (λ (z : Held S K). z.done) e;
+    rows = ap (λ (z : Held S K). z.rows) e;
+    flow = ap (λ (z : Held S K). z.flow) e;
+    others = refl;
+  }
+
+  -- nothing changed
+  pub group-same : (g : GroupState S K) → IsGroupAsBefore g g
+  group-same g = record { members = refl; done = refl; rows = refl; flow = refl; others = refl }
+
   -- so the words stay, and whether they are kept
   pub same-words : (h new : Held S K) → IsAsBefore h new → new.flow.words ≡ h.flow.words
   same-words h new a = ap (λ (z : Flow). z.words) a.flow

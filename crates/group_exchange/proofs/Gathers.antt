@@ -12,10 +12,10 @@ use Rattle.hand.specs.Hands.{Held, StandsForGroup}
 use Rattle.group_exchange.specs.declared.mark.Standing.{Standing}
 use Rattle.group_exchange.specs.Views.{Boxes, box_of, last_in, with_letters, world_after}
 use Rattle.group_exchange.specs.Keeps.{Holds, IsMarked, IsRecorded}
-use Rattle.group_exchange.specs.Effects.{Collects, LeftBlock, PostsBlock, TookLetters, takes_of}
+use Rattle.group_exchange.specs.Effects.{AreWaiting, Collects, LeftBlock, PostsBlock, TookLetters, takes_of}
 use Rattle.group_exchange.proofs.Collected.{kept-collected, holds-collected}
 use Rattle.group_exchange.proofs.Ends.{group_at, group-told, ledger-told, shown, takes-none}
-use Rattle.group_exchange.proofs.Lists.{none-falls}
+use Rattle.between_groups.proofs.Lists.{none-falls}
 use Rattle.group_exchange.proofs.Trays.{took-none}
 
 module _ {S K : Type 0} {r : Rules Message S K Note} {number end : S → ℕ} {is_placed : S → Type 0} {x : Setting S} {owners : List ℕ} {groups : ℕ} {steps : List Step} {mail : Boxes} {floors : Floors}
@@ -34,6 +34,10 @@ module _ {S K : Type 0} {r : Rules Message S K Note} {number end : S → ℕ} {i
     group = group-told g h new s now gone (world_after (simulation_of r x) steps).gvt steps' last (sees ∙ k.gvt_is);
     held = took;
   }
+
+  -- which are all that wait for the group
+  pub waiting : (h : Held S K) (s : Standing) (limit gone : ℕ) → AreWaiting (simulation_of r x) owners (shown steps standings limit) (group_at g h s gone) (box_of mail.boxes g)
+  waiting h s limit gone = record { home = k.home g within; whole = λ p o. k.mail_is g p o }
 
   -- no letter was there
   module _ (empty : box_of mail.boxes g ≡ []) (now : Standing) (last : last_in now ≡ steps) (place : now.steps ≡ length steps) (sees : now.seen ≡ gvt) (standings' : List Standing)

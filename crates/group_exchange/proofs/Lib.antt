@@ -1,5 +1,6 @@
 pub mod Owners
 pub mod Alike
+pub mod Refused
 pub mod Marks
 pub mod Holding
 pub mod Taken
@@ -10,7 +11,6 @@ pub mod Posted
 pub mod Least
 pub mod Published
 pub mod Worked
-pub mod Lists
 pub mod Words
 pub mod Halves
 pub mod Below

@@ -1,5 +1,4 @@
 -- The exchange of groups: what its values are for contracts, what they keep, and what each call does.
-pub mod Boxing
 pub mod Telling
 pub mod Listing
 pub mod Rows

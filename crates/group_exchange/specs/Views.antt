@@ -7,7 +7,7 @@ use Rattle.virtual_time.specs.Law.{Order, Simulation, World, start, run, done_by
 use Rattle.virtual_time.specs.declared.step.Step.{Step}
 use Rattle.hand.specs.Block.{steps_told}
 use Rattle.hand.specs.Hands.{Held, with_letter}
-pub use Rattle.group_exchange.specs.Boxing.{Boxes, HasRoom, box_of, for_group, is_number, is_of}
+pub use Rattle.between_groups.specs.Boxing.{Boxes, HasRoom, box_of, for_group, is_number, is_of}
 use Rattle.group_exchange.specs.declared.mark.Mark.{Mark}
 use Rattle.group_exchange.specs.declared.mark.Standing.{Standing}
 

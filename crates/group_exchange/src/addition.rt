@@ -1,5 +1,5 @@
 //! What is added to a journal of groups at one go.
-use crate::boxes::Boxes;
+use between_groups::Boxes;
 use hand::Words;
 use std::snapshot::Snapshot;
 

@@ -1,5 +1,5 @@
 //! A group takes the letters that are on their way to it.
-ghost use Rattle.std.specs.Prelude.{List, ◌≡◌, ◌≢◌, ◌<◌, ◌≤◌, ◌+◌, ◌⊎◌, ℕ, [], ◌∷◌, ◌++◌, set, length, slice_get, All, IfOk, OnErr, IfErr, Err, true};
+ghost use Rattle.std.specs.Prelude.{List, ◌≡◌, ◌≢◌, ◌<◌, ◌≤◌, ◌+◌, ◌⊎◌, ℕ, [], ◌∷◌, ◌++◌, set, length, slice_get, All, IfOk, OnOk, OnErr, IfErr, Err, true};
 ghost use Rattle.std.specs.Option.{option_map};
 ghost use Rattle.vlink.specs.declared.message.Message.{Message};
 ghost use Rattle.vlink.specs.Letters.{Letter};
@@ -8,14 +8,15 @@ ghost use Rattle.virtual_time.specs.Law.{World, lowest, times_of};
 ghost use Rattle.reverse.specs.Rules.{rules_of};
 ghost use Rattle.reverse.specs.Setting.{Setting, simulation_of};
 ghost use Rattle.journal.specs.declared.fault.PoolFault.TheVariants.{OutOfMemory, JournalFull, Torn};
-ghost use Rattle.hand.specs.Hands.{StandsForGroup, is_ours};
+ghost use Rattle.hand.specs.Hands.{IsAsBefore, StandsForGroup, is_ours};
 ghost use Rattle.group_exchange.specs.Views.{mark_at, with_letters, world_after};
 ghost use Rattle.group_exchange.specs.Effects.{AreWaiting, Collects, IsGroupAsBefore, TookLetters};
 
 use crate::group::Group;
 use crate::groups::GroupExchange;
-use crate::mark::{standing_now, tell_both};
+use crate::mark::stand_here;
 use crate::run_of::GroupRun;
+use crate::steps::Steps;
 use gvt::Floors;
 use hand::{Hand, hand_law};
 use journal::PoolFault;
@@ -48,26 +49,20 @@ pub fn collect<R: Actor, J: GroupRun<R>>(
     exchange.join_law(group);
     let count = exchange.boxes.letters(group.number).len();
     if count == 0 {
-        group.standing = standing_now(&exchange.journal, exchange.gvt);
-        tell_both(
+        stand_here(
+            &mut group.standing,
             &mut exchange.marks,
             &mut group.mark,
             group.number,
-            &group.standing,
+            &exchange.journal,
+            exchange.gvt,
         );
         return Ok(0);
     }
     if exchange.limit - exchange.journal.len() < count as u64 {
         return Err(PoolFault::JournalFull);
     }
-    if group
-        .hand
-        .reserve_letters(count.saturating_add(SPARE))
-        .is_err()
-    {
-        return Err(PoolFault::OutOfMemory);
-    }
-    if let Err(fault) = exchange.journal.reserve(count) {
+    if let Err(fault) = reserve_collect(&mut group.hand, &mut exchange.journal, count) {
         return Err(fault);
     }
     let letters = exchange.boxes.letters(group.number);
@@ -75,14 +70,34 @@ pub fn collect<R: Actor, J: GroupRun<R>>(
     deliver_all(&mut group.hand, letters);
     lower_floor(&mut exchange.floors, group.number, letters);
     exchange.boxes.clear(group.number);
-    group.standing = standing_now(&exchange.journal, exchange.gvt);
-    tell_both(
+    stand_here(
+        &mut group.standing,
         &mut exchange.marks,
         &mut group.mark,
         group.number,
-        &group.standing,
+        &exchange.journal,
+        exchange.gvt,
     );
     Ok(count as u64)
+}
+
+/// Makes room for so many letters in the tray, and for as many steps in the journal.
+fn reserve_collect<R: Actor>(
+    hand: &mut Hand<R>,
+    journal: &mut Steps,
+    count: usize,
+) -> Result<(), PoolFault>
+    ensures same { IsAsBefore hand.old hand.new }
+    ensures room { OnOk result (count ≤ hand.new.flow.room) }
+    ensures steps { journal.new.steps ≡ journal.old.steps }
+    ensures keeps { journal.new.keeps ≡ journal.old.keeps }
+    ensures step_room { OnOk result (count ≤ journal.new.room) }
+    ensures faults { IfErr result (λ fault. (fault ≡ OutOfMemory) ⊎ ((fault ≡ Torn) × (journal.old.keeps ≡ true))) }
+{
+    if hand.reserve_letters(count.saturating_add(SPARE)).is_err() {
+        return Err(PoolFault::OutOfMemory);
+    }
+    journal.reserve(count)
 }
 
 /// These letters go to the back of the tray. There is room for them.

@@ -5,10 +5,10 @@ ghost use Rattle.reverse.specs.Setting.{simulation_of};
 ghost use Rattle.group_exchange.specs.Views.{world_after};
 ghost use Rattle.group_exchange.specs.Keeps.{AreGrouped};
 
-use crate::boxes::Boxes;
 use crate::mark::Standing;
 use crate::run_of::GroupRun;
 use crate::steps::Steps;
+use between_groups::Boxes;
 use gvt::Floors;
 use halves::LeftHalf;
 use reverse::Actor;

@@ -3,8 +3,6 @@
 #![tactic(auto)]
 
 mod addition;
-mod boxes;
-mod carrying;
 mod collecting;
 mod fits;
 mod group;
@@ -23,7 +21,6 @@ mod steps;
 mod working;
 
 pub use addition::Addition;
-pub use boxes::Boxes;
 pub use collecting::collect;
 pub use group::Group;
 pub use groups::GroupExchange;

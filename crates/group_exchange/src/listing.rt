@@ -3,9 +3,9 @@ ghost use Rattle.std.specs.Prelude.{true, ◌≡◌, ◌+◌, ◌<◌, ◌≤◌
 ghost use Rattle.virtual_time.specs.Law.{behind};
 ghost use Rattle.virtual_time.specs.declared.step.Step.TheVariants.{Take};
 ghost use Rattle.hand.specs.Block.{steps_of_word, steps_told};
-ghost use Rattle.group_exchange.specs.Telling.{waiting_for};
+ghost use Rattle.between_groups.specs.Boxing.{waiting_for};
 
-use crate::boxes::Boxes;
+use between_groups::Boxes;
 use hand::{Did, Words};
 use vlink::{Letter, Step};
 

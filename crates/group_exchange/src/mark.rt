@@ -1,9 +1,10 @@
 //! What an exchange and a group in hand both say of the group.
 ghost use Rattle.std.specs.Prelude.{◌≡◌, ◌<◌, map, set, length, slice_index};
-ghost use Rattle.group_exchange.specs.Views.{last_in};
+ghost use Rattle.group_exchange.specs.Views.{IsUnplaced, last_in};
 
 use crate::steps::Steps;
 use halves::{LeftHalf, RightHalf, tell};
+use std::alloc::Global;
 use std::snapshot::Snapshot;
 use vlink::Time;
 
@@ -28,6 +29,48 @@ pub struct Standing {
     pub seen: Time,
 }
 
+impl Standing {
+    /// Of a group that the journal does not tell of yet.
+    pub(crate) fn unplaced(alloc: Global) -> Self
+        ensures { IsUnplaced result }
+    {
+        let none = Steps::new(alloc, None);
+        Standing {
+            last: Snapshot::of(&none),
+            steps: 0,
+            seen: Time::default(),
+        }
+    }
+}
+
+/// A group collects or posts when the journal has these steps, and has seen GVT at this moment, in ns: so it stands from now on, and both halves of its
+/// mark tell it.
+pub(crate) fn stand_here(
+    standing: &mut Standing,
+    marks: &mut Vec<LeftHalf<Standing>>,
+    half: &mut RightHalf<Standing>,
+    group: u16,
+    journal: &Steps,
+    seen: Time,
+)
+    requires within { group < length marks.old.items }
+    requires one { slice_index (map (λ b. b.name) marks.old.items) group ≡ half.old.name }
+    ensures last { last_in standing.new ≡ journal.now.steps }
+    ensures steps { standing.new.steps ≡ length journal.now.steps }
+    ensures seen { standing.new.seen ≡ seen }
+    ensures marks { map (λ b. b.value) marks.new.items ≡ set (map (λ b. b.value) marks.old.items) group standing.new }
+    ensures mark { half.new.value ≡ standing.new }
+    ensures names { map (λ b. b.name) marks.new.items ≡ map (λ b. b.name) marks.old.items }
+    ensures name { half.new.name ≡ half.old.name }
+{
+    *standing = Standing {
+        last: Snapshot::of(journal),
+        steps: journal.len(),
+        seen,
+    };
+    tell_both(marks, half, group, standing);
+}
+
 /// The two halves of the standing of a group tell another one.
 pub(crate) fn tell_both(
     marks: &mut Vec<LeftHalf<Standing>>,
@@ -44,17 +87,4 @@ pub(crate) fn tell_both(
 {
     let own = &mut marks[usize::from(group)];
     tell(own, half, mark);
-}
-
-/// The standing of a group that collects or posts when the journal has these steps, and that has seen GVT at this moment, in ns.
-pub(crate) fn standing_now(journal: &Steps, seen: Time) -> Standing
-    ensures last { last_in result ≡ journal.now.steps }
-    ensures steps { result.steps ≡ length journal.now.steps }
-    ensures seen { result.seen ≡ seen }
-{
-    Standing {
-        last: Snapshot::of(journal),
-        steps: journal.len(),
-        seen,
-    }
 }

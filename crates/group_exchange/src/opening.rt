@@ -8,7 +8,6 @@ ghost use Rattle.group_exchange.specs.Views.{GroupState, IsUnplaced, blank, is_o
 ghost use Rattle.group_exchange.specs.Keeps.{AreGrouped};
 ghost use Rattle.group_exchange.specs.Opening.{AreMembersOf, HasOpened};
 
-use crate::boxes::Boxes;
 use crate::group::Group;
 use crate::groups::GroupExchange;
 use crate::mark::{Standing, tell_both};
@@ -16,6 +15,7 @@ use crate::pairs::Pairs;
 use crate::run_of::GroupRun;
 use crate::splitting::{members_of, some_of};
 use crate::steps::Steps;
+use between_groups::Boxes;
 use gvt::Floors;
 use halves::{LeftHalf, RightHalf};
 use hand::{Hand, hand_law};
@@ -23,7 +23,6 @@ use journal::{PoolFault, Table};
 use reverse::{Actor, actor_law};
 use std::alloc::Global;
 use std::marker::PhantomData;
-use std::snapshot::Snapshot;
 use vlink::{Message, Time, process_number};
 
 impl<R: Actor + Drop, J: GroupRun<R>> GroupExchange<R, J> {
@@ -107,18 +106,47 @@ fn groups_of<R: Actor + Drop, J: GroupRun<R>>(
     ensures blanks { All IsUnplaced (map (λ b. b.value) lefts.new.items) }
     ensures memory { IfErr result (λ fault. fault ≡ OutOfMemory) }
 {
-    let none = Steps::new(alloc, None);
     let mut slots = some_of(alloc, actors)?;
+    let groups = open_all(alloc, &mut slots, owners, lefts, &mut marks, end, keeps);
+    drop(slots);
+    drop(marks);
+    groups
+}
+
+/// The groups, in order, each with the actors of its number, which leave their slots, and the first mark that is left.
+fn open_all<R: Actor + Drop, J: GroupRun<R>>(
+    alloc: Global,
+    slots: &mut Vec<Option<R>>,
+    owners: &[u16],
+    lefts: &mut Vec<LeftHalf<Standing>>,
+    marks: &mut Vec<RightHalf<Standing>>,
+    end: Time,
+    keeps: bool,
+) -> Result<Vec<Group<R, J>>, PoolFault>
+    requires count { length slots.old.items ≡ J.setting.processes }
+    requires each { (p : ℕ) → p < J.setting.processes → slice_get slots.old.items p ≡ Some (Some (J.setting.opening p)) }
+    requires owners { owners.now ≡ J.owners }
+    requires grouped { AreGrouped J.setting.processes (length J.names) J.owners }
+    requires layout { IsLaidOut (rules_of R.plain) R.number R.end R.is_placed J.setting }
+    requires names { map (λ s. s.name) marks.old.items ≡ J.names }
+    requires left_names { map (λ b. b.name) lefts.old.items ≡ J.names }
+    requires blanks { All IsUnplaced (map (λ b. b.value) lefts.old.items) }
+    requires end { end ≡ suc J.setting.until }
+    requires keeps { keeps ≡ J.keeps }
+    requires few { length J.names ≤ 4096 }
+    ensures count { IfOk result (λ groups. length groups.items ≡ length J.names) }
+    ensures each { IfOk result (λ groups. (g : ℕ) → g < length J.names →
+        (k : GroupState R R.Record) × (slice_get groups.items g ≡ Some k) × HasOpened J.setting J.owners g k) }
+    ensures left_names { map (λ b. b.name) lefts.new.items ≡ J.names }
+    ensures blanks { All IsUnplaced (map (λ b. b.value) lefts.new.items) }
+    ensures memory { IfErr result (λ fault. fault ≡ OutOfMemory) }
+{
     let count = process_number(marks.len());
     let mut groups = Vec::with_capacity(alloc, usize::from(count))?;
     for made in 0..count {
-        let members = members_of(alloc, &mut slots, owners, made)?;
+        let members = members_of(alloc, slots, owners, made)?;
         let mut mark = marks.remove(0);
-        let standing = Standing {
-            last: Snapshot::of(&none),
-            steps: 0,
-            seen: Time::default(),
-        };
+        let standing = Standing::unplaced(alloc);
         tell_both(lefts, &mut mark, made, &standing);
         let group = Group::open(alloc, made, members, standing, mark, end, keeps)?;
         groups.push_reserved(group);

@@ -4,13 +4,10 @@ ghost use Rattle.journal.specs.declared.fault.PoolFault.TheVariants.{OutOfMemory
 ghost use Rattle.group_exchange.specs.Views.{IsUnplaced};
 
 use crate::mark::Standing;
-use crate::steps::Steps;
 use halves::{LeftHalf, RightHalf, pair};
 use journal::PoolFault;
 use std::alloc::Global;
 use std::marker::Model;
-use std::snapshot::Snapshot;
-use vlink::Time;
 
 /// The two halves of marks, in order, before an exchange and its groups have them. They have no bytes. A clause sees their names.
 #[derive(Drop)]
@@ -37,20 +34,29 @@ impl Pairs {
         ensures count { IfOk result (λ pairs. length pairs ≡ count) }
         ensures memory { IfErr result (λ fault. fault ≡ OutOfMemory) }
     {
-        let none = Steps::new(alloc, None);
-        let blank = Standing {
-            last: Snapshot::of(&none),
-            steps: 0,
-            seen: Time::default(),
-        };
         let mut pairs = Pairs {
-            lefts: Vec::with_capacity(alloc, count)?,
-            rights: Vec::with_capacity(alloc, count)?,
+            lefts: Vec::new(alloc),
+            rights: Vec::new(alloc),
         };
-        for made in 0..count {
-            pairs.add(&blank)?;
+        let blank = Standing::unplaced(alloc);
+        let added = pairs.add_all(&blank, count);
+        drop(blank);
+        match added {
+            Ok(()) => Ok(pairs),
+            Err(fault) => Err(fault),
         }
-        Ok(pairs)
+    }
+
+    /// So many more, which tell of no step.
+    fn add_all(&mut self, mark: &Standing, count: usize) -> Result<(), PoolFault>
+        requires { IsUnplaced mark.now }
+        ensures more { OnOk result (length self.new ≡ length self.old + count) }
+        ensures memory { IfErr result (λ fault. fault ≡ OutOfMemory) }
+    {
+        for made in 0..count {
+            self.add(mark)?;
+        }
+        Ok(())
     }
 
     /// One more, which tells of no step.

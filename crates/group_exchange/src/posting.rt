@@ -9,17 +9,16 @@ ghost use Rattle.journal.specs.declared.fault.PoolFault.TheVariants.{OutOfMemory
 ghost use Rattle.hand.specs.Block.{steps_told};
 ghost use Rattle.hand.specs.DoneEvents.{messages_of};
 ghost use Rattle.hand.specs.Hands.{FirstWaits, StandsForGroup};
-ghost use Rattle.group_exchange.specs.Boxing.{HasRoom, box_of, for_group};
-ghost use Rattle.group_exchange.specs.Telling.{waiting_for};
+ghost use Rattle.between_groups.specs.Boxing.{HasRoom, box_of, for_group, waiting_for};
 ghost use Rattle.group_exchange.specs.Views.{block_of};
 ghost use Rattle.group_exchange.specs.Effects.{IsGroupAsBefore, Posts};
 
-use crate::boxes::Boxes;
 use crate::group::Group;
 use crate::groups::GroupExchange;
-use crate::mark::{standing_now, tell_both};
+use crate::mark::stand_here;
 use crate::run_of::GroupRun;
 use crate::steps::Steps;
+use between_groups::Boxes;
 use hand::{Hand, hand_law};
 use journal::PoolFault;
 use reverse::{Actor, actor_law};
@@ -66,12 +65,14 @@ pub fn post<R: Actor, J: GroupRun<R>>(
         group.alloc,
     );
     exchange.floors.set(group.number, floor);
-    group.standing = standing_now(&exchange.journal, group.standing.seen);
-    tell_both(
+    let seen = group.standing.seen;
+    stand_here(
+        &mut group.standing,
         &mut exchange.marks,
         &mut group.mark,
         group.number,
-        &group.standing,
+        &exchange.journal,
+        seen,
     );
     Ok(())
 }

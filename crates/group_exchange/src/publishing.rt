@@ -1,6 +1,5 @@
 //! GVT is set.
 ghost use Rattle.std.specs.Prelude.{◌≡◌, ◌<◌, ◌≤◌, ◌⊎◌, ℕ, length, IfOk, IfErr, OnErr, Err, true};
-ghost use Rattle.virtual_time.specs.Law.{lowest};
 ghost use Rattle.reverse.specs.Rules.{rules_of};
 ghost use Rattle.reverse.specs.Setting.{simulation_of};
 ghost use Rattle.journal.specs.declared.fault.PoolFault.TheVariants.{OutOfMemory, JournalFull, Torn};
@@ -8,10 +7,10 @@ ghost use Rattle.group_exchange.specs.Effects.{Publishes, IsHeldBack};
 
 use crate::groups::GroupExchange;
 use crate::run_of::GroupRun;
-use gvt::Floors;
+use between_groups::horizon;
 use journal::PoolFault;
 use reverse::{Actor, actor_law};
-use vlink::{Time, earlier};
+use vlink::Time;
 
 /// Sets GVT to the least of all floors and of the times of all letters on their way, with a step in the journal; where that is the GVT of before, there
 /// is no step. The answer is GVT, in ns.
@@ -28,9 +27,7 @@ pub fn publish<R: Actor, J: GroupRun<R>>(
     ensures faults { IfErr result (λ fault. (fault ≡ OutOfMemory) ⊎ ((fault ≡ JournalFull) ⊎ ((fault ≡ Torn) × (J.keeps ≡ true)))) }
 {
     actor_law::<R>();
-    let gvt = exchange
-        .boxes
-        .earliest_time(earliest_floor(&exchange.floors, exchange.end));
+    let gvt = horizon(&exchange.boxes, &exchange.floors, exchange.end);
     if gvt == exchange.gvt {
         return Ok(gvt);
     }
@@ -43,17 +40,4 @@ pub fn publish<R: Actor, J: GroupRun<R>>(
     exchange.journal.publish();
     exchange.gvt = gvt;
     Ok(gvt)
-}
-
-/// The least of all floors, or the moment where that is earlier.
-fn earliest_floor(floors: &Floors, moment: Time) -> Time
-    ensures { result ≡ lowest moment floors.now.floors }
-{
-    let mut earliest = moment;
-    for group in 0..floors.processes() {
-        if let Some(floor) = floors.floor(group) {
-            earliest = earlier(floor, earliest);
-        }
-    }
-    earliest
 }

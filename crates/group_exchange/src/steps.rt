@@ -4,12 +4,11 @@ ghost use Rattle.virtual_time.specs.Law.{behind};
 ghost use Rattle.virtual_time.specs.declared.step.Step.TheVariants.{Take, Gvt};
 ghost use Rattle.journal.specs.declared.fault.PoolFault.TheVariants.{OutOfMemory, Torn};
 ghost use Rattle.hand.specs.Block.{steps_told};
-ghost use Rattle.group_exchange.specs.Boxing.{box_of};
-ghost use Rattle.group_exchange.specs.Telling.{waiting_for};
+ghost use Rattle.between_groups.specs.Boxing.{box_of, waiting_for};
 
 use crate::addition::Addition;
-use crate::boxes::Boxes;
 use crate::listing::{list_block, list_takes};
+use between_groups::Boxes;
 use hand::Words;
 use journal::{PoolFault, Table};
 use std::alloc::Global;

@@ -1,5 +1,5 @@
 //! What a group does alone.
-ghost use Rattle.std.specs.Prelude.{◌≡◌, ◌≤◌, ◌+◌, ◌⊎◌, min, false, [], OnOk, IfOk, IfErr, IfNone, Ok, Err, All, IsPermutation};
+ghost use Rattle.std.specs.Prelude.{◌≡◌, ◌≤◌, ◌⊎◌, false, [], OnOk, IfOk, IfErr, IfNone, Ok, Err, All, IsPermutation};
 ghost use Rattle.reverse.specs.Rules.{rules_of};
 ghost use Rattle.reverse.specs.Setting.{simulation_of};
 ghost use Rattle.journal.specs.declared.fault.PoolFault.TheVariants.{OutOfMemory, Exhausted};
@@ -9,6 +9,7 @@ ghost use Rattle.group_exchange.specs.Effects.{Goes, IsGroupAsBefore, IsIdleBefo
 
 use crate::group::Group;
 use crate::run_of::GroupRun;
+use between_groups::Reach;
 use exchange::Gate;
 use hand::{Early, HandFault, hand_law};
 use journal::PoolFault;
@@ -30,20 +31,10 @@ pub fn work<R: Actor, J: GroupRun<R>, G: Gate>(
     ensures ok { IfOk result (λ count. Works (simulation_of (rules_of R.plain) J.setting) J.owners turn window group.old group.new count) }
     ensures some { IfErr result (λ fault. WorksSome (simulation_of (rules_of R.plain) J.setting) J.owners group.old group.new fault) }
 {
-    let limit = limit_of(group.standing.seen, window, group.end);
-    let count = group.run_early(turn, limit, gate)?;
-    group.commit()?;
+    let reach = Reach::of(group.standing.seen, window, group.end);
+    let count = group.run_early(turn, reach.ahead, gate)?;
+    group.commit(reach.good)?;
     Ok(count)
-}
-
-/// The moment so long after another one, or the end where that is earlier.
-fn limit_of(seen: Time, window: u64, end: Time) -> Time
-    ensures { result ≡ min (seen + window) end }
-{
-    match Time::until(seen.ns().saturating_add(window), end) {
-        Some(limit) => limit,
-        None => end,
-    }
 }
 
 /// The receiver of the message, where that is earlier than the limit.
@@ -203,9 +194,10 @@ impl<R: Actor, J: GroupRun<R>> Group<R, J> {
         }
     }
 
-    /// All done events that are earlier than the GVT seen are committed. No letter waits in the tray.
-    fn commit(&mut self) -> Result<(), PoolFault>
-        requires { self.old.held.flow.tray ≡ [] }
+    /// All done events that are earlier than the moment, which is the GVT seen, are committed. No letter waits in the tray.
+    fn commit(&mut self, moment: Time) -> Result<(), PoolFault>
+        requires tray { self.old.held.flow.tray ≡ [] }
+        requires seen { moment ≡ self.old.seen }
         ensures goes { Goes (simulation_of (rules_of R.plain) J.setting) J.owners self.old self.new }
         ensures below { OnOk result (All (λ m. self.old.seen ≤ m.time) (messages_of self.new.held.done)) }
         ensures queue { IsPermutation self.old.held.flow.queue self.new.held.flow.queue }
@@ -214,7 +206,7 @@ impl<R: Actor, J: GroupRun<R>> Group<R, J> {
         ensures memory { IfErr result (λ fault. fault ≡ OutOfMemory) }
     {
         actor_law::<R>();
-        match self.hand.commit(self.standing.seen) {
+        match self.hand.commit(moment) {
             Ok(()) => Ok(()),
             Err(_fault) => Err(PoolFault::OutOfMemory),
         }

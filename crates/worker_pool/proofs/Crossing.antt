@@ -38,7 +38,7 @@ use Rattle.group_exchange.specs.contracts.group.Group.TheInside as GroupIn
 use Rattle.group_exchange.specs.contracts.mark.Standing as Standing
 use Rattle.group_exchange.specs.contracts.steps.Steps as Steps
 use Rattle.group_exchange.specs.contracts.steps.Steps.TheInside as StepsIn
-use Rattle.group_exchange.proofs.boxes.Boxes.TheSendSync as boxes
+use Rattle.between_groups.proofs.boxes.Boxes.TheSendSync as boxes
 use Rattle.group_exchange.proofs.steps.Kept.TheSendSync as kept
 use Rattle.halves.proofs.LeftHalf.TheSendSync as left
 use Rattle.halves.proofs.RightHalf.TheSendSync as right

@@ -6,15 +6,18 @@ use Rattle.reverse.specs.Rules.{rules_of}
 use Rattle.reverse.specs.Setting.{simulation_of}
 use Rattle.hand.specs.Block.{steps_told}
 use Rattle.hand.specs.Flow.{Flow}
-use Rattle.group_exchange.specs.Telling.{waiting_for}
-use Rattle.group_exchange.specs.Views.{box_of, for_group, is_of, last_in, world_after}
+use Rattle.between_groups.specs.Boxing.{waiting_for}
+use Rattle.halves.specs.declared.LeftHalf.{LeftHalf}
+use Rattle.group_exchange.specs.declared.mark.Standing.{Standing}
+use Rattle.group_exchange.specs.Views.{box_of, for_group, is_of, last_in, marks_in, world_after}
 use Rattle.group_exchange.specs.Keeps.{Holds, IsMarked}
-use Rattle.group_exchange.proofs.Again.{left-block}
+use Rattle.group_exchange.proofs.Again.{group-counted, group-same, left-block}
 use Rattle.group_exchange.proofs.Ends.{posts-some}
 use Rattle.group_exchange.proofs.Gathers.{posts-shown}
 use Rattle.group_exchange.proofs.Halves.{marked-by, recorded-as}
 use Rattle.group_exchange.proofs.Holding.{holds-again, holds-as}
 use Rattle.group_exchange.proofs.Posted.{abroad-lawful, kept-posted, holds-posted}
+use Rattle.group_exchange.proofs.Refused.{faults-told, not-full}
 use Rattle.group_exchange.proofs.RowsKept.{rows-again}
 use Rattle.group_exchange.proofs.Waiting.{behind-waiting, recorded-mail}
 use Rattle.group_exchange.proofs.Words.{length_behind}
@@ -109,7 +112,7 @@ invariant_of-exchange-2 g c =
     let e = c.reserve_post.ensures in
     let p = c.post_reserved.ensures in
     let floor = c.floor-floor.ensures in
-    let now = c.standing_now.ensures in
+    let now = c.stand_here.ensures in
     let abroad = ap (λ (z : Flow). z.abroad) floor.same.flow in
     let waiting = waiting_for c.reserve_post.new.boxes in
     let block = steps_told c.floor-floor.new.self.flow.words in
@@ -135,8 +138,8 @@ invariant_of-exchange-2 g c =
             bound = λ q o. floor.bound x _ c.exchange.invariant.2 h.stands q o;
             reached = elim (floor.reached x _ c.exchange.invariant.2 h.stands (c.in_default.ensures.waits h.stands.ascending)) [ inl a ↦ inl (a ∙ c.exchange.invariant.2) | inr b ↦ inr b ];
           })
-          c.set.ensures.here c.set.ensures.others c.standing_now.result now.last now.steps now.seen _ c.tell_both.ensures.marks,
-      c.tell_both.ensures.names ∙ c.exchange.invariant.4,
+          c.set.ensures.here c.set.ensures.others c.stand_here.new.standing now.last now.steps now.seen _ c.stand_here.ensures.marks,
+      c.stand_here.ensures.names ∙ c.exchange.invariant.4,
       p.keeps ∙ (e.keeps ∙ c.exchange.invariant.5),
     )
 
@@ -147,18 +150,18 @@ invariant_of-group-2 g c =
     let e = c.reserve_post.ensures.counted in
     let left = c.post_reserved.ensures.left in
     let same = c.floor-floor.ensures.same in
-    let now = c.standing_now.ensures in
+    let now = c.stand_here.ensures in
     let new = c.post_reserved.new.hand in (
       holds-as (holds-posted c.exchange.invariant.3 c.group.inside.number (marked g at.After-join_law) h c.post_reserved.new.journal.steps (posted g at.After-post_reserved h.by)
           new (ap (λ z. z.members) left ∙ same.members) (ap (λ z. z.flow.words) left)
           (λ v t. c.post_reserved.ensures.stands g.J.GroupRun.setting v (c.hand_law.ensures.as_before c.reserve_post.new.hand c.floor-floor.new.self same g.J.GroupRun.setting v t)))
-          c.standing_now.result.seen (last_in c.standing_now.result) now.seen now.last,
-      record { name = c.tell_both.ensures.name ∙ c.group.invariant.1.name; value = c.tell_both.ensures.mark },
+          c.stand_here.new.standing.seen (last_in c.stand_here.new.standing) now.seen now.last,
+      record { name = c.stand_here.ensures.name ∙ c.group.invariant.1.name; value = c.stand_here.ensures.mark },
       ap (λ z. z.flow.keeps) left ∙ (ap (λ (z : Flow). z.keeps) same.flow ∙ (ap (λ z. z.flow.keeps) e ∙ c.group.invariant.2)),
       now.steps ∙ sym (ap length now.last),
       c.group.invariant.4,
       rows-again c.group.invariant.5 new (ap (λ z. z.rows) left ∙ (same.rows ∙ ap (λ z. z.rows) e)) (ap (λ z. z.done) left ∙ (same.done ∙ ap (λ z. z.done) e))
-          c.standing_now.result.seen (omega (arith, now.seen)),
+          c.stand_here.new.standing.seen (omega (arith, now.seen)),
     )
 
 pub returns-clause-ok : goal.returns-clause-ok
@@ -168,10 +171,73 @@ returns-clause-ok g c =
     let steps = c.exchange.inside.journal.steps in
     let e = c.reserve_post.ensures.counted in
     let h = c.group.inside.hand in
-    let now = c.standing_now.ensures in
+    let now = c.stand_here.ensures in
     let words = ap (λ ws. length (steps_told ws)) c.block.ensures.words in
     let more = posted g at.After-post_reserved (held g at.After-reserve_post).by ∙ ap (λ ws. steps ++ map (behind (waiting_in f (world_after f steps))) (steps_told ws)) (ap (λ z. z.flow.words) e) in
     rw (sym c.group.view_is, sym c.exchange.view_is) (posts-some f g.J.GroupRun.owners h.flow.words _ _ _ _ (omega (arith, words, c.if-count-eq0.false, c.steps-count.ensures))
-    (posts-shown c.exchange.invariant.3 c.group.inside.number c.group.invariant.0.number_is h c.post_reserved.new.journal.steps more _ c.standing_now.result c.tell_both.ensures.marks
+    (posts-shown c.exchange.invariant.3 c.group.inside.number c.group.invariant.0.number_is h c.post_reserved.new.journal.steps more _ c.stand_here.new.standing c.stand_here.ensures.marks
     now.last now.steps c.group.inside.standing now.seen c.post_reserved.new.hand
     (left-block h c.reserve_post.new.hand c.floor-floor.new.self c.post_reserved.new.hand e c.floor-floor.ensures.same c.post_reserved.ensures.left) c.exchange.inside.limit c.group.inside.gone))
+
+pub returns-then-count-eq0-clause-unchanged : goal.returns-then-count-eq0-clause-unchanged
+returns-then-count-eq0-clause-unchanged g c = tt
+
+pub returns-then-count-eq0-clause-full : goal.returns-then-count-eq0-clause-full
+returns-then-count-eq0-clause-full g c = λ e. absurd (let k = e in cc)
+
+pub returns-then-count-eq0-clause-faults : goal.returns-then-count-eq0-clause-faults
+returns-then-count-eq0-clause-faults g c = tt
+
+pub returns-then-exchange-len-clause-ok : goal.returns-then-exchange-len-clause-ok
+returns-then-exchange-len-clause-ok g c = tt
+
+pub returns-then-exchange-len-clause-unchanged : goal.returns-then-exchange-len-clause-unchanged
+returns-then-exchange-len-clause-unchanged g c = rw (sym c.group.view_is, sym c.exchange.view_is) (refl, group-same _)
+
+pub returns-then-exchange-len-clause-full : goal.returns-then-exchange-len-clause-full
+returns-then-exchange-len-clause-full g c =
+    let words = ap (λ ws. length (steps_told ws)) c.block.ensures.words in
+    rw (sym c.group.view_is, sym c.exchange.view_is)
+    (λ _. (omega (arith, c.if-count-eq0.false, c.steps-count.ensures, words), omega (arith, c.if-exchange-len.true, c.len.ensures, c.steps-count.ensures, words, c.exchange.invariant.0)))
+
+pub returns-then-exchange-len-clause-limited : goal.returns-then-exchange-len-clause-limited
+returns-then-exchange-len-clause-limited g c = λ _ _. refl
+
+pub returns-then-exchange-len-clause-faults : goal.returns-then-exchange-len-clause-faults
+returns-then-exchange-len-clause-faults g c = inr (inl refl)
+
+pub returns-in-Err-clause-ok : goal.returns-in-Err-clause-ok
+returns-in-Err-clause-ok g c = tt
+
+pub returns-in-Err-clause-unchanged : goal.returns-in-Err-clause-unchanged
+returns-in-Err-clause-unchanged g c =
+    let e = c.reserve_post.ensures in
+    rw (sym c.group.view_is, sym c.exchange.view_is) (
+      (λ i. record { steps = e.steps i; marks = marks_in (map (λ (b : LeftHalf Standing). b.value) c.exchange.inside.marks.items); limit = c.exchange.inside.limit }),
+      group-counted _ c.reserve_post.new.hand e.counted,
+    )
+
+pub returns-in-Err-clause-full : goal.returns-in-Err-clause-full
+returns-in-Err-clause-full g c = not-full c.in-Err.fault _ c.in-Err.ensures.faults _ refl
+
+pub returns-in-Err-clause-limited : goal.returns-in-Err-clause-limited
+returns-in-Err-clause-limited g c =
+    let words = ap (λ ws. length (steps_told ws)) c.block.ensures.words in
+    rw (sym c.group.view_is, sym c.exchange.view_is) (λ over some. absurd (omega (arith, over, c.if-exchange-len.false, c.len.ensures, c.steps-count.ensures, words)))
+
+pub returns-in-Err-clause-faults : goal.returns-in-Err-clause-faults
+returns-in-Err-clause-faults g c = faults-told c.in-Err.fault _ c.in-Err.ensures.faults g.J.GroupRun.keeps c.exchange.invariant.5
+
+pub returns-clause-unchanged : goal.returns-clause-unchanged
+returns-clause-unchanged g c = tt
+
+pub returns-clause-full : goal.returns-clause-full
+returns-clause-full g c = λ e. absurd (let k = e in cc)
+
+pub returns-clause-limited : goal.returns-clause-limited
+returns-clause-limited g c =
+    let words = ap (λ ws. length (steps_told ws)) c.block.ensures.words in
+    rw (sym c.group.view_is, sym c.exchange.view_is) (λ over some. absurd (omega (arith, over, c.if-exchange-len.false, c.len.ensures, c.steps-count.ensures, words)))
+
+pub returns-clause-faults : goal.returns-clause-faults
+returns-clause-faults g c = tt

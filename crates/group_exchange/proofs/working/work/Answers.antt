@@ -1,4 +1,4 @@
-use Rattle.std.proofs.Common.{rules, ◌≤◌, ◌+◌, inl, inr, min, All, ap, ◌∙◌, subst}
+use Rattle.std.proofs.Common.{rules, ◌≤◌, ◌+◌, inl, inr, min, All, sym, ap, ◌∙◌, subst}
 use Rattle.vlink.specs.declared.message.Message.{Message}
 use Rattle.hand.specs.DoneEvents.{messages_of}
 use Rattle.group_exchange.proofs.Going.{goes-both, goes-seen, idle-late, works-some}
@@ -19,9 +19,12 @@ returns-clause-ok g c =
       within = c.in_ok-count.ensures.within;
       idle = elim c.in_ok-count.ensures.idle [
         | inl all ↦ inl all
-        | inr late ↦ inr (idle-late asked c.limit_of-limit.result c.group.inside.end g.J.GroupRun.setting.until c.run_early.new.self.held.flow.queue c.commit.new.self.held.flow.queue
-            (c.limit_of-limit.ensures ∙ ap (λ s. min (s + c.args.window) c.group.inside.end) seen) c.group.invariant.4 c.commit.ensures.queue late c.commit.ensures.in_time)
+        | inr late ↦ inr (idle-late asked c.of-reach.result.ahead c.group.inside.end g.J.GroupRun.setting.until c.run_early.new.self.held.flow.queue c.commit.new.self.held.flow.queue
+            (c.of-reach.ensures.ahead ∙ ap (λ s. min (s + c.args.window) c.group.inside.end) seen) c.group.invariant.4 c.commit.ensures.queue late c.commit.ensures.in_time)
       ];
       arrived = c.commit.ensures.tray ∙ c.in_ok-count.ensures.arrived;
       committed_below = subst (λ t. All (λ (m : Message). t ≤ m.time) (messages_of c.commit.new.self.held.done)) (goes-seen _ _ _ _ c.run_early.ensures.goes) c.in_ok-commit.ensures.below;
     }
+
+pub commit-requires-clause-seen : goal.commit-requires-clause-seen
+commit-requires-clause-seen g c = c.of-reach.ensures.good ∙ (ap (λ z. z.seen) c.group.view_is ∙ sym (goes-seen _ _ _ _ c.run_early.ensures.goes))

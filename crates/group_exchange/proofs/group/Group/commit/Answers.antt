@@ -16,7 +16,8 @@ invariant_of-self g c =
     let h = c.self.invariant.0 in
     let k = c.self.invariant.5 in
     let L = c.actor_law.ensures g.J.GroupRun.setting h.laid in
-    let d = c.commit.ensures.did in
+    let seen = rw (sym c.self.view_is) at c.requires.seen in
+    let d = rw seen at c.commit.ensures.did in
     let new = c.commit.new.self in
     let t = commits h L new d in (
       t.holds,
@@ -26,10 +27,10 @@ invariant_of-self g c =
       c.self.invariant.4,
       elim c.match-commit.branch [
         | in-Ok w ↦ (
-            let s = w.in-Ok.ensures.sealed in
+            let s = rw seen at w.in-Ok.ensures.sealed in
             rows-committed L.order h.stands h.ours k new s.0 s.1 s.2 s.3
             (all-late g.R.Reversible.plain L.order g.R.Reversible.is_value g.J.GroupRun.setting _ new t.holds.stands (is_of g.J.GroupRun.owners c.self.inside.number) t.holds.ours
-            c.self.inside.standing.seen t.holds.safe w.in-Ok.ensures.left))
+            c.self.inside.standing.seen t.holds.safe (rw seen at w.in-Ok.ensures.left)))
         | in-Err w ↦ (let a = w.in-Err.ensures.unchanged in rows-again k new a.rows a.done c.self.inside.standing.seen (omega arith))
       ],
     )
@@ -37,7 +38,8 @@ invariant_of-self g c =
 pub returns-clause-goes : goal.returns-clause-goes
 returns-clause-goes g c =
     let h = c.self.invariant.0 in
-    let d = c.commit.ensures.did in
+    let seen = rw (sym c.self.view_is) at c.requires.seen in
+    let d = rw seen at c.commit.ensures.did in
     let t = commits h (c.actor_law.ensures g.J.GroupRun.setting h.laid) c.commit.new.self d in
     rw (sym c.self.view_is) (record { did = d.did; went = t.went c.self.inside.gone })
 
@@ -45,11 +47,12 @@ pub returns-clause-below : goal.returns-clause-below
 returns-clause-below g c =
     let h = c.self.invariant.0 in
     let L = c.actor_law.ensures g.J.GroupRun.setting h.laid in
-    let t = commits h L c.commit.new.self c.commit.ensures.did in
+    let seen = rw (sym c.self.view_is) at c.requires.seen in
+    let t = commits h L c.commit.new.self (rw seen at c.commit.ensures.did) in
     elim c.match-commit.branch [
       | in-Ok w ↦ rw (sym c.self.view_is) (subst (λ z. OnOk z (All (λ (m : Message). c.self.inside.standing.seen ≤ m.time) (messages_of c.commit.new.self.done))) (sym w.result-is)
           (all-late g.R.Reversible.plain L.order g.R.Reversible.is_value g.J.GroupRun.setting _ c.commit.new.self t.holds.stands (is_of g.J.GroupRun.owners c.self.inside.number) t.holds.ours
-          c.self.inside.standing.seen t.holds.safe w.in-Ok.ensures.left))
+          c.self.inside.standing.seen t.holds.safe (rw seen at w.in-Ok.ensures.left)))
       | in-Err w ↦ subst (λ z. OnOk z (All (λ (m : Message). c.args.self.now.seen ≤ m.time) (messages_of c.commit.new.self.done))) (sym w.result-is) tt
     ]
 
@@ -57,6 +60,7 @@ pub returns-clause-in_time : goal.returns-clause-in_time
 returns-clause-in_time g c =
     let h = c.self.invariant.0 in
     let L = c.actor_law.ensures g.J.GroupRun.setting h.laid in
-    let t = commits h L c.commit.new.self c.commit.ensures.did in
+    let seen = rw (sym c.self.view_is) at c.requires.seen in
+    let t = commits h L c.commit.new.self (rw seen at c.commit.ensures.did) in
     each-inside L.order (λ (m : Message). m.time ≤ g.J.GroupRun.setting.until) c.commit.new.self.flow.queue
     (λ y i. t.holds.stands.in_time y (let a = times-append message_order L.order y c.commit.new.self.flow.queue (messages_of c.commit.new.self.done) in omega arith))

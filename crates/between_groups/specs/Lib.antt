@@ -1,0 +1,2 @@
+-- Letters on their way between groups of processes.
+pub mod Boxing
