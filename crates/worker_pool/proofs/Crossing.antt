@@ -6,7 +6,6 @@ use denote.Param.Send.{IsSend, IsSync, view_send, sendable}
 use denote.Param.SendFields.{declared_send, declared_sync}
 use Rattle.std.proofs.Crossing.{crosses}
 use Rattle.std.proofs.option.Option.TheSendSync as option
-use Rattle.std.proofs.sync.atomic.AtomicBool.TheSendSync as flag
 use Rattle.virtual_time.proofs.letter.Letter.TheSendSync as letter
 use Rattle.virtual_time.proofs.row.Row.TheSendSync as row
 use Rattle.vlink.specs.declared.message.Message.{Message}
@@ -117,4 +116,4 @@ leaving-sync J g = declared_sync (Leaving.the_type J g) (
 
 pub common-sync : (κ : NamedLft) (J : RattleType) (g : NetworkGhosts J.Denot) → IsSync (Common.the_row κ J g)
 common-sync κ J g = declared_sync (Common.the_type κ J g)
-    (search (seats-sync, leaving-sync, shared-send, network.the_sync, apart.the_send, moments.the_sync, pace.the_sync, flag.the_sync, sendable, crosses) depth 20)
+    (search (seats-sync, leaving-sync, shared-send, network.the_sync, apart.the_send, moments.the_sync, pace.the_sync, sendable, crosses) depth 20)

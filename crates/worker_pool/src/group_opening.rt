@@ -1,5 +1,7 @@
 //! The exchange of a network's groups at the start.
 ghost use Rattle.std.specs.Prelude.{◌≡◌, [], length, is_some, IfOk};
+ghost use Rattle.reverse.specs.Setting.{Opens};
+ghost use Rattle.seqsim.specs.Networks.{setting_of};
 
 use crate::grouping::Grouping;
 use crate::network_run::NetworkRun;
@@ -8,9 +10,12 @@ use crate::shared::{Shared, most_steps};
 use crate::start::StartOf;
 use group_exchange::GroupExchange;
 use journal::Table;
+use network::Network;
+use nodes::Node;
 use seqsim::{layout_law, nodes_of};
 use std::alloc::{AllocError, Global};
 use traffic::offers;
+use vlink::Message;
 
 /// The exchange of a network's groups, with no step in its journal, and each group in hand, in order, its nodes and lines in their opening states: the
 /// offers are on their way, and GVT is 0. It is refused for memory alone.
@@ -21,6 +26,13 @@ pub(crate) fn open_groups<J: NetworkRun>(
     ensures steps { IfOk result (λ r. r.0.steps ≡ []) }
     ensures count { IfOk result (λ r. length r.1.items ≡ start.entry.grouping.groups) }
 {
+    let (table, offers, nodes) = match opening_of(alloc, start.network, start.keeps) {
+        Ok(opening) => opening,
+        Err(fault) => {
+            drop(start);
+            return Err(fault);
+        }
+    };
     let StartOf {
         network,
         keeps,
@@ -31,11 +43,8 @@ pub(crate) fn open_groups<J: NetworkRun>(
     layout_law(network);
     // A network has at most 4,096 processes.
     let _processes = network.process_count();
-    let table = table_of(alloc, keeps)?;
-    let offers = offers(alloc, network)?;
-    let nodes = nodes_of(alloc, network)?;
     let Grouping { owners, .. } = grouping;
-    match GroupExchange::open(
+    let opened = GroupExchange::open(
         alloc,
         nodes,
         &offers,
@@ -44,10 +53,26 @@ pub(crate) fn open_groups<J: NetworkRun>(
         table,
         pairs,
         most_steps(keeps),
-    ) {
+    );
+    drop(offers);
+    match opened {
         Ok((inner, groups)) => Ok((Shared { inner, sections: 0 }, groups)),
         Err(_) => Err(AllocError),
     }
+}
+
+/// What a network opens with: a table of its own for a journal that is kept, the offers, and its nodes. It is refused for memory alone.
+fn opening_of(
+    alloc: Global,
+    network: &Network,
+    keeps: bool,
+) -> Result<(Option<Table>, Vec<Message>, Vec<Node>), AllocError>
+    ensures table { IfOk result (λ r. is_some r.0 ≡ keeps) }
+    ensures opens { IfOk result (λ r. Opens (setting_of network.now) r.2.items r.1.items) }
+{
+    let offers = offers(alloc, network)?;
+    let nodes = nodes_of(alloc, network)?;
+    Ok((table_of(alloc, keeps)?, offers, nodes))
 }
 
 /// A table of its own for a journal that is kept. It is refused for memory alone.

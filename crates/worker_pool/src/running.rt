@@ -23,7 +23,7 @@ use exchange::Gate;
 use group_exchange::Pairs;
 use journal::PoolFault;
 use network::Network;
-use std::alloc::Global;
+use std::alloc::{AllocError, Global};
 use std::marker::Brand;
 use std::sync::Wait;
 use std::thread::Threads;
@@ -63,12 +63,44 @@ pub(crate) fn run_to_end<
 {
     let network = start.network;
     let pace = start.pace;
-    let (exchange, groups) = open_groups(alloc, start)?;
+    let (exchange, groups) = match open_groups(alloc, start) {
+        Ok(opened) => opened,
+        Err(fault) => {
+            drop(leaving);
+            return Err(RunFault::from(fault));
+        }
+    };
     let common = Common::of(alloc, network, pace, exchange, groups, leaving)?;
     let (worked, _watch) = work_all(rt, alloc, common, gate, watch);
     let mut unlocked = worked?;
-    unlocked.end(rt, keeps_rows, gate)?;
-    Ok(unlocked)
+    match unlocked.end(rt, keeps_rows, gate) {
+        Ok(()) => Ok(unlocked),
+        Err(fault) => {
+            drop(unlocked);
+            Err(fault)
+        }
+    }
+}
+
+impl<J: NetworkRun> Unlocked<'_, J> {
+    /// What an ended run has found whose rows have all stayed. It is refused for memory alone.
+    fn outcome(&self, alloc: Global) -> Result<Outcome, AllocError>
+        requires keeps { J.keeps ≡ true }
+        requires ended { IsEnded J.plan J.owners self.now.exchange.steps self.now.groups.items }
+        requires kept { HaveGoneBy [] 0 self.now.groups.items }
+        ensures rows { IfOk result (λ o. AreRowsOf J.plan o.rows.items) }
+        ensures tables { IfOk result (λ o. o.tables ≡ tables_of J.plan o.rows.items) }
+        ensures finished { IfOk result (λ o. IsJournalOf J.plan o.journal.items) }
+    {
+        let rows = self.rows(alloc)?;
+        let tables = Tables::of(alloc, self.network, &rows)?;
+        let journal = self.steps(alloc)?;
+        Ok(Outcome {
+            tables,
+            rows,
+            journal,
+        })
+    }
 }
 
 fn run_named<J: NetworkRun + Send + Sync, G: Gate + Sync, T: Threads + Wait + Sync>(
@@ -86,7 +118,6 @@ fn run_named<J: NetworkRun + Send + Sync, G: Gate + Sync, T: Threads + Wait + Sy
     ensures spawn { IfErr result (λ fault. fault ≡ Spawn → CanWantWorkers start.entry.pace.workers (process_count J.plan)) }
 {
     let start: StartOf<J> = StartOf::of(start);
-    let network = start.network;
     let watch = &mut Unwatched;
     let ended = run_to_end::<J, G, T, Unwatched>(
         rt,
@@ -97,14 +128,9 @@ fn run_named<J: NetworkRun + Send + Sync, G: Gate + Sync, T: Threads + Wait + Sy
         true,
         watch,
     )?;
-    let rows = ended.rows(alloc)?;
-    let tables = Tables::of(alloc, network, &rows)?;
-    let journal = ended.steps(alloc)?;
-    Ok(Outcome {
-        tables,
-        rows,
-        journal,
-    })
+    let found = ended.outcome(alloc);
+    drop(ended);
+    Ok(found?)
 }
 
 /// Simulates a network by workers that run ahead and roll back, as the pace says. The gate is told of each message that is handled.

@@ -56,14 +56,21 @@ impl<J: NetworkRun> Unlocked<'_, J> {
             return Err(RunFault::other(PoolFault::Torn));
         };
         if counted.tables.is_none() {
+            drop(counted);
             return Err(RunFault::other(PoolFault::OutOfMemory));
         }
         if !self.have_gone_by(counted.own.as_slice(), counted.end) {
+            drop(counted);
             return Err(RunFault::other(PoolFault::Torn));
         }
         let tables = self.tables(counted)?;
-        let journal = self.steps_asked(alloc, with_steps)?;
-        Ok(Summary { tables, journal })
+        match self.steps_asked(alloc, with_steps) {
+            Ok(journal) => Ok(Summary { tables, journal }),
+            Err(fault) => {
+                drop(tables);
+                Err(RunFault::from(fault))
+            }
+        }
     }
 
     /// The steps of an ended run, or none where they are not asked for. It is refused for memory alone.
@@ -99,7 +106,9 @@ fn summary_named<J: NetworkRun + Send + Sync, G: Gate + Sync, T: Threads + Wait 
     let leaving = Leaving::to_tables(counted);
     let mut ended = run_to_end::<J, G, T, W>(rt, alloc, start, gate, leaving, false, watch)?;
     let (_none, counted) = ended.leaving.close();
-    Ok(ended.summary(alloc, counted, keeps)?)
+    let found = ended.summary(alloc, counted, keeps);
+    drop(ended);
+    Ok(found?)
 }
 
 /// Simulates a network by workers, as `run` does, and lists no rows; the steps that were done are listed where they are asked for. Its refusals

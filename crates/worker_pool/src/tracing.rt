@@ -50,16 +50,29 @@ pub struct Traced<S> {
     pub sink: S,
 }
 
-/// No batch comes behind what a run has sent to the writer's thread, which else would wait for it. The answer is the run, and the first fault of a segment.
-fn close_trace<'n, J: NetworkRun>(
-    ran: Result<Unlocked<'n, J>, RunFault<J>>,
+/// Runs a network whose rows go to the trace until it is ended. No batch comes behind what it has sent to the writer's thread then, which else would
+/// wait for it. The answer is the run, and the first fault of a segment.
+fn run_to_trace<
+    'n,
+    J: NetworkRun + Send + Sync,
+    G: Gate + Sync,
+    T: Threads + Wait + Sync,
+    W: Watch,
+>(
+    rt: &T,
+    alloc: Global,
+    start: StartOf<'n, J>,
+    gate: &G,
+    leaving: Leaving<J>,
+    watch: &mut W,
 ) -> Result<(Unlocked<'n, J>, Option<SegmentFault>), RunFault<J>>
-    requires ended { IfOk ran (λ r. IsEnded J.plan J.owners r.exchange.steps r.groups.items) }
     ensures ended { IfOk result (λ r. IsEnded J.plan J.owners r.0.exchange.steps r.0.groups.items) }
     ensures fault { IfOk result (λ r. IfSome r.1 IsPlaceFault) }
+    ensures watched { W.becomes watch.old watch.new }
 {
-    let mut ended = ran?;
-    let (fault, _none) = ended.leaving.close();
+    let mut ended = run_to_end::<J, G, T, W>(rt, alloc, start, gate, leaving, false, watch)?;
+    let (fault, none) = ended.leaving.close();
+    drop(none);
     Ok((ended, fault))
 }
 
@@ -77,8 +90,23 @@ fn traced_of<'a, J: NetworkRun, K: TraceRun, S: Sink + Drop>(
     ensures found { IfOk result (λ t. IsSummaryOf J.plan J.keeps t.outcome.tables t.outcome.journal.items) }
     ensures written { IfOk result (λ t. IsWritten J.plan K.taken K.failures t.written (S.taken t.sink) (S.failures t.sink)) }
 {
-    let (ended, fault) = ran?;
-    let outcome = ended.summary(alloc, Some(counted), with_steps)?;
+    let (ended, fault) = match ran {
+        Ok(ran) => ran,
+        Err(fault) => {
+            drop(writing);
+            drop(counted);
+            return Err(fault);
+        }
+    };
+    let found = ended.summary(alloc, Some(counted), with_steps);
+    drop(ended);
+    let outcome = match found {
+        Ok(outcome) => outcome,
+        Err(fault) => {
+            drop(writing);
+            return Err(fault);
+        }
+    };
     let (written, sink) = writing.finish(fault);
     Ok(Traced {
         outcome,
@@ -94,9 +122,21 @@ fn open_trace<J: NetworkRun>(
     start: &StartOf<'_, J>,
 ) -> Result<(Leaving<J>, Receiver<RunBatch<J>>, Counted<J>), AllocError> {
     let (to, from) = bounded(alloc, MOST_BATCHES)?;
-    let leaving = Leaving::to_trace(TraceLock::new(alloc, start, to)?);
-    let counted = Counted::none(alloc, start.network)?;
-    Ok((leaving, from, counted))
+    let trace = match TraceLock::new(alloc, start, to) {
+        Ok(trace) => trace,
+        Err(fault) => {
+            drop(from);
+            return Err(fault);
+        }
+    };
+    match Counted::none(alloc, start.network) {
+        Ok(counted) => Ok((Leaving::to_trace(trace), from, counted)),
+        Err(fault) => {
+            drop(from);
+            drop(trace);
+            Err(fault)
+        }
+    }
 }
 
 /// The run of `run_traced`, of this network run and this writing of a trace. The watch is given back.
@@ -125,6 +165,8 @@ fn traced_named<
 {
     let start: StartOf<J> = StartOf::of(start);
     let Ok((leaving, batches, counted)) = open_trace(alloc, &start) else {
+        drop(start);
+        drop(sink);
         return (Err(PoolFault::OutOfMemory), watch);
     };
     let network = start.network;
@@ -142,11 +184,12 @@ fn traced_named<
             let Ok(writer) = scope.spawn(move || write_batches(
                 rt, network, writing, counted, batches,
             )) else {
+                drop(start);
+                drop(leaving);
                 return (Err(RunFault::other(PoolFault::Spawn)), watch);
             };
             let keeps = start.keeps;
-            let ran = run_to_end(rt, alloc, start, gate, leaving, false, &mut watch);
-            let ran = close_trace(ran);
+            let ran = run_to_trace(rt, alloc, start, gate, leaving, &mut watch);
             let (writing, counted) = writer.join(rt);
             (traced_of(alloc, ran, writing, counted, keeps), watch)
         },

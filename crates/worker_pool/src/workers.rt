@@ -53,22 +53,34 @@ fn unlocked_of<'n, J: NetworkRun>(
 ) -> Result<Unlocked<'n, J>, RunFault<J>>
     ensures { IfErr result (λ fault. fault ≡ Spawn → started ≡ Err Spawn) }
 {
-    started?;
+    if let Err(fault) = started {
+        drop(common);
+        return Err(fault);
+    }
     let Common {
         network,
         pace,
         seats,
+        moments,
         exchange,
         leaving,
         ..
     } = common;
-    Ok(Unlocked {
-        network,
-        pace,
-        exchange: exchange.into_inner().into_inner(),
-        groups: seats.into_groups(alloc)?,
-        leaving,
-    })
+    drop(moments);
+    match seats.into_groups(alloc) {
+        Ok(groups) => Ok(Unlocked {
+            network,
+            pace,
+            exchange: exchange.into_inner().into_inner(),
+            groups,
+            leaving,
+        }),
+        Err(fault) => {
+            drop(exchange);
+            drop(leaving);
+            Err(RunFault::from(fault))
+        }
+    }
 }
 
 /// Starts the workers, and joins all of them.
@@ -94,12 +106,12 @@ fn start_all<
             let mut start = Ok(());
             for worker in 0..common.workers {
                 if handles.reserve(1).is_err() {
-                    start = common.stop_all(RunFault::other(PoolFault::OutOfMemory));
+                    start = Err(RunFault::other(PoolFault::OutOfMemory));
                     break;
                 }
                 let Ok(handle) = scope.spawn(move || give_turns(rt, alloc, common, gate, worker))
                 else {
-                    start = common.stop_all(RunFault::other(PoolFault::Spawn));
+                    start = Err(RunFault::other(PoolFault::Spawn));
                     break;
                 };
                 handles.push_reserved(handle);
@@ -107,6 +119,8 @@ fn start_all<
             let mut watch = watch;
             if start.is_ok() {
                 show_gvt(rt, &common.moments, &mut watch);
+            } else {
+                common.moments.stop();
             }
             (join_all(rt, alloc, start, handles), watch)
         },
@@ -167,22 +181,17 @@ fn give_turns<J: NetworkRun, G: Gate, T: Wait>(
     gate: &G,
     number: usize,
 ) -> Result<(), RunFault<J>> {
-    let outcome = match turns_of_worker(rt, alloc, common, gate, number) {
-        Err(fault) => common.stop_all(fault),
-        Ok(()) => Ok(()),
+    let outcome = match Worker::new(rt, alloc, common, gate, number) {
+        Ok(mut worker) => {
+            let outcome = worker.turns_until_over();
+            drop(worker);
+            outcome
+        }
+        Err(fault) => Err(RunFault::from(fault)),
     };
+    if outcome.is_err() {
+        common.moments.stop();
+    }
     common.moments.end();
     outcome
-}
-
-/// The turns that a worker gives.
-fn turns_of_worker<J: NetworkRun, G: Gate, T: Wait>(
-    rt: &T,
-    alloc: Global,
-    common: &Common<'_, J>,
-    gate: &G,
-    number: usize,
-) -> Result<(), RunFault<J>> {
-    let mut worker = Worker::new(rt, alloc, common, gate, number)?;
-    worker.turns_until_over()
 }

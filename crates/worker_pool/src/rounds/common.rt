@@ -11,12 +11,11 @@ use super::worker::ExchangeLock;
 use crate::leaving::Leaving;
 use crate::network_run::NetworkRun;
 use crate::pace::Pace;
-use crate::run_fault::RunFault;
 use crate::shared::Shared;
 use network::Network;
 use std::alloc::{AllocError, Global};
 use std::sync::Mutex;
-use std::sync::atomic::{AtomicBool, Ordering};
+use vlink::Time;
 
 /// What all workers of a run have in common. There are as many of them as its pace says, but no more than groups.
 #[derive(Drop)]
@@ -28,8 +27,6 @@ pub(crate) struct Common<'n, J: NetworkRun> {
     pub moments: Moments,
     pub exchange: ExchangeLock<J>,
     pub leaving: Leaving<J>,
-    /// Is set where a refusal ends all workers.
-    pub stop: AtomicBool,
     pub ghost planned: { network.now ≡ J.plan },
     pub ghost wanted: { 0 < workers → CanWantWorkers pace.workers (process_count J.plan) },
 }
@@ -49,23 +46,38 @@ impl<'n, J: NetworkRun> Common<'n, J> {
         ensures { IfOk result (λ common. common.pace.workers ≡ pace.workers) }
     {
         let workers = groups.len().min(usize::from(pace.workers));
-        let moments = Moments::new(alloc, groups.len(), workers)?;
-        let seats = Seats::of(alloc, groups)?;
-        Ok(Common {
-            network,
-            pace,
-            workers,
-            seats,
-            moments,
-            exchange: Mutex::new(Apart::new(exchange)),
-            leaving,
-            stop: AtomicBool::new(false),
-        })
+        match seated(alloc, network.until(), groups, workers) {
+            Ok((moments, seats)) => Ok(Common {
+                network,
+                pace,
+                workers,
+                seats,
+                moments,
+                exchange: Mutex::new(Apart::new(exchange)),
+                leaving,
+            }),
+            Err(fault) => {
+                drop(exchange);
+                drop(leaving);
+                Err(fault)
+            }
+        }
     }
+}
 
-    /// The fault ends all workers.
-    pub(crate) fn stop_all(&self, fault: RunFault<J>) -> Result<(), RunFault<J>> {
-        self.stop.store(true, Ordering::SeqCst);
-        Err(fault)
+/// The moments of these groups, of which none has had a turn, and their seats. It is refused for memory alone.
+fn seated<J: NetworkRun>(
+    alloc: Global,
+    until: Time,
+    groups: Vec<NetworkGroup<J>>,
+    workers: usize,
+) -> Result<(Moments, Seats<J>), AllocError> {
+    let moments = Moments::new(alloc, groups.len(), workers, until)?;
+    match Seats::of(alloc, groups) {
+        Ok(seats) => Ok((moments, seats)),
+        Err(fault) => {
+            drop(moments);
+            Err(fault)
+        }
     }
 }

@@ -3,8 +3,9 @@ use super::apart::Apart;
 use super::{LEAD_NS, REST_US};
 use std::alloc::{AllocError, Global};
 use std::sync::Wait;
-use std::sync::atomic::{AtomicU64, Ordering};
+use std::sync::atomic::{AtomicBool, AtomicU64, Ordering};
 use std::time::Duration;
+use vlink::Time;
 
 /// What is told of a group.
 #[derive(Drop)]
@@ -24,6 +25,42 @@ impl Moment {
     }
 }
 
+/// For each of so many groups a letter of the moment 0 waits. It is refused for memory alone.
+fn first_moments(alloc: Global, groups: usize) -> Result<Vec<Apart<Moment>>, AllocError> {
+    let mut moments = Vec::with_capacity(alloc, groups)?;
+    for _ in 0..groups {
+        moments.push(Apart::new(Moment {
+            next_ns: AtomicU64::new(u64::MAX),
+            letter_ns: AtomicU64::new(0),
+        }))?;
+    }
+    Ok(moments)
+}
+
+/// The worker of each of so many groups: they belong to so many workers in turn. It is refused for memory alone.
+fn owners_of(alloc: Global, groups: usize, workers: usize) -> Result<Vec<usize>, AllocError> {
+    let mut owners = Vec::with_capacity(alloc, groups)?;
+    let mut owner: usize = 0;
+    for _ in 0..groups {
+        owners.push(owner)?;
+        owner = if owner.saturating_add(1) < workers {
+            owner.saturating_add(1)
+        } else {
+            0
+        };
+    }
+    Ok(owners)
+}
+
+/// None of so many workers rests. It is refused for memory alone.
+fn awake(alloc: Global, workers: usize) -> Result<Vec<Apart<AtomicU64>>, AllocError> {
+    let mut rests = Vec::with_capacity(alloc, workers)?;
+    for _ in 0..workers {
+        rests.push(Apart::new(AtomicU64::new(0)))?;
+    }
+    Ok(rests)
+}
+
 /// What the workers tell one another.
 #[derive(Drop)]
 pub(crate) struct Moments {
@@ -32,6 +69,10 @@ pub(crate) struct Moments {
     owners: Vec<usize>,
     /// Of each worker, 1 as long as it rests or is about to: who has something for it sets that to 0, and wakes it.
     rests: Vec<Apart<AtomicU64>>,
+    /// The end time of the network, in ns.
+    until_ns: u64,
+    /// Is set where a refusal ends all workers.
+    stop: AtomicBool,
     /// How many workers rest, or are about to.
     resting: Apart<AtomicU64>,
     /// The GVT that was set last, in ns.
@@ -42,30 +83,20 @@ pub(crate) struct Moments {
 
 impl Moments {
     /// A letter of the moment 0 waits for each of so many groups, which belong to so many workers in turn. It is refused for memory alone.
-    pub(crate) fn new(alloc: Global, groups: usize, workers: usize) -> Result<Self, AllocError> {
-        let mut moments = Vec::with_capacity(alloc, groups)?;
-        let mut owners = Vec::with_capacity(alloc, groups)?;
-        let mut owner: usize = 0;
-        for group in 0..groups {
-            moments.push(Apart::new(Moment {
-                next_ns: AtomicU64::new(u64::MAX),
-                letter_ns: AtomicU64::new(0),
-            }))?;
-            owners.push(owner)?;
-            owner = if owner.saturating_add(1) < workers {
-                owner.saturating_add(1)
-            } else {
-                0
-            };
-        }
-        let mut rests = Vec::with_capacity(alloc, workers)?;
-        for worker in 0..workers {
-            rests.push(Apart::new(AtomicU64::new(0)))?;
-        }
+    pub(crate) fn new(
+        alloc: Global,
+        groups: usize,
+        workers: usize,
+        until: Time,
+    ) -> Result<Self, AllocError> {
+        let owners = owners_of(alloc, groups, workers)?;
+        let rests = awake(alloc, workers)?;
         Ok(Moments {
-            moments,
+            moments: first_moments(alloc, groups)?,
             owners,
             rests,
+            until_ns: until.ns(),
+            stop: AtomicBool::new(false),
             resting: Apart::new(AtomicU64::new(0)),
             gvt_ns: Apart::new(AtomicU64::new(0)),
             ended: Apart::new(AtomicU64::new(0)),
@@ -99,6 +130,16 @@ impl Moments {
         true
     }
 
+    /// A refusal ends all workers at their next turn.
+    pub(crate) fn stop(&self) {
+        self.stop.store(true, Ordering::SeqCst);
+    }
+
+    /// Whether GVT is beyond the end, or a refusal ends all workers.
+    pub(crate) fn is_over(&self) -> bool {
+        self.gvt_ns() > self.until_ns || self.stop.load(Ordering::SeqCst)
+    }
+
     /// Before which moment events are due now, in ns: `LEAD_NS` behind the least moment of all groups. The only group has none to wait for.
     pub(crate) fn limit_ns(&self) -> u64 {
         if self.moments.len() == 1 {
@@ -119,6 +160,20 @@ impl Moments {
             Some(moment) => moment.value.is_due(limit_ns),
             None => false,
         }
+    }
+
+    /// Whether nothing but GVT is to come for this worker: no group has an event before the end, or one of its own would be due but for the window.
+    pub(crate) fn waits_for_gvt(&self, worker: usize) -> bool {
+        let limit_ns = self.limit_ns();
+        if limit_ns > self.until_ns {
+            return true;
+        }
+        for group in 0..self.groups() {
+            if self.is_of(group, worker) && self.is_due(group, limit_ns) {
+                return true;
+            }
+        }
+        false
     }
 
     /// The least moment of the letters that wait for this group, in ns.
@@ -150,12 +205,22 @@ impl Moments {
     }
 
     /// A letter of this moment, in ns, waits for the group.
-    pub(crate) fn call(&self, group: usize, moment_ns: u64) {
+    fn call(&self, group: usize, moment_ns: u64) {
         if let Some(moment) = self.moments.get(group) {
             moment
                 .value
                 .letter_ns
                 .fetch_min(moment_ns, Ordering::SeqCst);
+        }
+    }
+
+    /// The groups are told of the letters that are listed for them, the least moment of each, in ns; and none is listed from then on.
+    pub(crate) fn call_all(&self, letters_ns: &mut [u64]) {
+        for (group, letter_ns) in letters_ns.iter_mut().enumerate() {
+            if *letter_ns != u64::MAX {
+                self.call(group, *letter_ns);
+                *letter_ns = u64::MAX;
+            }
         }
     }
 

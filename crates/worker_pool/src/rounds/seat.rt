@@ -1,4 +1,5 @@
 //! A group, and how far it has come.
+use super::reach::Reach;
 use crate::network_run::{NetworkRun, OfGroups};
 use group_exchange::Group;
 use nodes::Node;
@@ -23,6 +24,19 @@ impl<J: NetworkRun> Seat<J> {
             group,
             next_ns: u64::MAX,
             unposted: 0,
+        }
+    }
+
+    /// How far it has come.
+    pub(crate) fn reach(&self) -> Reach {
+        let group = &self.group;
+        Reach {
+            number: group.number(),
+            next_ns: self.next_ns,
+            seen_ns: group.gvt_seen().ns(),
+            unposted: self.unposted,
+            has_letters: !group.letters_abroad().is_empty(),
+            has_block: group.has_block(),
         }
     }
 

@@ -1,5 +1,6 @@
 //! The groups of a run, each with a lock of its own.
 use super::apart::Apart;
+use super::reach::Reach;
 use super::seat::{NetworkGroup, Seat};
 use crate::network_run::NetworkRun;
 use std::alloc::{AllocError, Global};
@@ -25,6 +26,14 @@ impl<J: NetworkRun> Seats<J> {
     pub(crate) fn try_take(&self, group: usize) -> Option<MutexGuard<'_, Seat<J>>> {
         match self.seats.get(group) {
             Some(seat) => seat.value.try_lock(),
+            None => None,
+        }
+    }
+
+    /// How far a group has come, if there is one of this number that no other thread has.
+    pub(crate) fn reach_of(&self, group: usize) -> Option<Reach> {
+        match self.try_take(group) {
+            Some(seat) => Some(seat.reach()),
             None => None,
         }
     }

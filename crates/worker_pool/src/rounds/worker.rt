@@ -1,10 +1,10 @@
 //! A worker: it gives groups their turns.
 use super::apart::Apart;
 use super::common::Common;
+use super::moments::Moments;
 use super::seat::{NetworkGroup, Seat};
 use super::{
-    BEHIND_NS, LEAD_NS, LOOKS_BEFORE_HELP, LOOKS_BEFORE_POST, LOOKS_BEFORE_REST,
-    LOOKS_BEFORE_YIELD, LOOKS_PER_GVT, MOST_UNPOSTED, MOST_WITH_LETTERS, PAUSES, PAUSES_OF_TRY,
+    LOOKS_BEFORE_HELP, LOOKS_BEFORE_REST, LOOKS_BEFORE_YIELD, LOOKS_PER_GVT, PAUSES, PAUSES_OF_TRY,
     PIECE, TRIES,
 };
 use crate::group_work::work_ahead;
@@ -15,7 +15,6 @@ use exchange::Gate;
 use group_exchange::GroupExchange;
 use nodes::Node;
 use std::alloc::{AllocError, Global};
-use std::sync::atomic::Ordering;
 use std::sync::{Mutex, MutexGuard, Wait};
 use std::{hint, thread};
 
@@ -58,11 +57,11 @@ impl<'s, 'n, J: NetworkRun, G: Gate, T: Wait> Worker<'s, 'n, J, G, T> {
         })
     }
 
-    /// Gives turns until the run is over or the flag is set.
+    /// Gives turns until the run is over.
     pub(crate) fn turns_until_over(&mut self) -> Result<(), RunFault<J>> {
         let rt = self.rt;
         for _ in rt.forever() {
-            if self.is_over() {
+            if self.common.moments.is_over() {
                 return Ok(());
             }
             if !self.own_turns()? && !self.turn_of_others()? {
@@ -72,17 +71,11 @@ impl<'s, 'n, J: NetworkRun, G: Gate, T: Wait> Worker<'s, 'n, J, G, T> {
         Ok(())
     }
 
-    /// Whether GVT is beyond the end, or the flag is set.
-    fn is_over(&self) -> bool {
-        self.common.moments.gvt_ns() > self.common.network.until().ns()
-            || self.common.stop.load(Ordering::SeqCst)
-    }
-
     /// A turn for each group of its own that no other worker has. The answer is whether a message was handled.
     fn own_turns(&mut self) -> Result<bool, RunFault<J>> {
         let mut has_worked = false;
         for group in 0..self.common.moments.groups() {
-            if self.common.moments.is_of(group, self.number) && self.turn_of(group)? {
+            if self.common.moments.is_of(group, self.number) && self.turn_of(group, true)? {
                 has_worked = true;
             }
         }
@@ -102,7 +95,10 @@ impl<'s, 'n, J: NetworkRun, G: Gate, T: Wait> Worker<'s, 'n, J, G, T> {
         let limit_ns = self.common.moments.limit_ns();
         for group in 0..self.common.moments.groups() {
             let is_own = self.common.moments.is_of(group, self.number);
-            if !is_own && self.common.moments.is_due(group, limit_ns) && self.help(group)? {
+            if !is_own
+                && self.common.moments.is_due(group, limit_ns)
+                && self.turn_of(group, false)?
+            {
                 self.patience /= 2;
                 self.looks = self.patience;
                 return Ok(true);
@@ -111,35 +107,32 @@ impl<'s, 'n, J: NetworkRun, G: Gate, T: Wait> Worker<'s, 'n, J, G, T> {
         Ok(false)
     }
 
-    /// A turn for a group, unless another thread has it. The answer is whether a message was handled.
-    fn turn_of(&mut self, group: usize) -> Result<bool, RunFault<J>> {
+    /// A turn for a group, unless another thread has it. What a group of another worker did goes to the journal at once, since its worker may rest. The
+    /// answer is whether a message was handled.
+    fn turn_of(&mut self, group: usize, is_own: bool) -> Result<bool, RunFault<J>> {
         let common = self.common;
         let Some(mut seat) = common.seats.try_take(group) else {
             return Ok(false);
         };
-        self.turn(&mut seat)
-    }
-
-    /// A turn for a group of another worker, unless another thread has it; what it did goes to the journal at once, since its worker may rest. The answer
-    /// is whether a message was handled.
-    fn help(&mut self, group: usize) -> Result<bool, RunFault<J>> {
-        let common = self.common;
-        let Some(mut seat) = common.seats.try_take(group) else {
-            return Ok(false);
+        let worked = self.turn(&mut seat);
+        let posted = if !is_own && worked.is_ok() && seat.group.has_block() {
+            self.meet(&mut seat)
+        } else {
+            Ok(())
         };
-        let has_worked = self.turn(&mut seat)?;
-        if seat.group.has_block() {
-            self.meet(&mut seat)?;
-        }
-        Ok(has_worked)
+        drop(seat);
+        posted?;
+        worked
     }
 
     /// A turn for a group. The answer is whether a message was handled.
     fn turn(&mut self, seat: &mut Seat<J>) -> Result<bool, RunFault<J>> {
         let limit_ns = self.common.moments.limit_ns();
-        if self.is_to_meet(seat, limit_ns) {
+        let window_ns = self.common.pace.window_ns;
+        let reach = seat.reach();
+        if reach.is_to_meet(&self.common.moments, limit_ns, window_ns, self.looks) {
             self.meet(seat)?;
-        } else if !self.is_due(seat, limit_ns) {
+        } else if !reach.is_due(limit_ns, window_ns) {
             return Ok(false);
         }
         let has_worked = self.handle_due(seat)?;
@@ -150,61 +143,23 @@ impl<'s, 'n, J: NetworkRun, G: Gate, T: Wait> Worker<'s, 'n, J, G, T> {
         Ok(has_worked)
     }
 
-    /// Whether the next event of the group is due, where that is what is before the limit, in ns, and the window.
-    fn is_due(&self, seat: &Seat<J>, limit_ns: u64) -> bool {
-        let seen_ns = seat.group.gvt_seen().ns();
-        seat.next_ns < limit_ns.min(seen_ns.saturating_add(self.common.pace.window_ns))
-    }
-
-    /// Whether a group is to post and to look for letters before it goes on: it has letters for others, or did not post for long; or a letter waits that
-    /// comes before its next event; or its next event waits for GVT; or nothing is due, and GVT is much further on, or what it did was not posted for a
-    /// while.
-    fn is_to_meet(&self, seat: &Seat<J>, limit_ns: u64) -> bool {
-        if seat.unposted >= MOST_UNPOSTED || !seat.group.letters_abroad().is_empty() {
-            return true;
-        }
-        let letter_ns = self.common.moments.letter_ns(seat.group.number());
-        if letter_ns <= seat.next_ns && letter_ns < limit_ns {
-            return true;
-        }
-        if self.is_due(seat, limit_ns) {
-            return false;
-        }
-        let seen_ns = seat.group.gvt_seen().ns();
-        let gvt_ns = self.common.moments.gvt_ns();
-        if seat.next_ns < limit_ns {
-            return seat.group.has_block() || gvt_ns > seen_ns;
-        }
-        let is_late = self.looks >= LOOKS_BEFORE_POST || self.common.pace.window_ns < LEAD_NS;
-        gvt_ns >= seen_ns.saturating_add(BEHIND_NS) || (is_late && seat.group.has_block())
-    }
-
-    /// In one section of the exchange what the group did goes to the journal, its letters go to the other groups, and its own come to it; and now and
-    /// then, or where its next event is beyond the window, GVT is set in between, so that the group goes on by a GVT in which its own floor and letters
-    /// count. Then the other groups are told.
+    /// In one section of the exchange what the group did goes to the journal, its letters go to the other groups, and its own come to it. Then the other
+    /// groups are told.
     fn meet(&mut self, seat: &mut Seat<J>) -> Result<(), RunFault<J>> {
-        let number = seat.group.number();
-        let seen_ns = seat.group.gvt_seen().ns();
-        let waits = seat.next_ns >= seen_ns.saturating_add(self.common.pace.window_ns);
-        let mut exchange = locked_soon(self.rt, &self.common.exchange);
+        let common = self.common;
+        let waits = seat.reach().waits_for_gvt(common.pace.window_ns);
+        let mut exchange = locked_soon(self.rt, &common.exchange);
         let shared = &mut exchange.value;
-        list_letters(&mut self.letters_ns, &shared.inner, &seat.group);
-        shared.post(&mut seat.group)?;
-        if let Some(gvt) = shared.publish_if_due(waits)? {
-            let _is_new = self.common.moments.publish(gvt.ns());
-        }
-        shared.collect(&mut seat.group)?;
-        // A letter in the tray is to be worked on no later than an event of its moment.
-        seat.next_ns = seat.next_ns.min(self.common.moments.collect(number));
+        let met = meet_at(shared, &common.moments, seat, waits, &mut self.letters_ns);
         drop(exchange);
-        seat.unposted = 0;
-        self.call_all();
+        met?;
+        common.moments.call_all(&mut self.letters_ns);
         Ok(())
     }
 
     /// The group handles messages as long as they are due, as many as a turn has, and tells now and then how far it is. It ends where it is to meet the
     /// others. The answer is whether a message was handled.
-    fn handle_due(&mut self, seat: &mut Seat<J>) -> Result<bool, RunFault<J>> {
+    fn handle_due(&self, seat: &mut Seat<J>) -> Result<bool, RunFault<J>> {
         let number = seat.group.number();
         let turn = u32::from(self.common.pace.turn);
         let mut handled = 0;
@@ -221,21 +176,13 @@ impl<'s, 'n, J: NetworkRun, G: Gate, T: Wait> Worker<'s, 'n, J, G, T> {
             handled = handled.saturating_add(count);
             seat.look();
             self.common.moments.tell(number, seat.next_ns);
-            if count < most || handled >= turn || self.ends_turn(seat, handled) {
+            let is_done = count < most || handled >= turn;
+            if is_done || seat.reach().ends_turn(&self.common.moments, handled) {
                 break;
             }
         }
         seat.unposted = seat.unposted.saturating_add(handled);
         Ok(handled != 0)
-    }
-
-    /// Whether a group that has handled so many messages in its turn is to meet the others: it has letters for them, or a letter waits that comes before
-    /// its next event.
-    fn ends_turn(&self, seat: &Seat<J>, handled: u32) -> bool {
-        if handled >= MOST_WITH_LETTERS && !seat.group.letters_abroad().is_empty() {
-            return true;
-        }
-        self.common.moments.letter_ns(seat.group.number()) <= seat.next_ns
     }
 
     /// The group handles messages before the limit, in ns, so many at most, no further ahead of the GVT that it saw than the window. The answer is how
@@ -261,68 +208,45 @@ impl<'s, 'n, J: NetworkRun, G: Gate, T: Wait> Worker<'s, 'n, J, G, T> {
         }
     }
 
-    /// The groups that are listed are told of their letters, and none is listed from then on.
-    fn call_all(&mut self) {
-        for group in 0..self.letters_ns.len() {
-            let moment_ns = self.letters_ns[group];
-            if moment_ns != u64::MAX {
-                self.common.moments.call(group, moment_ns);
-                self.letters_ns[group] = u64::MAX;
-            }
-        }
-    }
-
-    /// Nothing was due: it looks again soon, lets other threads run after `LOOKS_BEFORE_YIELD` looks, and rests after `LOOKS_BEFORE_REST`. Where it waits
-    /// for GVT, that is set once in `LOOKS_PER_GVT` looks.
+    /// Nothing was due: it looks again soon, and rests after `LOOKS_BEFORE_REST` looks. Where it waits for GVT, or has waited for long, that is set once in
+    /// `LOOKS_PER_GVT` looks.
     fn found_nothing(&mut self) -> Result<(), RunFault<J>> {
         self.looks = self.looks.saturating_add(1);
-        if self.looks % LOOKS_PER_GVT == 0 && self.waits_for_gvt() {
+        let is_long = self.looks >= LOOKS_BEFORE_REST;
+        if self.looks % LOOKS_PER_GVT == 0
+            && (is_long || self.common.moments.waits_for_gvt(self.number))
+        {
             self.publish()?;
         }
-        if self.looks >= LOOKS_BEFORE_REST {
+        if is_long {
             self.rest();
-        } else if self.looks >= LOOKS_BEFORE_YIELD {
-            thread::yield_now();
         } else {
-            for pause in 0..PAUSES {
-                hint::spin_loop();
-            }
+            pause(self.looks);
         }
         Ok(())
     }
 
-    /// Whether nothing but GVT is to come: no group has an event before the end, or one of its own would be due but for the window; or it has waited for
-    /// long.
-    fn waits_for_gvt(&self) -> bool {
-        let limit_ns = self.common.moments.limit_ns();
-        if limit_ns > self.common.network.until().ns() || self.looks >= LOOKS_BEFORE_REST {
-            return true;
-        }
-        for group in 0..self.common.moments.groups() {
-            let is_own = self.common.moments.is_of(group, self.number);
-            if is_own && self.common.moments.is_due(group, limit_ns) {
-                return true;
-            }
-        }
-        false
-    }
-
     /// Rests until a group of its own is due, unless one is.
     fn rest(&self) {
-        self.common.moments.begin_rest(self.number);
-        if !self.is_over() && !self.can_go_on() {
-            self.common.moments.rest(self.rt, self.number);
+        let moments = &self.common.moments;
+        moments.begin_rest(self.number);
+        if !moments.is_over() && !self.can_go_on() {
+            moments.rest(self.rt, self.number);
         }
-        self.common.moments.end_rest(self.number);
+        moments.end_rest(self.number);
     }
 
     /// Whether there is something to do for a group of its own that no other thread has.
     fn can_go_on(&self) -> bool {
-        let limit_ns = self.common.moments.limit_ns();
-        for group in 0..self.common.moments.groups() {
-            if self.common.moments.is_of(group, self.number) {
-                if let Some(seat) = self.common.seats.try_take(group) {
-                    if self.is_to_meet(&seat, limit_ns) || self.is_due(&seat, limit_ns) {
+        let moments = &self.common.moments;
+        let window_ns = self.common.pace.window_ns;
+        let limit_ns = moments.limit_ns();
+        for group in 0..moments.groups() {
+            if moments.is_of(group, self.number) {
+                if let Some(reach) = self.common.seats.reach_of(group) {
+                    if reach.is_due(limit_ns, window_ns)
+                        || reach.is_to_meet(moments, limit_ns, window_ns, self.looks)
+                    {
                         return true;
                     }
                 }
@@ -343,6 +267,39 @@ impl<'s, 'n, J: NetworkRun, G: Gate, T: Wait> Worker<'s, 'n, J, G, T> {
             self.common.moments.wake_due();
         }
         Ok(())
+    }
+}
+
+/// Where a worker has the exchange, what the group did goes to the journal, its letters go to the other groups, and are listed; its own come to it; and
+/// now and then, or where its next event waits for it, GVT is set in between, so that the group goes on by a GVT in which its own floor and letters count.
+fn meet_at<J: NetworkRun>(
+    shared: &mut Shared<J>,
+    moments: &Moments,
+    seat: &mut Seat<J>,
+    waits: bool,
+    letters_ns: &mut [u64],
+) -> Result<(), RunFault<J>> {
+    list_letters(letters_ns, &shared.inner, &seat.group);
+    shared.post(&mut seat.group)?;
+    if let Some(gvt) = shared.publish_if_due(waits)? {
+        let _is_new = moments.publish(gvt.ns());
+    }
+    shared.collect(&mut seat.group)?;
+    // A letter in the tray is to be worked on no later than an event of its moment.
+    let letter_ns = moments.collect(seat.group.number());
+    seat.next_ns = seat.next_ns.min(letter_ns);
+    seat.unposted = 0;
+    Ok(())
+}
+
+/// After so many looks in vain a worker looks again soon, and lets other threads run in between after `LOOKS_BEFORE_YIELD` looks.
+fn pause(looks: u64) {
+    if looks >= LOOKS_BEFORE_YIELD {
+        thread::yield_now();
+    } else {
+        for _ in 0..PAUSES {
+            hint::spin_loop();
+        }
     }
 }
 
