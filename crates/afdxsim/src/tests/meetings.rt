@@ -1,7 +1,6 @@
 //! Runs in which a process waits for another one: while a message is handled, another worker goes on.
 use super::changes::lines_of;
 use super::networks::network;
-use super::stage::number_of;
 use journal_text::read_steps;
 use netdesc::read;
 use network::Network;
@@ -125,6 +124,14 @@ impl Gate for Meeting {
         if let Some(place) = self.places.get(usize::from(process)) {
             place.handled.fetch_add(1, Ordering::SeqCst);
         }
+    }
+}
+
+// The number with these digits, 0 where there are none.
+fn number_of(digits: Option<&str>) -> Result<u64, Fail> {
+    match digits {
+        Some(digits) => Ok(digits.parse().map_err(|_| "no number")?),
+        None => Ok(0),
     }
 }
 
