@@ -1,10 +1,11 @@
 //! Rows of data: what the elements, messages and nodes do that scripts play; how many bytes the values take that are kept in great number; and
-//! what calls come to that the program does not show: on the exchange of a network, what a replay leaves, segments of a trace, tables of
-//! another network.
+//! what calls come to that the program does not show: on the exchange of a network, in runs in which processes wait for each other, what a
+//! replay leaves, segments of a trace, tables of another network.
 mod accounts;
 mod checks;
 mod elements;
 mod exchanges;
+mod meetings;
 mod messages;
 mod networks;
 mod node_rows;
