@@ -15,7 +15,7 @@ for ever. Where a trace is written some 80 requests more are refused: for the se
 their text, and the channel to the writer's thread.
 
 Tests that are made for it are run so too, and have to pass: the scripts of processes (crate `sample_actor`) and those of the
-calls of an exchange (crate `afdxsim`). There a call that is refused has to leave all as it was, but for `work`, which leaves
+calls of an exchange (crate `element_rows`). There a call that is refused has to leave all as it was, but for `work`, which leaves
 what was done, and to answer as ever when it is made again. The tests tell which calls were refused, and each of those that
 are named below has to be.
 
@@ -134,8 +134,8 @@ TESTS = (
         False,
     ),
     Test(
-        "afdxsim",
-        "tests::exchanges::an_exchange_does_what_scripts_say",
+        "element_rows",
+        "tests::an_exchange_does_what_scripts_say",
         {"collect": 1, "work": 1, "post": 1, "publish": 1},
         True,
     ),

@@ -259,11 +259,13 @@ class Cut(Ends):
         self.assertEqual(cut.trace or b"", trace[:taken])
 
     def test_a_run_writes_nothing_behind_a_write_that_fails(self):
-        net = network("n2")
-        trace = self.ended("seq net.toml --trace trace.csv", net).trace
-        for taken in range(len(trace)):
-            found = self.cut("run net.toml --workers 2 --trace trace.csv", net, None, taken, is_once=True)
-            self.assertEqual((found.status, found.output, found.trace), (4, b"", trace[:taken]))
+        for name, journal in (("n2", ""), ("n1", " --journal journal.txt")):
+            net = network(name)
+            trace = self.ended("seq net.toml --trace trace.csv", net).trace
+            for taken in range(len(trace)):
+                words = "run net.toml --workers 2 --trace trace.csv" + journal
+                found = self.cut(words, net, None, taken, is_once=True)
+                self.assertEqual((found.status, found.output, found.trace, found.journal), (4, b"", trace[:taken], None))
 
     def test_nothing_is_told_where_error_output_fails(self):
         with open("/dev/full", "wb") as full:

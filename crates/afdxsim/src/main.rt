@@ -20,6 +20,7 @@ mod seq;
 mod steps;
 mod system;
 mod telling;
+mod telling_host;
 mod workers;
 
 pub use command_line::order;
@@ -51,6 +52,3 @@ fn main(rt: HostRuntime) -> ExitCode {
     };
     ExitCode::from(status)
 }
-
-#[cfg(test)]
-mod tests;

@@ -58,31 +58,56 @@ fn net_of(number: u64) -> Net {
 
 pub fn tell_message(message: &Message, told: &mut String) -> Result<(), AllocError> {
     let (receiver, sender, number) = (message.receiver, message.sender, message.number);
-    let ns = message.time.ns();
-    write!(told, "{receiver}.{sender}.{number}/")?;
-    match message.body {
+    let (ns, label) = (message.time.ns(), label_of(&message.body));
+    write!(told, "{receiver}.{sender}.{number}/{label}@{ns}:")?;
+    tell_body(&message.body, told)
+}
+
+fn label_of(body: &Body) -> &'static str {
+    match body {
+        Body::Offer { .. } => "offer",
+        Body::Release { .. } => "release",
+        Body::PortFree { .. } => "free",
+        Body::Arrive { .. } => "arrive",
+        Body::Enqueue { .. } => "enqueue",
+        Body::Carry { .. } => "carry",
+    }
+}
+
+fn tell_body(body: &Body, told: &mut String) -> Result<(), AllocError> {
+    match *body {
         Body::Offer { vl, size, sub } => {
-            write!(told, "offer@{ns}:{}.{}.{sub} ", vl.0, size.bytes())
+            let numbers = [u64::from(vl.0), u64::from(size.bytes()), u64::from(sub)];
+            tell_numbers(&numbers, told)
         }
-        Body::Release { vl } => write!(told, "release@{ns}:{} ", vl.0),
-        Body::PortFree { port } => write!(told, "free@{ns}:{port} "),
-        Body::Arrive { port, frame } => {
-            write!(told, "arrive@{ns}:{port}:")?;
+        Body::Release { vl } => tell_numbers(&[u64::from(vl.0)], told),
+        Body::PortFree { port } => tell_numbers(&[u64::from(port)], told),
+        Body::Arrive { port, frame } | Body::Enqueue { port, frame } => {
+            write!(told, "{port}:")?;
             tell_frame(&frame, told)
         }
-        Body::Enqueue { port, frame } => {
-            write!(told, "enqueue@{ns}:{port}:")?;
-            tell_frame(&frame, told)
-        }
-        Body::Carry { frame } => {
-            write!(told, "carry@{ns}:")?;
-            tell_frame(&frame, told)
-        }
+        Body::Carry { frame } => tell_frame(&frame, told),
     }
 }
 
 fn tell_frame(frame: &Frame, told: &mut String) -> Result<(), AllocError> {
-    write!(told, "{}.{}.", frame.vl.0, frame.size.bytes())?;
-    write!(told, "{}.{}.", frame.number, frame.net as u8)?;
-    write!(told, "{}.{} ", frame.offered.ns(), frame.released.ns())
+    let numbers = [
+        u64::from(frame.vl.0),
+        u64::from(frame.size.bytes()),
+        u64::from(frame.number),
+        frame.net as u64,
+        frame.offered.ns(),
+        frame.released.ns(),
+    ];
+    tell_numbers(&numbers, told)
+}
+
+// Numbers with a mark between two of them, and a blank behind.
+fn tell_numbers(numbers: &[u64], told: &mut String) -> Result<(), AllocError> {
+    let mut mark = "";
+    for number in numbers {
+        write!(told, "{mark}{number}")?;
+        mark = ".";
+    }
+    told.push_str(" ")
 }

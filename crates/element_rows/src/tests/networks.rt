@@ -1,4 +1,6 @@
 //! The networks of the rows.
+use netdesc::read;
+use network::Network;
 use std::alloc::{AllocError, Global};
 
 // The network of examples/n1.toml: processes 0 ES1, 1 ES2, 2 SW1, 3 ES1>SW1, 4 SW1>ES1, 5 SW1>ES2, 6 ES2>SW1.
@@ -82,6 +84,24 @@ a = [["ES1", "SW1", "ES2"]]
 b = []
 "#;
 
+// A virtual link back.
+const BACK: &str = r#"b = []
+[[vl]]
+id = 2
+bag_ms = 1
+smax = 64
+priority = "low"
+policing_jitter_ns = 0
+skew_max_ns = 1000000
+depth = 16
+size = 64
+offset_ns = 0
+period_ns = 1000000000000
+jitter_ns = 0
+a = [["ES2", "SW1", "ES1"]]
+b = []
+"#;
+
 const OUTAGE: &str = r#"[[outage]]
 from = "ES1"
 to = "SW1"
@@ -96,25 +116,64 @@ from_ns = 0
 to_ns = 5760
 [[vl]]"#;
 
+// The network with this name and these changes, with ` => ` between them: `OLD -> NEW` puts NEW in the place of the first OLD.
+pub fn network_of(alloc: Global, row: &str) -> Result<Network, AllocError> {
+    let text = changed(alloc, row)?;
+    match read(alloc, text.as_str()) {
+        Ok(network) => Ok(network),
+        Err(_) => Err(AllocError),
+    }
+}
+
+fn changed(alloc: Global, row: &str) -> Result<String, AllocError> {
+    let mut pieces = row.split(" => ");
+    let mut text = text_of(alloc, pieces.next().unwrap_or(""))?;
+    for change in pieces {
+        let (old, new) = change.split_once(" -> ").unwrap_or(("", ""));
+        text = with(alloc, text.as_str(), old, new)?;
+    }
+    Ok(text)
+}
+
 // The text of the network that rows call so: that of network A alone, with one piece replaced.
-pub fn text_of(alloc: Global, network: &str) -> Result<String, AllocError> {
+fn text_of(alloc: Global, network: &str) -> Result<String, AllocError> {
     let (piece, by) = change_of(network);
-    let (before, after) = ONE.split_once(piece).unwrap_or((ONE, ""));
+    with(alloc, ONE, piece, by)
+}
+
+// A text with one piece replaced.
+fn with(alloc: Global, text: &str, piece: &str, by: &str) -> Result<String, AllocError> {
+    let (before, after) = text.split_once(piece).unwrap_or((text, ""));
     format!(in alloc; "{before}{by}{after}")
 }
 
-// The piece that is replaced, and what stands in its place.
+// For each network its name, the piece that is replaced, and what stands in its place.
+const CHANGES: [(&str, &str, &str); 10] = [
+    ("n3", "b = []\n", BACK),
+    ("two", "b = []\n", SECOND_NETWORK),
+    ("mixed", "b = []\n", SECOND_VL),
+    ("short", "until_ns = 2000000", "until_ns = 6000"),
+    ("narrow", "port_bytes = 65536", "port_bytes = 1518"),
+    ("shallow", "depth = 16", "depth = 1"),
+    (
+        "shared",
+        "period_ns = 1000000000000",
+        "period_ns = 500000\nsub = 2",
+    ),
+    (
+        "by_frames",
+        "smax = 64",
+        "smax = 100\npolicing = \"frames\"",
+    ),
+    ("outage", "[[vl]]", OUTAGE),
+    ("outage_before", "[[vl]]", OUTAGE_BEFORE),
+];
+
 fn change_of(network: &str) -> (&'static str, &'static str) {
-    match network {
-        "two" => ("b = []\n", SECOND_NETWORK),
-        "mixed" => ("b = []\n", SECOND_VL),
-        "short" => ("until_ns = 2000000", "until_ns = 6000"),
-        "narrow" => ("port_bytes = 65536", "port_bytes = 1518"),
-        "shallow" => ("depth = 16", "depth = 1"),
-        "shared" => ("period_ns = 1000000000000", "period_ns = 500000\nsub = 2"),
-        "by_frames" => ("smax = 64", "smax = 100\npolicing = \"frames\""),
-        "outage" => ("[[vl]]", OUTAGE),
-        "outage_before" => ("[[vl]]", OUTAGE_BEFORE),
-        _ => ("", ""),
+    for (name, piece, by) in CHANGES {
+        if name == network {
+            return (piece, by);
+        }
     }
+    ("", "")
 }

@@ -1,9 +1,8 @@
 //! Rows of nodes in hand.
 use crate::tests::messages::{message, tell_message};
-use crate::tests::networks::text_of;
+use crate::tests::networks::network_of;
 use crate::tests::playing::{Played, told_by};
 use crate::tests::words::{numbers, short};
-use netdesc::read;
 use network::Network;
 use nodes::Node;
 use output_port::Port;
@@ -106,12 +105,11 @@ fn tell_note(note: &Note, told: &mut String) -> Result<(), AllocError> {
 // What this process tells of the script.
 pub fn tells(alloc: Global, process: &str, script: &str) -> Result<String, AllocError> {
     let (network, number) = process.split_once(' ').unwrap_or((process, ""));
-    let text = text_of(alloc, network)?;
-    match read(alloc, &text) {
-        Ok(network) if number == "offers" => of_offers(alloc, &network),
-        Ok(network) => of_process(alloc, &network, number, script),
-        Err(_) => Err(AllocError),
+    let network = network_of(alloc, network)?;
+    if number == "offers" {
+        return of_offers(alloc, &network);
     }
+    of_process(alloc, &network, number, script)
 }
 
 fn of_offers(alloc: Global, network: &Network) -> Result<String, AllocError> {

@@ -2,17 +2,16 @@
 use std::alloc::Global;
 use trace_tables::{Sink, SinkFault};
 
-/// It takes all that is written on it.
+// It takes all text that is written on it.
 #[derive(Drop)]
 pub struct Page {
-    pub bytes: Vec<u8>,
+    pub text: String,
 }
 
 impl Page {
-    /// An empty page.
     pub fn new(alloc: Global) -> Self {
         Page {
-            bytes: Vec::new(alloc),
+            text: String::new(alloc),
         }
     }
 }
@@ -25,7 +24,9 @@ impl Sink for Page {
     ghost failures = { λ _. 0 };
 
     fn write(&mut self, bytes: &[u8]) -> Result<usize, SinkFault> {
-        let _kept = self.bytes.extend_from_slice(bytes);
+        if let Ok(text) = str::from_utf8(bytes) {
+            let _kept = self.text.push_str(text);
+        }
         Ok(bytes.len())
     }
 }

@@ -1,4 +1,5 @@
-//! A host that tells all: what its files and streams hold, which file can be read and which can be made, and that a file was missed.
+//! A host that tells all, in bytes: what its files and streams hold, which file can be read and which can be made. No command runs on it: it shows
+//! that there can be such a host, and what `perform` says of it.
 ghost use Rattle.std.specs.Prelude.{◌≡◌, ℕ, [], List, None, Some, IfSome, map, option_map};
 ghost use Rattle.command_line.specs.declared.orders.Order.{Order};
 ghost use Rattle.network.specs.Words.{Plan};
@@ -10,67 +11,44 @@ ghost use Rattle.afdxsim.specs.Performing.{Means, found_in};
 ghost use Rattle.afdxsim.specs.Sequencing.{IsTraceText};
 ghost use Rattle.afdxsim.specs.Workers.{IsJournalText};
 
-use super::changes::lines_of;
-use super::networks::network;
 use crate::host::{FileFault, Host};
 use crate::perform;
-use std::alloc::{AllocError, Global};
+use std::alloc::Global;
 use std::convert::AsStr;
-use std::process::Abort;
 use std::sync::Wait;
-use std::test::Fail;
 use std::thread::Threads;
 use std::time::Clock;
 use trace_tables::{Sink, SinkFault};
 
-/// How many bytes a file takes, words, the status that they end with, and what the file holds that was given back last, with `;` for the end of a
-/// line, or `none`; then what standard output begins with, and what error output holds.
-const ROWS: &str = "
-1000 => seq net.toml --trace t.csv => 0 => time_ns,where,vl,what,value;27720,ES2,1,delivered,27720; => table,vl,where => 
-1000 => run net.toml --trace t.csv => 0 => time_ns,where,vl,what,value;27720,ES2,1,delivered,27720; => table,vl,where => 
-35 => seq net.toml --trace t.csv => 4 => time_ns,where,vl,what,value;27720,E =>  => afdxsim: cannot write t.csv;
-35 => run net.toml --trace t.csv --journal j.txt => 4 => time_ns,where,vl,what,value;27720,E =>  => afdxsim: cannot write t.csv;
-0 => run net.toml --trace t.csv --journal no/file => 4 =>  =>  => afdxsim: cannot write t.csv;
-1000 => run net.toml --trace t.csv --journal no/file => 4 => time_ns,where,vl,what,value;27720,ES2,1,delivered,27720; =>  => afdxsim: cannot write no/file;
-1000 => seq net.toml --trace no/file => 4 => none =>  => afdxsim: cannot write no/file;
-1000 => seq n.toml --trace t.csv => 4 => none =>  => afdxsim: cannot read n.toml;
-1000 => seq net.toml --trace t.csv --turn => 2 => none =>  => error: unexpected argument '--turn' found;;  tip: to pass '--turn' as a value, use '-- --turn';;Usage: afdxsim seq --trace <FILE> <NET>;;For more information, try '--help'.;
-";
-
-#[test]
-fn a_host_tells_what_its_files_hold(rt: HostRuntime) -> Result<(), Fail> {
-    for row in ROWS.lines() {
-        if !row.is_empty() {
-            assert!(rt; is_told(rt, rt.alloc(), row)?, "{row}");
-        }
-    }
-    Ok(())
-}
-
-/// Takes bytes as long as it has room for them, and tells all of them. After 2^64 - 1 failures the program ends.
+/// Takes bytes as far as there is memory for them, and tells all of them. After 2^64 - 1 failures it waits for ever.
 #[derive(Drop)]
-pub struct Sheet<R: Abort + Copy> {
+pub struct Sheet<R: Wait + Copy> {
     rt: R,
     bytes: Vec<u8>,
-    room: usize,
     failures: u64,
 }
 
-impl<R: Abort + Copy> Sheet<R> {
-    fn new(rt: R, alloc: Global, room: usize) -> Self
+impl<R: Wait + Copy> Sheet<R> {
+    fn new(rt: R, alloc: Global) -> Self
         ensures empty { result.bytes.items ≡ [] }
         ensures fresh { result.failures ≡ 0 }
     {
         Sheet {
             rt,
             bytes: Vec::new(alloc),
-            room,
             failures: 0,
         }
     }
 }
 
-impl<R: Abort + Copy> Sink for Sheet<R> {
+fn wait_for_ever<R: Wait>(rt: &R)
+    ensures { ⊥ }
+{
+    for _ in rt.forever() {}
+    unreachable!()
+}
+
+impl<R: Wait + Copy> Sink for Sheet<R> {
     ghost use Rattle.std.specs.Prelude.{Some};
 
     ghost taken = { λ sheet. Some sheet.bytes.items };
@@ -78,12 +56,11 @@ impl<R: Abort + Copy> Sink for Sheet<R> {
     ghost failures = { λ sheet. sheet.failures };
 
     fn write(&mut self, bytes: &[u8]) -> Result<usize, SinkFault> {
-        let taken = self.room.saturating_sub(self.bytes.len()).min(bytes.len());
-        if taken > 0 && self.bytes.extend_from_slice(&bytes[..taken]).is_ok() {
-            return Ok(taken);
+        if self.bytes.extend_from_slice(bytes).is_ok() {
+            return Ok(bytes.len());
         }
         if self.failures == u64::MAX {
-            self.rt.abort();
+            wait_for_ever(&self.rt);
         }
         self.failures += 1;
         Err(SinkFault)
@@ -92,39 +69,17 @@ impl<R: Abort + Copy> Sink for Sheet<R> {
 
 /// A host with the file `net.toml`, the one that can be read. All files can be made but `no/file`.
 #[derive(Drop)]
-pub struct TellingHost<R: Abort + Copy> {
+pub struct TellingHost<R: Wait + Copy> {
     rt: R,
     alloc: Global,
     net: Vec<u8>,
-    /// How many bytes a file takes.
-    room: usize,
-    /// A file was made and not given back.
-    is_open: bool,
     /// The file that was given back last.
     last: Option<Sheet<R>>,
-    /// A file could not be read, or not be made.
-    has_missed: bool,
     output: Sheet<R>,
     errors: Sheet<R>,
 }
 
-impl<R: Abort + Copy> TellingHost<R> {
-    fn new(rt: R, alloc: Global, net: &[u8], room: usize) -> Result<Self, AllocError> {
-        Ok(TellingHost {
-            rt,
-            alloc,
-            net: Vec::from_slice(alloc, net)?,
-            room,
-            is_open: false,
-            last: None,
-            has_missed: false,
-            output: Sheet::new(rt, alloc, usize::MAX),
-            errors: Sheet::new(rt, alloc, usize::MAX),
-        })
-    }
-}
-
-impl<R: Abort + Copy + Send> Host for TellingHost<R> {
+impl<R: Wait + Copy + Send> Host for TellingHost<R> {
     ghost use Rattle.std.proofs.Common.{refl, true, false, Some, ◌≡◌, ◌≢◌, codes, MatchBool, MatchOption};
 
     type File = Sheet<R>;
@@ -141,9 +96,9 @@ impl<R: Abort + Copy + Send> Host for TellingHost<R> {
       errors = λ host. host.errors;
       with_output = λ host out. record host { output = out };
       with_errors = λ host out. record host { errors = out };
-      made = λ host _. record host { is_open = true };
-      closed = λ host _ file. record host { is_open = false; last = Some file };
-      missed = λ host _. record host { has_missed = true };
+      made = λ host _. host;
+      closed = λ host _ file. record host { last = Some file };
+      missed = λ host _. host;
       wrote = λ sheet. Some sheet.bytes.items;
       file_failures = λ sheet. sheet.failures;
       showed = λ sheet. Some sheet.bytes.items;
@@ -182,7 +137,6 @@ impl<R: Abort + Copy + Send> Host for TellingHost<R> {
 
     fn read(&mut self, alloc: Global, path: &str) -> Result<Vec<u8>, FileFault> {
         if path != "net.toml" {
-            self.has_missed = true;
             return Err(FileFault::Device);
         }
         match Vec::from_slice(alloc, self.net.as_slice()) {
@@ -193,15 +147,12 @@ impl<R: Abort + Copy + Send> Host for TellingHost<R> {
 
     fn make(&mut self, path: &str) -> Result<Sheet<R>, FileFault> {
         if path == "no/file" {
-            self.has_missed = true;
             return Err(FileFault::Device);
         }
-        self.is_open = true;
-        Ok(Sheet::new(self.rt, self.alloc, self.room))
+        Ok(Sheet::new(self.rt, self.alloc))
     }
 
     fn close(&mut self, _path: &str, file: Sheet<R>) {
-        self.is_open = false;
         self.last = Some(file);
     }
 
@@ -215,54 +166,6 @@ impl<R: Abort + Copy + Send> Host for TellingHost<R> {
 
     fn is_terminal(&self) -> bool {
         false
-    }
-}
-
-// What a row says is told and left.
-fn is_told<R: Abort + Copy + Send + Sync + Threads + Wait + Clock>(
-    rt: R,
-    alloc: Global,
-    row: &str,
-) -> Result<bool, Fail> {
-    let mut pieces = row.split(" => ");
-    let room = pieces.next().ok_or("no room")?;
-    let words = pieces.next().ok_or("no words")?;
-    let status = pieces.next().ok_or("no status")?;
-    let file = pieces.next().ok_or("no file")?;
-    let output = pieces.next().ok_or("no output")?;
-    let errors = pieces.next().ok_or("no errors")?;
-    let net = network(alloc, "n1")?;
-    let room = room.parse().map_err(|_| "no number")?;
-    let mut host = TellingHost::new(rt, alloc, net.as_bytes(), room)?;
-    let ended = status_of(&rt, alloc, words_of(alloc, words)?.as_slice(), &mut host);
-    let is_missed = status == "4" && !errors.ends_with("t.csv;");
-    Ok(
-        format!(in alloc; "{ended}")?.as_str() == status
-            && holds(alloc, &host.last, file)?
-            && host.has_missed == is_missed
-            && host.output.bytes.starts_with(output.as_bytes())
-            && host.output.bytes.is_empty() == output.is_empty()
-            && host.errors.bytes.as_slice() == lines_of(alloc, errors)?.as_bytes(),
-    )
-}
-
-fn words_of<'a>(alloc: Global, words: &'a str) -> Result<Vec<&'a str>, Fail> {
-    let mut all = Vec::new(alloc);
-    for word in words.split(' ') {
-        all.push(word)?;
-    }
-    Ok(all)
-}
-
-// A file has this text, or there is none where it says so.
-fn holds<R: Abort + Copy>(
-    alloc: Global,
-    file: &Option<Sheet<R>>,
-    text: &str,
-) -> Result<bool, Fail> {
-    match file {
-        Some(file) => Ok(file.bytes.as_slice() == lines_of(alloc, text)?.as_bytes()),
-        None => Ok(text == "none"),
     }
 }
 
@@ -287,7 +190,7 @@ fn status_on<'a, S: AsStr, H: Host, T: Threads + Wait + Clock + Sync>(
 
 /// The status that the program ends with. Of this host a clause tells what is left, in bytes: with status 0 the words mean an order on the network
 /// that `net.toml` describes, and the file that was given back last holds just the journal, where one is asked for, else just the trace.
-fn status_of<'a, S: AsStr, R: Abort + Copy + Send + Sync + Threads + Wait + Clock>(
+fn status_of<'a, S: AsStr, R: Copy + Send + Sync + Threads + Wait + Clock>(
     rt: &R,
     alloc: Global,
     words: &'a [S],
