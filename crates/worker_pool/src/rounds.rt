@@ -8,7 +8,7 @@
 pub(crate) mod apart;
 pub(crate) mod common;
 pub(crate) mod moments;
-pub(crate) mod reach;
+pub(crate) mod report;
 pub(crate) mod seat;
 pub(crate) mod seats;
 pub(crate) mod worker;

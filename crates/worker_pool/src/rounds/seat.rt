@@ -1,5 +1,5 @@
 //! A group, and how far it has come.
-use super::reach::Reach;
+use super::report::Report;
 use crate::network_run::{NetworkRun, OfGroups};
 use group_exchange::Group;
 use nodes::Node;
@@ -28,9 +28,9 @@ impl<J: NetworkRun> Seat<J> {
     }
 
     /// How far it has come.
-    pub(crate) fn reach(&self) -> Reach {
+    pub(crate) fn report(&self) -> Report {
         let group = &self.group;
-        Reach {
+        Report {
             number: group.number(),
             next_ns: self.next_ns,
             seen_ns: group.gvt_seen().ns(),

@@ -1,6 +1,6 @@
 //! The groups of a run, each with a lock of its own.
 use super::apart::Apart;
-use super::reach::Reach;
+use super::report::Report;
 use super::seat::{NetworkGroup, Seat};
 use crate::network_run::NetworkRun;
 use std::alloc::{AllocError, Global};
@@ -31,9 +31,9 @@ impl<J: NetworkRun> Seats<J> {
     }
 
     /// How far a group has come, if there is one of this number that no other thread has.
-    pub(crate) fn reach_of(&self, group: usize) -> Option<Reach> {
+    pub(crate) fn report_of(&self, group: usize) -> Option<Report> {
         match self.try_take(group) {
-            Some(seat) => Some(seat.reach()),
+            Some(seat) => Some(seat.report()),
             None => None,
         }
     }

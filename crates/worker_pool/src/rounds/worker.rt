@@ -129,10 +129,10 @@ impl<'s, 'n, J: NetworkRun, G: Gate, T: Wait> Worker<'s, 'n, J, G, T> {
     fn turn(&mut self, seat: &mut Seat<J>) -> Result<bool, RunFault<J>> {
         let limit_ns = self.common.moments.limit_ns();
         let window_ns = self.common.pace.window_ns;
-        let reach = seat.reach();
-        if reach.is_to_meet(&self.common.moments, limit_ns, window_ns, self.looks) {
+        let report = seat.report();
+        if report.is_to_meet(&self.common.moments, limit_ns, window_ns, self.looks) {
             self.meet(seat)?;
-        } else if !reach.is_due(limit_ns, window_ns) {
+        } else if !report.is_due(limit_ns, window_ns) {
             return Ok(false);
         }
         let has_worked = self.handle_due(seat)?;
@@ -147,7 +147,7 @@ impl<'s, 'n, J: NetworkRun, G: Gate, T: Wait> Worker<'s, 'n, J, G, T> {
     /// groups are told.
     fn meet(&mut self, seat: &mut Seat<J>) -> Result<(), RunFault<J>> {
         let common = self.common;
-        let waits = seat.reach().waits_for_gvt(common.pace.window_ns);
+        let waits = seat.report().waits_for_gvt(common.pace.window_ns);
         let mut exchange = locked_soon(self.rt, &common.exchange);
         let shared = &mut exchange.value;
         let met = meet_at(shared, &common.moments, seat, waits, &mut self.letters_ns);
@@ -177,7 +177,7 @@ impl<'s, 'n, J: NetworkRun, G: Gate, T: Wait> Worker<'s, 'n, J, G, T> {
             seat.look();
             self.common.moments.tell(number, seat.next_ns);
             let is_done = count < most || handled >= turn;
-            if is_done || seat.reach().ends_turn(&self.common.moments, handled) {
+            if is_done || seat.report().ends_turn(&self.common.moments, handled) {
                 break;
             }
         }
@@ -243,9 +243,9 @@ impl<'s, 'n, J: NetworkRun, G: Gate, T: Wait> Worker<'s, 'n, J, G, T> {
         let limit_ns = moments.limit_ns();
         for group in 0..moments.groups() {
             if moments.is_of(group, self.number) {
-                if let Some(reach) = self.common.seats.reach_of(group) {
-                    if reach.is_due(limit_ns, window_ns)
-                        || reach.is_to_meet(moments, limit_ns, window_ns, self.looks)
+                if let Some(report) = self.common.seats.report_of(group) {
+                    if report.is_due(limit_ns, window_ns)
+                        || report.is_to_meet(moments, limit_ns, window_ns, self.looks)
                     {
                         return true;
                     }

@@ -4,7 +4,7 @@ use super::{BEHIND_NS, LEAD_NS, LOOKS_BEFORE_POST, MOST_UNPOSTED, MOST_WITH_LETT
 
 /// How far a group has come.
 #[derive(Clone, Copy)]
-pub(crate) struct Reach {
+pub(crate) struct Report {
     /// Its number.
     pub number: u16,
     /// The moment of its next event, in ns.
@@ -19,7 +19,7 @@ pub(crate) struct Reach {
     pub has_block: bool,
 }
 
-impl Reach {
+impl Report {
     /// Whether its next event is due, where that is what is before the limit, in ns, and the window.
     pub(crate) fn is_due(&self, limit_ns: u64, window_ns: u64) -> bool {
         self.next_ns < limit_ns && !self.waits_for_gvt(window_ns)
