@@ -1,4 +1,4 @@
-//! No product code: rows of elements and of nodes in hand, each a line of text that says events and what comes of them.
+//! No product code: rows of what the built program does not show, each a line of text that says what is done and what comes of it.
 #![tactic(auto)]
 
 #[cfg(test)]
