@@ -184,8 +184,6 @@ fn traced_named<
             let Ok(writer) = scope.spawn(move || write_batches(
                 rt, network, writing, counted, batches,
             )) else {
-                drop(start);
-                drop(leaving);
                 return (Err(RunFault::other(PoolFault::Spawn)), watch);
             };
             let keeps = start.keeps;
