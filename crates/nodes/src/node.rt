@@ -12,7 +12,8 @@ use crate::change::Change;
 use crate::equipment::Equipment;
 use bag_regulator::BagRegulator;
 use output_port::Port;
-use reverse::{Actor, MOST_SENT, Outbound, Reversible, Sends};
+use reverse::{Actor, Outbound, Reversible, Sends};
+use sender::Sender;
 use std::marker::Model;
 use vlink::{Message, Time, VlId};
 
@@ -28,23 +29,19 @@ pub struct NodeRecord {
 /// Clauses see its number, the end of the run and the number of its next message, and the state of what it is.
 #[derive(Drop)]
 pub struct Node {
-    number: u16,
-    until: Time,
-    counter: u64,
+    sender: Sender,
     equipment: Equipment,
 }
 
 impl Model for Node {
-    ghost use Rattle.std.specs.Prelude.{◌<◌};
-    ghost use Rattle.vlink.specs.declared.time.TheConstants.{GREATEST_NS};
     ghost use Rattle.nodes.specs.rules.Node.{NodeState};
-    ghost use Rattle.nodes.specs.rules.Placed.{IsPlaced};
+    ghost use Rattle.nodes.specs.rules.Placed.{IsPlacedEquipment};
 
     ghost Value = { NodeState };
 
-    ghost view = { λ n. record { sender = record { number = n.number; until = n.until; counter = n.counter }; equipment = n.equipment } };
+    ghost view = { λ n. record { sender = n.sender; equipment = n.equipment } };
 
-    ghost invariant = { λ n. IsPlaced (record { sender = record { number = n.number; until = n.until; counter = n.counter }; equipment = n.equipment }) × (n.until < GREATEST_NS) };
+    ghost invariant = { λ n. IsPlacedEquipment n.equipment };
 }
 
 impl Node {
@@ -55,9 +52,7 @@ impl Node {
         ensures { result ≡ record { sender = record { number = number; until = until; counter = 0 }; equipment = equipment } }
     {
         Node {
-            number,
-            until,
-            counter: 0,
+            sender: Sender::new(number, until),
             equipment,
         }
     }
@@ -73,9 +68,9 @@ impl Node {
         ensures saved { result ≡ node.saves self.old event.now }
         ensures valid { IsNodeValue self.old event.now }
     {
-        out.open(self.number, self.until, self.counter);
+        self.sender.open(out);
         let change = self.equipment.handle(event, out);
-        self.counter = out.counter();
+        self.sender.go_on(out);
         NodeRecord {
             sends: out.messages().len() as u8,
             change,
@@ -86,7 +81,7 @@ impl Node {
     pub fn counter(&self) -> u64
         ensures { result ≡ self.now.sender.counter }
     {
-        self.counter
+        self.sender.counter()
     }
 
     /// The regulator of a virtual link, if the node is an end system that sends it.
@@ -126,13 +121,13 @@ impl Reversible for Node {
     ghost undoes = { node-undoes };
 
     fn apply(&mut self, event: &Message) -> (Sends, NodeRecord) {
-        let mut out = Outbound::new(self.number, self.until, self.counter);
+        let mut out = Outbound::new(0, Time::default(), 0);
         let kept = self.step(event, &mut out);
         (out.close(), kept)
     }
 
     fn undo(&mut self, _event: &Message, kept: NodeRecord) {
-        self.counter -= u64::from(kept.sends);
+        self.sender.take_back(kept.sends);
         self.equipment.take_back(&kept.change);
     }
 }
@@ -167,15 +162,15 @@ impl Actor for Node {
     ghost counter_grows = { counter-grows };
 
     fn id(&self) -> u16 {
-        self.number
+        self.sender.number()
     }
 
     fn until(&self) -> Time {
-        self.until
+        self.sender.until()
     }
 
     fn has_numbers(&self) -> bool {
-        self.counter <= (1 << 62) - MOST_SENT as u64
+        self.sender.has_numbers()
     }
 
     #[inline(always)]

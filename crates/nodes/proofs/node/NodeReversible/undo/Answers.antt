@@ -8,9 +8,9 @@ pub invariant_of-self : goal.invariant_of-self
 invariant_of-self c =
     let m = c.args._event.now in
     let s = c.requires.0 in
-    let back : c.take_back.new.self ≡ s.equipment =
-    c.take_back.ensures
+    let back : c.take_back-2.new.self ≡ s.equipment =
+    c.take_back-2.ensures
     ∙ ap (λ (now : NodeState). undone c.args.kept.change now.equipment) (c.self.view_is ∙ c.requires.2)
     ∙ ap (λ (k : NodeRecord). undone k.change (after s m).equipment) c.requires.3
     ∙ ap (λ (now : NodeState). now.equipment) (node-undoes s m) in
-    (subst IsPlacedEquipment (sym back) c.requires.1.0, c.self.invariant.1)
+    subst IsPlacedEquipment (sym back) c.requires.1.0
