@@ -13,7 +13,7 @@ use vlink::Frame;
 ///
 /// Clauses see it as the list of its frames, the front first, and its room, the number of frames that it may hold.
 /// Only `new` takes memory.
-#[derive(Debug, Drop)]
+#[derive(Drop)]
 pub struct FrameRing {
     frames: VecDeque<Frame>,
     room: u32,

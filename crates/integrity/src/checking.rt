@@ -7,7 +7,7 @@ use std::marker::Model;
 use vlink::next_sn;
 
 /// What integrity checking says of a frame.
-#[derive(Clone, Copy, Debug, PartialEq, Eq, Hash)]
+#[derive(Clone, Copy, Debug)]
 pub enum Checked {
     Passed,
     Refused,
@@ -19,7 +19,7 @@ pub enum Checked {
 /// the previous one: that of the last frame received, whether it passed or not (profile).
 ///
 /// The event is the number of a frame. Clauses see the previous number, or none.
-#[derive(Clone, Copy, Debug, PartialEq, Eq, Hash)]
+#[derive(Clone, Copy)]
 pub struct Integrity {
     previous: Option<u8>,
 }

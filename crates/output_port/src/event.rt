@@ -2,14 +2,14 @@
 use vlink::Frame;
 
 /// The priority of a frame at an output port.
-#[derive(Clone, Copy, Debug, PartialEq, Eq)]
+#[derive(Clone, Copy)]
 pub enum Priority {
     High,
     Low,
 }
 
 /// What a port is asked to do.
-#[derive(Clone, Copy, Debug, PartialEq, Eq)]
+#[derive(Clone, Copy)]
 pub enum PortEvent {
     /// A frame, whole in the switch or end system, is put to the port.
     Put { frame: Frame, priority: Priority },
@@ -18,7 +18,7 @@ pub enum PortEvent {
 }
 
 /// The answer of a port.
-#[derive(Clone, Copy, Debug, PartialEq, Eq)]
+#[derive(Clone, Copy, Debug)]
 pub enum PortAnswer {
     /// This frame starts: the port is busy with it until the next Free.
     Started(Frame),
@@ -33,7 +33,7 @@ pub enum PortAnswer {
 }
 
 /// What undoing a frame put takes: what became of it.
-#[derive(Clone, Copy, Debug, PartialEq, Eq)]
+#[derive(Clone, Copy)]
 pub enum PutRecord {
     /// The frame put started at once: the port became busy.
     AtOnce,
@@ -44,7 +44,7 @@ pub enum PutRecord {
 }
 
 /// What undoing a Free takes: what it changed.
-#[derive(Clone, Copy, Debug, PartialEq, Eq)]
+#[derive(Clone, Copy)]
 pub enum FreeRecord {
     /// This frame left the front of the list of this priority.
     Popped(Priority, Frame),
@@ -55,7 +55,7 @@ pub enum FreeRecord {
 }
 
 /// What undoing an event takes.
-#[derive(Clone, Copy, Debug, PartialEq, Eq)]
+#[derive(Clone, Copy)]
 pub enum PortRecord {
     Put(PutRecord),
     Free(FreeRecord),

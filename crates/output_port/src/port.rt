@@ -19,7 +19,7 @@ use vlink::{Frame, FrameSize};
 /// Part 7). That the waiting frames of both priorities share one limit of bytes is this project's profile.
 ///
 /// Clauses see it as whether it is busy, its two lists and its limit of bytes.
-#[derive(Debug, Drop)]
+#[derive(Drop)]
 pub struct Port {
     busy: bool,
     /// False only where nothing waits. So a port that becomes free with nothing to send, as most do, does not look into its lists.

@@ -10,7 +10,7 @@ use vlink::{Time, steps};
 pub const GREATEST_SKEW_NS: u64 = 1_000_000_000;
 
 /// A frame of the virtual link, from either network, that has passed the integrity check of its network.
-#[derive(Clone, Copy, Debug, PartialEq, Eq, Hash)]
+#[derive(Clone, Copy)]
 pub struct Received {
     /// Its sequence number.
     pub number: u8,
@@ -19,7 +19,7 @@ pub struct Received {
 }
 
 /// What becomes of a frame.
-#[derive(Clone, Copy, Debug, PartialEq, Eq, Hash)]
+#[derive(Clone, Copy, Debug)]
 pub enum Delivery {
     Delivered,
     Duplicate,
@@ -32,7 +32,7 @@ pub enum Delivery {
 /// leaves the state as it was.
 ///
 /// Clauses see it as the greatest skew in ns, and the number and moment of the last frame delivered, or none.
-#[derive(Clone, Copy, Debug, PartialEq, Eq, Hash)]
+#[derive(Clone, Copy)]
 pub struct Redundancy {
     skew_max_ns: u64,
     last: Option<(u8, Time)>,
