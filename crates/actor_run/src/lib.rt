@@ -5,7 +5,6 @@ mod beside;
 mod fault;
 mod recorder;
 mod running;
-mod sent;
 mod waiting;
 mod watch;
 

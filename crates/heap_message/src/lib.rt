@@ -1,4 +1,6 @@
-//! A message that was sent and waits in a heap. The greatest element of a heap comes out first: so the earlier message is the greater one.
+//! A message as a heap takes it: the greatest element of a heap comes out first, so the earlier message is the greater one.
+#![tactic(auto)]
+
 ghost use Rattle.std.specs.Prelude.{◌≡◌};
 ghost use Rattle.std.proofs.Common.{◌∙◌};
 ghost use Rattle.std.specs.Cmp.{back_po, back_total};
@@ -16,11 +18,11 @@ use vlink::{Message, compare};
 ///
 /// Clauses see it as the message.
 #[derive(Drop)]
-pub(crate) struct Sent {
+pub struct HeapMessage {
     message: Message,
 }
 
-impl Model for Sent {
+impl Model for HeapMessage {
     ghost use Rattle.vlink.specs.declared.message.Message.{Message};
 
     ghost Value = { Message };
@@ -28,25 +30,25 @@ impl Model for Sent {
     ghost view = { λ s. s.message };
 }
 
-impl Sent {
+impl HeapMessage {
     /// The message, to be put into a heap.
     #[inline(always)]
-    pub(crate) fn new(message: &Message) -> Self
+    pub fn new(message: &Message) -> Self
         ensures { result ≡ message.now }
     {
-        Sent { message: *message }
+        HeapMessage { message: *message }
     }
 
     /// The message.
     #[inline(always)]
-    pub(crate) fn message(&self) -> &Message
+    pub fn message(&self) -> &Message
         ensures { result.now ≡ self.now }
     {
         &self.message
     }
 }
 
-impl PartialEq for Sent {
+impl PartialEq for HeapMessage {
     ghost eq = { λ x y. ⟦<Message as PartialEq>⟧.eq x y };
 
     ghost laws = { message_eq.laws-law };
@@ -56,11 +58,11 @@ impl PartialEq for Sent {
     }
 }
 
-impl Eq for Sent {
+impl Eq for HeapMessage {
     ghost laws = { message_equiv.laws-law };
 }
 
-impl PartialOrd for Sent {
+impl PartialOrd for HeapMessage {
     ghost partial_cmp = { λ x y. ⟦<Message as PartialOrd>⟧.partial_cmp y x };
 
     ghost laws = { back_po message_eq.laws-law message_partial.laws-law };
@@ -70,7 +72,7 @@ impl PartialOrd for Sent {
     }
 }
 
-impl Ord for Sent {
+impl Ord for HeapMessage {
     ghost cmp = { λ x y. ⟦<Message as Ord>⟧.cmp y x };
 
     ghost total = { back_total message_total.total-law };
