@@ -2,7 +2,8 @@
 ghost use Rattle.std.specs.Prelude.{◌≡◌, ◌↔◌, ◌<◌, ◌≤◌, ℕ, [], All, length, map, take, slice_get, Some, IsTrue, IsNone, IfOk, IfErr, IfSome};
 ghost use Rattle.std.specs.Option.{option_map};
 ghost use Rattle.vlink.specs.declared.time.TheConstants.{GREATEST_NS};
-ghost use Rattle.virtual_time.specs.Law.{reached, rowed, undo_all, start};
+ghost use Rattle.vlink.specs.Order.{message_order};
+ghost use Rattle.virtual_time.specs.Law.{plus_of, received_by, reached, rowed, undo_all, start, IsFinished};
 ghost use Rattle.reverse.specs.Rules.{rules_of};
 ghost use Rattle.reverse.specs.Setting.{Setting, simulation_of, Opens, IsLaidOut};
 ghost use Rattle.antimessages.specs.Mailing.{letters_for};
@@ -65,7 +66,7 @@ impl<R: Actor + Drop> ActorWorld<R> {
         actor_rules_law::<R>();
         let count = process_number(actors.len());
         let processes = processes_of(alloc, actors)?;
-        let mail = Mail::with_letters(alloc, count, &plus_letters(alloc, offers)?)?;
+        let mail = offered(alloc, count, offers)?;
         let floors = Floors::new(alloc, count, until)?;
         Ok(ActorWorld {
             processes,
@@ -104,6 +105,16 @@ impl<R: Actor + Drop> ActorWorld<R> {
         true
     }
 
+    /// Whether the run, whose end time is `until`, is finished: GVT is the moment after the end, and every done event is committed.
+    #[tactic(auto, using(crate::proofs::Finishing::finished))]
+    pub fn is_finished(&self, until: Time) -> bool
+        requires { until ≡ self.now.until }
+        ensures { AtEachWorld (rules_of R.plain) R.number R.end R.is_placed R.is_value self.now
+            (λ f w. IsTrue result ↔ IsFinished f w) }
+    {
+        self.gvt.ns() == until.ns() + 1 && self.all_committed()
+    }
+
     /// The rows of the committed events of process `process`, in their order.
     pub fn sealed(&self, process: u16) -> &[Row]
         requires { process < length self.now.processes }
@@ -129,6 +140,20 @@ impl<R: Actor + Drop> ActorWorld<R> {
         }
         Some(processes.swap_remove(place).undo_all())
     }
+}
+
+/// The mail of so many processes, with the offers in it.
+fn offered(
+    alloc: Global,
+    processes: u16,
+    offers: &[Message],
+) -> Result<Mail, antimessages::OutOfMemory>
+    requires { All (λ letter. letter.message.receiver < processes) (map plus_of offers.now) }
+    ensures processes { IfOk result (λ mail. length mail ≡ processes) }
+    ensures letters { IfOk result (λ mail. (p : ℕ) → letters_for p mail ≡ received_by message_order p (map plus_of offers.now)) }
+{
+    let letters = plus_letters(alloc, offers)?;
+    Mail::with_letters(alloc, processes, &letters)
 }
 
 /// A process that has done nothing for each actor, in order.

@@ -1,5 +1,5 @@
 -- What one step more makes of the counts of a replay.
-use Rattle.std.proofs.Common.{◌≡◌, ◌+◌, Bool, true, false, not, ◌&&◌, nat_lt, List, [], ◌∷◌, ◌++◌, map, refl, sym, ap, subst, arith, ◌↔◌}
+use Rattle.std.proofs.Common.{◌≡◌, ℕ, ◌+◌, Bool, true, false, not, ◌&&◌, nat_lt, List, [], ◌∷◌, ◌++◌, map, refl, sym, ap, subst, arith, ◌↔◌}
 use Rattle.std.proofs.lemmas.Bool.{not-true, false_from_ne_true}
 use Rattle.virtual_time.specs.declared.step.Step.{Step}
 use Rattle.virtual_time.specs.declared.step.Step.TheVariants.{Take, Arrive, Run, Post, Gvt, Commit}
@@ -60,30 +60,28 @@ replayed old new x steps enabled unknown same h now e u a b c =
           let k = refused-push f steps x in let d = h.refused in let i = ap one_if u in omega arith);
     }
 
--- a step of a process that there is was counted: the world is another, and one of two counts is one more
-abbrev pub AsDone : Done → Replay → NetworkWorld → Replay → Type 0
-AsDone done old world new = done ≡ Did → new ≡ record old { world = world; did = old.did + 1 }
+-- a step of a process that there is was counted: one of two counts is one more
+abbrev pub AsDone : Done → Replay → ℕ → ℕ → Type 0
+AsDone done old n idle = done ≡ Did → (n ≡ old.did + 1) × (idle ≡ old.not_enabled)
 
-abbrev pub AsNotEnabled : Done → Replay → NetworkWorld → Replay → Type 0
-AsNotEnabled done old world new = done ≡ NotEnabled → new ≡ record old { world = world; not_enabled = old.not_enabled + 1 }
+abbrev pub AsNotEnabled : Done → Replay → ℕ → ℕ → Type 0
+AsNotEnabled done old n idle = done ≡ NotEnabled → (n ≡ old.did) × (idle ≡ old.not_enabled + 1)
 
-pub counted-plan : (done : Done) (old : Replay) (world : NetworkWorld) (new : Replay) → AsDone done old world new → AsNotEnabled done old world new → new.world.plan ≡ world.plan
-counted-plan Did old world new did idle = ap (λ (z : Replay). z.world.plan) (did refl)
-counted-plan NotEnabled old world new did idle = ap (λ (z : Replay). z.world.plan) (idle refl)
+pub counted-total : (done : Done) (old : Replay) (n idle : ℕ) → AsDone done old n idle → AsNotEnabled done old n idle →
+    n + idle + old.refused ≡ old.did + old.not_enabled + old.refused + 1
+counted-total Did old n idle as_done as_idle = let (a, b) = as_done refl in omega arith
+counted-total NotEnabled old n idle as_done as_idle = let (a, b) = as_idle refl in omega arith
 
-pub counted-total : (done : Done) (old : Replay) (world : NetworkWorld) (new : Replay) → AsDone done old world new → AsNotEnabled done old world new →
-    new.did + new.not_enabled + new.refused ≡ old.did + old.not_enabled + old.refused + 1
-counted-total Did old world new did idle = let e = ap (λ (z : Replay). z.did + z.not_enabled + z.refused) (did refl) in omega arith
-counted-total NotEnabled old world new did idle = let e = ap (λ (z : Replay). z.did + z.not_enabled + z.refused) (idle refl) in omega arith
-
-pub counted : (done : Done) (old : Replay) (world : NetworkWorld) (new : Replay) → AsDone done old world new → AsNotEnabled done old world new →
+pub counted : (done : Done) (old : Replay) (world : NetworkWorld) (n idle : ℕ) → AsDone done old n idle → AsNotEnabled done old n idle →
     (x : Step) (steps : List Step) → world.plan ≡ old.world.plan → IsReplayed old steps → IsAfter world (steps ++ x ∷ []) →
     (done ≡ Did) ↔ (is_enabled (simulation_of old.world.plan) x (after old.world.plan steps) ≡ true) →
-    names_none (simulation_of old.world.plan).processes x ≡ false → IsReplayed new (steps ++ x ∷ [])
-counted Did old world new did idle x steps same h now enabled there =
-    subst (λ z. IsReplayed z (steps ++ x ∷ [])) (sym (did refl))
-    (replayed old (record old { world = world; did = old.did + 1 }) x steps true false same h now (enabled.0 refl) there refl (omega arith) (omega arith))
-counted NotEnabled old world new did idle x steps same h now enabled there =
-    subst (λ z. IsReplayed z (steps ++ x ∷ [])) (sym (idle refl))
-    (replayed old (record old { world = world; not_enabled = old.not_enabled + 1 }) x steps false false same h now
-    (false_from_ne_true _ (λ e. let k : NotEnabled ≡ Did = enabled.1 e in absurd cc)) there (omega arith) refl (omega arith))
+    names_none (simulation_of old.world.plan).processes x ≡ false →
+    IsReplayed (record { world = world; did = n; not_enabled = idle; refused = old.refused }) (steps ++ x ∷ [])
+counted Did old world n idle as_done as_idle x steps same h now enabled there =
+    let (a, b) = as_done refl in
+    replayed old (record { world = world; did = n; not_enabled = idle; refused = old.refused }) x steps true false same h now (enabled.0 refl) there
+    a (omega arith) (omega arith)
+counted NotEnabled old world n idle as_done as_idle x steps same h now enabled there =
+    let (a, b) = as_idle refl in
+    replayed old (record { world = world; did = n; not_enabled = idle; refused = old.refused }) x steps false false same h now
+    (false_from_ne_true _ (λ e. let k : NotEnabled ≡ Did = enabled.1 e in absurd cc)) there (omega arith) b (omega arith)

@@ -5,7 +5,6 @@ ghost use Rattle.virtual_time.specs.declared.step.Step.{Step};
 ghost use Rattle.virtual_time.specs.declared.step.Step.TheVariants.{Gvt};
 ghost use Rattle.virtual_time.specs.Law.{earlier, is_enabled, Safe, history, CountLaw, IsFinished, IsWhole};
 ghost use Rattle.nodes.specs.Words.{simulation_of};
-ghost use Rattle.actor_world.specs.declared.done.Done.TheVariants.{Did, NotEnabled};
 ghost use Rattle.actor_world.specs.declared.fault.StepFault.TheVariants.{NoProcess, OutOfMemory, Exhausted};
 ghost use Rattle.actor_world.specs.Worlds.{IsExhausted};
 ghost use Rattle.seqsim.specs.Committed.{after};
@@ -13,7 +12,7 @@ ghost use Rattle.timewarp.specs.Replayed.{IsReplayed};
 
 use crate::laws::world_law;
 use crate::world::World;
-use actor_world::{Done, StepFault};
+use actor_world::StepFault;
 use network::Network;
 use std::alloc::Global;
 use vlink::Step;
@@ -77,7 +76,7 @@ impl Replay {
     {
         match self.world.step(step) {
             Ok(done) => {
-                self.count(done);
+                done.count(&mut self.did, &mut self.not_enabled);
                 Ok(())
             }
             Err(StepFault::NoProcess) => {
@@ -85,18 +84,6 @@ impl Replay {
                 Ok(())
             }
             Err(fault) => Err(fault),
-        }
-    }
-
-    /// Counts a step of a process that there is, as one that was done or as one that was not enabled.
-    fn count(&mut self, done: Done)
-        requires { self.old.did + self.old.not_enabled < 2 ^ 63 }
-        ensures did { done ≡ Did → self.new ≡ record self.old { did = self.old.did + 1 } }
-        ensures not_enabled { done ≡ NotEnabled → self.new ≡ record self.old { not_enabled = self.old.not_enabled + 1 } }
-    {
-        match done {
-            Done::Did => self.did += 1,
-            Done::NotEnabled => self.not_enabled += 1,
         }
     }
 }

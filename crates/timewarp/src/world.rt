@@ -106,8 +106,7 @@ impl World {
         ensures { (steps : List Step) → IsAfter self.now steps → IsTrue result ↔ IsFinished (simulation_of self.now.plan) (after self.now.plan steps) }
     {
         layout_law(&self.network);
-        let is_over = self.gvt().ns() == self.network.until().ns() + 1;
-        is_over && self.actors.all_committed()
+        self.actors.is_finished(self.network.until())
     }
 
     /// The letter number `place`, from 0, of the mail of process `process`: the one that the step Take would take. None where there is

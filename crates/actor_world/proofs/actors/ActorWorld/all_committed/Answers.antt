@@ -1,4 +1,4 @@
-use Rattle.std.proofs.Common.{◌≡◌, ◌⊎◌, inl, inr, get_or, sym, ap, ◌∙◌, subst, refl, arith, is_some}
+use Rattle.std.proofs.Common.{◌≡◌, ◌⊎◌, inl, inr, map, get_or, sym, ap, ◌∙◌, subst, refl, arith, is_some}
 use Rattle.std.proofs.lemmas.Bool.{cases_eq}
 use Rattle.std.proofs.lemmas.List.{get_or_default}
 use Rattle.vlink.specs.declared.message.Message.{Message}
@@ -14,9 +14,10 @@ pub returns-then-is_some : goal.returns-then-is_some
 returns-then-is_some g c = λ x laid steps h.
     let f = simulation_of (rules_of g.R.Reversible.plain) x in
     let w = run f steps (start f) in
-    let items = c.deref-process-items.ensures.value in (
+    let queues = λ (u : InHand g.row.R.Denot g.row.R-Record.Denot). u.queues in
+    let same = ap (map queues) c.deref-process-items.ensures.value ∙ ap (λ (o : Holdings g.row.R.Denot g.row.R-Record.Denot). o.processes) c.self.view_is in (
       λ e. absurd cc,
-      λ n. absurd (none-at f g.R.Reversible.is_value w _ h _ (rw items (ap (λ (o : Holdings g.row.R.Denot g.row.R-Record.Denot). o.processes) c.self.view_is)) n
+      λ n. absurd (none-at f g.R.Reversible.is_value w c.args.self.now h c.deref-process-items.result.now same n
           c.loop-process.process-index c.process-item.result c.loop-process-test.true c.process-item.is
           (λ opening part s. some-first (λ (m : Message). m.time) part.done (c.if-is_some.ensures ∙ ap (λ o. is_some o) (c.oldest.ensures opening part s)))),
     )
@@ -39,8 +40,9 @@ pub returns : goal.returns
 returns g c = λ x laid steps h.
     let f = simulation_of (rules_of g.R.Reversible.plain) x in
     let w = run f steps (start f) in
-    let items = c.deref-process-items.ensures.value in (
-      λ e p i. all-none f g.R.Reversible.is_value w _ h _ (rw items (ap (λ (o : Holdings g.row.R.Denot g.row.R-Record.Denot). o.processes) c.self.view_is))
+    let queues = λ (u : InHand g.row.R.Denot g.row.R-Record.Denot). u.queues in
+    let same = ap (map queues) c.deref-process-items.ensures.value ∙ ap (λ (o : Holdings g.row.R.Denot g.row.R-Record.Denot). o.processes) c.self.view_is in (
+      λ e p i. all-none f g.R.Reversible.is_value w c.args.self.now h c.deref-process-items.result.now same
           (λ k d j. c.loop-process.invariant k d (let a = c.loop-process-test.false in omega arith)) p i,
       λ n. refl,
     )

@@ -7,22 +7,18 @@ use Rattle.timewarp.specs.declared.replaying.Replay.{Replay}
 use Rattle.actor_world.specs.declared.fault.StepFault.{StepFault}
 use Rattle.seqsim.specs.Committed.{after}
 use Rattle.actor_world.proofs.Answering.{step-not}
-use Rattle.timewarp.proofs.Counts.{counted, counted-plan, counted-total, replayed, unknown-not-enabled}
+use Rattle.timewarp.proofs.Counts.{counted, counted-total, replayed, unknown-not-enabled}
 use Rattle.timewarp.proofs.NetworkWorlds.{stepped-same}
 use Rattle.timewarp.proofs.replaying.Replay.do_step.Goals as goal
 
 pub returns-in-Ok-clause-replayed : goal.returns-in-Ok-clause-replayed
 returns-in-Ok-clause-replayed c = λ steps h.
-    counted c.in-Ok.done c.args.self.now c.step.new.self c.count.new.self c.count.ensures.did c.count.ensures.not_enabled c.args.step steps c.step.ensures.network h
+    counted c.in-Ok.done c.args.self.now c.step.new.self c.count.new.did c.count.new.not_enabled c.count.ensures.did c.count.ensures.not_enabled c.args.step steps c.step.ensures.network h
     (c.in-Ok.ensures.after steps h.after) (c.in-Ok.ensures.enabled steps h.after)
     (false_from_ne_true _ (λ e. false≢true (sym (ap is_ok (c.in-Ok.ensures.no_process.1 e)))))
 
 pub returns-in-Ok-clause-totals : goal.returns-in-Ok-clause-totals
-returns-in-Ok-clause-totals c = counted-total c.in-Ok.done c.args.self.now c.step.new.self c.count.new.self c.count.ensures.did c.count.ensures.not_enabled
-
-pub returns-in-Ok-clause-network : goal.returns-in-Ok-clause-network
-returns-in-Ok-clause-network c =
-    counted-plan c.in-Ok.done c.args.self.now c.step.new.self c.count.new.self c.count.ensures.did c.count.ensures.not_enabled ∙ c.step.ensures.network
+returns-in-Ok-clause-totals c = counted-total c.in-Ok.done c.args.self.now c.count.new.did c.count.new.not_enabled c.count.ensures.did c.count.ensures.not_enabled
 
 pub returns-in-Err-NoProcess-clause-replayed : goal.returns-in-Err-NoProcess-clause-replayed
 returns-in-Err-NoProcess-clause-replayed c = λ steps h.
