@@ -1,7 +1,7 @@
 -- The inverse law of the output port.
-use Rattle.std.proofs.Common.{◌≡◌, ◌++◌, Bool, true, false, cond, List, [], ◌∷◌, refl, sym, ap}
+use Rattle.std.proofs.Common.{◌≡◌, Bool, true, false, cond, List, [], ◌∷◌, refl, sym, ap}
 use Rattle.vlink.specs.declared.frame.Frame.{Frame}
-use Rattle.frame_ring.specs.Last.{without_last, without_last-push}
+use Rattle.frame_ring.specs.Last.{without_last-push}
 use Rattle.reverse.specs.Plain.{IsReversible}
 use Rattle.output_port.specs.declared.event.Priority.{Priority}
 use Rattle.output_port.specs.declared.event.Priority.TheVariants.{High, Low}

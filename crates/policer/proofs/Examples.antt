@@ -1,5 +1,5 @@
 -- The account at work, each case computed.
-use Rattle.std.proofs.Common.{◌≡◌, ℕ, List, [], ◌∷◌, refl}
+use Rattle.std.proofs.Common.{◌≡◌, ℕ, [], ◌∷◌, refl}
 use Rattle.policer.specs.declared.account.Arrival.{Arrival}
 use Rattle.policer.specs.declared.account.Measure.TheVariants.{Bytes, Frames}
 use Rattle.policer.specs.Account.{full}
