@@ -44,6 +44,7 @@ impl Sender {
     }
 
     /// The number of the process.
+    #[inline(always)]
     pub fn number(&self) -> u16
         ensures { result ≡ self.now.number }
     {
@@ -51,6 +52,7 @@ impl Sender {
     }
 
     /// The end of the run: later messages are left out.
+    #[inline(always)]
     pub fn until(&self) -> Time
         ensures until { result ≡ self.now.until }
         ensures in_limits { result < GREATEST_NS }
@@ -59,6 +61,7 @@ impl Sender {
     }
 
     /// The number of the next message.
+    #[inline(always)]
     pub fn counter(&self) -> u64
         ensures { result ≡ self.now.counter }
     {
@@ -66,6 +69,7 @@ impl Sender {
     }
 
     /// Whether there are numbers left for `MOST_SENT` messages.
+    #[inline(always)]
     pub fn has_numbers(&self) -> bool
         ensures { IsTrue result ↔ (self.now.counter + MOST_SENT ≤ greatest_number) }
     {
@@ -91,6 +95,7 @@ impl Sender {
     }
 
     /// Takes the last messages back, so many as an event has sent: the numbers go on where they stood before it.
+    #[inline(always)]
     pub fn take_back(&mut self, sends: u8)
         requires { sends ≤ self.old.counter }
         ensures { self.new ≡ record self.old { counter = self.old.counter - sends } }
