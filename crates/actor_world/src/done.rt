@@ -13,6 +13,7 @@ pub enum Done {
 
 impl Done {
     /// Counts the step, as one that was done or as one that was not enabled.
+    #[inline(always)]
     pub fn count(self, did: &mut u64, not_enabled: &mut u64)
         requires { did.old + not_enabled.old < 2 ^ 63 }
         ensures did { self ≡ Did → (did.new ≡ did.old + 1) × (not_enabled.new ≡ not_enabled.old) }

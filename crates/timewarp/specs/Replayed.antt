@@ -1,5 +1,5 @@
 -- What a replay has found after steps of a journal.
-use Rattle.std.specs.Prelude.{◌≡◌, ℕ, List, Some, map, slice_get, take}
+use Rattle.std.specs.Prelude.{◌≡◌, ℕ, List, Some, slice_get, take}
 use Rattle.virtual_time.specs.declared.step.Step.{Step}
 use Rattle.virtual_time.specs.Law.{start}
 use Rattle.nodes.specs.Words.{simulation_of}

@@ -1,16 +1,15 @@
-use Rattle.std.proofs.Common.{◌≡◌, ◌∙◌, inl, inr, List, Some, Err, map, slice_get, take, get_or, true, sym, subst, arith}
+use Rattle.std.proofs.Common.{◌≡◌, ◌∙◌, inl, inr, Some, Err, slice_get, take, get_or, true, sym, subst, arith}
 use Rattle.std.proofs.lemmas.Bool.{cases_lt}
 use Rattle.std.proofs.lemmas.List.{take_more}
 use Rattle.std.proofs.lemmas.Option.{slice_get-get_or, slice_get_within, get_or_from_slice_get}
 use Rattle.std.proofs.lemmas.Result.{err_from_is_err_and}
 use Rattle.virtual_time.specs.declared.step.Step.TheVariants.{Take}
-use Rattle.virtual_time.specs.declared.step.Step.{Step}
 use Rattle.virtual_time.specs.Law.{is_enabled}
 use Rattle.network.specs.Words.{Plan}
 use Rattle.nodes.specs.Words.{simulation_of}
 use Rattle.actor_world.specs.declared.fault.StepFault.TheVariants.{Exhausted, OutOfMemory}
 use Rattle.seqsim.specs.Committed.{after}
-use Rattle.timewarp.specs.Replayed.{IsReplayed, StandsBefore}
+use Rattle.timewarp.specs.Replayed.{IsReplayed}
 use Rattle.actor_world.specs.Worlds.{IsExhausted}
 use Rattle.timewarp.proofs.journal.do_all.Goals as goal
 

@@ -1,4 +1,4 @@
-use Rattle.std.proofs.Common.{◌≡◌, ◌+◌, ◌<◌, ℕ, Some, map, slice_get, take}
+use Rattle.std.proofs.Common.{◌≡◌, ◌+◌, ◌<◌, ℕ, Some, slice_get, take}
 use Rattle.virtual_time.specs.declared.step.Step.{Step}
 use Rattle.nodes.specs.Words.{simulation_of}
 use Rattle.actor_world.specs.Worlds.{IsExhausted}

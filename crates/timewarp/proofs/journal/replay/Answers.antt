@@ -1,4 +1,4 @@
-use Rattle.std.proofs.Common.{◌≡◌, Err, map, take, subst}
+use Rattle.std.proofs.Common.{◌≡◌, Err, take, subst}
 use Rattle.std.proofs.lemmas.Result.{err_from_is_err_and}
 use Rattle.network.specs.Words.{Plan}
 use Rattle.nodes.specs.Words.{simulation_of}

@@ -1,4 +1,4 @@
-use Rattle.std.proofs.Common.{◌≡◌, ◌∙◌, ◌+◌, true, false, map, Err, refl, sym, ap, subst, arith, is_ok}
+use Rattle.std.proofs.Common.{◌≡◌, ◌+◌, true, false, Err, refl, sym, ap, subst, arith, is_ok}
 use Rattle.std.proofs.lemmas.Bool.{false≢true, false_from_ne_true}
 use Rattle.nodes.specs.Words.{simulation_of}
 use Rattle.network.specs.Words.{Plan}
