@@ -3,12 +3,12 @@ use std::alloc::AllocError;
 use thiserror::Error;
 
 /// A sink refused bytes.
-#[derive(Clone, Copy, Debug, PartialEq, Eq, Error)]
+#[derive(Clone, Copy, Debug, Error)]
 #[error("cannot write")]
 pub struct SinkFault;
 
 /// Why a text did not go out whole.
-#[derive(Clone, Copy, Debug, PartialEq, Eq, Error)]
+#[derive(Clone, Copy, Debug, Error)]
 pub enum OutFault {
     /// The sink failed. What went out is a beginning of the text.
     #[error("cannot write")]

@@ -3,7 +3,7 @@ use std::alloc::AllocError;
 use thiserror::Error;
 
 /// Why a segment of the trace, or a batch, is not taken.
-#[derive(Clone, Copy, Debug, PartialEq, Eq, Error)]
+#[derive(Clone, Copy, Debug, Error)]
 pub enum SegmentFault {
     /// It does not begin where the last one ended, but later, or it does not end where it should.
     #[error("rows of the trace are missing")]

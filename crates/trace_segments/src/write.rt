@@ -4,8 +4,7 @@ ghost use Rattle.std.specs.List.{flat_map};
 ghost use Rattle.std.specs.Io.KnownBytes.{append_known};
 ghost use Rattle.trace_segments.specs.declared.fault.OutFault.TheVariants.{Device};
 ghost use Rattle.trace_segments.specs.Sinking.{IsBeginning};
-ghost use Rattle.trace_segments.specs.Text.{trace_line, trace_text};
-ghost use Rattle.trace_segments.specs.WrittenTrace.{next_text};
+ghost use Rattle.trace_segments.specs.Text.{trace_line, trace_text, next_text};
 
 use crate::fault::OutFault;
 use crate::line::{empty, text_of};
@@ -37,7 +36,7 @@ fn line_bytes(alloc: Global, network: &Network, rows: &[Row]) -> Result<Vec<u8>,
 
 /// The lines of these rows, behind the first line of the trace unless that is written. An error is the library's own, so that it is told
 /// as want of memory or as `Layout` where it is turned into a fault, and nowhere before.
-pub(crate) fn next_bytes(
+pub fn next_bytes(
     alloc: Global,
     network: &Network,
     begun: bool,

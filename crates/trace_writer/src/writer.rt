@@ -3,21 +3,17 @@ ghost use Rattle.std.specs.Prelude.{◌≡◌, ◌≢◌, ◌+◌, [], true, fal
 ghost use Rattle.std.specs.Io.KnownBytes.{append_known};
 ghost use Rattle.trace_segments.specs.declared.fault.OutFault.TheVariants.{Device};
 ghost use Rattle.trace_segments.specs.declared.trace_fault.TraceFault.{TraceFault};
-ghost use Rattle.trace_segments.specs.declared.trace_fault.TraceFault.TheVariants.{Segment, Out};
-ghost use Rattle.trace_segments.specs.Sinking.{IsBeginning};
-ghost use Rattle.trace_segments.specs.Text.{trace_text};
-ghost use Rattle.trace_segments.specs.WrittenTrace.{next_text, batch_fault, lacks_head, end_fault};
+ghost use Rattle.trace_segments.specs.declared.trace_fault.TraceFault.TheVariants.{Out};
+ghost use Rattle.trace_segments.specs.Words.{IsBeginning, next_text, trace_text};
+ghost use Rattle.trace_writer.specs.WrittenTrace.{batch_fault, lacks_head, end_fault};
 
-use crate::batch::Batch;
-use crate::fault::OutFault;
-use crate::segment_fault::SegmentFault;
-use crate::sink::{Sink, write_all};
-use crate::trace_fault::TraceFault;
-use crate::write::{next_bytes, write_trace};
 use network::Network;
 use std::alloc::Global;
 use std::marker::Model;
-use vlink::Time;
+use trace_segments::{
+    Batch, OutFault, SegmentFault, Sink, TraceFault, next_bytes, write_all, write_trace,
+};
+use vlink::{Row, Time};
 
 /// The trace of a run of a network, as far as it is written.
 ///
@@ -34,7 +30,7 @@ pub struct TraceWriter<'a, S: Sink> {
 }
 
 impl<'a, S: Sink> Model for TraceWriter<'a, S> {
-    ghost use Rattle.trace_segments.specs.WrittenTrace.{WrittenTrace};
+    ghost use Rattle.trace_writer.specs.WrittenTrace.{WrittenTrace};
 
     ghost Value = { WrittenTrace };
 
@@ -112,16 +108,36 @@ impl<'a, S: Sink> TraceWriter<'a, S> {
         if let Some(fault) = self.fault_of(&batch) {
             return Err(fault);
         }
-        let bytes = next_bytes(self.alloc, self.network, self.begun, batch.rows())?;
+        match self.write(batch.rows()) {
+            Ok(()) => {
+                self.end = batch.to();
+                Ok(())
+            }
+            Err(fault) => Err(TraceFault::Out(fault)),
+        }
+    }
+
+    /// Writes the lines of these rows, behind the first line of the trace unless that is written.
+    fn write(&mut self, rows: &[Row]) -> Result<(), OutFault>
+        ensures written { OnOk result (self.new ≡ record self.old {
+          taken = append_known self.old.taken (next_text self.old.plan self.old.begun rows.now);
+          begun = true;
+        }) }
+        ensures device { IfErr result (λ fault. fault ≡ Device →
+            IsBeginning self.old.taken self.new.taken (next_text self.old.plan self.old.begun rows.now)) }
+        ensures broken { IfErr result (λ fault. fault ≡ Device →
+            self.new ≡ record self.old { taken = self.new.taken; failures = self.old.failures + 1; broken = true }) }
+        ensures kept { IfErr result (λ fault. fault ≢ Device → self.new ≡ self.old) }
+    {
+        let bytes = next_bytes(self.alloc, self.network, self.begun, rows)?;
         match write_all(&mut self.sink, bytes.as_slice()) {
             Ok(()) => {
                 self.begun = true;
-                self.end = batch.to();
                 Ok(())
             }
             Err(_) => {
                 self.broken = true;
-                Err(TraceFault::Out(OutFault::Device))
+                Err(OutFault::Device)
             }
         }
     }
