@@ -16,9 +16,9 @@ pub adds-same : (a b : Writer (Vec ℕ Global)) (xs ys : List ℕ) → xs ≡ ys
 adds-same a b xs ys e f = subst (λ (zs : List ℕ). Adds a b zs) e f
 
 -- one more of those that are made one after another
-pub flat_map-more : {X : Type 0} (f : X → List ℕ) (xs : List X) (i : ℕ) (x : X) → i < length xs → x ≡ get_or xs i x → flat_map f (take (i + 1) xs) ≡ flat_map f (take i xs) ++ f x
+pub flat_map-more : {X Y : Type 0} (f : X → List Y) (xs : List X) (i : ℕ) (x : X) → i < length xs → x ≡ get_or xs i x → flat_map f (take (i + 1) xs) ≡ flat_map f (take i xs) ++ f x
 flat_map-more f xs i x below at =
-    ap (flat_map f) (take-read xs i x below at) ∙ flat_map-append f (take i xs) (x ∷ []) ∙ ap (λ (ys : List ℕ). flat_map f (take i xs) ++ ys) (append-nil (f x))
+    ap (flat_map f) (take-read xs i x below at) ∙ flat_map-append f (take i xs) (x ∷ []) ∙ ap (λ ys. flat_map f (take i xs) ++ ys) (append-nil (f x))
 
 -- the text that a writer gave up is the one that it held
 pub text-held : {E : Type 0} (w : Writer (Vec ℕ Global)) (text : List ℕ) (r : Result (Vec ℕ Global) E) → Holds w text →

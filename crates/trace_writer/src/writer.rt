@@ -1,5 +1,5 @@
 //! A trace that is written batch by batch.
-ghost use Rattle.std.specs.Prelude.{◌≡◌, ◌≢◌, ◌+◌, [], true, false, None, Some, Ok, Err, IsOk, OnOk, IfErr};
+ghost use Rattle.std.specs.Prelude.{◌≡◌, ◌≢◌, ◌+◌, [], true, false, None, Some, Ok, Err, IsOk, OnOk, IfErr, MatchResult};
 ghost use Rattle.std.specs.Io.KnownBytes.{append_known};
 ghost use Rattle.trace_segments.specs.declared.fault.OutFault.TheVariants.{Device};
 ghost use Rattle.trace_segments.specs.declared.trace_fault.TraceFault.{TraceFault};
@@ -44,6 +44,16 @@ impl<'a, S: Sink> Model for TraceWriter<'a, S> {
     } };
 }
 
+/// How a write went, told of the trace.
+fn of_trace(written: Result<(), OutFault>) -> Result<(), TraceFault>
+    ensures { MatchResult written (λ _. IsOk result) (λ fault. result ≡ Err (Out fault)) }
+{
+    match written {
+        Ok(()) => Ok(()),
+        Err(fault) => Err(TraceFault::Out(fault)),
+    }
+}
+
 impl<'a, S: Sink> TraceWriter<'a, S> {
     /// Nothing is written yet.
     pub fn new(alloc: Global, network: &'a Network, sink: S) -> Self
@@ -73,10 +83,11 @@ impl<'a, S: Sink> TraceWriter<'a, S> {
         if self.broken {
             return Some(TraceFault::Out(OutFault::Device));
         }
-        if batch.from().ns() < self.end.ns() {
+        let from = batch.from();
+        if from.ns() < self.end.ns() {
             return Some(TraceFault::Segment(SegmentFault::Double));
         }
-        if self.end.ns() < batch.from().ns() {
+        if self.end.ns() < from.ns() {
             return Some(TraceFault::Segment(SegmentFault::Gap));
         }
         None
@@ -175,7 +186,7 @@ impl<'a, S: Sink> TraceWriter<'a, S> {
         }
         if !begun && network.process_count() == 0 {
             let written = write_trace(alloc, network, &[], &mut sink);
-            return (written.map_err(TraceFault::Out), sink);
+            return (of_trace(written), sink);
         }
         if end.ns() != network.until().ns() + 1 {
             return (Err(TraceFault::Segment(SegmentFault::Gap)), sink);
