@@ -20,9 +20,8 @@ fn trace_bytes(alloc: Global, network: &Network, rows: &[Row]) -> Result<Vec<u8>
     ensures { IfOk result (λ bytes. bytes.items ≡ trace_text network.now rows.now) }
 {
     let mut out = empty(alloc);
-    trace::push_head(&mut out)?;
-    trace::push_rows(&mut out, network, rows)?;
-    text_of(out)
+    let put = trace::push_trace(&mut out, network, rows);
+    text_of(out, put)
 }
 
 /// The lines of these rows alone. An error is the library's own.
@@ -30,8 +29,8 @@ fn line_bytes(alloc: Global, network: &Network, rows: &[Row]) -> Result<Vec<u8>,
     ensures { IfOk result (λ bytes. bytes.items ≡ flat_map (trace_line network.now) rows.now) }
 {
     let mut out = empty(alloc);
-    trace::push_rows(&mut out, network, rows)?;
-    text_of(out)
+    let put = trace::push_rows(&mut out, network, rows);
+    text_of(out, put)
 }
 
 /// The lines of these rows, behind the first line of the trace unless that is written. An error is the library's own, so that it is told
