@@ -1,4 +1,4 @@
-//! The trace of a run: its rows in order, its segments by process and interval, and its text, whole or batch by batch.
+//! The trace of a run: its rows in order, its segments by process and interval, and its text, whole or the next lines of it.
 #![tactic(auto)]
 
 mod batch;

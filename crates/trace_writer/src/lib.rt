@@ -1,4 +1,4 @@
-//! The trace of a run, written batch by batch.
+//! A trace that is written batch by batch, into a sink that may fail.
 #![tactic(auto)]
 
 mod writer;
