@@ -23,7 +23,7 @@ use vlink::{Time, VlId, process_number};
 /// A network: end systems, switches, the links between them, and virtual links with their paths.
 ///
 /// Clauses see it as its plan. Its virtual links are in rising number.
-#[derive(Debug, Drop)]
+#[derive(Drop)]
 pub struct Network {
     until: Time,
     seed: u64,

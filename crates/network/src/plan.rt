@@ -10,7 +10,7 @@ use std::marker::Model;
 /// A virtual link with its paths on the networks A and B. A path is a list of nodes.
 ///
 /// Clauses see it as its plan.
-#[derive(Debug, Drop)]
+#[derive(Drop)]
 pub struct Routed {
     link: VirtualLink,
     a: Vec<Vec<usize>>,
@@ -75,7 +75,7 @@ pub fn source_among(paths: &[Vec<usize>]) -> Option<usize>
 }
 
 /// What rows say beside their nodes.
-#[derive(Debug, Drop)]
+#[derive(Drop)]
 pub struct Numbered {
     pub links: Vec<Link>,
     pub outages: Vec<Outage>,

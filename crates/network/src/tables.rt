@@ -3,7 +3,7 @@
 use crate::wiring::{LinePlan, Outage, Way};
 
 /// What is looked up in a network by number.
-#[derive(Debug, Drop)]
+#[derive(Drop)]
 pub struct Tables {
     pub lines: Vec<LinePlan>,
     pub line_names: Vec<String>,
@@ -18,7 +18,7 @@ pub struct Tables {
 }
 
 /// For each node the ports by which virtual links leave it, and by which they come in.
-#[derive(Debug, Drop)]
+#[derive(Drop)]
 pub struct Meetings {
     pub departures: Vec<Vec<Way>>,
     pub arrivals: Vec<Vec<Way>>,

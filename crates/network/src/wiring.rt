@@ -3,7 +3,7 @@
 use vlink::VlId;
 
 /// A link between two nodes, which are given by their places. It carries frames in both directions.
-#[derive(Clone, Copy, Debug, PartialEq, Eq)]
+#[derive(Clone, Copy)]
 pub struct Link {
     pub a: usize,
     pub b: usize,
@@ -14,7 +14,7 @@ pub struct Link {
 }
 
 /// A time in which the direction of a link from one node to another loses frames.
-#[derive(Clone, Copy, Debug, PartialEq, Eq)]
+#[derive(Clone, Copy)]
 pub struct Outage {
     pub from: usize,
     pub to: usize,
@@ -25,14 +25,14 @@ pub struct Outage {
 }
 
 /// From one node of a path to the next.
-#[derive(Clone, Copy, Debug, PartialEq, Eq)]
+#[derive(Clone, Copy)]
 pub struct Hop {
     pub from: usize,
     pub to: usize,
 }
 
 /// One direction of a link.
-#[derive(Clone, Copy, Debug, PartialEq, Eq)]
+#[derive(Clone, Copy)]
 pub struct LinePlan {
     /// The number of the node that it leads out of, and its port there.
     pub from: u16,
@@ -47,7 +47,7 @@ pub struct LinePlan {
 }
 
 /// A virtual link at a port of a node.
-#[derive(Clone, Copy, Debug, PartialEq, Eq)]
+#[derive(Clone, Copy)]
 pub struct Way {
     pub vl: VlId,
     pub port: u16,

@@ -1,5 +1,5 @@
 -- Faults stored one after another, and the first of all.
-use Rattle.std.proofs.Common.{◌≡◌, ◌+◌, cond, List, [], ◌∷◌, ◌++◌, map, Option, Some, None, unwrap_or, refl, ap, ◌∙◌}
+use Rattle.std.proofs.Common.{◌≡◌, cond, List, [], ◌∷◌, ◌++◌, map, Option, Some, None, unwrap_or, refl, ap, ◌∙◌}
 use Rattle.toml.specs.Data.{Members}
 use Rattle.network_rows.specs.declared.fault.Place.{Place}
 use Rattle.network_rows.specs.declared.fault.KeyFault.{KeyFault}

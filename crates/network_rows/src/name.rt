@@ -6,7 +6,7 @@ use std::marker::Model;
 /// A text that a description gives as the name of a node.
 ///
 /// Clauses see it as its bytes.
-#[derive(Debug, Drop)]
+#[derive(Drop)]
 pub struct Name {
     text: String,
 }

@@ -21,19 +21,18 @@ use std::alloc::{AllocError, Global};
 use toml::{Table, Value};
 use vlink::Time;
 
-/// The rows of a document without a fault of a key.
-pub fn rows(alloc: Global, document: Table) -> Result<Rows, AllocError>
-    requires { faults_of_document (table_view document) ≡ [] }
-    ensures { IfOk result (MeansRows (table_view document)) }
+/// The rows of a document without a fault of a key, whose sections are taken out of it.
+pub fn rows(alloc: Global, document: &mut Table) -> Result<Rows, AllocError>
+    requires { faults_of_document (table_view document.old) ≡ [] }
+    ensures { IfOk result (MeansRows (table_view document.old)) }
 {
-    let mut document = document;
-    let until = Time::new(number_at(table::UNTIL_NS, &document)).unwrap();
-    let seed = number_at(table::SEED, &document);
-    let has_unknown_key = has_unknown_key(Section::Top, &document);
-    let nodes = rows_in::<NodeRow>(alloc, take_list(&mut document, Section::Node))?;
-    let links = rows_in::<LinkRow>(alloc, take_list(&mut document, Section::Link))?;
-    let outages = rows_in::<OutageRow>(alloc, take_list(&mut document, Section::Outage))?;
-    let vls = rows_in::<VlRow>(alloc, take_list(&mut document, Section::Vl))?;
+    let until = Time::new(number_at(table::UNTIL_NS, document)).unwrap();
+    let seed = number_at(table::SEED, document);
+    let has_unknown_key = has_unknown_key(Section::Top, document);
+    let nodes = rows_in::<NodeRow>(alloc, take_list(document, Section::Node))?;
+    let links = rows_in::<LinkRow>(alloc, take_list(document, Section::Link))?;
+    let outages = rows_in::<OutageRow>(alloc, take_list(document, Section::Outage))?;
+    let vls = rows_in::<VlRow>(alloc, take_list(document, Section::Vl))?;
     Ok(Rows {
         until,
         seed,

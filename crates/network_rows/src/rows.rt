@@ -5,7 +5,7 @@ use crate::sequence::Sequence;
 use vlink::{FrameSize, Net, Time, VlId};
 
 /// What a node is.
-#[derive(Clone, Copy, Debug, PartialEq, Eq)]
+#[derive(Clone, Copy)]
 pub enum NodeKind {
     EndSystem,
     /// A switch belongs to one network, and a frame takes so many ns through it.
@@ -20,21 +20,21 @@ pub enum Rate {
 }
 
 /// Which of two lists of an output port the frames of a virtual link wait in.
-#[derive(Clone, Copy, Debug, PartialEq, Eq)]
+#[derive(Clone, Copy)]
 pub enum Priority {
     High,
     Low,
 }
 
 /// What switches count when they police a virtual link.
-#[derive(Clone, Copy, Debug, PartialEq, Eq)]
+#[derive(Clone, Copy)]
 pub enum Policing {
     Bytes,
     Frames,
 }
 
 /// A row of the section `node`.
-#[derive(Debug, Drop)]
+#[derive(Drop)]
 pub struct NodeRow {
     pub name: Name,
     pub kind: NodeKind,
@@ -68,7 +68,7 @@ pub struct OutageRow {
 
 /// What is agreed of the frames of a virtual link.
 /// `netdesc` passes it on as it is, so a key of a virtual link is one field, one line of the table and one reader.
-#[derive(Clone, Copy, Debug, PartialEq, Eq)]
+#[derive(Clone, Copy)]
 pub struct VirtualLink {
     pub id: VlId,
     /// The bandwidth allocation gap, in ms.

@@ -12,7 +12,8 @@ use Rattle.trace_segments.specs.declared.fault.OutFault.TheVariants.{Device, Out
 use Rattle.trace_segments.specs.declared.segment_fault.SegmentFault.TheVariants.{Gap}
 use Rattle.trace_segments.specs.declared.trace_fault.TraceFault.{TraceFault}
 use Rattle.trace_segments.specs.declared.trace_fault.TraceFault.TheVariants.{Segment, Out}
-use Rattle.trace_segments.specs.Words.{rows_before, rows_from, IsBeginning, trace_line, trace_text, WrittenTrace, lacks_head, end_fault}
+use Rattle.trace_segments.specs.Words.{rows_before, rows_from, IsBeginning, trace_line, trace_text}
+use Rattle.trace_writer.specs.WrittenTrace.{WrittenTrace, lacks_head, end_fault}
 use Rattle.trace_segments.proofs.TimeLemmas.{all-before}
 use Rattle.seqsim.specs.Networks.{AreRowsOf}
 use Rattle.run_rows.specs.Traces.{AreLawfulRows, HasLawfulRows, IsTraceOfRun, text_before}

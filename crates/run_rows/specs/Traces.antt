@@ -4,7 +4,8 @@ use Rattle.std.specs.Io.KnownBytes.{append_known}
 use Rattle.virtual_time.specs.Law.{rows_at}
 use Rattle.vlink.specs.Letters.{Row}
 use Rattle.network.specs.Words.{Plan, process_count}
-use Rattle.trace_segments.specs.Words.{rows_within, rows_before, AreInMessageOrder, AreAtReceivers, BatchRows, IsBeginning, trace_text, WrittenTrace}
+use Rattle.trace_segments.specs.Words.{rows_within, rows_before, AreInMessageOrder, AreAtReceivers, BatchRows, IsBeginning, trace_text}
+use Rattle.trace_writer.specs.WrittenTrace.{WrittenTrace}
 use Rattle.seqsim.specs.Networks.{AreRowsOf}
 
 -- a network of nothing

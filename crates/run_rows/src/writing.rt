@@ -6,7 +6,8 @@ ghost use Rattle.std.proofs.Props.{props};
 ghost use Rattle.trace_segments.specs.declared.fault.OutFault.TheVariants.{Device};
 ghost use Rattle.trace_segments.specs.declared.trace_fault.TraceFault.{TraceFault};
 ghost use Rattle.trace_segments.specs.declared.trace_fault.TraceFault.TheVariants.{Out};
-ghost use Rattle.trace_segments.specs.Words.{next_text, batch_fault};
+ghost use Rattle.trace_segments.specs.Words.{next_text};
+ghost use Rattle.trace_writer.specs.WrittenTrace.{batch_fault};
 ghost use Rattle.run_rows.specs.Traces.{HasLawfulRows, IsTraceOfRun};
 ghost use Rattle.run_rows.specs.Written.{outcome_of, IsPlaceFault, IsFaultOfTrace, IsWritten};
 

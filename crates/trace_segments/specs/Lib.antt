@@ -9,5 +9,4 @@ pub mod Intervals
 pub mod Segments
 pub mod Gathering
 pub mod Gathered
-pub mod WrittenTrace
 pub mod Words

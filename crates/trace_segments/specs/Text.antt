@@ -1,5 +1,5 @@
 -- The text of a trace: comma-separated rows, each with a line feed at its end. Times are in ns.
-use Rattle.std.specs.Prelude.{ℕ, ◌-◌, cond, nat_lt, codes, decimal, length, List, [], ◌∷◌, ◌++◌, slice_get, flat_map}
+use Rattle.std.specs.Prelude.{ℕ, ◌-◌, cond, nat_lt, Bool, codes, decimal, length, List, [], ◌∷◌, ◌++◌, slice_get, flat_map}
 use Rattle.std.specs.Option.{option_map_or}
 use Rattle.csv.specs.Writing.{default_writer, row_text}
 use Rattle.vlink.specs.declared.note.Cause.{Cause}
@@ -45,3 +45,7 @@ trace_line plan row = cond (is_known plan row) (line (decimal row.message.time �
 
 abbrev pub trace_text : Plan → List Row → List ℕ
 trace_text plan rows = trace_head ++ flat_map (trace_line plan) rows
+
+-- the lines of these rows, behind the first line of the trace where that is not written
+abbrev pub next_text : Plan → Bool → List Row → List ℕ
+next_text plan begun rows = cond begun (flat_map (trace_line plan) rows) (trace_text plan rows)

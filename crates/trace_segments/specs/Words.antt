@@ -8,6 +8,5 @@ pub use Rattle.trace_segments.specs.Ordered.{AreAtReceivers, AreInMessageOrder, 
 pub use Rattle.trace_segments.specs.Places.{IsOfOneGroup, gathered}
 pub use Rattle.trace_segments.specs.Segments.{BatchRows, SegmentRows, group_segment_of, is_at_within, is_between, segment_of}
 pub use Rattle.trace_segments.specs.Sinking.{IsBeginning}
-pub use Rattle.trace_segments.specs.Text.{cause_name, line, note_fields, place_name, trace_head, trace_line, trace_text}
+pub use Rattle.trace_segments.specs.Text.{cause_name, line, next_text, note_fields, place_name, trace_head, trace_line, trace_text}
 pub use Rattle.trace_segments.specs.Writing.{Adds, Holds}
-pub use Rattle.trace_segments.specs.WrittenTrace.{WrittenTrace, batch_fault, end_fault, lacks_head, next_text}

@@ -8,7 +8,7 @@ use vlink::{Row, Time};
 /// process and then as the segment of the process has them.
 ///
 /// Clauses see it as the two moments in ns, and the rows.
-#[derive(Debug, Drop)]
+#[derive(Drop)]
 pub struct Batch {
     from: Time,
     to: Time,

@@ -18,7 +18,7 @@ use vlink::{GREATEST_NS, Time};
 ///
 /// Clauses see it as the run and its end, how many batches were given, and for each process the rows of its segments of the intervals from
 /// there on, without a gap.
-#[derive(Debug, Drop)]
+#[derive(Drop)]
 pub struct Gather {
     run: u64,
     until: Time,

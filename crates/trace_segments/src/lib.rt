@@ -1,4 +1,4 @@
-//! The trace of a run: its rows in order, its segments by process and interval, and its text, whole or batch by batch.
+//! The trace of a run: its rows in order, its segments by process and interval, and its text, whole or the next lines of it.
 #![tactic(auto)]
 
 mod batch;
@@ -19,7 +19,6 @@ mod segment_fault;
 mod sink;
 mod trace;
 mod trace_fault;
-mod trace_writer;
 mod waiting;
 mod write;
 
@@ -37,5 +36,4 @@ pub use segment::Segment;
 pub use segment_fault::SegmentFault;
 pub use sink::{Sink, write_all};
 pub use trace_fault::TraceFault;
-pub use trace_writer::TraceWriter;
-pub use write::write_trace;
+pub use write::{next_bytes, write_trace};

@@ -1,5 +1,5 @@
 //! Rows of comma-separated fields, laid out by a writer over a text.
-ghost use Rattle.std.specs.Prelude.{◌≡◌, ℕ, [], List, map, OnOk, IfOk};
+ghost use Rattle.std.specs.Prelude.{◌≡◌, ℕ, [], List, map, OnOk, OnErr, IfOk, IsErr};
 ghost use Rattle.trace_segments.specs.Text.{line};
 ghost use Rattle.trace_segments.specs.Writing.{Holds, Adds};
 
@@ -20,8 +20,19 @@ pub fn push(out: &mut Writer<Vec<u8>>, fields: &[&[u8]]) -> Result<(), Error>
     out.write_fields(fields)
 }
 
-/// The text that a writer holds. An error is the library's own.
-pub fn text_of(out: Writer<Vec<u8>>) -> Result<Vec<u8>, Error>
+/// The text that a writer holds, if all was put. An error is the library's own.
+pub fn text_of(out: Writer<Vec<u8>>, put: Result<(), Error>) -> Result<Vec<u8>, Error>
+    ensures text { IfOk result (λ bytes. (text : List ℕ) → Holds out text → bytes.items ≡ text) }
+    ensures put { OnErr put (IsErr result) }
+{
+    match put {
+        Ok(()) => held(out),
+        Err(error) => Err(error),
+    }
+}
+
+/// The text that a writer holds.
+fn held(out: Writer<Vec<u8>>) -> Result<Vec<u8>, Error>
     ensures { IfOk result (λ bytes. (text : List ℕ) → Holds out text → bytes.items ≡ text) }
 {
     match out.into_inner() {

@@ -10,7 +10,7 @@ use vlink::Row;
 /// The segments of one process that wait, the earliest first.
 ///
 /// Clauses see it as the list of their rows.
-#[derive(Debug, Drop)]
+#[derive(Drop)]
 pub(crate) struct SegmentQueue {
     segments: VecDeque<Vec<Row>>,
 }

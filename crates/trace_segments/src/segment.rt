@@ -12,7 +12,7 @@ use vlink::{GREATEST_NS, Row, Time};
 /// The rows of one process of a run, or of one group of processes, from one moment on and before another.
 ///
 /// Clauses see it as the run, the number of the process or group, the two moments in ns, and the rows.
-#[derive(Debug, Drop)]
+#[derive(Drop)]
 pub struct Segment {
     run: u64,
     process: u16,

@@ -2,7 +2,7 @@
 ghost use Rattle.std.specs.Prelude.{◌≡◌, [], ◌∷◌, decimal, OnOk};
 ghost use Rattle.std.specs.List.{flat_map};
 ghost use Rattle.trace_segments.specs.Known.{vl_of};
-ghost use Rattle.trace_segments.specs.Text.{line, trace_head, note_fields, trace_line};
+ghost use Rattle.trace_segments.specs.Text.{line, trace_head, note_fields, trace_line, trace_text};
 ghost use Rattle.trace_segments.specs.Writing.{Adds};
 
 use crate::known::is_in_network;
@@ -14,7 +14,7 @@ use network::Network;
 use vlink::{Note, Row, VlId};
 
 /// The first line of a trace.
-pub fn push_head(out: &mut Writer<Vec<u8>>) -> Result<(), Error>
+fn push_head(out: &mut Writer<Vec<u8>>) -> Result<(), Error>
     ensures { OnOk result (Adds out.old out.new trace_head) }
 {
     push(
@@ -99,4 +99,12 @@ pub fn push_rows(out: &mut Writer<Vec<u8>>, network: &Network, rows: &[Row]) -> 
         push_row(out, network, row)?;
     }
     Ok(())
+}
+
+/// The first line, and these rows behind it.
+pub fn push_trace(out: &mut Writer<Vec<u8>>, network: &Network, rows: &[Row]) -> Result<(), Error>
+    ensures { OnOk result (Adds out.old out.new (trace_text network.now rows.now)) }
+{
+    push_head(out)?;
+    push_rows(out, network, rows)
 }

@@ -4,8 +4,7 @@ ghost use Rattle.std.specs.List.{flat_map};
 ghost use Rattle.std.specs.Io.KnownBytes.{append_known};
 ghost use Rattle.trace_segments.specs.declared.fault.OutFault.TheVariants.{Device};
 ghost use Rattle.trace_segments.specs.Sinking.{IsBeginning};
-ghost use Rattle.trace_segments.specs.Text.{trace_line, trace_text};
-ghost use Rattle.trace_segments.specs.WrittenTrace.{next_text};
+ghost use Rattle.trace_segments.specs.Text.{trace_line, trace_text, next_text};
 
 use crate::fault::OutFault;
 use crate::line::{empty, text_of};
@@ -21,9 +20,8 @@ fn trace_bytes(alloc: Global, network: &Network, rows: &[Row]) -> Result<Vec<u8>
     ensures { IfOk result (λ bytes. bytes.items ≡ trace_text network.now rows.now) }
 {
     let mut out = empty(alloc);
-    trace::push_head(&mut out)?;
-    trace::push_rows(&mut out, network, rows)?;
-    text_of(out)
+    let put = trace::push_trace(&mut out, network, rows);
+    text_of(out, put)
 }
 
 /// The lines of these rows alone. An error is the library's own.
@@ -31,13 +29,13 @@ fn line_bytes(alloc: Global, network: &Network, rows: &[Row]) -> Result<Vec<u8>,
     ensures { IfOk result (λ bytes. bytes.items ≡ flat_map (trace_line network.now) rows.now) }
 {
     let mut out = empty(alloc);
-    trace::push_rows(&mut out, network, rows)?;
-    text_of(out)
+    let put = trace::push_rows(&mut out, network, rows);
+    text_of(out, put)
 }
 
 /// The lines of these rows, behind the first line of the trace unless that is written. An error is the library's own, so that it is told
 /// as want of memory or as `Layout` where it is turned into a fault, and nowhere before.
-pub(crate) fn next_bytes(
+pub fn next_bytes(
     alloc: Global,
     network: &Network,
     begun: bool,

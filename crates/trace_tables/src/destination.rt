@@ -8,7 +8,7 @@ use vlink::VlId;
 /// Where frames of a virtual link end.
 ///
 /// They are in the order of their fields.
-#[derive(Clone, Copy, Debug, PartialEq, Eq, Hash, PartialOrd, Ord)]
+#[derive(Clone, Copy, PartialEq, Eq, PartialOrd, Ord)]
 pub struct Destination {
     pub vl: VlId,
     /// The process: an end system.

@@ -7,7 +7,7 @@ use std::marker::Model;
 /// How many frames came, and their latencies in ns. All is 0 where none came.
 ///
 /// Clauses see it as its four numbers.
-#[derive(Clone, Copy, Debug, PartialEq, Eq)]
+#[derive(Clone, Copy)]
 pub struct Latencies {
     count: u64,
     least: u64,

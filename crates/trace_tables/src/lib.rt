@@ -19,8 +19,9 @@ pub use loss::Loss;
 pub use so_far::TablesSoFar;
 pub use tables::Tables;
 pub use trace_segments::{
-    Batch, Gather, OutFault, Segment, SegmentFault, Sink, SinkFault, TraceFault, TraceWriter,
+    Batch, Gather, OutFault, Segment, SegmentFault, Sink, SinkFault, TraceFault,
     batches_in_order_law, cut, put_in_message_order, rows_by_place_law, segments_of_rows_law,
     width, write_all, write_trace,
 };
+pub use trace_writer::TraceWriter;
 pub use write::write_csv;

@@ -10,7 +10,7 @@ use vlink::{Cause, VlId};
 /// Which frames are counted together: those of one virtual link that were dropped at one process for one cause.
 ///
 /// They are in the order of their fields.
-#[derive(Clone, Copy, Debug, PartialEq, Eq, Hash, PartialOrd, Ord)]
+#[derive(Clone, Copy, PartialEq, Eq, PartialOrd, Ord)]
 pub struct Loss {
     pub vl: VlId,
     /// The process: a node, or a line behind the nodes.

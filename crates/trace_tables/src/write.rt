@@ -2,12 +2,12 @@
 ghost use Rattle.std.specs.Prelude.{◌≡◌, ◌≢◌, ◌+◌, OnOk, IfOk, IfErr};
 ghost use Rattle.std.specs.Io.KnownBytes.{append_known};
 ghost use Rattle.trace_segments.specs.declared.fault.OutFault.TheVariants.{Device};
-ghost use Rattle.trace_segments.specs.Words.{IsBeginning};
+ghost use Rattle.trace_segments.specs.Words.{Adds, IsBeginning};
 ghost use Rattle.trace_tables.specs.Text.{tables_text};
 
 use crate::tables::Tables;
 use crate::text;
-use csv::Error;
+use csv::{Error, Writer};
 use network::Network;
 use std::alloc::Global;
 use trace_segments::line::{empty, text_of};
@@ -18,10 +18,17 @@ fn csv_text(alloc: Global, network: &Network, tables: &Tables) -> Result<Vec<u8>
     ensures { IfOk result (λ bytes. bytes.items ≡ tables_text network.now tables.now) }
 {
     let mut out = empty(alloc);
-    text::push_head(&mut out)?;
-    text::push_latencies(&mut out, network, tables.latencies())?;
-    text::push_drops(&mut out, network, tables.drops())?;
-    text_of(out)
+    let put = push_tables(&mut out, network, tables);
+    text_of(out, put)
+}
+
+/// The lines of the tables of a network. An error is the library's own.
+fn push_tables(out: &mut Writer<Vec<u8>>, network: &Network, tables: &Tables) -> Result<(), Error>
+    ensures { OnOk result (Adds out.old out.new (tables_text network.now tables.now)) }
+{
+    text::push_head(out)?;
+    text::push_latencies(out, network, tables.latencies())?;
+    text::push_drops(out, network, tables.drops())
 }
 
 /// Writes the tables of a network as comma-separated rows, each with a line feed at its end.

@@ -1,9 +1,18 @@
-use Rattle.std.proofs.Common.{◌++◌, ap, sym, ◌∙◌, append_assoc, append-nil}
+use Rattle.std.proofs.Common.{ℕ, [], ◌++◌, Vec, Global, ap, sym, subst, ◌∙◌, append_assoc, append-nil, rules}
+use Rattle.csv.specs.declared.writer.Writer.{Writer}
+use Rattle.trace_segments.specs.Words.{Adds, Holds}
 use Rattle.std.specs.Map.Iter.{deref_pair}
 use Rattle.std.proofs.lemmas.Map.Iter.{rest_more, rest_all}
 use Rattle.trace_tables.specs.Text.{drop_line, drop_text}
 use Rattle.trace_segments.proofs.WritingLemmas.{adds-more, adds-same}
 use Rattle.trace_tables.proofs.text.push_drops.Goals as goal
+
+-- nothing is put into a writer that is left as it is
+none-put : (w : Writer (Vec ℕ Global)) → Adds w w []
+none-put w text holds = subst (Holds w) (sym (append-nil text)) holds
+
+pub loop-loss-init : goal.loop-loss-init
+loop-loss-init c = ([], (none-put c.args.out.now, search rules))
 
 pub loop-loss-preserved : goal.loop-loss-preserved
 loop-loss-preserved c =

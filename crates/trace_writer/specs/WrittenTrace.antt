@@ -1,13 +1,11 @@
 -- A trace that is written batch by batch. Times are in ns.
-use Rattle.std.specs.Prelude.{ℕ, ◌+◌, ◌==◌, ◌&&◌, cond, not, nat_lt, Bool, List, Option, Some, None, flat_map}
-use Rattle.vlink.specs.Letters.{Row}
+use Rattle.std.specs.Prelude.{ℕ, ◌+◌, ◌==◌, ◌&&◌, cond, not, nat_lt, Bool, List, Option, Some, None}
 use Rattle.network.specs.Words.{Plan, process_count}
 use Rattle.trace_segments.specs.declared.fault.OutFault.TheVariants.{Device}
 use Rattle.trace_segments.specs.declared.segment_fault.SegmentFault.TheVariants.{Gap, Double}
 use Rattle.trace_segments.specs.declared.trace_fault.TraceFault.{TraceFault}
 use Rattle.trace_segments.specs.declared.trace_fault.TraceFault.TheVariants.{Segment, Out}
-use Rattle.trace_segments.specs.Segments.{BatchRows}
-use Rattle.trace_segments.specs.Text.{trace_line, trace_text}
+use Rattle.trace_segments.specs.Words.{BatchRows}
 
 -- the trace of a network, as far as it is written: what its sink took and how many writes failed there, whether the first line is
 -- written, where the last batch ended (0 before the first), and whether the sink failed
@@ -18,10 +16,6 @@ pub record WrittenTrace : Type 0 where
   pub begun : Bool
   pub end : ℕ
   pub broken : Bool
-
--- the lines of these rows, behind the first line of the trace where that is not written
-abbrev pub next_text : Plan → Bool → List Row → List ℕ
-next_text plan begun rows = cond begun (flat_map (trace_line plan) rows) (trace_text plan rows)
 
 -- why a batch is refused, if it is: the sink failed earlier, or the batch begins before the end of the last one, or behind it
 abbrev pub batch_fault : WrittenTrace → BatchRows → Option TraceFault

@@ -1,23 +1,19 @@
 //! A trace that is written batch by batch.
-ghost use Rattle.std.specs.Prelude.{◌≡◌, ◌≢◌, ◌+◌, [], true, false, None, Some, Ok, Err, IsOk, OnOk, IfErr};
+ghost use Rattle.std.specs.Prelude.{◌≡◌, ◌≢◌, ◌+◌, [], true, false, None, Some, Ok, Err, IsOk, OnOk, IfErr, MatchResult};
 ghost use Rattle.std.specs.Io.KnownBytes.{append_known};
 ghost use Rattle.trace_segments.specs.declared.fault.OutFault.TheVariants.{Device};
 ghost use Rattle.trace_segments.specs.declared.trace_fault.TraceFault.{TraceFault};
-ghost use Rattle.trace_segments.specs.declared.trace_fault.TraceFault.TheVariants.{Segment, Out};
-ghost use Rattle.trace_segments.specs.Sinking.{IsBeginning};
-ghost use Rattle.trace_segments.specs.Text.{trace_text};
-ghost use Rattle.trace_segments.specs.WrittenTrace.{next_text, batch_fault, lacks_head, end_fault};
+ghost use Rattle.trace_segments.specs.declared.trace_fault.TraceFault.TheVariants.{Out};
+ghost use Rattle.trace_segments.specs.Words.{IsBeginning, next_text, trace_text};
+ghost use Rattle.trace_writer.specs.WrittenTrace.{batch_fault, lacks_head, end_fault};
 
-use crate::batch::Batch;
-use crate::fault::OutFault;
-use crate::segment_fault::SegmentFault;
-use crate::sink::{Sink, write_all};
-use crate::trace_fault::TraceFault;
-use crate::write::{next_bytes, write_trace};
 use network::Network;
 use std::alloc::Global;
 use std::marker::Model;
-use vlink::Time;
+use trace_segments::{
+    Batch, OutFault, SegmentFault, Sink, TraceFault, next_bytes, write_all, write_trace,
+};
+use vlink::{Row, Time};
 
 /// The trace of a run of a network, as far as it is written.
 ///
@@ -34,7 +30,7 @@ pub struct TraceWriter<'a, S: Sink> {
 }
 
 impl<'a, S: Sink> Model for TraceWriter<'a, S> {
-    ghost use Rattle.trace_segments.specs.WrittenTrace.{WrittenTrace};
+    ghost use Rattle.trace_writer.specs.WrittenTrace.{WrittenTrace};
 
     ghost Value = { WrittenTrace };
 
@@ -46,6 +42,16 @@ impl<'a, S: Sink> Model for TraceWriter<'a, S> {
       end = w.end;
       broken = w.broken;
     } };
+}
+
+/// How a write went, told of the trace.
+fn of_trace(written: Result<(), OutFault>) -> Result<(), TraceFault>
+    ensures { MatchResult written (λ _. IsOk result) (λ fault. result ≡ Err (Out fault)) }
+{
+    match written {
+        Ok(()) => Ok(()),
+        Err(fault) => Err(TraceFault::Out(fault)),
+    }
 }
 
 impl<'a, S: Sink> TraceWriter<'a, S> {
@@ -77,10 +83,11 @@ impl<'a, S: Sink> TraceWriter<'a, S> {
         if self.broken {
             return Some(TraceFault::Out(OutFault::Device));
         }
-        if batch.from().ns() < self.end.ns() {
+        let from = batch.from();
+        if from.ns() < self.end.ns() {
             return Some(TraceFault::Segment(SegmentFault::Double));
         }
-        if self.end.ns() < batch.from().ns() {
+        if self.end.ns() < from.ns() {
             return Some(TraceFault::Segment(SegmentFault::Gap));
         }
         None
@@ -112,16 +119,36 @@ impl<'a, S: Sink> TraceWriter<'a, S> {
         if let Some(fault) = self.fault_of(&batch) {
             return Err(fault);
         }
-        let bytes = next_bytes(self.alloc, self.network, self.begun, batch.rows())?;
+        match self.write(batch.rows()) {
+            Ok(()) => {
+                self.end = batch.to();
+                Ok(())
+            }
+            Err(fault) => Err(TraceFault::Out(fault)),
+        }
+    }
+
+    /// Writes the lines of these rows, behind the first line of the trace unless that is written.
+    fn write(&mut self, rows: &[Row]) -> Result<(), OutFault>
+        ensures written { OnOk result (self.new ≡ record self.old {
+          taken = append_known self.old.taken (next_text self.old.plan self.old.begun rows.now);
+          begun = true;
+        }) }
+        ensures device { IfErr result (λ fault. fault ≡ Device →
+            IsBeginning self.old.taken self.new.taken (next_text self.old.plan self.old.begun rows.now)) }
+        ensures broken { IfErr result (λ fault. fault ≡ Device →
+            self.new ≡ record self.old { taken = self.new.taken; failures = self.old.failures + 1; broken = true }) }
+        ensures kept { IfErr result (λ fault. fault ≢ Device → self.new ≡ self.old) }
+    {
+        let bytes = next_bytes(self.alloc, self.network, self.begun, rows)?;
         match write_all(&mut self.sink, bytes.as_slice()) {
             Ok(()) => {
                 self.begun = true;
-                self.end = batch.to();
                 Ok(())
             }
             Err(_) => {
                 self.broken = true;
-                Err(TraceFault::Out(OutFault::Device))
+                Err(OutFault::Device)
             }
         }
     }
@@ -159,7 +186,7 @@ impl<'a, S: Sink> TraceWriter<'a, S> {
         }
         if !begun && network.process_count() == 0 {
             let written = write_trace(alloc, network, &[], &mut sink);
-            return (written.map_err(TraceFault::Out), sink);
+            return (of_trace(written), sink);
         }
         if end.ns() != network.until().ns() + 1 {
             return (Err(TraceFault::Segment(SegmentFault::Gap)), sink);

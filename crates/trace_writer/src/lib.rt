@@ -1,0 +1,6 @@
+//! A trace that is written batch by batch, into a sink that may fail.
+#![tactic(auto)]
+
+mod writer;
+
+pub use writer::TraceWriter;
