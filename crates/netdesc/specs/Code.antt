@@ -3,3 +3,4 @@
 pub mod Finding
 pub mod Views
 pub mod RowLists
+pub mod Meeting

@@ -1,6 +1,5 @@
 //! Lines, which are the directions of links: their ports, their names and their outages.
-ghost use Rattle.std.specs.Prelude.{◌≡◌, ℕ, ◌+◌, ◌*◌, ◌^◌, ◌<◌, ◌≤◌, [], ◌∷◌, ◌++◌, length, map, filter, cond, All, vec_len, string_bytes, IfOk, OnOk, IfErr};
-ghost use Rattle.network_rows.specs.declared.fault.DescFault.TheVariants.{OutOfMemory};
+ghost use Rattle.std.specs.Prelude.{◌≡◌, ℕ, ◌+◌, ◌*◌, ◌^◌, ◌<◌, ◌≤◌, [], ◌∷◌, ◌++◌, length, map, filter, cond, All, vec_len, string_bytes, IfOk, OnOk};
 ghost use Rattle.vlink.specs.declared.frame.Net.TheVariants.{A};
 ghost use Rattle.network.specs.Rows.{each};
 ghost use Rattle.network.specs.Plan.{node_plan};
@@ -12,7 +11,7 @@ use crate::kinds::{is_end_system, is_switch_of};
 use crate::links::{Joined, count_link, no_counts};
 use crate::tables::{no_lists, put};
 use network::{LinePlan, Link, Outage};
-use network_rows::{DescFault, NodeRow};
+use network_rows::NodeRow;
 use std::alloc::{AllocError, Global};
 use vlink::{Net, process_number};
 
@@ -38,11 +37,10 @@ fn push_both(
     link: Link,
     a_port: u16,
     b_port: u16,
-) -> Result<(), DescFault>
+) -> Result<(), AllocError>
     requires a { link.a < 2 ^ 16 }
     requires b { link.b < 2 ^ 16 }
-    ensures lines { OnOk result (lines.new.items ≡ lines.old.items ++ both link a_port b_port) }
-    ensures memory { IfErr result (λ fault. fault ≡ OutOfMemory) }
+    ensures { OnOk result (lines.new.items ≡ lines.old.items ++ both link a_port b_port) }
 {
     let there = LinePlan {
         from: process_number(link.a),
@@ -70,12 +68,11 @@ pub fn lines_of(
     alloc: Global,
     nodes: &[NodeRow],
     links: &[Link],
-) -> Result<Vec<LinePlan>, DescFault>
+) -> Result<Vec<LinePlan>, AllocError>
     requires ends { All (λ link. (link.a ≤ length nodes.now) × (link.b ≤ length nodes.now)) links.now }
     requires few { length nodes.now + 2 * length links.now ≤ 4096 }
     ensures ends { IfOk result (λ lines. All (λ line. (line.from ≤ length nodes.now) × (line.to ≤ length nodes.now)) lines.items) }
     ensures lines { IfOk result (λ lines. lines.items ≡ each (directions (map node_plan nodes.now)) links.now) }
-    ensures memory { IfErr result (λ fault. fault ≡ OutOfMemory) }
 {
     let mut counts = no_counts(alloc, nodes.len() + 1)?;
     let mut lines = Vec::new(alloc);
@@ -111,13 +108,13 @@ fn name_between(alloc: Global, from: &str, to: &str) -> Result<String, AllocErro
 }
 
 /// The name of a line.
-fn line_name(alloc: Global, nodes: &[NodeRow], line: LinePlan) -> Result<String, DescFault>
-    ensures name { IfOk result (λ name. string_bytes name ≡ line_name (map node_plan nodes.now) line) }
-    ensures memory { IfErr result (λ fault. fault ≡ OutOfMemory) }
+fn line_name(alloc: Global, nodes: &[NodeRow], line: LinePlan) -> Result<String, AllocError>
+    ensures { IfOk result (λ name. string_bytes name ≡ line_name (map node_plan nodes.now) line) }
 {
     let from = node_name(nodes, usize::from(line.from));
     let to = node_name(nodes, usize::from(line.to));
-    Ok(name_between(alloc, from, to)?)
+    let name = name_between(alloc, from, to)?;
+    Ok(name)
 }
 
 /// The names of lines.
@@ -125,9 +122,8 @@ pub fn line_names(
     alloc: Global,
     nodes: &[NodeRow],
     lines: &[LinePlan],
-) -> Result<Vec<String>, DescFault>
-    ensures names { IfOk result (λ names. map string_bytes names.items ≡ map (line_name (map node_plan nodes.now)) lines.now) }
-    ensures memory { IfErr result (λ fault. fault ≡ OutOfMemory) }
+) -> Result<Vec<String>, AllocError>
+    ensures { IfOk result (λ names. map string_bytes names.items ≡ map (line_name (map node_plan nodes.now)) lines.now) }
 {
     let mut names = Vec::new(alloc);
     for line in lines {
@@ -153,11 +149,10 @@ fn put_outage(
     table: &mut Vec<Vec<Outage>>,
     joined: &Joined,
     outage: Outage,
-) -> Result<(), DescFault>
+) -> Result<(), AllocError>
     requires { length joined.now.links.now < 2 ^ 32 }
     ensures put { OnOk result ((k : ℕ) → k < vec_len table.old → outages_at table.new k ≡ outages_at table.old k ++ filter (is_outage_of joined.now.links.now k) (outage ∷ [])) }
     ensures len { vec_len table.new ≡ vec_len table.old }
-    ensures memory { IfErr result (λ fault. fault ≡ OutOfMemory) }
 {
     match line_between(joined, outage.from, outage.to) {
         Some(k) if k < table.len() => put(table, k, outage),
@@ -171,11 +166,10 @@ pub fn outage_table(
     count: usize,
     joined: &Joined,
     outages: &[Outage],
-) -> Result<Vec<Vec<Outage>>, DescFault>
+) -> Result<Vec<Vec<Outage>>, AllocError>
     requires { length joined.now.links.now < 2 ^ 32 }
     ensures outages { IfOk result (λ table. (k : ℕ) → k < count → outages_at table k ≡ filter (is_outage_of joined.now.links.now k) outages.now) }
     ensures len { IfOk result (λ table. vec_len table ≡ count) }
-    ensures memory { IfErr result (λ fault. fault ≡ OutOfMemory) }
 {
     let mut table = no_lists(alloc, count)?;
     for outage in outages {

@@ -1,14 +1,12 @@
 //! Links by the nodes that they join.
-ghost use Rattle.std.specs.Prelude.{◌≡◌, ℕ, ◌+◌, ◌^◌, ◌<◌, ◌==◌, if◌then◌else◌, Some, is_some, slice_index, vec_len, count_by, OnOk, IfOk, IfErr};
-ghost use Rattle.network_rows.specs.declared.fault.DescFault.TheVariants.{OutOfMemory};
+ghost use Rattle.std.specs.Prelude.{◌≡◌, ℕ, ◌+◌, ◌^◌, ◌<◌, ◌==◌, if◌then◌else◌, Some, is_some, slice_index, vec_len, count_by, OnOk, IfOk};
 ghost use Rattle.std.specs.HashMap.{Updates};
 ghost use Rattle.network.specs.Wiring.{link_between, is_linked};
 ghost use Rattle.network.specs.Faults.{touches};
 ghost use Rattle.netdesc.specs.Code.Finding.{AreJoined, is_same_pair};
 
 use network::Link;
-use network_rows::DescFault;
-use std::alloc::Global;
+use std::alloc::{AllocError, Global};
 use std::collections::HashMap;
 
 /// Links, with the place of the link for each two nodes that one joins.
@@ -21,9 +19,8 @@ pub struct Joined<'a> {
 
 impl<'a> Joined<'a> {
     /// These links: the place for two nodes is that of the first link that joins them.
-    pub fn new(alloc: Global, links: &'a [Link]) -> Result<Self, DescFault>
-        ensures links { IfOk result (λ joined. joined.links.now ≡ links.now) }
-        ensures memory { IfErr result (λ fault. fault ≡ OutOfMemory) }
+    pub fn new(alloc: Global, links: &'a [Link]) -> Result<Self, AllocError>
+        ensures { IfOk result (λ joined. joined.links.now ≡ links.now) }
     {
         let mut places = HashMap::new(alloc);
         for (i, link) in links.iter().enumerate() {
@@ -50,9 +47,8 @@ fn put(
     x: usize,
     y: usize,
     place: usize,
-) -> Result<(), DescFault>
-    ensures updates { OnOk result (Updates is_same_pair places.old places.new (x, y) (Some place)) }
-    ensures memory { IfErr result (λ fault. fault ≡ OutOfMemory) }
+) -> Result<(), AllocError>
+    ensures { OnOk result (Updates is_same_pair places.old places.new (x, y) (Some place)) }
 {
     places.insert((x, y), place)?;
     Ok(())
@@ -82,19 +78,17 @@ pub fn count_link(counts: &mut Vec<usize>, link: Link)
 }
 
 /// For each of `count` nodes none.
-pub fn no_counts(alloc: Global, count: usize) -> Result<Vec<usize>, DescFault>
+pub fn no_counts(alloc: Global, count: usize) -> Result<Vec<usize>, AllocError>
     ensures counts { IfOk result (λ counts. (j : ℕ) → slice_index counts.items j ≡ 0) }
     ensures len { IfOk result (λ counts. vec_len counts ≡ count) }
-    ensures memory { IfErr result (λ fault. fault ≡ OutOfMemory) }
 {
     Ok(vec![in alloc; 0usize; count]?)
 }
 
 /// For each of `count` nodes, how many links name it.
-pub fn link_counts(alloc: Global, count: usize, links: &[Link]) -> Result<Vec<usize>, DescFault>
+pub fn link_counts(alloc: Global, count: usize, links: &[Link]) -> Result<Vec<usize>, AllocError>
     ensures counts { IfOk result (λ counts. (j : ℕ) → j < count → slice_index counts.items j ≡ count_by (touches j) links.now) }
     ensures len { IfOk result (λ counts. vec_len counts ≡ count) }
-    ensures memory { IfErr result (λ fault. fault ≡ OutOfMemory) }
 {
     let mut counts = no_counts(alloc, count)?;
     for link in links {

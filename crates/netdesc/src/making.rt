@@ -1,13 +1,12 @@
 //! The network of rows without a fault, with its tables.
-ghost use Rattle.std.specs.Prelude.{◌≡◌, IfOk, IfErr};
-ghost use Rattle.network_rows.specs.declared.fault.DescFault.TheVariants.{OutOfMemory};
+ghost use Rattle.std.specs.Prelude.{◌≡◌, IfOk};
 ghost use Rattle.network.specs.Accepted.{IsAccepted};
 ghost use Rattle.network.specs.Code.Tables.{plan_with};
 
 use crate::tables::tables_of;
 use network::{Network, Numbered};
-use network_rows::{DescFault, NodeRow};
-use std::alloc::Global;
+use network_rows::NodeRow;
+use std::alloc::{AllocError, Global};
 use vlink::Time;
 
 /// A network of these parts, with its tables.
@@ -17,10 +16,9 @@ pub fn network_with(
     seed: u64,
     nodes: Vec<NodeRow>,
     numbered: Numbered,
-) -> Result<Network, DescFault>
+) -> Result<Network, AllocError>
     requires { IsAccepted (plan_with until seed nodes.items numbered) }
-    ensures made { IfOk result (λ network. network ≡ plan_with until seed nodes.items numbered) }
-    ensures memory { IfErr result (λ fault. fault ≡ OutOfMemory) }
+    ensures { IfOk result (λ network. network ≡ plan_with until seed nodes.items numbered) }
 {
     let tables = tables_of(alloc, nodes.as_slice(), &numbered)?;
     Ok(Network::new(until, seed, nodes, numbered, tables))

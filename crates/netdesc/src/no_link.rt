@@ -1,6 +1,5 @@
 //! Links that may not be, and outages and paths that go where no link is.
-ghost use Rattle.std.specs.Prelude.{◌≡◌, ℕ, ⊤, List, ◌||◌, ◌++◌, map, not, OnOk, IfErr};
-ghost use Rattle.network_rows.specs.declared.fault.DescFault.TheVariants.{OutOfMemory};
+ghost use Rattle.std.specs.Prelude.{◌≡◌, ℕ, ⊤, List, ◌||◌, ◌++◌, map, not, OnOk};
 ghost use Rattle.std.specs.List.{list_any};
 ghost use Rattle.std.specs.Ordering.{nat_cmp};
 ghost use Rattle.std.specs.BTreeSet.{contains};
@@ -19,7 +18,7 @@ use crate::kinds::{is_end_system, is_switch_of};
 use crate::links::Joined;
 use network::{Link, Numbered, Outage, Routed};
 use network_rows::{DescFault, Key, NodeRow, Section};
-use std::alloc::Global;
+use std::alloc::{AllocError, Global};
 use std::collections::BTreeSet;
 use vlink::Net;
 
@@ -46,9 +45,8 @@ fn attach(
     net: Net,
     attached: &mut BTreeSet<usize>,
     link: Link,
-) -> Result<(), DescFault>
-    ensures attached { OnOk result ((n : ℕ) → contains nat_cmp attached.new n ≡ (contains nat_cmp attached.old n || leads (map node_plan nodes.now) net n link)) }
-    ensures memory { IfErr result (λ fault. fault ≡ OutOfMemory) }
+) -> Result<(), AllocError>
+    ensures { OnOk result ((n : ℕ) → contains nat_cmp attached.new n ≡ (contains nat_cmp attached.old n || leads (map node_plan nodes.now) net n link)) }
 {
     if is_switch_of(nodes, net, link.b) {
         attached.insert(link.a)?;

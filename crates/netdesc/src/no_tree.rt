@@ -1,6 +1,5 @@
 //! Paths of a virtual link that are no tree.
-ghost use Rattle.std.specs.Prelude.{◌≡◌, ⊤, [], ◌∷◌, ◌++◌, true, List, Contains, MatchBool, map, not, ◌||◌, IfOk, IfErr};
-ghost use Rattle.network_rows.specs.declared.fault.DescFault.TheVariants.{OutOfMemory};
+ghost use Rattle.std.specs.Prelude.{◌≡◌, ⊤, [], ◌∷◌, ◌++◌, true, List, Contains, MatchBool, map, not, ◌||◌, IfOk};
 ghost use Rattle.std.specs.List.{list_any};
 ghost use Rattle.std.specs.Option.{option_copied};
 ghost use Rattle.network.specs.declared.wiring.Hop.{Hop};
@@ -18,7 +17,7 @@ use crate::kinds::{is_end_system, is_switch_of};
 use crate::routes::{push_all, push_ends};
 use network::{Hop, Routed, source_among};
 use network_rows::{DescFault, Key, NodeRow, Section};
-use std::alloc::Global;
+use std::alloc::{AllocError, Global};
 use std::collections::{HashMap, HashSet};
 use vlink::Net;
 
@@ -92,7 +91,7 @@ pub fn has_double(numbers: &[usize]) -> bool
 }
 
 /// A number is there twice. For any number of them: each is sought in `seen`, a set of those before it.
-fn has_repeat(seen: &mut HashSet<usize>, numbers: &[usize]) -> Result<bool, DescFault>
+fn has_repeat(seen: &mut HashSet<usize>, numbers: &[usize]) -> Result<bool, AllocError>
     ensures { Tests result (has_double numbers.now) }
 {
     seen.clear();
@@ -137,10 +136,9 @@ fn begin_apart(paths: &[Vec<usize>]) -> bool
 }
 
 /// The hop leads to a node that was reached from another one; else it joins the ways that were found.
-fn is_other_way(ways: &mut HashMap<usize, usize>, hop: Hop) -> Result<bool, DescFault>
-    ensures other { (hops : List Hop) → AreWays ways.old hops → IfOk result (λ other. MatchBool other
+fn is_other_way(ways: &mut HashMap<usize, usize>, hop: Hop) -> Result<bool, AllocError>
+    ensures { (hops : List Hop) → AreWays ways.old hops → IfOk result (λ other. MatchBool other
         ((s : Hop) × Contains hops s × (is_other_way s hop ≡ true)) (AreWays ways.new (hops ++ hop ∷ []))) }
-    ensures memory { IfErr result (λ fault. fault ≡ OutOfMemory) }
 {
     match ways.get(&hop.to) {
         Some(from) => Ok(*from != hop.from),
@@ -152,7 +150,7 @@ fn is_other_way(ways: &mut HashMap<usize, usize>, hop: Hop) -> Result<bool, Desc
 }
 
 /// Two of these hops lead to one node from different ones. `ways` is filled with where each node is reached from.
-fn has_other_way(ways: &mut HashMap<usize, usize>, hops: &[Hop]) -> Result<bool, DescFault>
+fn has_other_way(ways: &mut HashMap<usize, usize>, hops: &[Hop]) -> Result<bool, AllocError>
     ensures { Tests result (has_other_way hops.now) }
 {
     ways.clear();
@@ -181,7 +179,7 @@ fn is_no_tree(
     nodes: &[NodeRow],
     net: Net,
     paths: &[Vec<usize>],
-) -> Result<bool, DescFault>
+) -> Result<bool, AllocError>
     ensures { Tests result (is_no_tree (map node_plan nodes.now) net (map items_of paths.now)) }
 {
     if has_bad_path(nodes, net, paths) {

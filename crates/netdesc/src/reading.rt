@@ -1,6 +1,5 @@
 //! From the text of a network description to the network, or to the first fault.
 ghost use Rattle.std.specs.Prelude.{◌≡◌, ◌++◌, map, IsPermutation, MatchResult, OnOk, IfOk, IfErr};
-ghost use Rattle.network_rows.specs.declared.fault.DescFault.TheVariants.{OutOfMemory};
 ghost use Rattle.std.specs.List.Sorted.{IsNonDecreasing};
 ghost use Rattle.network_rows.specs.Within.{AreWithin};
 ghost use Rattle.network.specs.Rows.{each};
@@ -22,12 +21,12 @@ use crate::too_many::check_too_many;
 use crate::unknown::number_rows;
 use network::{Network, Numbered, Routed};
 use network_rows::{DescFault, Rows, read_rows};
-use std::alloc::Global;
+use std::alloc::{AllocError, Global};
 
 /// Reads a network description, a text in TOML.
 ///
 /// An error is the first fault of the text, in the order of their numbers, sections, rows and keys; or a growth was refused.
-#[tactic(auto, using(crate::proofs::FaultLemmas::told_of_key))]
+#[tactic(auto, using(crate::proofs::FaultLemmas::told_of_key, crate::proofs::FaultLemmas::sound_of))]
 pub fn read(alloc: Global, text: &str) -> Result<Network, DescFault>
     // What is read has no fault, and what has no fault is read, unless memory is refused.
     ensures sound { OnOk result (HasNoFault text.now) }
@@ -45,20 +44,20 @@ fn network_of(alloc: Global, rows: Rows) -> Result<Network, DescFault>
 {
     let mut numbered = numbered_of(alloc, &rows)?;
     sort_vls(&mut numbered.vls)?;
-    network_with(
+    let network = network_with(
         alloc,
         rows.until,
         rows.seed,
         rows.nodes.into_vec(),
         numbered,
-    )
+    )?;
+    Ok(network)
 }
 
 /// Puts virtual links into the order of their numbers.
-fn sort_vls(vls: &mut Vec<Routed>) -> Result<(), DescFault>
+fn sort_vls(vls: &mut Vec<Routed>) -> Result<(), AllocError>
     ensures moved { IsPermutation vls.old.items vls.new.items }
     ensures in_order { OnOk result (IsNonDecreasing (ids_of vls.new.items)) }
-    ensures memory { IfErr result (λ fault. fault ≡ OutOfMemory) }
 {
     vls.sort_by_key(|vl| vl.link().id.0)?;
     Ok(())

@@ -1,7 +1,6 @@
 -- What checks answer with a value, and the ends of lines.
-use Rattle.std.specs.Prelude.{ℕ, ◌≡◌, Bool, List, [], Option, Result, Ok, Err}
+use Rattle.std.specs.Prelude.{ℕ, ◌≡◌, ⊤, Bool, List, [], Option, Result, Ok, Err}
 use Rattle.network_rows.specs.declared.fault.DescFault.{DescFault}
-use Rattle.network_rows.specs.declared.fault.DescFault.TheVariants.{OutOfMemory}
 use Rattle.netdesc.specs.declared.routes.End.{End}
 use Rattle.netdesc.specs.declared.routes.End.TheVariants.{From, To}
 use Rattle.network.specs.declared.wiring.LinePlan.{LinePlan}
@@ -16,9 +15,9 @@ Gives view (Ok x) faults y = (faults ≡ []) × (view x ≡ y)
 Gives view (Err fault) faults y = Tells fault faults
 
 -- a test, or memory was refused
-abbrev pub Tests : Result Bool DescFault → Bool → Type 0
+abbrev pub Tests : {E : Type 0} → Result Bool E → Bool → Type 0
 Tests (Ok answer) test = answer ≡ test
-Tests (Err fault) test = fault ≡ OutOfMemory
+Tests (Err refused) test = ⊤
 
 -- the node at an end of a line, and the port there, if it is this node
 abbrev pub end_at : End → LinePlan → ℕ

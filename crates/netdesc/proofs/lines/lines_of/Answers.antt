@@ -32,7 +32,7 @@ loop-link-preserved c =
       len = c.count_link.ensures.len ∙ c.loop-link.invariant.len;
       count_is = count_is;
       small = λ j h. omega (arith, count_is j h, count_by-le-length (touches j) (take (i + 1) links), length-take-le (i + 1) links (omega arith));
-      made = c.in_ok-push_both.ensures.lines ∙ ap (λ x. x ++ both link c.port_at-a_port.result c.port_at-b_port.result) c.loop-link.invariant.made
+      made = c.in_ok-push_both.ensures ∙ ap (λ x. x ++ both link c.port_at-a_port.result c.port_at-b_port.result) c.loop-link.invariant.made
           ∙ ap (λ n. each (directions plan) (take i links) ++ both link n c.port_at-b_port.result) a_is
           ∙ ap (λ n. each (directions plan) (take i links) ++ both link (port_at plan (take i links) link.a link.b) n) b_is
           ∙ sym (each-more (directions plan) links i no_link lt);

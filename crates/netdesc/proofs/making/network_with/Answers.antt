@@ -25,4 +25,4 @@ tables_of-requires-clause-few c =
 
 pub new-requires-clause-tables : goal.new-requires-clause-tables
 new-requires-clause-tables c =
-    subst (λ nodes. AreTables (plan_with c.args.until c.args.seed nodes c.args.numbered) c.in_ok-tables.tables) c.as_slice.ensures.value (c.in_ok-tables.ensures.tables c.args.until c.args.seed)
+    subst (λ nodes. AreTables (plan_with c.args.until c.args.seed nodes c.args.numbered) c.in_ok-tables.tables) c.as_slice.ensures.value (c.in_ok-tables.ensures c.args.until c.args.seed)

@@ -10,7 +10,7 @@ returns-then-branch c =
     let hops = c.args.hops.now in
     let i = c.loop-hop.hop-index in
     let lt : i < length hops = omega arith in
-    let found = rw c.if-branch.true at (c.in_ok-is_other_way.ensures.other (take i hops) c.loop-hop.invariant) in
+    let found = rw c.if-branch.true at (c.in_ok-is_other_way.ensures (take i hops) c.loop-hop.invariant) in
     sym (other-way-at hops i no_hop found.0 lt found.1 found.2)
 
 pub loop-hop-preserved : goal.loop-hop-preserved
@@ -18,7 +18,7 @@ loop-hop-preserved c =
     let hops = c.args.hops.now in
     let i = c.loop-hop.hop-index in
     let lt : i < length hops = omega arith in
-    let found = rw c.if-branch.false at (c.in_ok-is_other_way.ensures.other (take i hops) c.loop-hop.invariant) in
+    let found = rw c.if-branch.false at (c.in_ok-is_other_way.ensures (take i hops) c.loop-hop.invariant) in
     subst (AreWays c.is_other_way.new.ways) (sym (take_more hops i no_hop lt)) found
 
 pub returns : goal.returns

@@ -5,8 +5,8 @@ use Rattle.std.proofs.lemmas.Bool.Decides.{nat_tests}
 use Rattle.netdesc.proofs.WayLemmas.{AreWays-kept, AreWays-put, other-way}
 use Rattle.netdesc.proofs.no_tree.is_other_way.Goals as goal
 
-pub returns-in-Some-clause-other : goal.returns-in-Some-clause-other
-returns-in-Some-clause-other c = λ hops are.
+pub returns-in-Some : goal.returns-in-Some
+returns-in-Some c = λ hops are.
     let from = c.in-Some.from.now in
     let hop = c.args.hop in
     let found : get (λ x y. x == y) c.args.ways.now hop.to ≡ Some from = sym c.in-Some.ensures.value in
@@ -15,5 +15,5 @@ returns-in-Some-clause-other c = λ hops are.
       | inr apart ↦ rw apart (other-way (get (λ x y. x == y) c.args.ways.now) hops hop from are found apart)
     ]
 
-pub returns-in_ok-insert-in-None-clause-other : goal.returns-in_ok-insert-in-None-clause-other
-returns-in_ok-insert-in-None-clause-other c = λ hops are. AreWays-put c.args.ways.now c.insert.new.self hops c.args.hop are (sym c.in-None.ensures.value) c.in_ok-insert-in-None.ensures.updates
+pub returns-in_ok-insert-in-None : goal.returns-in_ok-insert-in-None
+returns-in_ok-insert-in-None c = λ hops are. AreWays-put c.args.ways.now c.insert.new.self hops c.args.hop are (sym c.in-None.ensures.value) c.in_ok-insert-in-None.ensures.updates

@@ -1,4 +1,3 @@
-use Rattle.std.proofs.Common.{◌≡◌}
 use Rattle.std.proofs.lemmas.Result.{err_from_is_err_and}
 use Rattle.network.proofs.EachLemmas.{Tells-front, Tells-behind}
 use Rattle.netdesc.proofs.reading.join_links.Goals as goal
@@ -8,4 +7,4 @@ returns-in_err-check_links c =
     let told = c.from_residual-in_err-check_links in
     let p = err_from_is_err_and told.result told.ensures.1 in
     rw (p.1, p.2) (Tells-front _ _ _ (Tells-behind _ _ _ c.in_ok-check_nodes.ensures
-    (rw (c.in_ok-joined.ensures.links, c.as_slice.ensures.value) at c.in_err-check_links.ensures)))
+    (rw (c.in_ok-joined.ensures, c.as_slice.ensures.value) at c.in_err-check_links.ensures)))

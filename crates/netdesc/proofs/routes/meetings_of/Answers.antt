@@ -1,9 +1,7 @@
 use Rattle.std.proofs.Common.{◌≡◌, ℕ, ◌+◌, ◌<◌, List, ◌++◌, length, drop, get_or, ap, sym, ◌∙◌, arith, append_assoc, flat_map}
 use Rattle.std.proofs.lemmas.List.{drop_more}
 use Rattle.network.specs.declared.wiring.Way.{Way}
-use Rattle.netdesc.specs.declared.routes.End.TheVariants.{From, To}
-use Rattle.network.specs.Words.{VlPlan, leaves, comes_in, ways_over, ways_at}
-use Rattle.netdesc.specs.Words.{way_at}
+use Rattle.network.specs.Words.{VlPlan, leaves, comes_in}
 use Rattle.netdesc.proofs.routes.meetings_of.Goals as goal
 
 -- what one virtual link more puts behind
@@ -21,17 +19,11 @@ loop-vl-preserved c =
     let lines = c.args.lines.now in
     let links = c.args.joined.now.links.now in
     let lt : i < length vls = omega arith in
-    let there = c.deref.ensures.value ∙ c.in_ok-route.ensures.route in
-    let back = c.deref-in-loop-vl.ensures.value ∙ c.in_ok-route.ensures.route in
     record {
-      departures_len = c.in_ok-put_route.ensures.len ∙ c.loop-vl.invariant.departures_len;
-      arrivals_len = c.in_ok-put_route-2.ensures.len ∙ c.loop-vl.invariant.arrivals_len;
+      departures_len = c.in_ok-put_meetings.ensures.departures_len ∙ c.loop-vl.invariant.departures_len;
+      arrivals_len = c.in_ok-put_meetings.ensures.arrivals_len ∙ c.loop-vl.invariant.arrivals_len;
       departed = λ node h. met-more (leaves node lines links) vls i vl _ _ lt c.vl-item.is (c.loop-vl.invariant.departed node h)
-          (c.in_ok-put_route.ensures.put node (omega (arith, c.loop-vl.invariant.departures_len))
-          ∙ ap (λ l. ways_at c.loop-vl.departures node ++ ways_over (way_at From node l.id) lines c.deref.result.now) c.link.ensures
-          ∙ ap (λ r. ways_at c.loop-vl.departures node ++ ways_over (way_at From node vl.link.id) lines r) there);
+          (c.in_ok-put_meetings.ensures.departed node (omega (arith, c.loop-vl.invariant.departures_len)));
       arrived = λ node h. met-more (comes_in node lines links) vls i vl _ _ lt c.vl-item.is (c.loop-vl.invariant.arrived node h)
-          (c.in_ok-put_route-2.ensures.put node (omega (arith, c.loop-vl.invariant.arrivals_len))
-          ∙ ap (λ l. ways_at c.loop-vl.arrivals node ++ ways_over (way_at To node l.id) lines c.deref-in-loop-vl.result.now) c.link-in-loop-vl.ensures
-          ∙ ap (λ r. ways_at c.loop-vl.arrivals node ++ ways_over (way_at To node vl.link.id) lines r) back);
+          (c.in_ok-put_meetings.ensures.arrived node (omega (arith, c.loop-vl.invariant.arrivals_len)));
     }

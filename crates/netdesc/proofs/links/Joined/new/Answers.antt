@@ -16,7 +16,7 @@ loop-i-preserved c =
     elim c.if-not-contains_key.branch [
       | then-not-contains_key+in_ok-put+in_ok-put-2 w ↦ (λ x y. rw (w.places-is, more)
           (AreJoined-put c.loop-i.places w.put.new.places w.put-then-not-contains_key.new.places (take i rows) link i c.loop-i.invariant (sym there ∙ w.if-not-contains_key.true)
-          w.in_ok-put.ensures.updates w.in_ok-put-2.ensures.updates (sym (length-before rows i lt)) x y))
+          w.in_ok-put.ensures w.in_ok-put-2.ensures (sym (length-before rows i lt)) x y))
       | else-not-contains_key w ↦ (λ x y. rw (w.places-is, more)
           (AreJoined-kept c.loop-i.places (take i rows) link c.loop-i.invariant (sym there ∙ w.if-not-contains_key.false) x y))
     ]

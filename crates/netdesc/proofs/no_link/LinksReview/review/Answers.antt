@@ -18,7 +18,7 @@ returns c = λ earlier at kept.
     let good : is_no_link nodes earlier link ≡ false = sym (c.is_no_link.ensures earlier kept.0 kept.1) ∙ c.if-is_no_link.false in (
       rw good refl,
       (
-        λ n. c.in_ok-attach.ensures.attached n ∙ ap (λ b. b || leads nodes A n link) (kept.0 n) ∙ sym (list_any-push (leads nodes A n) earlier link),
-        λ n. c.in_ok-attach-2.ensures.attached n ∙ ap (λ b. b || leads nodes B n link) (kept.1 n) ∙ sym (list_any-push (leads nodes B n) earlier link),
+        λ n. c.in_ok-attach.ensures n ∙ ap (λ b. b || leads nodes A n link) (kept.0 n) ∙ sym (list_any-push (leads nodes A n) earlier link),
+        λ n. c.in_ok-attach-2.ensures n ∙ ap (λ b. b || leads nodes B n link) (kept.1 n) ∙ sym (list_any-push (leads nodes B n) earlier link),
       ),
     )
