@@ -7,7 +7,7 @@ use Rattle.network_rows.specs.declared.rows.Rows.{Rows}
 use Rattle.network_rows.specs.Faults.{faults_of_document, faults_of_text, first, IsFirstFault}
 use Rattle.network_rows.specs.Rows.{Means}
 use Rattle.network.specs.Words.{Plan, faults_of, Tells, IsPlanOf}
-use Rattle.netdesc.specs.Words.{HasNoFault, TellsFaultOf}
+use Rattle.netdesc.specs.Description.{HasNoFault, TellsFaultOf}
 
 first_there : (xs : List DescFault) (fault : DescFault) → first xs ≡ Some fault → slice_get xs 0 ≡ Some fault
 first_there [] fault e = cc

@@ -1,0 +1,6 @@
+pub mod PushLemmas
+pub mod HopLemmas
+pub mod LineLemmas
+pub mod RouteLemmas
+pub mod SwitchLemmas
+pub mod RoutedLemmas

@@ -1,0 +1,11 @@
+//! The tables of a network, made of rows without a fault; and where its virtual links are configured.
+#![tactic(auto)]
+
+mod laws;
+mod lines;
+mod making;
+mod routes;
+mod tables;
+
+pub use laws::{port_law, rising_law};
+pub use making::network_with;
