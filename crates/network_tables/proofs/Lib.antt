@@ -1,4 +1,3 @@
-pub mod PushLemmas
 pub mod HopLemmas
 pub mod LineLemmas
 pub mod RouteLemmas

@@ -1,4 +1,4 @@
-//! The tables of a network, made of rows without a fault; and where its virtual links are configured.
+//! The network that rows make, with its tables; and where its virtual links are configured.
 #![tactic(auto)]
 
 mod laws;
@@ -8,4 +8,4 @@ mod routes;
 mod tables;
 
 pub use laws::{port_law, rising_law};
-pub use making::network_with;
+pub use making::network_of;

@@ -1,16 +1,48 @@
-//! The network of rows without a fault, with its tables.
-ghost use Rattle.std.specs.Prelude.{◌≡◌, IfOk};
-ghost use Rattle.network.specs.Accepted.{IsAccepted};
+//! The network that rows make, with its tables; or their first fault.
+ghost use Rattle.std.specs.Prelude.{◌≡◌, IsPermutation, MatchResult, OnOk, IfOk};
+ghost use Rattle.std.specs.List.Sorted.{IsNonDecreasing};
+ghost use Rattle.network_rows.specs.Within.{AreWithin};
+ghost use Rattle.network.specs.Faults.{faults_of, Tells};
+ghost use Rattle.network.specs.Accepted.{ids_of, IsPlanOf, IsAccepted};
 ghost use Rattle.network.specs.Code.Tables.{plan_with};
 
 use crate::tables::tables_of;
-use network::{Network, Numbered};
-use network_rows::NodeRow;
+use network::{Network, Numbered, Routed};
+use network_faults::numbered_of;
+use network_rows::{DescFault, NodeRow, Rows};
 use std::alloc::{AllocError, Global};
 use vlink::Time;
 
+/// The network that these rows describe.
+///
+/// An error is the first fault of what they say of each other; or a growth was refused.
+pub fn network_of(alloc: Global, rows: Rows) -> Result<Network, DescFault>
+    requires { AreWithin rows }
+    ensures { MatchResult result (IsPlanOf rows) (λ fault. Tells fault (faults_of rows)) }
+{
+    let mut numbered = numbered_of(alloc, &rows)?;
+    sort_vls(&mut numbered.vls)?;
+    let network = network_with(
+        alloc,
+        rows.until,
+        rows.seed,
+        rows.nodes.into_vec(),
+        numbered,
+    )?;
+    Ok(network)
+}
+
+/// Puts virtual links into the order of their numbers.
+fn sort_vls(vls: &mut Vec<Routed>) -> Result<(), AllocError>
+    ensures moved { IsPermutation vls.old.items vls.new.items }
+    ensures in_order { OnOk result (IsNonDecreasing (ids_of vls.new.items)) }
+{
+    vls.sort_by_key(|vl| vl.link().id.0)?;
+    Ok(())
+}
+
 /// A network of these parts, with its tables.
-pub fn network_with(
+fn network_with(
     alloc: Global,
     until: Time,
     seed: u64,

@@ -1,4 +1,3 @@
-use Rattle.std.proofs.Common.{◌≡◌}
 use Rattle.std.proofs.lemmas.Result.{err_from_is_err_and}
 use Rattle.network.proofs.EachLemmas.{Tells-front, Tells-behind}
 use Rattle.network_faults.proofs.numbering.join_links.Goals as goal

@@ -1,6 +1,6 @@
 use Rattle.std.proofs.Common.{◌<◌, length, arith}
 use Rattle.network.specs.Words.{lines_over}
-use Rattle.network_tables.proofs.PushLemmas.{pushed-at}
+use Rattle.path_trees.proofs.PushLemmas.{pushed-at}
 use Rattle.path_trees.proofs.WayLemmas.{no_hop}
 use Rattle.network_tables.proofs.routes.lines_over.Goals as goal
 

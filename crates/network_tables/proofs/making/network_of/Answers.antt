@@ -1,6 +1,6 @@
 use Rattle.std.proofs.Common.{List, map, refl, ap, sym, subst, IsPermutation}
 use Rattle.network.specs.Words.{VlPlan, node_plan, IsPlanOf}
-use Rattle.netdesc.proofs.reading.network_of.Goals as goal
+use Rattle.network_tables.proofs.making.network_of.Goals as goal
 
 pub network_with-requires : goal.network_with-requires
 network_with-requires c =

@@ -2,7 +2,7 @@ use Rattle.std.proofs.Common.{rules}
 use Rattle.std.proofs.lemmas.List.Sorted.{IsNonDecreasingBy-from_sort_by_key}
 use Rattle.network.specs.Words.{id_of}
 use Rattle.network.proofs.BuildLemmas.{rising-map}
-use Rattle.netdesc.proofs.reading.sort_vls.Goals as goal
+use Rattle.network_tables.proofs.making.sort_vls.Goals as goal
 
 pub returns-clause-in_order : goal.returns-clause-in_order
 returns-clause-in_order c =
