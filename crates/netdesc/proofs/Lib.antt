@@ -1,13 +1,1 @@
 pub mod FaultLemmas
-pub mod NameLemmas
-pub mod JoinLemmas
-pub mod WayLemmas
-pub mod DoubleLemmas
-pub mod OrderLemmas
-pub mod MemberLemmas
-pub mod RisingLaw
-pub mod HopLemmas
-pub mod LineLemmas
-pub mod RouteLemmas
-pub mod SwitchLemmas
-pub mod RoutedLemmas

@@ -1,4 +1,2 @@
 pub mod Description
-pub mod PortLaws
-pub mod Code
 pub mod Words

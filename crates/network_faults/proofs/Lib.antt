@@ -1,0 +1,6 @@
+pub mod NameLemmas
+pub mod JoinLemmas
+pub mod IdLemmas
+pub mod OrderLemmas
+pub mod MemberLemmas
+pub mod RisingLaw

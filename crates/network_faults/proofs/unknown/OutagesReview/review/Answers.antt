@@ -1,0 +1,8 @@
+use Rattle.network.specs.Words.{names_of, outage_plan}
+use Rattle.network.proofs.EachLemmas.{map-push}
+use Rattle.network_faults.proofs.unknown.OutagesReview.review.Goals as goal
+
+pub returns : goal.returns
+returns c = λ earlier at made.
+    let here = c.in_ok-outage.ensures earlier at in
+    (here.0, map-push (outage_plan (names_of c.args.self.now.names.now.nodes.now)) earlier c.args.row.now _ _ c.in_ok-outage.outage made c.in_ok-push.ensures.items here.1)

@@ -1,0 +1,10 @@
+use Rattle.std.proofs.Common.{◌≡◌, false, take, map}
+use Rattle.std.specs.List.{list_any}
+use Rattle.network.specs.Words.{names_of, path_numbers, is_unknown, lists_of}
+use Rattle.network_faults.proofs.unknown.paths_at.Given as goal
+
+abbrev pub invariant-loop-k : goal.invariant-loop-k
+invariant-loop-k l = record {
+  known : list_any (λ path. list_any (is_unknown (names_of l.names.nodes.now)) path) (take l.k l.paths) ≡ false;
+  made : lists_of l.numbered ≡ map (path_numbers (names_of l.names.nodes.now)) (take l.k l.paths);
+}

@@ -1,0 +1,17 @@
+//! What rows say of each other: their first fault, or the rows with numbers in place of names.
+#![tactic(auto)]
+
+mod destinations;
+mod double;
+mod each;
+mod links;
+mod names;
+mod no_link;
+mod no_tree;
+mod numbering;
+mod too_many;
+mod unknown;
+
+pub use destinations::{destinations_of, rising_of};
+pub use links::{Joined, count_link, no_counts};
+pub use numbering::numbered_of;

@@ -1,0 +1,36 @@
+use Rattle.std.proofs.Common.{List, map, refl, ap, sym, subst, IsPermutation}
+use Rattle.network.specs.Words.{VlPlan, node_plan, IsPlanOf}
+use Rattle.network_tables.proofs.making.network_of.Goals as goal
+
+pub network_with-requires : goal.network_with-requires
+network_with-requires c =
+    let rows = c.args.rows in
+    let lists = c.in_ok-numbered.ensures.1 in
+    record {
+      rows = rows;
+      within = c.requires;
+      stands = record {
+        none = c.in_ok-numbered.ensures.0;
+        until = refl;
+        seed = refl;
+        nodes = ap (map node_plan) c.into_vec.ensures;
+        links = ap (λ p. p.links) lists;
+        outages = ap (λ p. p.outages) lists;
+        vls = subst (λ (before : List VlPlan). IsPermutation before c.sort_vls.new.vls.items) (ap (λ p. p.vls) lists) c.in_ok-sort_vls.ensures.moved;
+        in_order = c.in_ok-sort_vls.ensures.in_order;
+      };
+    }
+
+pub returns : goal.returns
+returns c =
+    let lists = c.in_ok-numbered.ensures.1 in
+    subst (IsPlanOf c.args.rows) (sym c.in_ok-network.ensures) (record {
+      none = c.in_ok-numbered.ensures.0;
+      until = refl;
+      seed = refl;
+      nodes = ap (map node_plan) c.into_vec.ensures;
+      links = ap (λ p. p.links) lists;
+      outages = ap (λ p. p.outages) lists;
+      vls = subst (λ (before : List VlPlan). IsPermutation before c.sort_vls.new.vls.items) (ap (λ p. p.vls) lists) c.in_ok-sort_vls.ensures.moved;
+      in_order = c.in_ok-sort_vls.ensures.in_order;
+    })

@@ -1,0 +1,3 @@
+pub mod PushLemmas
+pub mod WayLemmas
+pub mod DoubleLemmas
