@@ -1,5 +1,5 @@
 -- The signed counts with one letter in front, or one less.
-use Rattle.std.proofs.Common.{◌≡◌, true, not, List, ◌∷◌, ℤ, pos, ◌+ℤ◌, ◌-ℤ◌, refl, sym, ◌∙◌, subst, arith, ◌≢◌}
+use Rattle.std.proofs.Common.{◌≡◌, true, not, List, ◌∷◌, ℤ, pos, ◌+ℤ◌, ◌-ℤ◌, refl, sym, ◌∙◌, subst, arith, ◌≢◌, Result, Ok, Err, OnOk}
 use Rattle.std.proofs.lemmas.Int.{ints}
 use Rattle.vlink.specs.declared.message.Message.{Message}
 use Rattle.vlink.specs.Letters.{Letter}
@@ -10,6 +10,11 @@ use Rattle.virtual_time.proofs.Order.{same-refl, different}
 use Rattle.virtual_time.proofs.Letters.{counts-other}
 use Rattle.antimessages.specs.Letters.{weight}
 use Rattle.antimessages.specs.Counting.{signed_count, HaveSameCounts}
+
+-- what follows of a call that is not refused
+pub where-ok : {A E P Q : Type 0} (x : Result A E) → (P → Q) → OnOk x P → OnOk x Q
+where-ok (Ok a) f p = f p
+where-ok (Err e) f p = tt
 
 module _ (order : Order Message) (O : IsOrder order) where
   -- the signed counts with one letter in front

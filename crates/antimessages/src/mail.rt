@@ -128,8 +128,7 @@ impl Mail {
         ensures no_less { (p : ℕ) → room_for p self.old ≤ room_for p self.new }
         ensures reserved { HasRoom self.old outbox.now.letters → IsOk result }
     {
-        reserve_all(&mut self.boxes, &outbox.letters)?;
-        Ok(())
+        reserve_all(&mut self.boxes, &outbox.letters)
     }
 
     /// The letters of the outbox go in order to the back of the mail of their receivers, and the outbox is left empty. Where there

@@ -7,10 +7,9 @@ ghost use Rattle.vlink.specs.Letters.{Letter};
 ghost use Rattle.antimessages.specs.Counting.{change_by, is_after, present_after, HaveSameCounts};
 ghost use Rattle.antimessages.specs.declared.tally.Change.TheVariants.{Same};
 
-use crate::occurrence::occurrence_order_law;
+use crate::occurrence::{is_before, occurrence_order_law};
 use crate::tally::{Change, Tally};
-use std::cmp::Ordering;
-use vlink::{Letter, Message, compare, message_order_law};
+use vlink::{Letter, Message};
 
 impl Tally {
     /// What `next_after` answers once this letter is tallied, where `next` was its answer before: the counts are looked through only where
@@ -41,10 +40,9 @@ impl Tally {
 fn lesser(message: &Message, other: Option<Message>) -> Message
     ensures { Some result ≡ lesser message_order message.now other }
 {
-    message_order_law();
     match other {
         Some(first) => {
-            if compare(&first, message) == Ordering::Less {
+            if is_before(&first, message) {
                 first
             } else {
                 *message

@@ -6,7 +6,7 @@ ghost use Rattle.virtual_time.specs.Law.{received_by};
 ghost use Rattle.vlink.specs.Order.{message_order};
 ghost use Rattle.antimessages.specs.Mailing.{letters_for, room_for, HasRoom, store_of};
 
-use std::alloc::AllocError;
+use crate::fault::OutOfMemory;
 use std::collections::VecDeque;
 use vlink::Letter;
 
@@ -15,7 +15,7 @@ use vlink::Letter;
 pub(crate) fn reserve_all(
     boxes: &mut Vec<VecDeque<Letter>>,
     letters: &[Letter],
-) -> Result<(), AllocError>
+) -> Result<(), OutOfMemory>
     requires { All (λ letter. letter.message.receiver < length boxes.old.items) letters.now }
     ensures same { (p : ℕ) → letters_for p (map store_of boxes.new.items) ≡ letters_for p (map store_of boxes.old.items) }
     ensures processes { length boxes.new.items ≡ length boxes.old.items }
@@ -34,7 +34,7 @@ pub(crate) fn reserve_all(
 fn reserve_by_receivers(
     boxes: &mut Vec<VecDeque<Letter>>,
     letters: &[Letter],
-) -> Result<(), AllocError>
+) -> Result<(), OutOfMemory>
     requires { All (λ letter. letter.message.receiver < length boxes.old.items) letters.now }
     ensures same { (p : ℕ) → letters_for p (map store_of boxes.new.items) ≡ letters_for p (map store_of boxes.old.items) }
     ensures processes { length boxes.new.items ≡ length boxes.old.items }
@@ -52,7 +52,7 @@ fn reserve_by_receivers(
 fn reserve_by_letters(
     boxes: &mut Vec<VecDeque<Letter>>,
     letters: &[Letter],
-) -> Result<(), AllocError>
+) -> Result<(), OutOfMemory>
     requires { All (λ letter. letter.message.receiver < length boxes.old.items) letters.now }
     ensures same { (p : ℕ) → letters_for p (map store_of boxes.new.items) ≡ letters_for p (map store_of boxes.old.items) }
     ensures processes { length boxes.new.items ≡ length boxes.old.items }
@@ -73,7 +73,7 @@ fn make_room(
     mailbox: &mut VecDeque<Letter>,
     letters: &[Letter],
     receiver: usize,
-) -> Result<(), AllocError>
+) -> Result<(), OutOfMemory>
     ensures items { mailbox.new.items ≡ mailbox.old.items }
     ensures len { deque_len mailbox.new ≡ deque_len mailbox.old }
     ensures capacity { deque_capacity mailbox.old ≤ deque_capacity mailbox.new }
@@ -83,7 +83,8 @@ fn make_room(
     if letters.len() <= mailbox.capacity() - mailbox.len() {
         return Ok(());
     }
-    mailbox.reserve(count_for(letters, receiver))
+    mailbox.reserve(count_for(letters, receiver))?;
+    Ok(())
 }
 
 /// How many of the letters this process receives.
@@ -123,7 +124,7 @@ pub(crate) fn put_all(boxes: &mut Vec<VecDeque<Letter>>, letters: &[Letter])
 pub(crate) fn push_all(
     boxes: &mut Vec<VecDeque<Letter>>,
     letters: &[Letter],
-) -> Result<(), AllocError>
+) -> Result<(), OutOfMemory>
     requires { All (λ letter. letter.message.receiver < length boxes.old.items) letters.now }
     ensures put { OnOk result ((p : ℕ) → letters_for p (map store_of boxes.new.items)
         ≡ letters_for p (map store_of boxes.old.items) ++ received_by message_order p letters.now) }
@@ -137,7 +138,7 @@ pub(crate) fn push_all(
 }
 
 /// The item goes to the back of the queue.
-fn push<T: Copy>(queue: &mut VecDeque<T>, item: T) -> Result<(), AllocError>
+fn push<T: Copy>(queue: &mut VecDeque<T>, item: T) -> Result<(), OutOfMemory>
     ensures { OnOk result (queue.new.items ≡ queue.old.items ++ item ∷ []) }
 {
     queue.reserve(1)?;

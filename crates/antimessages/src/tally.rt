@@ -1,5 +1,5 @@
 //! The tally of a process: the signed count of each message.
-ghost use Rattle.std.specs.Prelude.{◌≡◌, ◌≢◌, ◌↔◌, ◌+◌, ◌^◌, ◌<ℤ◌, [], ◌∷◌, List, IsTrue, pos, ◌+ℤ◌, Some, OnOk, OnErr, IfOk, false, not};
+ghost use Rattle.std.specs.Prelude.{◌≡◌, ◌≢◌, ◌↔◌, ◌+◌, ◌<◌, ◌^◌, ◌<ℤ◌, [], ◌∷◌, List, IsTrue, pos, ◌+ℤ◌, Some, OnOk, OnErr, IfOk, IfSome, false, not};
 ghost use Rattle.std.specs.Option.{MatchOption, option_copied};
 ghost use Rattle.vlink.specs.declared.message.Message.{Message};
 ghost use Rattle.virtual_time.specs.declared.letter.Sign.TheVariants.{Plus};
@@ -8,7 +8,7 @@ ghost use Rattle.antimessages.specs.Letters.{weight};
 ghost use Rattle.vlink.specs.Order.{message_order};
 ghost use Rattle.vlink.specs.Letters.{Letter};
 ghost use Rattle.antimessages.specs.Counting.{signed_count, HaveSameCounts, change_by, present_after};
-ghost use Rattle.antimessages.specs.Occurrences.{count_with, IsTally};
+ghost use Rattle.antimessages.specs.Occurrences.{letters_of, count_with, AreTallied, IsTally};
 
 use crate::fault::OutOfMemory;
 use crate::occurrence::{Occurrence, occurrence_order_law};
@@ -21,7 +21,7 @@ use std::marker::Model;
 use vlink::{Letter, Message, Sign};
 
 /// What a letter makes of its message in a tally. A message is present where its signed count is above 0.
-#[derive(Clone, Copy, Debug, PartialEq, Eq)]
+#[derive(Clone, Copy)]
 pub enum Change {
     /// The message is present now and was not.
     BecamePresent,
@@ -119,19 +119,9 @@ impl Tally {
         ensures unchanged { OnErr result (self.new ≡ self.old) }
     {
         occurrence_order_law();
-        let (message, sign) = (&letter.message, letter.sign);
-        let last = last_of(&self.signs, message);
-        let change = change_at(last, sign);
-        match last {
-            None => put(&mut self.signs, message, 0, sign)?,
-            Some((ordinal, tallied)) => {
-                if is_equal(tallied, sign) {
-                    put(&mut self.signs, message, ordinal + 1, sign)?;
-                } else {
-                    take(&mut self.signs, message, ordinal, tallied);
-                }
-            }
-        }
+        let last = last_of(&self.signs, &letter.message);
+        let change = change_at(last, letter.sign);
+        count_letter(&mut self.signs, &letter.message, last, letter.sign)?;
         Ok(change)
     }
 
@@ -154,6 +144,36 @@ impl Tally {
         occurrence_order_law();
         let _len = self.signs.len();
     }
+}
+
+/// A letter of this sign counts for the message, or one of the other sign does not any more. `last` tells the last ordinal and the sign of
+/// the letters that count. A refusal changes nothing.
+fn count_letter(
+    signs: &mut BTreeMap<Occurrence, Sign>,
+    message: &Message,
+    last: Option<(u64, Sign)>,
+    sign: Sign,
+) -> Result<(), OutOfMemory>
+    requires tallied { AreTallied signs.old.entries }
+    requires last { MatchOption last (signed_count message_order message.now (letters_of signs.old.entries) ≡ pos 0)
+        (λ x. signed_count message_order message.now (letters_of signs.old.entries) ≡ count_with x.1 (x.0 + 1)) }
+    requires room { IfSome last (λ x. x.0 + 1 < 2 ^ 63) }
+    ensures tallied { AreTallied signs.new.entries }
+    ensures counted { OnOk result ((signed_count message_order message.now (letters_of signs.new.entries)
+        ≡ signed_count message_order message.now (letters_of signs.old.entries) +ℤ weight sign)
+        × ((m : Message) → m ≢ message.now →
+        signed_count message_order m (letters_of signs.new.entries) ≡ signed_count message_order m (letters_of signs.old.entries))) }
+    ensures unchanged { OnErr result (signs.new.entries ≡ signs.old.entries) }
+{
+    occurrence_order_law();
+    let Some((ordinal, tallied)) = last else {
+        return put(signs, message, 0, sign);
+    };
+    if is_equal(tallied, sign) {
+        return put(signs, message, ordinal + 1, sign);
+    }
+    take(signs, message, ordinal, tallied);
+    Ok(())
 }
 
 /// What a letter of this sign makes of its message, of which `last` tells the last ordinal and the sign of the letters that count.

@@ -1,9 +1,7 @@
 //! Fossil collection of one process.
-ghost use Rattle.std.specs.Prelude.{◌≡◌, ◌<◌, ◌≤◌, take, OnOk, OnErr, IfOk};
+ghost use Rattle.std.specs.Prelude.{◌≡◌, ◌<◌, ◌≤◌, OnOk, OnErr, IfOk};
 ghost use Rattle.virtual_time.specs.Law.{one_if};
 ghost use Rattle.reverse.specs.Rules.{rules_of};
-ghost use Rattle.vlink.specs.Order.{message_order};
-ghost use Rattle.process_queues.specs.Committing.{committable};
 ghost use Rattle.process_queues.specs.Queues.{AtEachPart, Does};
 ghost use Rattle.fossil.specs.Committed.{is_moment_before, is_ready, committed_times, committed_below, committed_once};
 
@@ -37,7 +35,7 @@ pub fn commit<R: Actor>(process: &mut Process<R>, gvt: Time, n: u64) -> Result<u
         process.old.committed_room < committed_below (rules_of R.plain) gvt n part)) }
 {
     actor_rules_law::<R>();
-    let count = count_below(process, gvt, n);
+    let count = process.committable(gvt, n as usize);
     if process.reserve_rows(count).is_err() {
         return Err(OutOfMemory);
     }
@@ -45,15 +43,6 @@ pub fn commit<R: Actor>(process: &mut Process<R>, gvt: Time, n: u64) -> Result<u
         let _done = process.seal_oldest();
     }
     Ok(count as u64)
-}
-
-/// How many of the done events that are earlier than `gvt`, the oldest first and `n` at most, can be committed one after another.
-fn count_below<R: Actor>(process: &Process<R>, gvt: Time, n: u64) -> usize
-    ensures within { result ≤ n }
-    ensures stands { AtEachPart (rules_of R.plain) R.is_value process.now.queues (λ opening part.
-        result ≡ committable message_order gvt part.tally (take n part.done)) }
-{
-    process.committable(gvt, n as usize)
 }
 
 /// Whether there is a moment, and it is earlier than another one: of the oldest done event and GVT, in ns, whether it can be undone no more.

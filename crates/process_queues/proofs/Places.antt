@@ -6,10 +6,6 @@ use Rattle.vlink.specs.Order.{message_order}
 use Rattle.vlink.specs.Letters.{Letter}
 use Rattle.process_queues.specs.Committing.{is_committable, committable}
 
--- those from place k on, by the one at that place
-pub drop-one : {A : Type 0} (es : List A) (k : ℕ) (e : A) → k < length es → e ≡ slice_index_or es k e → drop k es ≡ e ∷ drop (suc k) es
-drop-one es k e h at = drop-cons es k e h ∙ ap (λ x. x ∷ drop (suc k) es) (sym at)
-
 -- of the first ones of a list, those from place n on
 from-place : {A B : Type 0} (f : A → B) (es : List A) (most n : ℕ) (e : A) → n < most → n < length es → e ≡ slice_index_or es n e →
     drop n (take most (map f es)) ≡ f e ∷ drop (n + 1) (take most (map f es))

@@ -7,7 +7,7 @@ use Rattle.vlink.specs.declared.note.Note.{Note}
 use Rattle.virtual_time.specs.Law.{Rules, sent}
 use Rattle.reverse.specs.Rules.{is_before}
 use Rattle.antimessages.specs.Counting.{is_after}
-use Rattle.process_queues.specs.declared.past.Event.{Event}
+use Rattle.queue_steps.specs.declared.event.Event.{Event}
 use Rattle.process_queues.specs.Past.{Past, Rows, IsPastOf, events_of, newest_of, sent_since}
 use Rattle.process_queues.proofs.Newest.{newest-more}
 

@@ -1,11 +1,10 @@
 //! A letter arrives: it is tallied, and where it comes late the process rolls back.
-ghost use Rattle.std.specs.Prelude.{map, ◌≡◌, ◌≢◌, ◌↔◌, ◌+◌, ◌≤◌, ◌+ℤ◌, pos, [], ◌∷◌, ◌++◌, true, false, not, drop, length, slice_get, Some, IsTrue, MatchOption, OnOk, OnErr, IfOk, IfErr};
+ghost use Rattle.std.specs.Prelude.{map, ◌≡◌, ◌≢◌, ◌+◌, ◌≤◌, [], ◌∷◌, ◌++◌, true, false, drop, length, slice_get, Some, IsTrue, MatchOption, OnOk, OnErr, IfOk, IfErr};
 ghost use Rattle.vlink.specs.declared.message.Message.{Message};
-ghost use Rattle.virtual_time.specs.Law.{IsIn, IsAscending, is_plus, plus_of, pluses, minuses, Part, arrive, rolled_back, undone_by};
+ghost use Rattle.virtual_time.specs.Law.{IsIn, IsAscending, plus_of, pluses, minuses, Part, arrive, rolled_back, undone_by};
 ghost use Rattle.reverse.specs.Rules.{rules_of};
 ghost use Rattle.vlink.specs.Order.{message_order};
-ghost use Rattle.antimessages.specs.Letters.{weight};
-ghost use Rattle.antimessages.specs.Counting.{signed_count, HaveSameCounts, change_by, is_after};
+ghost use Rattle.antimessages.specs.Counting.{HaveSameCounts, change_by, is_after};
 ghost use Rattle.antimessages.specs.declared.tally.Change.TheVariants.{Same};
 ghost use Rattle.process_queues.specs.declared.fault.ProcFault.TheVariants.{OutOfMemory};
 ghost use Rattle.process_queues.specs.Past.{Rows, BelongsTo, newest_of};
@@ -15,10 +14,11 @@ ghost use Rattle.process_queues.specs.Queues.{AtEachPart, Does};
 use crate::fault::ProcFault;
 use crate::past::Past;
 use crate::process::Process;
-use antimessages::{Change, Outbox, Tally, rewind};
+use antimessages::{Outbox, Tally};
+use queue_steps::{is_change, pop_front, tally_front};
 use reverse::{Actor, actor_rules_law};
 use std::collections::VecDeque;
-use vlink::{Letter, Sign};
+use vlink::Letter;
 
 impl<R: Actor> Process<R> {
     /// The front letter of the tray is tallied. Where its message became present or absent by that, every done event that does not come
@@ -109,36 +109,6 @@ impl<R: Actor> Process<R> {
     }
 }
 
-/// Whether the letter brings a message that is not done, or takes back one that is, and nothing counts of it in the tally, which is that
-/// beside the done events.
-fn is_change(tally: &Tally, letter: &Letter, is_done: bool) -> bool
-    ensures { IsTrue result ↔ (is_done ≡ not (is_plus letter.now.sign)) × (signed_count message_order letter.now.message tally.now ≡ pos 0) }
-{
-    match letter.sign {
-        Sign::Plus => !is_done && tally.is_zero(&letter.message),
-        Sign::Minus => is_done && tally.is_zero(&letter.message),
-    }
-}
-
-/// The letter, which is the front one of the tray, is tallied, and leaves the tray. The answer tells what it made of its message. A refusal
-/// changes nothing.
-fn tally_front(
-    tally: &mut Tally,
-    tray: &mut VecDeque<Letter>,
-    letter: Letter,
-) -> Result<Change, antimessages::OutOfMemory>
-    ensures count { OnOk result (signed_count message_order letter.message tally.new ≡ signed_count message_order letter.message tally.old +ℤ weight letter.sign) }
-    ensures others { OnOk result ((m : Message) → m ≢ letter.message → signed_count message_order m tally.new ≡ signed_count message_order m tally.old) }
-    ensures change { IfOk result (λ change. change ≡ change_by message_order letter tally.old) }
-    ensures tray { OnOk result (tray.new.items ≡ drop 1 tray.old.items) }
-    ensures unchanged { OnErr result (tally.new ≡ tally.old) }
-    ensures tray_unchanged { OnErr result (tray.new.items ≡ tray.old.items) }
-{
-    let change = tally.add(letter)?;
-    pop_front(tray);
-    Ok(change)
-}
-
 /// The done events that do not come before the letter's message are undone, the newest first, and what they sent goes to the outbox as
 /// antimessages, the last sent first. Their messages are tallied, and the letter is. The answer is how many events were undone. A refusal
 /// changes nothing.
@@ -171,12 +141,4 @@ fn front_of(tray: &VecDeque<Letter>) -> Option<Letter>
     ensures { result ≡ slice_get tray.now.items 0 }
 {
     tray.front().copied()
-}
-
-/// The front letter leaves the tray. A tray that is left empty begins at its front again.
-fn pop_front(tray: &mut VecDeque<Letter>)
-    ensures { tray.new.items ≡ drop 1 tray.old.items }
-{
-    let _front = tray.pop_front();
-    rewind(tray);
 }

@@ -1,21 +1,19 @@
 //! Events are committed, the oldest first: how many can be, room for them, and one after another.
-ghost use Rattle.std.specs.Prelude.{◌≡◌, ◌+◌, ◌==◌, ◌<◌, ◌≤◌, ◌+ℤ◌, pos, false, true, List, map, take, Ok, OnOk, OnErr, IfOk, IfErr};
-ghost use Rattle.virtual_time.specs.Law.{IsAscending, pluses, minuses, can_commit, commit_oldest};
+ghost use Rattle.std.specs.Prelude.{◌≡◌, ◌+◌, ◌<◌, ◌≤◌, false, true, map, take, Ok, OnOk, OnErr, IfOk, IfErr};
+ghost use Rattle.virtual_time.specs.Law.{IsAscending, can_commit, commit_oldest};
 ghost use Rattle.reverse.specs.Rules.{rules_of};
 ghost use Rattle.vlink.specs.Order.{message_order};
-ghost use Rattle.vlink.specs.Letters.{Letter};
-ghost use Rattle.antimessages.specs.Counting.{signed_count};
 ghost use Rattle.process_queues.specs.declared.fault.ProcFault.TheVariants.{OutOfMemory};
-ghost use Rattle.process_queues.specs.Committing.{is_committable, committable};
+ghost use Rattle.process_queues.specs.Committing.{committable};
 ghost use Rattle.process_queues.specs.Queues.{AtEachPart, Does, with_done};
 
 use crate::fault::ProcFault;
-use crate::past::Event;
 use crate::process::Process;
 use antimessages::Tally;
+use queue_steps::{Event, counts_once, is_committable};
 use reverse::{Actor, actor_rules_law};
 use std::collections::VecDeque;
-use vlink::{Message, Time};
+use vlink::{Time, order_law};
 
 impl<R: Actor> Process<R> {
     /// How many of the done events, the oldest first and `most` at most, come before the first one that is not earlier than the moment,
@@ -26,7 +24,7 @@ impl<R: Actor> Process<R> {
             (λ opening part. result ≡ committable message_order moment part.tally (take most part.done)) }
     {
         actor_rules_law::<R>();
-        committable_of::<R>(&self.tally, moment, self.past.done_events(), most)
+        committable_of(&self.tally, moment, self.past.done_events(), most)
     }
 
     /// Sees that there is room for so many committed events, which are counted to 2^64 - 1: as long as no other call comes between, so many
@@ -87,16 +85,16 @@ impl<R: Actor> Process<R> {
 }
 
 /// How many of these done events, `most` at most, come before the first one that cannot be committed. The tally is that beside them.
-fn committable_of<R: Actor>(
+fn committable_of<K: Copy>(
     tally: &Tally,
     moment: Time,
-    events: &VecDeque<Event<R::Record>>,
+    events: &VecDeque<Event<K>>,
     most: usize,
 ) -> usize
     requires { IsAscending message_order (map (λ e. e.message) events.now.items) }
     ensures { result ≡ committable message_order moment (with_done tally.now events.now.items) (take most (map (λ e. e.message) events.now.items)) }
 {
-    actor_rules_law::<R>();
+    order_law();
     let limit = most.min(events.len());
     for place in 0..limit {
         if !is_committable(tally, moment, &events[place].message) {
@@ -104,20 +102,4 @@ fn committable_of<R: Actor>(
         }
     }
     limit
-}
-
-/// Whether a done event with this message can be committed: nothing counts of its message beside the letter that brought it.
-fn is_committable(tally: &Tally, moment: Time, message: &Message) -> bool
-    ensures { (all : List Letter) → signed_count message_order message.now all ≡ signed_count message_order message.now tally.now +ℤ pos 1 →
-        result ≡ is_committable message_order moment all message.now }
-{
-    message.time < moment && counts_once(tally, message)
-}
-
-/// Whether the signed count of a done message is just 1: nothing counts of it beside the letter that brought it.
-fn counts_once(tally: &Tally, message: &Message) -> bool
-    ensures { (all : List Letter) → signed_count message_order message.now all ≡ signed_count message_order message.now tally.now +ℤ pos 1 →
-        result ≡ (pluses message_order message.now all == minuses message_order message.now all + 1) }
-{
-    tally.is_zero(message)
 }

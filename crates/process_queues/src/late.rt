@@ -1,32 +1,20 @@
-//! Where a message stands among the done events.
-ghost use Rattle.std.specs.Prelude.{◌≡◌, IsTrue, false, length, map};
+//! Where a message stands among the done events, and these tallied again from there on.
+ghost use Rattle.std.specs.Prelude.{◌≡◌, ◌≤◌, ◌++◌, ◌∷◌, IsTrue, false, length, map, OnOk, OnErr};
+ghost use Rattle.vlink.specs.declared.message.Message.{Message};
 ghost use Rattle.vlink.specs.Order.{message_order};
-ghost use Rattle.virtual_time.specs.Law.{IsAscending, before, times_in};
+ghost use Rattle.virtual_time.specs.Law.{IsIn, IsAscending, before, times_in, plus_of, pluses, minuses};
+ghost use Rattle.antimessages.specs.Counting.{HaveSameCounts};
+ghost use Rattle.process_queues.specs.Arriving.{done_since};
 ghost use Rattle.reverse.specs.Rules.{rules_of};
 
-use crate::order::is_before;
 use crate::past::Past;
+use antimessages::{OutOfMemory, Tally};
+use queue_steps::{Event, is_before, tally_again};
 use reverse::{Actor, actor_rules_law};
-use vlink::Message;
+use std::collections::VecDeque;
+use vlink::{Letter, Message, order_law};
 
 impl<R: Actor> Past<R> {
-    /// How many of the done events come before the message. They are looked at from the newest on: most letters that come late come little
-    /// late.
-    pub(crate) fn done_before(&self, message: &Message) -> usize
-        requires { IsAscending message_order (map (λ e. e.message) self.now.done) }
-        ensures { result ≡ length (before message_order message.now (map (λ e. e.message) self.now.done)) }
-    {
-        actor_rules_law::<R>();
-        let events = self.done.len();
-        for late in 0..events {
-            let place = events - 1 - late;
-            if is_before(&self.done[place].message, message) {
-                return place + 1;
-            }
-        }
-        0
-    }
-
     /// Whether the message is that of a done event: of the first one that does not come before it.
     pub(crate) fn has_done(&self, message: &Message) -> bool
         requires { IsAscending message_order (map (λ e. e.message) self.now.done) }
@@ -34,10 +22,43 @@ impl<R: Actor> Past<R> {
         ensures not_done { result ≡ false → times_in message_order message.now (map (λ e. e.message) self.now.done) ≡ 0 }
     {
         actor_rules_law::<R>();
-        let place = self.done_before(message);
+        let place = done_before(&self.done, message);
         match self.done.get(place) {
             Some(event) => !is_before(message, &event.message),
             None => false,
         }
     }
+
+    /// The messages of the done events that do not come before the letter's are tallied, and the letter is. A refusal changes nothing: what
+    /// was tallied till then is taken out again, which takes no memory.
+    pub(crate) fn count_again(&self, tally: &mut Tally, letter: Letter) -> Result<(), OutOfMemory>
+        requires ascending { IsAscending message_order (map (λ e. e.message) self.now.done) }
+        requires not_owed { (m : Message) → IsIn message_order m (map (λ e. e.message) self.now.done) → minuses message_order m tally.old ≤ pluses message_order m tally.old }
+        ensures counts { OnOk result (HaveSameCounts message_order tally.new (letter ∷ (map (λ e. plus_of e.message) (done_since letter.message self.now.done) ++ tally.old))) }
+        ensures unchanged { OnErr result (tally.new ≡ tally.old) }
+    {
+        tally_again(
+            &self.done,
+            done_before(&self.done, &letter.message),
+            tally,
+            letter,
+        )
+    }
+}
+
+/// How many of these done events come before the message. They are looked at from the newest on: most letters that come late come little
+/// late.
+fn done_before<K: Copy>(done: &VecDeque<Event<K>>, message: &Message) -> usize
+    requires { IsAscending message_order (map (λ e. e.message) done.now.items) }
+    ensures { result ≡ length (before message_order message.now (map (λ e. e.message) done.now.items)) }
+{
+    order_law();
+    let events = done.len();
+    for late in 0..events {
+        let place = events - 1 - late;
+        if is_before(&done[place].message, message) {
+            return place + 1;
+        }
+    }
+    0
 }

@@ -7,11 +7,9 @@ mod committing;
 mod fault;
 mod late;
 mod laws;
-mod order;
 mod past;
 mod posting;
 mod process;
-mod restoring;
 mod rollback;
 mod running;
 

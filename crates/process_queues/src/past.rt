@@ -13,29 +13,13 @@ ghost use Rattle.antimessages.specs.Counting.{is_after};
 ghost use Rattle.process_queues.specs.Past.{Past, Rows, IsPastOf, handled_past, newest_of, FirstDone};
 ghost use Rattle.reverse.specs.declared.sends.TheConstants.{MOST_SENT};
 
-use crate::order::is_before;
 use antimessages::{OutOfMemory, Outbox, rewind};
+use queue_steps::{Event, is_before};
 use reverse::{Actor, MOST_SENT, Outbound, actor_rules_law};
-use std::alloc::{AllocError, Global};
+use std::alloc::Global;
 use std::collections::VecDeque;
 use std::marker::Model;
 use vlink::{Letter, Message, Note, Row, Sign, Time};
-
-/// What is kept of a done event: its message, how many messages it sent, how many rows it gave, and the record by which it is undone.
-/// The record, which can be large, comes last, since an event that is committed needs it no more.
-#[derive(Copy)]
-pub(crate) struct Event<K: Copy> {
-    pub(crate) message: Message,
-    pub(crate) sent: u8,
-    pub(crate) noted: u8,
-    pub(crate) kept: K,
-}
-
-impl<K: Copy> Clone for Event<K> {
-    fn clone(&self) -> Result<Self, AllocError> {
-        Ok(*self)
-    }
-}
 
 /// The actor with the events that it has done and not committed, oldest first, and all that they sent, in order. The rows are those of
 /// the committed events, but the oldest ones that are forgotten, and then those of the done ones.

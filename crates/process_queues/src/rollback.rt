@@ -1,20 +1,18 @@
 //! Undoing what a process has done, the newest event first.
-ghost use Rattle.std.specs.Prelude.{◌≡◌, ◌+◌, ◌<◌, ◌≤◌, ◌-◌, List, [], ◌∷◌, ◌++◌, length, map, take, drop, reverse};
-ghost use Rattle.std.specs.VecDeque.{deque_len};
+ghost use Rattle.std.specs.Prelude.{◌≡◌, ◌+◌, ◌≤◌, List, [], ◌∷◌, ◌++◌, length, map, reverse};
 ghost use Rattle.vlink.specs.declared.message.Message.{Message};
 ghost use Rattle.virtual_time.specs.Law.{reached, minus_of, Part, rolled_back, undo_all};
 ghost use Rattle.reverse.specs.Rules.{rules_of};
 ghost use Rattle.process_queues.specs.Past.{Rows, IsPastOf, LastDone, BelongsTo, sent_since};
 ghost use Rattle.process_queues.specs.Queues.{AtEachPart};
-ghost use Rattle.process_queues.specs.declared.past.Event.{Event};
+ghost use Rattle.queue_steps.specs.declared.event.Event.{Event};
 
-use crate::order::is_before;
-use crate::past::{Event, Past};
+use crate::past::Past;
 use crate::process::Process;
 use antimessages::Outbox;
+use queue_steps::{is_before, take_back, take_newest};
 use reverse::{Actor, actor_rules_law};
-use std::collections::VecDeque;
-use vlink::{Letter, Message, Sign};
+use vlink::Message;
 
 impl<R: Actor> Past<R> {
     /// How many messages the done events sent that do not come before the message: so many antimessages their undoing gives.
@@ -104,30 +102,4 @@ impl<R: Actor> Process<R> {
         let Process { past, .. } = self;
         past.undo_all()
     }
-}
-
-/// The newest of these events, of which there is one, leaves them.
-fn take_newest<K: Copy>(done: &mut VecDeque<Event<K>>) -> Event<K>
-    requires { 0 < deque_len done.old }
-    ensures { done.old.items ≡ done.new.items ++ result ∷ [] }
-{
-    done.pop_back().unwrap()
-}
-
-/// The last messages that were sent, so many, go to the outbox as antimessages, the last first. There is room for them.
-fn take_back(sends: &mut VecDeque<Message>, outbox: &mut Outbox, count: usize)
-    requires enough { count ≤ deque_len sends.old }
-    requires room { count ≤ outbox.old.room }
-    ensures sends { sends.new.items ≡ take (deque_len sends.old - count) sends.old.items }
-    ensures outbox { outbox.new.letters ≡ outbox.old.letters ++ map minus_of (reverse (drop (deque_len sends.old - count) sends.old.items)) }
-    ensures room { outbox.old.room ≤ outbox.new.room + count }
-{
-    let all = sends.len();
-    for taken in 0..count {
-        let _room = outbox.push(Letter {
-            message: sends[all - 1 - taken],
-            sign: Sign::Minus,
-        });
-    }
-    sends.truncate(all - count);
 }

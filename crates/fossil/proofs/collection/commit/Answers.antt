@@ -26,14 +26,14 @@ loop-committed-preserved g c =
 
 pub returns-clause-answer : goal.returns-clause-answer
 returns-clause-answer g c opening part h =
-    c.count_below-count.ensures.stands opening part h ∙
+    c.committable-count.ensures.stands opening part h ∙
     committable-below (rules_of g.R.Reversible.plain) c.actor_rules_law.ensures.order c.args.gvt c.args.n part h.past.ascending
 
 pub returns-clause-one_part : goal.returns-clause-one_part
 returns-clause-one_part g c one opening part h =
     let r = rules_of g.R.Reversible.plain in
     let v = g.R.Reversible.is_value in
-    let all : c.loop-committed.committed ≡ c.count_below-count.result = omega arith in
+    let all : c.loop-committed.committed ≡ c.committable-count.result = omega arith in
     let count : c.loop-committed.committed ≡ committed_below r c.args.gvt 1 part =
     all ∙ (returns-clause-answer g c opening part h ∙ ap (λ n. committed_below r c.args.gvt n part) one) in
     subst (λ z. StandsFor r v opening z c.loop-committed.process.queues) (ap (λ n. committed_times r n part) count ∙ once-part r c.args.gvt part)
@@ -41,6 +41,6 @@ returns-clause-one_part g c one opening part h =
 
 pub returns-then-is_err-clause-reserved : goal.returns-then-is_err-clause-reserved
 returns-then-is_err-clause-reserved g c opening part h =
-    subst (λ z. c.args.process.now.committed_room < z) (c.count_below-count.ensures.stands opening part h ∙
+    subst (λ z. c.args.process.now.committed_room < z) (c.committable-count.ensures.stands opening part h ∙
     committable-below (rules_of g.R.Reversible.plain) c.actor_rules_law.ensures.order c.args.gvt c.args.n part h.past.ascending)
-    (on_err-is (c.args.process.now.committed_room < c.count_below-count.result) c.reserve_rows.result c.reserve_rows.ensures.reserved (sym c.if-is_err.ensures.value))
+    (on_err-is (c.args.process.now.committed_room < c.committable-count.result) c.reserve_rows.result c.reserve_rows.ensures.reserved (sym c.if-is_err.ensures.value))

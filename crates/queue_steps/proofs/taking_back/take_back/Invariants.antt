@@ -1,6 +1,6 @@
 use Rattle.std.proofs.Common.{◌≡◌, ◌+◌, ◌-◌, ◌≤◌, ◌++◌, map, drop, reverse}
 use Rattle.virtual_time.specs.Law.{minus_of}
-use Rattle.process_queues.proofs.rollback.take_back.Given as goal
+use Rattle.queue_steps.proofs.taking_back.take_back.Given as goal
 
 abbrev pub invariant-loop-taken : goal.invariant-loop-taken
 invariant-loop-taken l = record {
