@@ -199,3 +199,9 @@ returns-clause-limited g c =
 
 pub returns-clause-faults : goal.returns-clause-faults
 returns-clause-faults g c = tt
+
+pub overflow_cast-count : goal.overflow_cast-count
+overflow_cast-count g c = omega (arith, c.min-count.ensures, c.ranges.most)
+
+pub overflow_cast-result : goal.overflow_cast-result
+overflow_cast-result g c = omega (arith, c.min-count.ensures, c.ranges.most)

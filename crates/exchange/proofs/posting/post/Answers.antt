@@ -194,3 +194,9 @@ returns-clause-limited g c =
 
 pub returns-clause-faults : goal.returns-clause-faults
 returns-clause-faults g c = tt
+
+pub overflow_add-exchange : goal.overflow_add-exchange
+overflow_add-exchange g c = omega (arith, c.if-moves-exchange.false, c.exchange.invariant.0, c.exchange.invariant.1)
+
+pub overflow_add-exchange-2 : goal.overflow_add-exchange-2
+overflow_add-exchange-2 g c = omega (arith, c.if-moves-exchange.false, c.exchange.invariant.0, c.exchange.invariant.1)

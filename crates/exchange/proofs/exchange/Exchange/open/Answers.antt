@@ -1,4 +1,4 @@
-use Rattle.std.proofs.Common.{length, replicate, sym, ap, ◌∙◌}
+use Rattle.std.proofs.Common.{length, replicate, sym, ap, ◌∙◌, arith}
 use Rattle.std.proofs.lemmas.List.{length-map}
 use Rattle.halves.specs.declared.LeftHalf.{LeftHalf}
 use Rattle.exchange.specs.declared.mark.Standing.{Standing}
@@ -37,3 +37,57 @@ returns-in_err-helds-clause-helds g c = err-if-ok _ _ c.from_residual-in_err-hel
 
 pub returns-clause-memory : goal.returns-clause-memory
 returns-clause-memory g c = tt
+
+pub process_number-count-requires : goal.process_number-count-requires
+process_number-count-requires g c = omega (arith, c.len.ensures, c.args.actors.ok.0, c.requires.opens.actors_open.count, c.requires.few)
+
+pub at_start-requires-clause-offers : goal.at_start-requires-clause-offers
+at_start-requires-clause-offers g c = c.requires.opens.offered
+
+pub at_start-requires-clause-until : goal.at_start-requires-clause-until
+at_start-requires-clause-until g c = c.requires.until
+
+pub at_start-requires-clause-end : goal.at_start-requires-clause-end
+at_start-requires-clause-end g c = c.requires.end
+
+pub at_start-requires-clause-layout : goal.at_start-requires-clause-layout
+at_start-requires-clause-layout g c = c.requires.layout
+
+pub at_start-requires-clause-keeps : goal.at_start-requires-clause-keeps
+at_start-requires-clause-keeps g c = c.requires.keeps
+
+pub at_start-requires-clause-some : goal.at_start-requires-clause-some
+at_start-requires-clause-some g c = c.requires.some
+
+pub at_start-requires-clause-most : goal.at_start-requires-clause-most
+at_start-requires-clause-most g c = c.requires.most
+
+pub helds_of-requires-clause-count : goal.helds_of-requires-clause-count
+helds_of-requires-clause-count g c = c.requires.opens.actors_open.count
+
+pub helds_of-requires-clause-each : goal.helds_of-requires-clause-each
+helds_of-requires-clause-each g c = c.requires.opens.actors_open.each
+
+pub helds_of-requires-clause-layout : goal.helds_of-requires-clause-layout
+helds_of-requires-clause-layout g c = c.requires.layout
+
+pub helds_of-requires-clause-names : goal.helds_of-requires-clause-names
+helds_of-requires-clause-names g c = c.pairs.invariant.0 ∙ (c.pairs.view_is ∙ c.requires.names)
+
+pub helds_of-requires-clause-each_name : goal.helds_of-requires-clause-each_name
+helds_of-requires-clause-each_name g c = c.requires.each
+
+pub helds_of-requires-clause-blanks : goal.helds_of-requires-clause-blanks
+helds_of-requires-clause-blanks g c = c.pairs.invariant.2
+
+pub helds_of-requires-clause-few : goal.helds_of-requires-clause-few
+helds_of-requires-clause-few g c = c.requires.few
+
+pub returns-clause-exchange : goal.returns-clause-exchange
+returns-clause-exchange g c = c.in_ok-exchange.ensures.opened
+
+pub returns-clause-count : goal.returns-clause-count
+returns-clause-count g c = c.in_ok-helds.ensures.count
+
+pub returns-clause-helds : goal.returns-clause-helds
+returns-clause-helds g c = c.in_ok-helds.ensures.each

@@ -136,3 +136,12 @@ returns-clause-groups g c = c.in_ok-groups.ensures.each
 
 pub returns-clause-memory : goal.returns-clause-memory
 returns-clause-memory g c = tt
+
+pub new-requires : goal.new-requires
+new-requires g c = c.requires.end
+
+pub of_known-end-requires : goal.of_known-end-requires
+of_known-end-requires g c = omega (arith, c.ns.ensures.value, c.requires.end)
+
+pub overflow_add-ns : goal.overflow_add-ns
+overflow_add-ns g c = omega (arith, c.ns.ensures.value, c.requires.end)
