@@ -1,6 +1,6 @@
 -- Letters go from the mail to a process.
-use Rattle.std.proofs.Common.{◌≡◌, ℕ, ◌+◌, ◌<◌, ◌≤◌, inl, inr, min, List, [], ◌∷◌, ◌++◌, map, length, take, slice_get, Option, Some, None, refl, sym, ap, ◌∙◌, subst, arith, option_map, set, length-set, get_or-set_same, get_or-set_other}
-use Rattle.std.proofs.lemmas.List.{take_more, map-append}
+use Rattle.std.proofs.Common.{◌≡◌, ℕ, ◌+◌, ◌<◌, ◌≤◌, inl, inr, min, List, [], ◌∷◌, ◌++◌, map, length, take, slice_get, Option, Some, None, refl, sym, ap, ◌∙◌, subst, arith, option_map, set, length-set, get_or-set_same, get_or-set_other, length-take}
+use Rattle.std.proofs.lemmas.List.{take_more, map-append, nil_from_length}
 use Rattle.std.proofs.lemmas.Bool.{cases_eq}
 use Rattle.std.proofs.lemmas.Option.{get_or_from_slice_get}
 use Rattle.vlink.specs.declared.message.Message.{Message}
@@ -19,7 +19,7 @@ use Rattle.journal.specs.Deeds.{entry_by}
 use Rattle.exchange.specs.declared.mark.Standing.{Standing}
 use Rattle.exchange.specs.Views.{Ledger, HeldState, unplaced, standing_of, place_of, own_of}
 use Rattle.exchange.specs.Keeps.{AreMarked, IsRecorded}
-use Rattle.exchange.specs.Effects.{mark_at, collects}
+use Rattle.exchange.specs.Effects.{mark_at, collects, Collects}
 
 -- the deliveries of these letters
 delivered-local : {S K : Type 0} (r : Rules Message S K Note) (o : S) (ls : List Letter) (part : Part Message S) → delivered_all ls part ≡ local r o (map (λ l. Deliver l) ls) part
@@ -124,3 +124,12 @@ module _ {S K : Type 0} (f : Simulation Message S K Note) (x : Ledger) (h : Held
           collects f zs x h y k
       go [] some a b = absurd (omega arith)
       go (l ∷ ls) some a b = (a, b)
+
+  -- none was there
+  pub collects-none : (most : ℕ) → min most (length ((reach f x.entries).mail h.number)) ≡ 0 →
+      y ≡ record { entries = x.entries; marks = set x.marks h.number (mark_at h.mark.place (reach f x.entries).gvt); limit = x.limit } → k ≡ record h { mark = mark_at h.mark.place (reach f x.entries).gvt } →
+      Collects f most x h y k 0
+  collects-none most none a b =
+      let letters = (reach f x.entries).mail h.number in
+      let empty : take most letters ≡ [] = nil_from_length (take most letters) (length-take most letters ∙ none) in
+      (sym (ap length empty), subst (λ z. collects f z x h y k) (sym empty) (a, b))

@@ -20,6 +20,18 @@ pub record Entered (es : List (Entry Message)) (standings : List Standing) (p : 
   pub told : own_of p now.last ≡ own_in p es'
   pub marked : standings' ≡ set standings p now
 
+-- it came behind a journal for which there was made room
+pub entered-behind : {es : List (Entry Message)} {standings : List Standing} {p : ℕ} {prior : Option ℕ} {own : List (Act Message)} {d : Deed Message} {es' : List (Entry Message)} {standings' : List Standing} {now : Standing} →
+    own ≡ own_in p es → (reserved : List (Entry Message)) → reserved ≡ es → (entry : Entry Message) → entry ≡ entry_by p prior d → es' ≡ reserved ++ entry ∷ [] →
+    place_of now.last ≡ Some (length reserved) → own_of p now.last ≡ own_in p es' → standings' ≡ set standings p now → Entered es standings p prior own d es' standings' now
+entered-behind mine reserved same entry is behind place told marked = record {
+  mine = mine;
+  journal = behind ∙ (λ i. same i ++ is i ∷ []);
+  place = place ∙ ap (λ (us : List (Entry Message)). Some (length us)) same;
+  told = told;
+  marked = marked;
+}
+
 module _ {es : List (Entry Message)} {standings : List Standing} {p : ℕ} {prior : Option ℕ} {own : List (Act Message)} {d : Deed Message} {es' : List (Entry Message)} {standings' : List Standing} {now : Standing}
     (w : Entered es standings p prior own d es' standings' now) where
   -- it tells what was told before, and this deed

@@ -1,3 +1,4 @@
+pub mod Halves
 mod Marks
 mod Collected
 mod Entered
@@ -6,6 +7,7 @@ mod Growth
 mod Holding
 mod Joining
 mod Listed
+mod Limits
 mod Lists
 mod Moves
 mod Oldest
@@ -13,5 +15,6 @@ mod Opened
 mod Outcomes
 mod Posted
 mod Published
+pub mod Refused
 mod Taken
 mod Worked

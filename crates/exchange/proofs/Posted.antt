@@ -120,6 +120,11 @@ module _ {S K : Type 0} (f : Simulation Message S K Note) (x : Ledger) (h : Held
   posts-some [] some a b = absurd (omega arith)
   posts-some (m ∷ ms) some a b = (a, b)
 
+  -- an empty block
+  pub posts-none : (ms : List Move) → length ms ≡ 0 → y ≡ x → k ≡ h → posts-effect f ms x h y k
+  posts-none [] none a b = (a, b)
+  posts-none (m ∷ ms) none a b = absurd (omega arith)
+
 -- what was done
 pub block-posted : {S K : Type 0} (f : Simulation Message S K Note) {es : List (Entry Message)} {standings : List Standing} {p seen : ℕ} {own : List (Act Message)} {prior : Option ℕ} {block : List Move} {es' : List (Entry Message)}
     {standings' : List Standing} {now : Standing} → Entered es standings p prior own (Posted block) es' standings' now → now.seen ≡ seen → 0 < length block → (limit gone : ℕ) (block' : List Move) → block' ≡ [] →

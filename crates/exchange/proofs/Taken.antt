@@ -25,6 +25,10 @@ use Rattle.exchange.proofs.Moves.{in_hand}
 use Rattle.exchange.proofs.Gone.{gone-stays}
 use Rattle.exchange.proofs.Collected.{stands-collected, part-collected, collects-some}
 
+-- no more are taken than there are
+pub at-most : (most n count : ℕ) → n ≡ min most count → n ≤ count
+at-most most n count is = omega arith
+
 -- so many letters are there and there is room for them, so all are taken
 pub all-taken : {E : Type 0} {room n count : ℕ} (r : Result ℕ E) → OnErr r (room < min n count) → n ≤ room → n ≤ count → IfOk r (λ k. k ≡ min n count) → r ≡ Ok n
 all-taken (Ok k) a b c d = ap (λ z. Ok z) (omega arith)

@@ -9,9 +9,10 @@ ghost use Rattle.antimessages.specs.Mailing.{letters_for};
 ghost use Rattle.journal.specs.declared.fault.PoolFault.TheVariants.{OutOfMemory, JournalFull, Torn};
 ghost use Rattle.exchange.specs.Effects.{Collects, mark_at};
 
+use crate::entering::{enter, reserve_to_collect};
 use crate::exchange::Exchange;
 use crate::held::Held;
-use crate::mark::{standing_at, tell_both};
+use crate::mark::tell_both;
 use crate::run_of::ActorRun;
 use antimessages::Mail;
 use gvt::Floors;
@@ -48,25 +49,22 @@ pub fn collect<R: Actor, J: ActorRun<R>>(
     if exchange.limit - exchange.steps < count as u64 {
         return Err(PoolFault::JournalFull);
     }
-    if held.process.reserve_letters(count).is_err() {
-        return Err(PoolFault::OutOfMemory);
-    }
-    if let Err(fault) = exchange.journal.reserve() {
+    if let Err(fault) = reserve_to_collect(&mut held.process, &mut exchange.journal, count) {
         return Err(fault);
     }
-    let place = exchange.journal.len() as u64;
     let entry = Entry::collected(held.number, prior, &exchange.mail, count as u32);
-    exchange.journal.push_reserved(entry);
-    held.standing = standing_at(place, &exchange.journal, exchange.gvt);
-    lower_floor(&mut exchange.floors, &exchange.mail, held.number, count);
-    let _taken = held.process.collect(&mut exchange.mail, held.number, count);
-    exchange.steps += count as u64;
-    tell_both(
+    enter(
+        &mut exchange.journal,
+        entry,
+        &mut held.standing,
         &mut exchange.marks,
         &mut held.mark,
         held.number,
-        &held.standing,
+        exchange.gvt,
     );
+    lower_floor(&mut exchange.floors, &exchange.mail, held.number, count);
+    let _taken = held.process.collect(&mut exchange.mail, held.number, count);
+    exchange.steps += count as u64;
     Ok(count as u32)
 }
 

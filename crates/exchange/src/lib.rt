@@ -3,6 +3,7 @@
 #![tactic(auto)]
 
 mod collecting;
+mod entering;
 mod exchange;
 mod fits;
 mod gate;

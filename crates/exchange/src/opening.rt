@@ -1,6 +1,9 @@
 //! An exchange and its processes at the start.
-ghost use Rattle.std.specs.Prelude.{◌≡◌, ℕ, ◌<◌, ◌≤◌, ◌^◌, [], map, replicate, length, slice_get, slice_index, Some, is_some, IfOk, IfErr};
+ghost use Rattle.std.specs.Prelude.{◌≡◌, ℕ, ◌+◌, ◌<◌, ◌≤◌, ◌^◌, [], All, map, replicate, length, slice_get, slice_index, Some, is_some, IfOk, IfErr};
 ghost use Rattle.vlink.specs.declared.time.TheConstants.{GREATEST_NS};
+ghost use Rattle.vlink.specs.Order.{message_order};
+ghost use Rattle.virtual_time.specs.Law.{plus_of, received_by};
+ghost use Rattle.antimessages.specs.Mailing.{letters_for};
 ghost use Rattle.reverse.specs.Rules.{rules_of};
 ghost use Rattle.reverse.specs.Setting.{Opens, IsLaidOut};
 ghost use Rattle.journal.specs.declared.fault.PoolFault.TheVariants.{OutOfMemory};
@@ -13,7 +16,7 @@ use crate::pairs::Pairs;
 use crate::run_of::ActorRun;
 use antimessages::{Mail, plus_letters};
 use gvt::Floors;
-use halves::RightHalf;
+use halves::{LeftHalf, RightHalf};
 use journal::{Block, Entries, PoolFault, Table};
 use process_queues::Process;
 use reverse::{Actor, Outbound, actor_law};
@@ -49,25 +52,72 @@ impl<R: Actor + Drop, J: ActorRun<R>> Exchange<R, J> {
         ensures helds { IfOk result (λ r. (p : ℕ) → p < J.setting.processes → slice_get r.1.items p ≡ Some (opened_held J.setting.opening p)) }
         ensures memory { IfErr result (λ fault. fault ≡ OutOfMemory) }
     {
-        actor_law::<R>();
         let count = process_number(actors.len());
-        let letters = plus_letters(alloc, offers)?;
-        let mail = Mail::with_letters(alloc, count, &letters)?;
-        let floors = Floors::new(alloc, count, until)?;
         let Pairs { lefts, rights } = pairs;
+        let exchange = Exchange::at_start(alloc, count, offers, until, table, lefts, limit)?;
         let helds = helds_of(alloc, actors, rights, until)?;
-        let exchange = Exchange {
+        Ok((exchange, helds))
+    }
+
+    /// An exchange with no entry, of so many processes.
+    fn at_start(
+        alloc: Global,
+        processes: u16,
+        offers: &[Message],
+        until: Time,
+        table: Option<Table>,
+        marks: Vec<LeftHalf<Standing>>,
+        limit: u64,
+    ) -> Result<Exchange<R, J>, PoolFault>
+        requires processes { processes ≡ J.setting.processes }
+        requires offers { offers.now ≡ J.setting.offers }
+        requires until { until ≡ J.setting.until }
+        requires end { until < GREATEST_NS }
+        requires layout { IsLaidOut (rules_of R.plain) R.number R.end R.is_placed J.setting }
+        requires keeps { is_some table ≡ J.keeps }
+        requires names { map (λ b. b.name) marks.items ≡ J.names }
+        requires blanks { map (λ b. b.value) marks.items ≡ replicate J.setting.processes unplaced }
+        requires some { 1 ≤ limit }
+        requires most { limit ≤ 2 ^ 62 }
+        ensures opened { IfOk result (λ exchange. exchange ≡ record { entries = []; marks = replicate J.setting.processes blank; limit = limit }) }
+        ensures memory { IfErr result (λ fault. fault ≡ OutOfMemory) }
+    {
+        actor_law::<R>();
+        let journal = Entries::new(alloc, table);
+        let (mail, floors) = mail_and_floors(alloc, processes, offers, until)?;
+        Ok(Exchange {
             mail,
             floors,
             gvt: Time::default(),
-            journal: Entries::new(alloc, table),
+            journal,
             steps: 0,
-            marks: lefts,
+            marks,
             limit,
             of: PhantomData,
-        };
-        Ok((exchange, helds))
+        })
     }
+}
+
+/// The mail of so many processes that has the offers, and their floors: each is the moment after the end.
+fn mail_and_floors(
+    alloc: Global,
+    processes: u16,
+    offers: &[Message],
+    until: Time,
+) -> Result<(Mail, Floors), PoolFault>
+    requires end { until < GREATEST_NS }
+    requires receivers { All (λ letter. letter.message.receiver < processes) (map plus_of offers.now) }
+    ensures boxes { IfOk result (λ r. length r.0 ≡ processes) }
+    ensures letters { IfOk result (λ r. (p : ℕ) → letters_for p r.0 ≡ received_by message_order p (map plus_of offers.now)) }
+    ensures floors { IfOk result (λ r. length r.1.floors ≡ processes) }
+    ensures each { IfOk result (λ r. (p : ℕ) → p < processes → slice_get r.1.floors p ≡ Some (until + 1)) }
+    ensures until { IfOk result (λ r. r.1.until ≡ until) }
+    ensures memory { IfErr result (λ fault. fault ≡ OutOfMemory) }
+{
+    let floors = Floors::new(alloc, processes, until)?;
+    let letters = plus_letters(alloc, offers)?;
+    let mail = Mail::with_letters(alloc, processes, &letters)?;
+    Ok((mail, floors))
 }
 
 /// A process in hand for each actor, in order.

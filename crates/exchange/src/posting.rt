@@ -6,9 +6,9 @@ ghost use Rattle.reverse.specs.Setting.{simulation_of};
 ghost use Rattle.journal.specs.declared.fault.PoolFault.TheVariants.{OutOfMemory, JournalFull, Torn};
 ghost use Rattle.exchange.specs.Effects.{Posts};
 
+use crate::entering::{enter, reserve_to_post};
 use crate::exchange::Exchange;
 use crate::held::Held;
-use crate::mark::{standing_at, tell_both};
 use crate::run_of::ActorRun;
 use journal::{Block, Entry, PoolFault};
 use reverse::{Actor, actor_law};
@@ -41,26 +41,22 @@ pub fn post<R: Actor, J: ActorRun<R>>(
     if moves >= exchange.limit - exchange.steps {
         return Err(PoolFault::JournalFull);
     }
-    if held.process.reserve_post(&mut exchange.mail).is_err() {
-        return Err(PoolFault::OutOfMemory);
-    }
-    if let Err(fault) = exchange.journal.reserve() {
+    if let Err(fault) = reserve_to_post(&held.process, &mut exchange.mail, &mut exchange.journal) {
         return Err(fault);
     }
-    let place = exchange.journal.len() as u64;
     let block = mem::replace(&mut held.block, Block::new());
-    exchange
-        .journal
-        .push_reserved(Entry::posted(held.number, prior, block));
-    held.standing = standing_at(place, &exchange.journal, held.standing.seen);
-    let _posted = held.process.post(&mut exchange.mail);
-    exchange.floors.set(held.number, held.process.floor());
-    exchange.steps += moves + 1;
-    tell_both(
+    let seen = held.standing.seen;
+    enter(
+        &mut exchange.journal,
+        Entry::posted(held.number, prior, block),
+        &mut held.standing,
         &mut exchange.marks,
         &mut held.mark,
         held.number,
-        &held.standing,
+        seen,
     );
+    let _posted = held.process.post(&mut exchange.mail);
+    exchange.floors.set(held.number, held.process.floor());
+    exchange.steps += moves + 1;
     Ok(())
 }

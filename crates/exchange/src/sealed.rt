@@ -46,6 +46,13 @@ impl<R: Actor, J: ActorRun<R>> Held<R, J> {
     {
         actor_law::<R>();
         let_rows_go(&mut self.process, moment);
-        self.gone = self.gone.max(moment);
+        self.gone = later_of(self.gone, moment);
     }
+}
+
+/// The later of two moments.
+fn later_of(one: Time, other: Time) -> Time
+    ensures { result ≡ max one other }
+{
+    one.max(other)
 }

@@ -1,7 +1,5 @@
 -- The halves of marks, in lists; and that both halves of a group's mark tell one thing.
-use Rattle.std.proofs.Common.{◌≡◌, ℕ, zero, suc, ◌+◌, ◌<◌, ◌≤◌, true, ◌++◌, List, [], ◌∷◌, All, map, set, drop, remove, replicate, length, slice_get, get_or, drop-cons, Some, refl, sym, ap, ◌∙◌, subst, arith}
-use Rattle.std.proofs.lemmas.List.{map-set, drop-map}
-use Rattle.std.proofs.Math.Seq.{map-set_same}
+use Rattle.std.proofs.Common.{◌≡◌, ℕ, zero, suc, ◌<◌, ◌≤◌, true, ◌++◌, List, [], ◌∷◌, All, map, set, replicate, length, slice_get, get_or, Some, refl, sym, ap, ◌∙◌, subst, arith}
 use Rattle.vlink.specs.declared.message.Message.{Message}
 use Rattle.vlink.specs.declared.note.Note.{Note}
 use Rattle.virtual_time.specs.Law.{Rules, AreDone, done_by, in_hand, behind, waiting_in}
@@ -9,7 +7,6 @@ use Rattle.virtual_time.specs.declared.step.Step.{Step}
 use Rattle.reverse.specs.Setting.{Setting, simulation_of}
 use Rattle.gvt.specs.Horizon.{Floors}
 use Rattle.halves.specs.declared.LeftHalf.{LeftHalf}
-use Rattle.halves.specs.declared.RightHalf.{RightHalf}
 use Rattle.hand.specs.Block.{steps_told}
 use Rattle.hand.specs.Hands.{Held}
 use Rattle.group_exchange.specs.declared.mark.Standing.{Standing}
@@ -17,14 +14,6 @@ use Rattle.group_exchange.specs.Views.{Boxes, IsUnplaced, blank, is_of, last_in,
 use Rattle.group_exchange.specs.Keeps.{AreAsIn, Holds, IsMarked, IsRecorded}
 use Rattle.group_exchange.proofs.Alike.{are-done-same, in-hand-same}
 use Rattle.group_exchange.proofs.Posted.{posted}
-
-module _ (marks : List (LeftHalf Standing)) (n g : ℕ) (is : n ≡ g) where
-  -- another mark is there, of the same name
-  pub names-set : (b c : LeftHalf Standing) → b ≡ get_or marks n b → c.name ≡ b.name → map (λ b. b.name) (set marks n c) ≡ map (λ b. b.name) marks
-  names-set b c at same = map-set_same (λ (z : LeftHalf Standing). z.name) marks n c b (same ∙ ap (λ z. z.name) at)
-
-  pub values-set : (c : LeftHalf Standing) (m : Standing) → c.value ≡ m → map (λ b. b.value) (set marks n c) ≡ set (map (λ b. b.value) marks) g m
-  values-set c m tells = map-set (λ (z : LeftHalf Standing). z.value) marks n c ∙ (λ i. set (map (λ b. b.value) marks) (is i) (tells i))
 
 value-there : (marks : List (LeftHalf Standing)) (g : ℕ) (b : LeftHalf Standing) → g < length marks → b ≡ get_or marks g b → slice_get (map (λ b. b.value) marks) g ≡ Some b.value
 value-there [] g b h e = absurd (omega arith)
@@ -78,13 +67,6 @@ pub recorded-as : {S K : Type 0} {r : Rules Message S K Note} {number end : S �
     IsRecorded r number end is_placed x owners groups steps' mail floors gvt standings
 recorded-as {r = r} {number = number} {end = end} {is_placed = is_placed} {x = x} {owners = owners} {groups = groups} {mail = mail} {floors = floors} {gvt = gvt} {standings = standings} k steps' e =
     subst (λ ss. IsRecorded r number end is_placed x owners groups ss mail floors gvt standings) (sym e) k
-
--- the marks that are left when those before place i have gone
-module _ (names : List ℕ) (marks : List (RightHalf Standing)) (i : ℕ) (left : map (λ s. s.name) marks ≡ drop i names) (within : i < length names) where
-  pub names-left : (rest : List (RightHalf Standing)) → rest ≡ remove marks 0 → map (λ s. s.name) rest ≡ drop (i + 1) names
-  names-left rest gone =
-      ap (map (λ (z : RightHalf Standing). z.name)) gone ∙ (sym (drop-map (λ (z : RightHalf Standing). z.name) 1 marks) ∙
-      (ap (drop 1) left ∙ (ap (drop 1) (drop-cons names i 0 within) ∙ ap (λ n. drop n names) (let e : suc i ≡ i + 1 = omega arith in e))))
 
 -- one standing more that tells of nothing
 pub blanks-set : (standings : List Standing) (i : ℕ) (s : Standing) → All IsUnplaced standings → IsUnplaced s → All IsUnplaced (set standings i s)

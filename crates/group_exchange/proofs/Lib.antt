@@ -1,6 +1,5 @@
 pub mod Owners
 pub mod Alike
-pub mod Refused
 pub mod Marks
 pub mod Holding
 pub mod Taken

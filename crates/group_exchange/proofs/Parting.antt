@@ -82,3 +82,16 @@ module _ {S : Type 0} (x : Setting S) (owners : List ℕ) (own : List ℕ) (is :
       (p : ℕ) → p < x.processes → (h : ℕ) → is_of owners h p ≡ true → g + 1 ≤ h → slice_get left p ≡ Some (Some (x.opening p))
   still-there stays there p i h o later =
       stays p (ap (λ z. is_of z g p) is ∙ of-other owners g h p (λ e. absurd (omega arith)) o) ∙ there p i h o (omega arith)
+
+  -- those of this group are its members
+  pub parted : length members ≡ length own → ((p : ℕ) → p < length own → is_of own g p ≡ true → slice_get members p ≡ slice_get slots p) →
+      ((p : ℕ) → p < length own → is_of own g p ≡ false → slice_get members p ≡ Some None) →
+      ((p : ℕ) → p < x.processes → (h : ℕ) → is_of owners h p ≡ true → g ≤ h → slice_get slots p ≡ Some (Some (x.opening p))) → AreMembersOf x owners g members
+  parted count ours others there = record {
+    count = count ∙ (ap length is ∙ each);
+    ours = λ p i o. ours p (within p i) (ap (λ z. is_of z g p) is ∙ o) ∙ there p i g o (omega arith);
+    others = λ p i o. others p (within p i) (ap (λ z. is_of z g p) is ∙ o);
+  }
+    where
+      within : (p : ℕ) → p < x.processes → p < length own
+      within p i = let a = ap length is in let b = each in omega arith

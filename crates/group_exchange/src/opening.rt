@@ -57,6 +57,7 @@ impl<R: Actor + Drop, J: GroupRun<R>> GroupExchange<R, J> {
     {
         actor_law::<R>();
         let keeps = table.is_some();
+        let journal = Steps::new(alloc, table);
         let end = Time::of_known(until.ns() + 1);
         let Pairs { lefts, rights } = pairs;
         let count = process_number(lefts.len());
@@ -68,7 +69,7 @@ impl<R: Actor + Drop, J: GroupRun<R>> GroupExchange<R, J> {
             boxes,
             floors,
             gvt: Time::default(),
-            journal: Steps::new(alloc, table),
+            journal,
             marks: lefts,
             limit,
             end,

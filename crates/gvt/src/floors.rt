@@ -6,7 +6,7 @@ ghost use Rattle.vlink.specs.declared.time.TheConstants.{GREATEST_NS};
 use antimessages::OutOfMemory;
 use std::alloc::Global;
 use std::marker::Model;
-use vlink::{Time, process_number};
+use vlink::{Time, earlier, process_number};
 
 /// For each process a floor: a moment, in ns, that all it has in hand, and has not posted, is not earlier than. Processes are numbered from 0.
 #[derive(Drop)]
@@ -77,9 +77,7 @@ impl Floors {
         ensures until { self.new.until ≡ self.old.until }
     {
         let place = usize::from(process);
-        if moment < self.floors[place] {
-            self.floors[place] = moment;
-        }
+        self.floors[place] = earlier(moment, self.floors[place]);
     }
 
     /// The floor of this process is the moment from now on.

@@ -1,4 +1,5 @@
-use Rattle.std.proofs.Common.{List, [], refl, sym, ap, ◌∙◌, subst, arith, map, set}
+use Rattle.std.proofs.Common.{List, [], slice_index, refl, sym, ap, ◌∙◌, subst, map, set}
+use Rattle.std.proofs.Math.Nat.{le_refl}
 use Rattle.std.proofs.lemmas.List.{map-set}
 use Rattle.virtual_time.specs.Law.{after_moves, after_own}
 use Rattle.reverse.specs.Rules.{rules_of}
@@ -13,7 +14,15 @@ use Rattle.exchange.proofs.Gone.{gone-stays}
 use Rattle.exchange.proofs.Holding.{holds-seen}
 use Rattle.exchange.proofs.Joining.{place-is}
 use Rattle.exchange.proofs.Collected.{marks-seen, kept-as}
+use Rattle.exchange.proofs.Halves.{half-within}
+use Rattle.exchange.proofs.Moves.{in_hand}
 use Rattle.exchange.proofs.collecting.see.Goals as goal
+
+pub tell_both-requires-clause-within : goal.tell_both-requires-clause-within
+tell_both-requires-clause-within g c = half-within c.exchange.inside.marks.items c.exchange.invariant.2.marked.count c.held.invariant.0.number_is
+
+pub tell_both-requires-clause-one : goal.tell_both-requires-clause-one
+tell_both-requires-clause-one g c = ap (λ ns. slice_index ns c.held.inside.number) c.exchange.invariant.3 ∙ sym c.held.invariant.1.name
 
 pub invariant_of-exchange : goal.invariant_of-exchange
 invariant_of-exchange g c =
@@ -27,7 +36,7 @@ invariant_of-exchange g c =
       c.exchange.invariant.1,
       kept-as k c.exchange.inside.mail refl (λ q. refl) _
           (subst (λ (bs : List Standing). AreMarked g.J.ActorRun.setting.processes c.exchange.inside.journal.entries c.exchange.inside.gvt bs) (sym c.tell_both.ensures.marks)
-          (marks-seen k.marked p h.number_is s (place-is k h.number_is c.held.inside.standing fits) mine (omega arith))),
+          (marks-seen k.marked p h.number_is s (place-is k h.number_is c.held.inside.standing fits) mine (le_refl c.exchange.inside.gvt))),
       c.tell_both.ensures.names ∙ c.exchange.invariant.3,
       c.exchange.invariant.4,
     )
@@ -61,3 +70,10 @@ returns-clause-exchange g c =
       marks = (ap marks_in c.tell_both.ensures.marks ∙ (map-set mark_in marks c.held.inside.number s ∙ (λ j. set (marks_in marks) c.held.inside.number (mark_at (place_of s.last) (k.gvt_is j))))) i;
       limit = c.exchange.inside.limit;
     })
+
+pub returns-clause-held : goal.returns-clause-held
+returns-clause-held g c =
+    let f = simulation_of (rules_of g.R.Reversible.plain) g.J.ActorRun.setting in
+    let h = c.held.inside in
+    rw (sym c.held.view_is, sym c.exchange.view_is)
+    (ap (λ n. in_hand f h.number (own_of h.number h.standing.last) (place_of h.standing.last) n h.gone h.block) c.exchange.invariant.2.gvt_is)

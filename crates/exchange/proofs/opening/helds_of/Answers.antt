@@ -3,7 +3,8 @@ use Rattle.std.proofs.lemmas.Iterator.Adapters.{YieldsList-from_vec}
 use Rattle.std.proofs.lemmas.Iterator.Consumers.{YieldsList-turn, YieldsList-end}
 use Rattle.std.proofs.lemmas.List.{length_push}
 use Rattle.exchange.specs.Views.{opened_held}
-use Rattle.exchange.proofs.Marks.{some-left, first-name, names-left, first-blank, blanks-left}
+use Rattle.exchange.proofs.Halves.{some-left, first-name, names-left}
+use Rattle.exchange.proofs.Marks.{first-blank, blanks-left}
 use Rattle.exchange.proofs.Opened.{fits-few, actor-opens, as-many, helds-more}
 use Rattle.exchange.proofs.opening.helds_of.Given.{Over}
 use Rattle.exchange.proofs.opening.helds_of.Goals.{In-Some}
@@ -54,13 +55,13 @@ loop-actor-preserved g c =
       can = tt;
       ends = tt;
       count = as-many c.loop-actor.helds.items c.push_reserved.new.self.items c.in_ok-held.held c.loop-actor.yielded c.in-Some.actor pushed c.loop-actor.invariant.count;
-      room = let at = (actor-at g (goal.at.loop-actor-preserved g c).In-Some).0 in omega arith;
+      room = omega (arith, c.loop-actor.invariant.room, c.push_reserved.ensures.capacity);
       names = names-left g.J.ActorRun.names c.loop-actor.marks.items (length c.loop-actor.yielded) c.loop-actor.invariant.names (within g (goal.at.loop-actor-preserved g c).In-Some)
           c.remove-mark.new.self.items c.remove-mark.ensures.items ∙ ap (λ n. drop n g.J.ActorRun.names) (sym longer);
       blanks = blanks-left c.loop-actor.marks.items c.loop-actor.invariant.blanks c.remove-mark.new.self.items c.remove-mark.ensures.items;
       each = λ p i.
           helds-more x.opening c.loop-actor.helds.items c.push_reserved.new.self.items (length c.loop-actor.yielded) c.in_ok-held.held c.loop-actor.invariant.count c.loop-actor.invariant.each
-          (c.in_ok-held.ensures.opened ∙ ap (opened_held x.opening) number) pushed p (omega arith);
+          (c.in_ok-held.ensures.opened ∙ ap (opened_held x.opening) number) pushed p (omega (arith, i, longer));
     }
 
 pub returns-clause-count : goal.returns-clause-count
@@ -72,3 +73,9 @@ returns-clause-count g c =
 
 pub returns-clause-each : goal.returns-clause-each
 returns-clause-each g c = λ p i. c.loop-actor.invariant.each p (subst (λ n. p < n) (sym (returns-clause-count g c) ∙ c.loop-actor.invariant.count) i)
+
+pub open-requires-clause-layout : goal.open-requires-clause-layout
+open-requires-clause-layout g c = c.requires.layout
+
+pub returns-clause-memory : goal.returns-clause-memory
+returns-clause-memory g c = tt

@@ -1,4 +1,4 @@
-use Rattle.std.proofs.Common.{◌≡◌, ◌≤◌, ◌++◌, inl, inr, List, [], All, map, length, slice_get, option_map, refl, sym, ap, ◌∙◌, subst, arith, length-append}
+use Rattle.std.proofs.Common.{◌≡◌, ◌≤◌, ◌++◌, inl, inr, true, List, [], All, map, get_or, length, slice_get, slice_index, option_map, refl, sym, ap, ◌∙◌, subst, arith, length-append}
 use Rattle.std.proofs.lemmas.List.{length-map, nil_from_length}
 use Rattle.vlink.specs.Order.{message_order}
 use Rattle.vlink.specs.Letters.{Letter}
@@ -6,10 +6,12 @@ use Rattle.virtual_time.specs.Law.{lowest, times_of}
 use Rattle.virtual_time.specs.declared.step.Step.{Step}
 use Rattle.virtual_time.specs.declared.step.Step.TheVariants.{Take}
 use Rattle.reverse.specs.Rules.{rules_of}
-use Rattle.hand.specs.Hands.{StandsForGroup}
+use Rattle.hand.specs.Hands.{StandsForGroup, is_ours}
 use Rattle.halves.specs.declared.LeftHalf.{LeftHalf}
+use Rattle.exchange.proofs.Halves.{half-within}
+use Rattle.exchange.proofs.Refused.{faults-told, not-full, not-ok}
 use Rattle.group_exchange.specs.declared.mark.Standing.{Standing}
-use Rattle.group_exchange.specs.Views.{box_of, last_in, marks_in, with_letters}
+use Rattle.group_exchange.specs.Views.{box_of, is_of, last_in, marks_in, with_letters}
 use Rattle.group_exchange.specs.Keeps.{Holds, IsMarked}
 use Rattle.group_exchange.specs.Effects.{TookLetters, takes_of}
 use Rattle.group_exchange.proofs.Again.{group-as-before, group-same, same-keeps, same-words}
@@ -17,7 +19,6 @@ use Rattle.group_exchange.proofs.Collected.{kept-collected, holds-collected}
 use Rattle.group_exchange.proofs.Gathers.{collects-none, collects-shown, kept-none, holds-none, waiting}
 use Rattle.group_exchange.proofs.Halves.{marked-by, recorded-as}
 use Rattle.group_exchange.proofs.Holding.{holds-again, holds-as}
-use Rattle.group_exchange.proofs.Refused.{faults-told, not-full}
 use Rattle.group_exchange.proofs.RowsKept.{rows-again}
 use Rattle.group_exchange.proofs.Trays.{took-keeps, took-letters, took-words, tray-all}
 use Rattle.group_exchange.proofs.collecting.collect.Given.{Over}
@@ -170,7 +171,7 @@ pub returns-then-count-eq0-clause-unchanged : goal.returns-then-count-eq0-clause
 returns-then-count-eq0-clause-unchanged g c = tt
 
 pub returns-then-count-eq0-clause-full : goal.returns-then-count-eq0-clause-full
-returns-then-count-eq0-clause-full g c = λ e. absurd (let k = e in cc)
+returns-then-count-eq0-clause-full g c = λ e. not-ok _ _ _ refl e
 
 pub returns-then-count-eq0-clause-limited : goal.returns-then-count-eq0-clause-limited
 returns-then-count-eq0-clause-limited g c =
@@ -243,7 +244,7 @@ pub returns-clause-unchanged : goal.returns-clause-unchanged
 returns-clause-unchanged g c = tt
 
 pub returns-clause-full : goal.returns-clause-full
-returns-clause-full g c = λ e. absurd (let k = e in cc)
+returns-clause-full g c = λ e. not-ok _ _ _ refl e
 
 pub returns-clause-limited : goal.returns-clause-limited
 returns-clause-limited g c =
@@ -255,3 +256,58 @@ returns-clause-limited g c =
 
 pub returns-clause-faults : goal.returns-clause-faults
 returns-clause-faults g c = tt
+
+pub letters-count-requires : goal.letters-count-requires
+letters-count-requires g c = omega (arith, c.exchange.invariant.3.boxes, c.group.invariant.0.number_is)
+
+pub stand_here-requires-clause-within : goal.stand_here-requires-clause-within
+stand_here-requires-clause-within g c = half-within c.exchange.inside.marks.items c.exchange.invariant.3.marked.count c.group.invariant.0.number_is
+
+pub stand_here-requires-clause-one : goal.stand_here-requires-clause-one
+stand_here-requires-clause-one g c = ap (λ ns. slice_index ns c.group.inside.number) c.exchange.invariant.4 ∙ sym c.group.invariant.1.name
+
+pub overflow_sub-exchange-inside : goal.overflow_sub-exchange-inside
+overflow_sub-exchange-inside g c = omega (arith, c.len.ensures, c.exchange.invariant.0)
+
+pub letters-letters-requires : goal.letters-letters-requires
+letters-letters-requires g c = omega (arith, c.exchange.invariant.3.boxes, c.group.invariant.0.number_is)
+
+pub collect-requires-clause-within : goal.collect-requires-clause-within
+collect-requires-clause-within g c = omega (arith, c.exchange.invariant.3.boxes, c.group.invariant.0.number_is)
+
+pub collect-requires-clause-some : goal.collect-requires-clause-some
+collect-requires-clause-some g c = omega (arith, c.in_default.ensures.step_room, c.if-count-eq0.false)
+
+pub collect-requires-clause-room : goal.collect-requires-clause-room
+collect-requires-clause-room g c = omega (arith, c.in_default.ensures.step_room, ap length c.letters-count.ensures)
+
+pub collect-requires-clause-few : goal.collect-requires-clause-few
+collect-requires-clause-few g c =
+    omega (
+      arith,
+      ap length c.reserve_collect.ensures.steps,
+      ap length c.letters-count.ensures,
+      c.if-exchange-len.false,
+      c.len.ensures,
+      c.exchange.invariant.0,
+      c.exchange.invariant.1,
+    )
+
+pub deliver_all-requires-clause-ours : goal.deliver_all-requires-clause-ours
+deliver_all-requires-clause-ours g c =
+    let n = c.group.inside.number in
+    let letters = c.letters-letters.result.now in
+    let home = subst (All (λ (l : Letter). is_of g.J.GroupRun.owners n l.message.receiver ≡ true)) (sym c.letters-letters.ensures) (c.exchange.invariant.3.home n c.group.invariant.0.number_is) in
+    λ i d w. ap (λ ms. is_ours ms (get_or letters i d).message.receiver) c.reserve_collect.ensures.same.members ∙ (c.group.invariant.0.ours (get_or letters i d).message.receiver ∙ home i d w)
+
+pub deliver_all-requires-clause-room : goal.deliver_all-requires-clause-room
+deliver_all-requires-clause-room g c = omega (arith, c.in_default.ensures.room, ap length c.letters-letters.ensures, ap length c.letters-count.ensures)
+
+pub clear-requires : goal.clear-requires
+clear-requires g c = omega (arith, c.exchange.invariant.3.boxes, c.group.invariant.0.number_is)
+
+pub stand_here-requires-2-clause-within : goal.stand_here-requires-2-clause-within
+stand_here-requires-2-clause-within g c = half-within c.exchange.inside.marks.items c.exchange.invariant.3.marked.count c.group.invariant.0.number_is
+
+pub stand_here-requires-2-clause-one : goal.stand_here-requires-2-clause-one
+stand_here-requires-2-clause-one g c = ap (λ ns. slice_index ns c.group.inside.number) c.exchange.invariant.4 ∙ sym c.group.invariant.1.name

@@ -1,4 +1,4 @@
-use Rattle.std.proofs.Common.{◌≡◌, ◌<◌, ◌≤◌, ◌++◌, inl, inr, All, map, length, refl, sym, ap, ◌∙◌, subst, arith, length-append}
+use Rattle.std.proofs.Common.{◌≡◌, ◌<◌, ◌≤◌, ◌++◌, inl, inr, All, map, length, slice_index, refl, sym, ap, ◌∙◌, subst, arith, length-append}
 use Rattle.vlink.specs.Letters.{Letter}
 use Rattle.vlink.specs.Order.{message_order}
 use Rattle.virtual_time.specs.Law.{AreBy, behind, waiting_in}
@@ -8,6 +8,8 @@ use Rattle.hand.specs.Block.{steps_told}
 use Rattle.hand.specs.Flow.{Flow}
 use Rattle.between_groups.specs.Boxing.{waiting_for}
 use Rattle.halves.specs.declared.LeftHalf.{LeftHalf}
+use Rattle.exchange.proofs.Halves.{half-within}
+use Rattle.exchange.proofs.Refused.{faults-told, not-full, not-ok}
 use Rattle.group_exchange.specs.declared.mark.Standing.{Standing}
 use Rattle.group_exchange.specs.Views.{box_of, for_group, is_of, last_in, marks_in, world_after}
 use Rattle.group_exchange.specs.Keeps.{Holds, IsMarked}
@@ -17,7 +19,6 @@ use Rattle.group_exchange.proofs.Gathers.{posts-shown}
 use Rattle.group_exchange.proofs.Halves.{marked-by, recorded-as}
 use Rattle.group_exchange.proofs.Holding.{holds-again, holds-as}
 use Rattle.group_exchange.proofs.Posted.{abroad-lawful, kept-posted, holds-posted}
-use Rattle.group_exchange.proofs.Refused.{faults-told, not-full}
 use Rattle.group_exchange.proofs.RowsKept.{rows-again}
 use Rattle.group_exchange.proofs.Waiting.{behind-waiting, recorded-mail}
 use Rattle.group_exchange.proofs.Words.{length_behind}
@@ -183,7 +184,7 @@ pub returns-then-count-eq0-clause-unchanged : goal.returns-then-count-eq0-clause
 returns-then-count-eq0-clause-unchanged g c = tt
 
 pub returns-then-count-eq0-clause-full : goal.returns-then-count-eq0-clause-full
-returns-then-count-eq0-clause-full g c = λ e. absurd (let k = e in cc)
+returns-then-count-eq0-clause-full g c = λ e. not-ok _ _ _ refl e
 
 pub returns-then-count-eq0-clause-faults : goal.returns-then-count-eq0-clause-faults
 returns-then-count-eq0-clause-faults g c = tt
@@ -232,7 +233,7 @@ pub returns-clause-unchanged : goal.returns-clause-unchanged
 returns-clause-unchanged g c = tt
 
 pub returns-clause-full : goal.returns-clause-full
-returns-clause-full g c = λ e. absurd (let k = e in cc)
+returns-clause-full g c = λ e. not-ok _ _ _ refl e
 
 pub returns-clause-limited : goal.returns-clause-limited
 returns-clause-limited g c =
@@ -241,3 +242,15 @@ returns-clause-limited g c =
 
 pub returns-clause-faults : goal.returns-clause-faults
 returns-clause-faults g c = tt
+
+pub overflow_sub-exchange-inside : goal.overflow_sub-exchange-inside
+overflow_sub-exchange-inside g c = omega (arith, c.len.ensures, c.exchange.invariant.0)
+
+pub set-requires : goal.set-requires
+set-requires g c = omega (arith, c.exchange.invariant.3.floor_count, c.group.invariant.0.number_is)
+
+pub stand_here-requires-clause-within : goal.stand_here-requires-clause-within
+stand_here-requires-clause-within g c = half-within c.exchange.inside.marks.items c.exchange.invariant.3.marked.count c.group.invariant.0.number_is
+
+pub stand_here-requires-clause-one : goal.stand_here-requires-clause-one
+stand_here-requires-clause-one g c = ap (λ ns. slice_index ns c.group.inside.number) c.exchange.invariant.4 ∙ sym c.group.invariant.1.name

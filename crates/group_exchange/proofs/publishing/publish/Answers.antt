@@ -7,11 +7,11 @@ use Rattle.virtual_time.specs.declared.step.Step.TheVariants.{Gvt}
 use Rattle.reverse.specs.Rules.{rules_of}
 use Rattle.reverse.specs.Setting.{simulation_of}
 use Rattle.halves.specs.declared.LeftHalf.{LeftHalf}
+use Rattle.exchange.proofs.Refused.{faults-told, not-full, not-ok}
 use Rattle.group_exchange.specs.declared.mark.Standing.{Standing}
 use Rattle.group_exchange.specs.Views.{marks_in, world_after}
 use Rattle.group_exchange.proofs.Halves.{recorded-as}
 use Rattle.group_exchange.proofs.Least.{gvt-told}
-use Rattle.group_exchange.proofs.Refused.{faults-told, not-full}
 use Rattle.group_exchange.proofs.Published.{kept-published, publishes-more, publishes-none}
 use Rattle.group_exchange.proofs.publishing.publish.Given.{Over}
 use Rattle.group_exchange.proofs.publishing.publish.Goals.{After-horizon-gvt}
@@ -86,7 +86,7 @@ pub returns-then-eq-clause-unchanged : goal.returns-then-eq-clause-unchanged
 returns-then-eq-clause-unchanged g c = tt
 
 pub returns-then-eq-clause-full : goal.returns-then-eq-clause-full
-returns-then-eq-clause-full g c = λ e. absurd (let k = e in cc)
+returns-then-eq-clause-full g c = λ e. not-ok _ _ _ refl e
 
 pub returns-then-eq-clause-faults : goal.returns-then-eq-clause-faults
 returns-then-eq-clause-faults g c = tt
@@ -124,7 +124,7 @@ pub returns-clause-unchanged : goal.returns-clause-unchanged
 returns-clause-unchanged g c = tt
 
 pub returns-clause-full : goal.returns-clause-full
-returns-clause-full g c = λ e. absurd (let k = e in cc)
+returns-clause-full g c = λ e. not-ok _ _ _ refl e
 
 pub returns-clause-limited : goal.returns-clause-limited
 returns-clause-limited g c = rw (sym c.exchange.view_is) (λ back over. absurd (omega (arith, over, c.if-len-exchange.false, c.len.ensures)))

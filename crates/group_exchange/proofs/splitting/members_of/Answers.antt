@@ -1,5 +1,6 @@
-use Rattle.std.proofs.Common.{◌≡◌, ◌<◌, inl, inr, sym, ap, ◌∙◌, arith, length, Some, slice_get, length-set}
+use Rattle.std.proofs.Common.{◌≡◌, ◌<◌, inl, inr, refl, sym, ap, ◌∙◌, arith, length, Some, slice_get, length-set}
 use Rattle.std.proofs.lemmas.Bool.{cases_eq, cases_lt}
+use Rattle.exchange.proofs.Refused.{err-if-ok}
 use Rattle.group_exchange.specs.Views.{is_of}
 use Rattle.group_exchange.proofs.Parting.{pushed-before, pushed-last, slot-other, slot-same, slot-at, of-at}
 use Rattle.group_exchange.proofs.splitting.members_of.Goals as goal
@@ -45,3 +46,41 @@ loop-process-preserved g c =
         | inr n ↦ slot-other slots k p new n ∙ inv.left p o
       ];
     }
+
+pub returns-in_err-members-clause-count : goal.returns-in_err-members-clause-count
+returns-in_err-members-clause-count g c = err-if-ok _ _ c.from_residual.result c.from_residual.ensures.1
+
+pub returns-in_err-members-clause-ours : goal.returns-in_err-members-clause-ours
+returns-in_err-members-clause-ours g c = err-if-ok _ _ c.from_residual.result c.from_residual.ensures.1
+
+pub returns-in_err-members-clause-others : goal.returns-in_err-members-clause-others
+returns-in_err-members-clause-others g c = err-if-ok _ _ c.from_residual.result c.from_residual.ensures.1
+
+pub returns-in_err-members-clause-left : goal.returns-in_err-members-clause-left
+returns-in_err-members-clause-left g c = λ p n. refl
+
+pub returns-in_err-members-clause-slots : goal.returns-in_err-members-clause-slots
+returns-in_err-members-clause-slots g c = refl
+
+pub loop-process-init : goal.loop-process-init
+loop-process-init g c = record {
+  count = c.in_ok-members.ensures.len;
+  room = omega (arith, c.in_ok-members.ensures.capacity);
+  slots = refl;
+  ours = λ p h o. absurd (omega (arith, h));
+  others = λ p h o. absurd (omega (arith, h));
+  rest = λ p h. refl;
+  left = λ p o. refl;
+}
+
+pub returns-clause-ours : goal.returns-clause-ours
+returns-clause-ours g c = λ p h o. c.loop-process.invariant.ours p (omega (arith, h, c.loop-process-test.false)) o
+
+pub returns-clause-others : goal.returns-clause-others
+returns-clause-others g c = λ p h o. c.loop-process.invariant.others p (omega (arith, h, c.loop-process-test.false)) o
+
+pub returns-clause-left : goal.returns-clause-left
+returns-clause-left g c = c.loop-process.invariant.left
+
+pub returns-clause-slots : goal.returns-clause-slots
+returns-clause-slots g c = c.loop-process.invariant.slots

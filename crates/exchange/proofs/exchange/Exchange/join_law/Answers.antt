@@ -1,20 +1,22 @@
-use Rattle.std.proofs.Common.{◌≡◌, ◌<◌, map, length, sym, ◌∙◌, arith}
-use Rattle.std.proofs.lemmas.List.{length-map}
+use Rattle.std.proofs.Common.{◌≡◌, map, sym, ◌∙◌, arith}
 use Rattle.halves.specs.declared.LeftHalf.{LeftHalf}
 use Rattle.exchange.specs.declared.mark.Standing.{Standing}
 use Rattle.exchange.specs.Views.{standing_of}
+use Rattle.exchange.proofs.Halves.{half-within}
 use Rattle.exchange.proofs.Marks.{half-told}
 use Rattle.exchange.proofs.Joining.{marks-agree, all-joined}
 use Rattle.exchange.proofs.exchange.Exchange.join_law.Given.{Over}
 use Rattle.exchange.proofs.exchange.Exchange.join_law.Goals.{After-agree_law}
 use Rattle.exchange.proofs.exchange.Exchange.join_law.Goals as goal
 
+pub index-half-requires : goal.index-half-requires
+index-half-requires g c = omega (arith, half-within c.self.inside.marks.items c.self.invariant.2.marked.count c.held.invariant.0.number_is, c.from.ensures)
+
 -- the standing in hand is the one that the exchange has of it
 same-standing : (g : Over) (c : After-agree_law g) → c.held.inside.standing ≡ standing_of (map (λ (b : LeftHalf Standing). b.value) c.self.inside.marks.items) c.held.inside.number
 same-standing g c =
     let marks = c.self.inside.marks.items in
-    let within : c.held.inside.number < length marks =
-    omega (arith, length-map marks (λ (b : LeftHalf Standing). b.value), c.self.invariant.2.marked.count, c.held.invariant.0.number_is) in
+    let within = half-within marks c.self.invariant.2.marked.count c.held.invariant.0.number_is in
     sym (c.agree_law.ensures ∙ c.held.invariant.1.value) ∙ half-told marks c.from.result c.held.inside.number c.from.ensures _ within c.index-half.ensures
 
 pub returns-clause-same : goal.returns-clause-same

@@ -1,5 +1,4 @@
-use Rattle.std.proofs.Common.{◌≡◌, max, sym, ap, rules, arith}
-use Rattle.std.proofs.lemmas.Grind.{common_steps}
+use Rattle.std.proofs.Common.{sym, ap}
 use Rattle.reverse.specs.Rules.{rules_of}
 use Rattle.reverse.specs.Setting.{simulation_of}
 use Rattle.fossil.proofs.RowTimes.{committed-in-time}
@@ -19,9 +18,8 @@ pub invariant_of-self : goal.invariant_of-self
 invariant_of-self g c =
     let r = rules_of g.R.Reversible.plain in
     let h = c.self.invariant.0 in
-    let gone = c.max-self-inside.result in
-    let is-max : gone ≡ max c.self.inside.gone c.args.moment = first_of (search rules, grind (arith, common_steps)) in
-    let late = gone-max r c.self.inside.gone c.args.moment gone is-max in (
+    let gone = c.later_of-self-inside.result in
+    let late = gone-max r c.self.inside.gone c.args.moment gone c.later_of-self-inside.ensures in (
       holds-gone h c.let_rows_go.new.process.queues c.let_rows_go.ensures.stands gone
           (c.let_rows_go.ensures.early _ _ h.stands gone late.1 (gone-later r c.self.inside.gone gone late.0 _ _ h.gone_early)),
       c.self.invariant.1,
@@ -31,5 +29,4 @@ pub returns : goal.returns
 returns g c =
     let h = c.self.inside in
     let f = simulation_of (rules_of g.R.Reversible.plain) g.J.ActorRun.setting in
-    let is-max : c.max-self-inside.result ≡ max h.gone c.args.moment = first_of (search rules, grind (arith, common_steps)) in
-    rw (sym c.self.view_is) (ap (λ n. in_hand f h.number (own_of h.number h.standing.last) (place_of h.standing.last) h.standing.seen n h.block) is-max)
+    rw (sym c.self.view_is) (ap (λ n. in_hand f h.number (own_of h.number h.standing.last) (place_of h.standing.last) h.standing.seen n h.block) c.later_of-self-inside.ensures)

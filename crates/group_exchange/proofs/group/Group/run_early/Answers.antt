@@ -1,3 +1,4 @@
+use Rattle.exchange.proofs.Refused.{err-if-ok, err-on-ok, passed-short}
 use Rattle.group_exchange.proofs.Going.{goes-both}
 use Rattle.group_exchange.proofs.group.Group.run_early.Goals as goal
 
@@ -16,3 +17,48 @@ returns-then-not-branch-clause-goes g c = goes-both _ _ _ _ _ c.loop-run.invaria
 
 pub returns-in_err-arrive_all-2-clause-goes : goal.returns-in_err-arrive_all-2-clause-goes
 returns-in_err-arrive_all-2-clause-goes g c = goes-both _ _ _ _ _ (goes-both _ _ _ _ _ c.loop-run.invariant.0 c.run_next.ensures.goes) c.arrive_all-in-loop-run.ensures.goes
+
+pub returns-in_err-arrive_all-clause-goes : goal.returns-in_err-arrive_all-clause-goes
+returns-in_err-arrive_all-clause-goes g c = c.arrive_all.ensures.goes
+
+pub returns-in_err-arrive_all-clause-short : goal.returns-in_err-arrive_all-clause-short
+returns-in_err-arrive_all-clause-short g c = passed-short c.from_residual.result c.from_residual.ensures.1 c.in_err-arrive_all.ensures.memory
+
+pub returns-clause-goes : goal.returns-clause-goes
+returns-clause-goes g c = c.loop-run.invariant.0
+
+pub returns-clause-arrived : goal.returns-clause-arrived
+returns-clause-arrived g c = c.loop-run.invariant.1
+
+pub returns-clause-faults : goal.returns-clause-faults
+returns-clause-faults g c = tt
+
+pub returns-then-not-branch-clause-faults : goal.returns-then-not-branch-clause-faults
+returns-then-not-branch-clause-faults g c = tt
+
+pub returns-in_err-arrive_all-clause-within : goal.returns-in_err-arrive_all-clause-within
+returns-in_err-arrive_all-clause-within g c = err-if-ok _ _ c.from_residual.result c.from_residual.ensures.1
+
+pub returns-in_err-arrive_all-clause-idle : goal.returns-in_err-arrive_all-clause-idle
+returns-in_err-arrive_all-clause-idle g c = err-if-ok _ _ c.from_residual.result c.from_residual.ensures.1
+
+pub returns-in_err-arrive_all-clause-arrived : goal.returns-in_err-arrive_all-clause-arrived
+returns-in_err-arrive_all-clause-arrived g c = err-on-ok _ _ c.from_residual.result c.from_residual.ensures.1
+
+pub returns-in_err-run_next-clause-within : goal.returns-in_err-run_next-clause-within
+returns-in_err-run_next-clause-within g c = err-if-ok _ _ c.from_residual-in_err-run_next.result c.from_residual-in_err-run_next.ensures.1
+
+pub returns-in_err-run_next-clause-idle : goal.returns-in_err-run_next-clause-idle
+returns-in_err-run_next-clause-idle g c = err-if-ok _ _ c.from_residual-in_err-run_next.result c.from_residual-in_err-run_next.ensures.1
+
+pub returns-in_err-run_next-clause-arrived : goal.returns-in_err-run_next-clause-arrived
+returns-in_err-run_next-clause-arrived g c = err-on-ok _ _ c.from_residual-in_err-run_next.result c.from_residual-in_err-run_next.ensures.1
+
+pub returns-in_err-arrive_all-2-clause-within : goal.returns-in_err-arrive_all-2-clause-within
+returns-in_err-arrive_all-2-clause-within g c = err-if-ok _ _ c.from_residual-in_err-arrive_all-2.result c.from_residual-in_err-arrive_all-2.ensures.1
+
+pub returns-in_err-arrive_all-2-clause-idle : goal.returns-in_err-arrive_all-2-clause-idle
+returns-in_err-arrive_all-2-clause-idle g c = err-if-ok _ _ c.from_residual-in_err-arrive_all-2.result c.from_residual-in_err-arrive_all-2.ensures.1
+
+pub returns-in_err-arrive_all-2-clause-arrived : goal.returns-in_err-arrive_all-2-clause-arrived
+returns-in_err-arrive_all-2-clause-arrived g c = err-on-ok _ _ c.from_residual-in_err-arrive_all-2.result c.from_residual-in_err-arrive_all-2.ensures.1

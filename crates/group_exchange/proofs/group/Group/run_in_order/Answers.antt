@@ -4,6 +4,7 @@ use Rattle.vlink.specs.declared.message.Message.{Message}
 use Rattle.hand.specs.Flow.{Flow}
 use Rattle.hand.specs.Hands.{IsAsBefore}
 use Rattle.hand.specs.declared.early.Early.TheVariants.{Idle, Late}
+use Rattle.exchange.proofs.Refused.{not-ok, not-short}
 use Rattle.group_exchange.proofs.Below.{is-short}
 use Rattle.group_exchange.proofs.Going.{ok-same}
 use Rattle.group_exchange.proofs.RowsKept.{rows-does}
@@ -41,8 +42,8 @@ still g c =
         | inl k ↦ (let same = ok-same w.in-Ok.early Idle c.match-run_early.result w.result-is k in w.in-Ok.ensures.idle_still (λ j. Ok (same j)))
         | inr k ↦ (let same = ok-same w.in-Ok.early Late c.match-run_early.result w.result-is k in w.in-Ok.ensures.still (λ j. Ok (same j)))
       ]
-      | in-Err-Exhausted w ↦ λ e. absurd (elim e [ inl k ↦ (let n = sym k ∙ w.result-is in cc) | inr k ↦ (let n = sym k ∙ w.result-is in cc) ])
-      | in-Err-OutOfMemory w ↦ λ e. absurd (elim e [ inl k ↦ (let n = sym k ∙ w.result-is in cc) | inr k ↦ (let n = sym k ∙ w.result-is in cc) ])
+      | in-Err-Exhausted w ↦ λ e. elim e [ inl k ↦ not-ok _ _ _ k w.result-is | inr k ↦ not-ok _ _ _ k w.result-is ]
+      | in-Err-OutOfMemory w ↦ λ e. elim e [ inl k ↦ not-ok _ _ _ k w.result-is | inr k ↦ not-ok _ _ _ k w.result-is ]
     ]
 
 pub returns-clause-idle : goal.returns-clause-idle
@@ -51,8 +52,8 @@ returns-clause-idle g c =
       | in-Ok w ↦ λ e. (
           let same = ok-same w.in-Ok.early Idle c.match-run_early.result w.result-is e in
           All-permutation (λ (m : Message). c.args.limit ≤ m.time) c.self.inside.hand.flow.queue c.run_early.new.self.flow.queue (still g c (inl e)).queue (w.in-Ok.ensures.idle (λ j. Ok (same j))))
-      | in-Err-Exhausted w ↦ λ e. absurd (let k = sym e ∙ w.result-is in cc)
-      | in-Err-OutOfMemory w ↦ λ e. absurd (let k = sym e ∙ w.result-is in cc)
+      | in-Err-Exhausted w ↦ λ e. not-ok _ _ _ e w.result-is
+      | in-Err-OutOfMemory w ↦ λ e. not-ok _ _ _ e w.result-is
     ]
 
 pub returns-clause-tray : goal.returns-clause-tray
@@ -63,7 +64,7 @@ returns-clause-short g c =
     let h = c.self.invariant.0 in
     let L = c.actor_law.ensures g.J.GroupRun.setting h.laid in
     elim c.match-run_early.branch [
-      | in-Ok w ↦ λ e. absurd (let k = sym e ∙ w.result-is in cc)
+      | in-Ok w ↦ λ e. not-ok _ _ _ w.result-is e
       | in-Err-Exhausted w ↦ λ e. is-short h L.order c.run_early.new.self w.in-Err-Exhausted.ensures.unchanged (w.in-Err-Exhausted.ensures.exhausted (λ j. Err (w.in-Err-Exhausted.field-0-is j))) c.self.inside.gone
-      | in-Err-OutOfMemory w ↦ λ e. absurd (let k = sym e ∙ w.result-is in cc)
+      | in-Err-OutOfMemory w ↦ λ e. not-short _ w.result-is e
     ]

@@ -1,8 +1,9 @@
-use Rattle.std.proofs.Common.{◌≡◌, ◌≤◌, false, All, Ok, Err, sym, ap, ◌∙◌}
+use Rattle.std.proofs.Common.{◌≡◌, ◌≤◌, false, All, Ok, Err, ap, ◌∙◌}
 use Rattle.std.proofs.lemmas.List.Sorted.{All-permutation}
 use Rattle.vlink.specs.declared.message.Message.{Message}
 use Rattle.hand.specs.Flow.{Flow}
 use Rattle.hand.specs.Hands.{IsAsBefore}
+use Rattle.exchange.proofs.Refused.{not-ok, not-short}
 use Rattle.group_exchange.proofs.Below.{is-short}
 use Rattle.group_exchange.proofs.Going.{goes-later, goes-same, ok-same}
 use Rattle.group_exchange.proofs.RowsKept.{rows-does}
@@ -41,8 +42,8 @@ still : (g : Over) (c : Joined-run_next g) → c.match-run_next.result ≡ Ok fa
 still g c =
     elim c.match-run_next.branch [
       | in-Ok w ↦ λ e. (let k = ok-same w.in-Ok.has_run false c.match-run_next.result w.result-is e in (w.in-Ok.ensures.idle (λ j. Ok (k j)), w.in-Ok.ensures.still (λ j. Ok (k j))))
-      | in-Err-Exhausted w ↦ λ e. absurd (let k = sym e ∙ w.result-is in cc)
-      | in-Err-OutOfMemory w ↦ λ e. absurd (let k = sym e ∙ w.result-is in cc)
+      | in-Err-Exhausted w ↦ λ e. not-ok _ _ _ e w.result-is
+      | in-Err-OutOfMemory w ↦ λ e. not-ok _ _ _ e w.result-is
     ]
 
 pub returns-clause-idle : goal.returns-clause-idle
@@ -56,7 +57,7 @@ returns-clause-short g c =
     let h = c.self.invariant.0 in
     let L = c.actor_law.ensures g.J.GroupRun.setting h.laid in
     elim c.match-run_next.branch [
-      | in-Ok w ↦ λ e. absurd (let k = sym e ∙ w.result-is in cc)
+      | in-Ok w ↦ λ e. not-ok _ _ _ w.result-is e
       | in-Err-Exhausted w ↦ λ e. is-short h L.order c.run_next.new.self w.in-Err-Exhausted.ensures.unchanged (w.in-Err-Exhausted.ensures.exhausted (λ j. Err (w.in-Err-Exhausted.field-0-is j))) c.self.inside.gone
-      | in-Err-OutOfMemory w ↦ λ e. absurd (let k = sym e ∙ w.result-is in cc)
+      | in-Err-OutOfMemory w ↦ λ e. not-short _ w.result-is e
     ]

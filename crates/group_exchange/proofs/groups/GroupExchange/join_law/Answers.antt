@@ -1,18 +1,20 @@
-use Rattle.std.proofs.Common.{◌≡◌, ◌<◌, Some, map, length, slice_get, sym, ◌∙◌, arith}
-use Rattle.std.proofs.lemmas.List.{length-map}
+use Rattle.std.proofs.Common.{◌≡◌, Some, map, slice_get, sym, ◌∙◌, arith}
 use Rattle.halves.specs.declared.LeftHalf.{LeftHalf}
+use Rattle.exchange.proofs.Halves.{half-within}
 use Rattle.group_exchange.specs.declared.mark.Standing.{Standing}
 use Rattle.group_exchange.proofs.Halves.{half-told, mark-told, it-stands, seen-low, enabled-now, parts-now}
 use Rattle.group_exchange.proofs.groups.GroupExchange.join_law.Given.{Over}
 use Rattle.group_exchange.proofs.groups.GroupExchange.join_law.Goals.{After-agree_law}
 use Rattle.group_exchange.proofs.groups.GroupExchange.join_law.Goals as goal
 
+pub index-half-requires : goal.index-half-requires
+index-half-requires g c = omega (arith, half-within c.self.inside.marks.items c.self.invariant.3.marked.count c.group.invariant.0.number_is, c.from.ensures)
+
 -- the standing in hand is the one that the exchange has of it
 same-standing : (g : Over) (c : After-agree_law g) → slice_get (map (λ (b : LeftHalf Standing). b.value) c.self.inside.marks.items) c.group.inside.number ≡ Some c.group.inside.standing
 same-standing g c =
     let marks = c.self.inside.marks.items in
-    let within : c.group.inside.number < length marks =
-    omega (arith, length-map marks (λ (b : LeftHalf Standing). b.value), c.self.invariant.3.marked.count, c.group.invariant.0.number_is) in
+    let within = half-within marks c.self.invariant.3.marked.count c.group.invariant.0.number_is in
     half-told marks c.from.result c.group.inside.number c.from.ensures _ _ within c.index-half.ensures (c.agree_law.ensures ∙ c.group.invariant.1.value)
 
 pub returns-clause-same : goal.returns-clause-same
