@@ -7,6 +7,7 @@ use Rattle.vlink.specs.Order.{message_order}
 use Rattle.virtual_time.specs.Law.{IsAscending, IsOrder}
 use Rattle.virtual_time.proofs.Order.{not_less-time}
 use Rattle.reverse.specs.Rules.{is_before, rules_of}
+use Rattle.reverse.specs.declared.sends.TheConstants.{MOST_SENT}
 use Rattle.antimessages.specs.Counting.{is_after, newest_of}
 use Rattle.hand.specs.DoneEvents.{messages_of}
 use Rattle.hand.specs.Hands.{DoesSent, IsAsBefore}
@@ -276,7 +277,7 @@ pub handle_first-requires-clause-room : goal.handle_first-requires-clause-room
 handle_first-requires-clause-room g c = room-still _ _ _ c.in_ok-make_room.ensures.room c.pop.ensures.room
 
 pub wait_again-requires : goal.wait_again-requires
-wait_again-requires g c = some-room _ _ _ c.in_ok-make_room.ensures.room c.pop.ensures.room
+wait_again-requires g c = some-room MOST_SENT _ _ c.in_ok-make_room.ensures.room c.pop.ensures.room
 
 pub returns-in_default-clause-idle : goal.returns-in_default-clause-idle
 returns-in_default-clause-idle g c = λ _.
