@@ -5,6 +5,7 @@ pub mod Last
 mod Boxes
 pub mod Agreeing
 pub mod After
+pub mod Newest
 pub mod First
 mod Beginning
 mod Told

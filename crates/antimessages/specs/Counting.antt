@@ -1,5 +1,5 @@
 -- Signed counts: what a letter makes of them, and which present message comes first.
-use Rattle.std.specs.Prelude.{◌≡◌, ℤ, pos, ◌-ℤ◌, Bool, true, false, ◌&&◌, List, ◌∷◌, map, filter, Option, Some, None}
+use Rattle.std.specs.Prelude.{◌≡◌, ℤ, pos, ◌-◌, ◌-ℤ◌, Bool, true, false, ◌&&◌, List, ◌∷◌, map, filter, length, slice_get, Option, Some, None}
 use Rattle.virtual_time.specs.Law.{Order, least, pluses, minuses, is_present}
 use Rattle.virtual_time.specs.declared.letter.Letter.{Letter}
 use Rattle.antimessages.specs.declared.tally.Change.{Change}
@@ -16,6 +16,10 @@ abbrev pub is_toggle : Change → Bool
 is_toggle BecamePresent = true
 is_toggle BecameAbsent = true
 is_toggle Same = false
+
+-- the last of these, if there is one
+abbrev pub newest_of : {M : Type 0} → List M → Option M
+newest_of done = slice_get done (length done - 1)
 
 module _ {M : Type 0} (o : Order M) where
   -- the signed count of m: its plus letters less its minus letters

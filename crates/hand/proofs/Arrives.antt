@@ -17,7 +17,7 @@ use Rattle.virtual_time.proofs.WellStep.{emptied-well}
 use Rattle.reverse.specs.Setting.{Setting, simulation_of}
 use Rattle.antimessages.specs.Counting.{signed_count}
 use Rattle.antimessages.proofs.Agreeing.{same_counts-cons}
-use Rattle.process_queues.specs.Past.{AreValues}
+use Rattle.reverse.specs.Rules.{AreValues}
 use Rattle.hand.specs.declared.block.Did.TheVariants.{Arrived}
 use Rattle.hand.specs.DoneEvents.{DoneEvent, done_events_at, messages_of}
 use Rattle.hand.specs.Hands.{Held, IsMember, CountsBeside, StandsForSent, counted, is_held, is_ours}

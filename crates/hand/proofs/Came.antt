@@ -5,7 +5,7 @@ use Rattle.vlink.specs.declared.message.Message.{Message}
 use Rattle.vlink.specs.declared.note.Note.{Note}
 use Rattle.virtual_time.specs.Law.{Rules, IsOrder, reached}
 use Rattle.virtual_time.proofs.Handling.{reached-append}
-use Rattle.process_queues.specs.Past.{AreValues}
+use Rattle.reverse.specs.Rules.{AreValues}
 use Rattle.hand.specs.DoneEvents.{DoneEvent, done_event_of, done_events_at, done_events_of}
 use Rattle.hand.specs.Undoing.{CameBy, CameTo}
 use Rattle.hand.proofs.FirstEvent.{set-here, set-there}
@@ -66,3 +66,9 @@ module _ {S K : Type 0} (r : Rules Message S K Note) (O : IsOrder r.order) (V : 
   dropped-came members zero ds came p = came p
   dropped-came members (suc n) [] came p = came p
   dropped-came members (suc n) (d ∷ ds) came p = dropped-came members n ds (committed-came members d ds came) p
+
+-- the same of equal lists
+pub came-alike : {S K : Type 0} (r : Rules Message S K Note) (V : S → Message → Type 0) (members ms : List (Option S)) (events es : List (DoneEvent K)) →
+    ms ≡ members → es ≡ events → ((p : ℕ) → CameTo r V members events p) → (p : ℕ) → CameTo r V ms es p
+came-alike r V members ms events es a b h =
+    subst (λ x. (p : ℕ) → CameTo r V x es p) (sym a) (subst (λ x. (p : ℕ) → CameTo r V members x p) (sym b) h)

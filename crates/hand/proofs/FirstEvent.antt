@@ -13,9 +13,8 @@ use Rattle.reverse.specs.Rules.{rules_of}
 use Rattle.reverse.specs.Setting.{Setting, simulation_of}
 use Rattle.reverse.specs.declared.sends.Sends.{Sends}
 use Rattle.reverse.proofs.Members.{in-all}
-use Rattle.antimessages.specs.Counting.{is_after}
-use Rattle.process_queues.specs.Past.{newest_of}
-use Rattle.process_queues.proofs.Newest.{after-all}
+use Rattle.antimessages.specs.Counting.{is_after, newest_of}
+use Rattle.antimessages.proofs.Newest.{after-all}
 use Rattle.two_lists.proofs.Counting.{times-permutation}
 use Rattle.hand.specs.declared.block.Did.TheVariants.{Ran}
 use Rattle.hand.specs.Block.{steps_told}

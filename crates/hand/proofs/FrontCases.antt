@@ -4,8 +4,7 @@ use Rattle.vlink.specs.declared.message.Message.{Message}
 use Rattle.vlink.specs.declared.note.Note.{Note}
 use Rattle.vlink.specs.Letters.{Letter}
 use Rattle.virtual_time.specs.Law.{Rules, IsOrder, IsAscending, IsIn}
-use Rattle.antimessages.specs.Counting.{is_after}
-use Rattle.process_queues.specs.Past.{newest_of}
+use Rattle.antimessages.specs.Counting.{is_after, newest_of}
 use Rattle.hand.specs.DoneEvents.{DoneEvent, done_events_at, messages_of}
 use Rattle.hand.specs.Hands.{Held}
 use Rattle.hand.specs.Arriving.{AreLate, CountsMore, JoinsQueue, LeavesQueue, IsUndone, FrontArrived, undone_events}

@@ -3,7 +3,7 @@ use Rattle.std.proofs.Common.{◌≡◌, List, [], ◌∷◌, ◌++◌, refl, sy
 use Rattle.vlink.specs.declared.message.Message.{Message}
 use Rattle.vlink.specs.declared.note.Note.{Note}
 use Rattle.virtual_time.specs.Law.{Rules, reached, sent, undone}
-use Rattle.process_queues.specs.Past.{AreValues}
+use Rattle.reverse.specs.Rules.{AreValues}
 use Rattle.hand.specs.DoneEvents.{DoneEvent, done_event_of, done_events_of, messages_of}
 use Rattle.hand.specs.Arriving.{sent_by, undone_events}
 

@@ -8,8 +8,7 @@ use Rattle.virtual_time.specs.Law.{Order, IsOrder, IsAscending, times_in, plus_o
 use Rattle.reverse.specs.Plain.{Plain}
 use Rattle.reverse.specs.Rules.{rules_of}
 use Rattle.reverse.specs.declared.sends.Sends.{Sends}
-use Rattle.antimessages.specs.Counting.{is_after}
-use Rattle.process_queues.specs.Past.{newest_of}
+use Rattle.antimessages.specs.Counting.{is_after, newest_of}
 use Rattle.hand.specs.declared.block.Did.TheVariants.{Ran}
 use Rattle.hand.specs.Arriving.{WentOn, to_members, to_others, words_taken}
 use Rattle.hand.specs.DoneEvents.{DoneEvent, done_event_of, done_events_at, messages_of}

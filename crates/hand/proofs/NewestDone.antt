@@ -9,9 +9,8 @@ use Rattle.vlink.specs.declared.note.Note.{Note}
 use Rattle.vlink.specs.Order.{message_order}
 use Rattle.virtual_time.specs.Law.{Rules, IsOrder, IsIn, IsAscending}
 use Rattle.virtual_time.proofs.Lists.{in-head}
-use Rattle.antimessages.specs.Counting.{is_after}
-use Rattle.process_queues.specs.Past.{newest_of}
-use Rattle.process_queues.proofs.Newest.{newest-more, newest-in, after-all}
+use Rattle.antimessages.specs.Counting.{is_after, newest_of}
+use Rattle.antimessages.proofs.Newest.{newest-more, newest-in, after-all}
 use Rattle.hand.specs.declared.done_events.Event.{Event}
 use Rattle.hand.specs.DoneEvents.{DoneEvent, done_events_in, all_sent, all_noted}
 use Rattle.hand.specs.Undoing.{sent_in, noted_in}

@@ -10,8 +10,7 @@ use Rattle.reverse.specs.Plain.{Plain}
 use Rattle.reverse.specs.Rules.{rules_of}
 use Rattle.reverse.specs.Setting.{Setting}
 use Rattle.reverse.specs.declared.sends.Sends.{Sends}
-use Rattle.antimessages.specs.Counting.{is_after}
-use Rattle.process_queues.specs.Past.{newest_of}
+use Rattle.antimessages.specs.Counting.{is_after, newest_of}
 use Rattle.hand.specs.DoneEvents.{DoneEvent, messages_of}
 use Rattle.hand.specs.Handling.{HasLater, SetAside, StopsAt}
 use Rattle.hand.specs.Hands.{Held, StandsForSent}

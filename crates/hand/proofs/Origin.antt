@@ -5,7 +5,7 @@ use Rattle.vlink.specs.declared.message.Message.{Message}
 use Rattle.vlink.specs.declared.note.Note.{Note}
 use Rattle.virtual_time.specs.Law.{Rules, reached}
 use Rattle.virtual_time.proofs.Handling.{reached-append}
-use Rattle.process_queues.specs.Past.{AreValues}
+use Rattle.reverse.specs.Rules.{AreValues}
 use Rattle.hand.specs.DoneEvents.{DoneEvent, done_event_of, done_events_at, done_events_of}
 use Rattle.hand.specs.Hands.{is_held, is_ours}
 use Rattle.hand.specs.Undoing.{CameBy, CameTo}

@@ -8,9 +8,8 @@ use Rattle.virtual_time.proofs.Order.{not_less-cases}
 use Rattle.virtual_time.proofs.Lists.{in-cons, in-filter, times-append}
 use Rattle.virtual_time.proofs.Ascending.{ascending-filter, ascending-append, ascending-left, ascending-across}
 use Rattle.reverse.proofs.Members.{in-all}
-use Rattle.antimessages.specs.Counting.{is_after}
-use Rattle.process_queues.specs.Past.{newest_of}
-use Rattle.process_queues.proofs.Newest.{after-all}
+use Rattle.antimessages.specs.Counting.{is_after, newest_of}
+use Rattle.antimessages.proofs.Newest.{after-all}
 use Rattle.hand.specs.DoneEvents.{DoneEvent, done_events_at, messages_of}
 use Rattle.hand.proofs.LateDone.{messages-append}
 

@@ -8,8 +8,7 @@ use Rattle.vlink.specs.declared.note.Note.{Note}
 use Rattle.virtual_time.specs.Law.{Rules}
 use Rattle.hand.specs.Arriving.{sent_by, undone_events}
 use Rattle.vlink.specs.Order.{message_order}
-use Rattle.antimessages.specs.Counting.{is_after}
-use Rattle.process_queues.specs.Past.{newest_of}
+use Rattle.antimessages.specs.Counting.{is_after, newest_of}
 use Rattle.hand.specs.DoneEvents.{DoneEvent, Done, done_events_at, messages_of}
 use Rattle.hand.specs.Hands.{is_ours}
 use Rattle.hand.specs.Undoing.{HasRoomFor, Retreat, RollsBack, others_at, sent_in, noted_in}

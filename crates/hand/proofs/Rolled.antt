@@ -7,7 +7,7 @@ use Rattle.vlink.specs.declared.note.Note.{Note}
 use Rattle.virtual_time.specs.Law.{Rules, IsOrder, IsAscending, IsIn}
 use Rattle.virtual_time.proofs.Lists.{in-append, in-filter_from}
 use Rattle.virtual_time.proofs.Ascending.{ascending-left}
-use Rattle.process_queues.proofs.Newest.{after-all}
+use Rattle.antimessages.proofs.Newest.{after-all}
 use Rattle.hand.specs.Arriving.{sent_by}
 use Rattle.hand.specs.DoneEvents.{DoneEvent, done_events_at, messages_of}
 use Rattle.hand.specs.Undoing.{Retreat, RolledBack, CameTo, CameBy, Settled, others_at, sent_in}

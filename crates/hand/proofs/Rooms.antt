@@ -1,5 +1,5 @@
 -- How much done events sent and noted, of two lists put together; and room for them, in whatever order.
-use Rattle.std.proofs.Common.{◌≡◌, ◌+◌, List, [], ◌∷◌, ◌++◌, arith, length-append}
+use Rattle.std.proofs.Common.{◌≡◌, ℕ, ◌+◌, ◌<◌, ◌≤◌, List, [], ◌∷◌, ◌++◌, arith, length-append}
 use Rattle.hand.specs.DoneEvents.{DoneEvent, Done}
 use Rattle.hand.specs.Undoing.{HasRoomFor, sent_in, noted_in}
 
@@ -18,3 +18,10 @@ module _ {K : Type 0} where
     sends = let a = h.sends in let b = sent_in-append more (xs ++ d ∷ []) in let c = sent_in-append xs (d ∷ []) in let e = sent_in-append more xs in omega arith;
     rows = let a = h.rows in let b = noted_in-append more (xs ++ d ∷ []) in let c = noted_in-append xs (d ∷ []) in let e = noted_in-append more xs in omega arith;
   }
+
+-- there is room, and then no less
+pub room-still : (n room later : ℕ) → n ≤ room → room ≤ later → n ≤ later
+room-still n room later a b = omega arith
+
+pub some-room : (n room later : ℕ) → n + 1 ≤ room → room ≤ later → 0 < later
+some-room n room later a b = omega arith

@@ -13,7 +13,7 @@ use Rattle.virtual_time.proofs.Handling.{reached-append}
 use Rattle.virtual_time.proofs.WellRun.{run-well}
 use Rattle.virtual_time.proofs.WellStep.{emptied-well}
 use Rattle.antimessages.specs.Counting.{HaveSameCounts}
-use Rattle.process_queues.specs.Past.{AreValues}
+use Rattle.reverse.specs.Rules.{AreValues}
 use Rattle.hand.specs.DoneEvents.{DoneEvent, done_event_of, done_events_at, done_events_of, messages_of}
 use Rattle.hand.specs.Hands.{Held, IsMember, counted}
 use Rattle.hand.proofs.Member.{times-at, all-pluses, all-minuses}

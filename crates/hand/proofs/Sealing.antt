@@ -20,7 +20,7 @@ use Rattle.virtual_time.proofs.Settled.{floor-committed}
 use Rattle.reverse.specs.Setting.{Setting, simulation_of}
 use Rattle.antimessages.specs.Counting.{HaveSameCounts, signed_count}
 use Rattle.antimessages.proofs.Agreeing.{same_counts-cons}
-use Rattle.process_queues.specs.Past.{AreValues}
+use Rattle.reverse.specs.Rules.{AreValues}
 use Rattle.hand.specs.DoneEvents.{DoneEvent, done_event_of, done_events_at, done_events_of, messages_of}
 use Rattle.hand.specs.Hands.{Held, IsMember, StandsForSent, counted, is_ours}
 use Rattle.hand.proofs.Member.{all-pluses, all-minuses}

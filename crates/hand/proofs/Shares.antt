@@ -4,7 +4,7 @@ use Rattle.std.proofs.lemmas.List.{take-append-le, drop-append-le, take_all, len
 use Rattle.std.proofs.lemmas.Option.{slice_get-map, slice_get-get_or}
 use Rattle.vlink.specs.declared.message.Message.{Message}
 use Rattle.vlink.specs.Letters.{Row}
-use Rattle.process_queues.specs.Past.{newest_of}
+use Rattle.antimessages.specs.Counting.{newest_of}
 use Rattle.hand.specs.declared.done_events.Event.{Event}
 use Rattle.hand.specs.DoneEvents.{done_events_in, all_sent, all_noted, messages_of}
 

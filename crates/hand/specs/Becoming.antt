@@ -3,8 +3,7 @@ use Rattle.std.specs.Prelude.{◌≡◌, ℕ, ◌+◌, ◌<◌, ◌≤◌, true,
 use Rattle.vlink.specs.declared.message.Message.{Message}
 use Rattle.vlink.specs.Numbering.{greatest_number}
 use Rattle.vlink.specs.Order.{message_order}
-use Rattle.antimessages.specs.Counting.{is_after}
-use Rattle.process_queues.specs.Past.{newest_of}
+use Rattle.antimessages.specs.Counting.{is_after, newest_of}
 use Rattle.reverse.specs.declared.sends.TheConstants.{MOST_SENT}
 use Rattle.hand.specs.declared.early.Early.{Early}
 use Rattle.hand.specs.declared.early.Early.TheVariants.{Ran, Idle, Late}

@@ -6,7 +6,7 @@ use Rattle.vlink.specs.Letters.{Letter}
 use Rattle.virtual_time.specs.Law.{Order, Rules, Laws, World, Part, opened, reached, rowed, rows_at, least, times_in, pluses, minuses, plus_of, IsIn, received_by, floor_of, IsAscending, IsWell, AreBy, AreDone, done_by, put, delivered}
 use Rattle.reverse.specs.Setting.{Setting, simulation_of}
 use Rattle.antimessages.specs.Counting.{HaveSameCounts}
-use Rattle.process_queues.specs.Past.{AreValues}
+use Rattle.reverse.specs.Rules.{AreValues}
 use Rattle.hand.specs.declared.block.Did.{Did}
 use Rattle.hand.specs.Block.{steps_told}
 use Rattle.hand.specs.DoneEvents.{DoneEvent, done_events_at, done_events_of, messages_of}

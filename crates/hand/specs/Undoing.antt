@@ -3,8 +3,8 @@ use Rattle.std.specs.Prelude.{◌≡◌, ℕ, ◌+◌, ◌≤◌, ◌==◌, ◌+
 use Rattle.vlink.specs.declared.message.Message.{Message}
 use Rattle.vlink.specs.declared.note.Note.{Note}
 use Rattle.virtual_time.specs.Law.{Order, Rules, reached}
-use Rattle.antimessages.specs.Counting.{is_after}
-use Rattle.process_queues.specs.Past.{AreValues, newest_of}
+use Rattle.antimessages.specs.Counting.{is_after, newest_of}
+use Rattle.reverse.specs.Rules.{AreValues}
 use Rattle.hand.specs.Arriving.{sent_by, undone_events}
 use Rattle.hand.specs.DoneEvents.{DoneEvent, Done, done_events_at, done_events_of, messages_of}
 use Rattle.hand.specs.Hands.{is_ours}

@@ -2,8 +2,7 @@
 ghost use Rattle.std.specs.Prelude.{◌≡◌, true, List, ◌+◌, ◌<◌, ◌≤◌, [], ◌∷◌, ◌++◌, length, OnOk};
 ghost use Rattle.vlink.specs.Order.{message_order};
 ghost use Rattle.virtual_time.specs.Law.{rows_of};
-ghost use Rattle.process_queues.specs.Past.{newest_of};
-ghost use Rattle.antimessages.specs.Counting.{is_after};
+ghost use Rattle.antimessages.specs.Counting.{newest_of, is_after};
 ghost use Rattle.hand.specs.DoneEvents.{DoneEvent, messages_of};
 ghost use Rattle.hand.specs.Undoing.{HasRoomFor};
 ghost use Rattle.reverse.specs.declared.sends.TheConstants.{MOST_SENT};

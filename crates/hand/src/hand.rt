@@ -70,12 +70,13 @@ impl<R: Actor + Drop> Hand<R> {
         ensures keeps { IfOk result (λ hand. hand.flow.keeps ≡ keeps) }
         ensures memory { IfErr result (λ fault. fault ≡ OutOfMemory) }
     {
+        let letters = Letters::of_offers(alloc, offers, keeps)?;
         Ok(Hand {
             members,
             done: DoneEvents::new(alloc),
             undoing: Undoing::new(alloc),
             rows: Rows::new(alloc),
-            letters: Letters::of_offers(alloc, offers, keeps)?,
+            letters,
             out: Outbound::new(0, Time::default(), 0),
         })
     }

@@ -4,7 +4,7 @@ ghost use Rattle.std.specs.Option.{option_copied};
 ghost use Rattle.vlink.specs.Order.{message_order};
 ghost use Rattle.vlink.specs.declared.message.Message.{Message};
 ghost use Rattle.virtual_time.specs.Law.{IsAscending};
-ghost use Rattle.process_queues.specs.Past.{newest_of};
+ghost use Rattle.antimessages.specs.Counting.{newest_of};
 ghost use Rattle.hand.specs.DoneEvents.{DoneEvent, messages_of};
 ghost use Rattle.hand.specs.Undoing.{HasRoomFor, sent_in};
 

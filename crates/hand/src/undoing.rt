@@ -3,8 +3,7 @@ ghost use Rattle.std.specs.Prelude.{◌≡◌, ℕ, ◌+◌, ◌<◌, ◌≤◌,
 ghost use Rattle.vlink.specs.declared.message.Message.{Message};
 ghost use Rattle.vlink.specs.Order.{message_order};
 ghost use Rattle.reverse.specs.Rules.{rules_of};
-ghost use Rattle.antimessages.specs.Counting.{is_after};
-ghost use Rattle.process_queues.specs.Past.{newest_of};
+ghost use Rattle.antimessages.specs.Counting.{is_after, newest_of};
 ghost use Rattle.hand.specs.DoneEvents.{DoneEvent, messages_of};
 ghost use Rattle.hand.specs.Undoing.{CameTo, HasRoomFor, Retreat, RollsBack, RolledBack, sent_in};
 

@@ -10,16 +10,16 @@ use Rattle.virtual_time.proofs.Rolling.{roll-none, roll-split}
 use Rattle.virtual_time.proofs.WellArrive.{arrive-well}
 use Rattle.vlink.specs.Order.{message_order}
 use Rattle.vlink.specs.Letters.{Letter}
-use Rattle.antimessages.specs.Counting.{HaveSameCounts, signed_count, change_by, is_after}
+use Rattle.antimessages.specs.Counting.{HaveSameCounts, signed_count, change_by, is_after, newest_of}
 use Rattle.antimessages.specs.declared.tally.Change.TheVariants.{Same}
 use Rattle.antimessages.proofs.Agreeing.{same_counts-cons}
-use Rattle.process_queues.specs.Past.{Past, BelongsTo, newest_of}
+use Rattle.process_queues.specs.Past.{Past, BelongsTo}
 use Rattle.process_queues.specs.Arriving.{done_since}
 use Rattle.process_queues.specs.Queues.{Queues, StandsFor, rows_there, with_done}
 use Rattle.process_queues.proofs.Beside.{with_done-same, with_done-undone}
 use Rattle.process_queues.proofs.Counting.{OfMessages, not_toggled, toggled}
 use Rattle.process_queues.proofs.Done.{undone-split}
-use Rattle.process_queues.proofs.Newest.{after-all}
+use Rattle.antimessages.proofs.Newest.{after-all}
 use Rattle.process_queues.proofs.Pasts.{as_many}
 use Rattle.process_queues.proofs.Rolls.{done-messages}
 

@@ -6,9 +6,8 @@ use Rattle.vlink.specs.declared.note.Note.{Note}
 use Rattle.virtual_time.specs.Law.{Rules, one_if, is_plus, Part}
 use Rattle.vlink.specs.Order.{message_order}
 use Rattle.vlink.specs.Letters.{Letter}
-use Rattle.antimessages.specs.Counting.{signed_count, change_by, is_after}
+use Rattle.antimessages.specs.Counting.{signed_count, change_by, is_after, newest_of}
 use Rattle.antimessages.specs.declared.tally.Change.TheVariants.{Same}
-use Rattle.process_queues.specs.Past.{newest_of}
 use Rattle.process_queues.specs.Queues.{Queues, StandsFor, with_done}
 use Rattle.process_queues.proofs.Beside.{times}
 use Rattle.process_queues.proofs.Counting.{OfMessages}

@@ -4,7 +4,6 @@ pub mod Commits
 pub mod Counting
 pub mod Done
 pub mod Before
-pub mod Newest
 pub mod Next
 pub mod Pasts
 pub mod Reading

@@ -8,12 +8,11 @@ use Rattle.virtual_time.proofs.Lists.{times-none}
 use Rattle.virtual_time.proofs.Presence.{present-true, present-from}
 use Rattle.virtual_time.proofs.Reading.{next-from, none-next_from}
 use Rattle.vlink.specs.Order.{message_order}
-use Rattle.antimessages.specs.Counting.{is_after}
+use Rattle.antimessages.specs.Counting.{is_after, newest_of}
 use Rattle.antimessages.proofs.After.{first_after-is, first_after-none}
-use Rattle.process_queues.specs.Past.{newest_of}
 use Rattle.process_queues.specs.Queues.{Queues, StandsFor, next_in}
 use Rattle.process_queues.proofs.Counting.{OfMessages, present-agree}
-use Rattle.process_queues.proofs.Newest.{none-newest, newest-in, newest-last}
+use Rattle.antimessages.proofs.Newest.{none-newest, newest-in, newest-last}
 use Rattle.process_queues.proofs.Rolls.{done-messages}
 
 module _ {S K : Type 0} (r : Rules Message S K Note) (R : OfMessages r) (is_value : S → Message → Type 0) (opening : S) (part : Part Message S) (q : Queues S K)

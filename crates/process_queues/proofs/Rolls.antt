@@ -7,9 +7,9 @@ use Rattle.virtual_time.specs.Law.{Rules, IsOrder, reached, minus_of, IsAscendin
 use Rattle.virtual_time.proofs.Rolling.{last_undone, roll-last, roll-none}
 use Rattle.virtual_time.proofs.Handling.{reached-append}
 use Rattle.virtual_time.proofs.Ascending.{ascending-left}
-use Rattle.antimessages.specs.Counting.{is_after}
-use Rattle.process_queues.specs.Past.{Past, Rows, IsPastOf, BelongsTo, LastDone, newest_of}
-use Rattle.process_queues.proofs.Newest.{after-all, not_after-end}
+use Rattle.antimessages.specs.Counting.{is_after, newest_of}
+use Rattle.process_queues.specs.Past.{Past, Rows, IsPastOf, BelongsTo, LastDone}
+use Rattle.antimessages.proofs.Newest.{after-all, not_after-end}
 use Rattle.process_queues.proofs.Pasts.{messages-of}
 
 module _ {S K : Type 0} (r : Rules Message S K Note) (is_value : S → Message → Type 0) (opening : S) (there : Rows) (m : Message) where

@@ -6,10 +6,10 @@ use Rattle.vlink.specs.declared.message.Message.{Message}
 use Rattle.vlink.specs.declared.note.Note.{Note}
 use Rattle.virtual_time.specs.Law.{Rules, sent}
 use Rattle.reverse.specs.Rules.{is_before}
-use Rattle.antimessages.specs.Counting.{is_after}
+use Rattle.antimessages.specs.Counting.{is_after, newest_of}
 use Rattle.queue_steps.specs.declared.event.Event.{Event}
-use Rattle.process_queues.specs.Past.{Past, Rows, IsPastOf, events_of, newest_of, sent_since}
-use Rattle.process_queues.proofs.Newest.{newest-more}
+use Rattle.process_queues.specs.Past.{Past, Rows, IsPastOf, events_of, sent_since}
+use Rattle.antimessages.proofs.Newest.{newest-more}
 
 -- all that these events sent
 abbrev sent_by : {K : Type 0} → List (Event K) → ℕ

@@ -14,13 +14,12 @@ use Rattle.vlink.specs.Order.{message_order}
 use Rattle.vlink.specs.Letters.{Letter}
 use Rattle.antimessages.proofs.After.{first_after-is}
 use Rattle.antimessages.proofs.Changes.{change-plus_none, change-plus_some, change-minus_one, change-minus_other}
-use Rattle.antimessages.specs.Counting.{signed_count, change_by, is_after, present_after}
+use Rattle.antimessages.specs.Counting.{signed_count, change_by, is_after, present_after, newest_of}
 use Rattle.antimessages.specs.declared.tally.Change.TheVariants.{Same}
-use Rattle.process_queues.specs.Past.{newest_of}
 use Rattle.process_queues.specs.Queues.{Queues, StandsFor, with_done, next_in}
 use Rattle.process_queues.proofs.Beside.{times, with_done-count, with_done-next, times-messages}
 use Rattle.process_queues.proofs.Counting.{OfMessages}
-use Rattle.process_queues.proofs.Newest.{newest-more}
+use Rattle.antimessages.proofs.Newest.{newest-more}
 use Rattle.process_queues.proofs.Next.{here, there, after-not_done, not_done-after, after-here}
 use Rattle.process_queues.proofs.Rolls.{done-messages}
 

@@ -1,10 +1,10 @@
 -- What a process has done and not committed, and when that is the past of given events.
-use Rattle.std.specs.Prelude.{◌≡◌, ℕ, ◌+◌, ◌-◌, if◌then◌else◌, List, [], ◌∷◌, ◌++◌, length, Option, slice_get, ⊤}
+use Rattle.std.specs.Prelude.{◌≡◌, ℕ, ◌+◌, if◌then◌else◌, List, [], ◌∷◌, ◌++◌, length}
 use Rattle.vlink.specs.declared.message.Message.{Message}
 use Rattle.vlink.specs.declared.note.Note.{Note}
 use Rattle.vlink.specs.Order.{message_order}
 use Rattle.vlink.specs.Letters.{Row}
-use Rattle.reverse.specs.Rules.{is_before}
+use Rattle.reverse.specs.Rules.{AreValues, is_before}
 use Rattle.virtual_time.specs.Law.{Rules, reached, sent, rowed, rows_of, IsAscending, Part}
 use Rattle.queue_steps.specs.declared.event.Event.{Event}
 
@@ -24,10 +24,6 @@ abbrev pub sent_since : {K : Type 0} → Message → List (Event K) → ℕ
 sent_since m [] = 0
 sent_since m (e ∷ es) = if is_before e.message m then 0 else (e.sent + sent_since m es)
 
--- the last of these
-abbrev pub newest_of : {M : Type 0} → List M → Option M
-newest_of done = slice_get done (length done - 1)
-
 module _ {S K : Type 0} (r : Rules Message S K Note) where
   -- what is kept of an event at a state
   abbrev pub event_of : S → Message → Event K
@@ -37,11 +33,6 @@ module _ {S K : Type 0} (r : Rules Message S K Note) where
   abbrev pub events_of : S → List Message → List (Event K)
   events_of s [] = []
   events_of s (m ∷ ms) = event_of s m ∷ events_of (r.after s m) ms
-
-  -- each of these events was handled at a state that is a value of its type
-  abbrev pub AreValues : (S → Message → Type 0) → S → List Message → Type 0
-  AreValues is_value s [] = ⊤
-  AreValues is_value s (m ∷ ms) = is_value s m × AreValues is_value (r.after s m) ms
 
   -- one event more
   abbrev pub handled_past : Past S K → Message → Past S K
@@ -56,7 +47,7 @@ module _ {S K : Type 0} (r : Rules Message S K Note) where
   pub record IsPastOf (is_value : S → Message → Type 0) (start : S) (ms : List Message) (earlier : Rows) (past : Past S K) : Type 0 where
     pub state : past.state ≡ reached r start ms
     pub done : past.done ≡ events_of start ms
-    pub values : AreValues is_value start ms
+    pub values : AreValues r is_value start ms
     pub sends : past.sends ≡ sent r start ms
     pub rows : past.rows ≡ earlier ++ rowed r start ms
 

@@ -5,9 +5,9 @@ use Rattle.vlink.specs.declared.note.Note.{Note}
 use Rattle.virtual_time.specs.Law.{Rules, rowed, plus_of, Part, delivered, IsWell}
 use Rattle.vlink.specs.Order.{message_order}
 use Rattle.vlink.specs.Letters.{Letter}
-use Rattle.antimessages.specs.Counting.{HaveSameCounts, present_after}
+use Rattle.antimessages.specs.Counting.{HaveSameCounts, present_after, newest_of}
 use Rattle.queue_steps.specs.declared.event.Event.{Event}
-use Rattle.process_queues.specs.Past.{Past, Rows, BelongsTo, newest_of}
+use Rattle.process_queues.specs.Past.{Past, Rows, BelongsTo}
 
 -- the letters that count: those that are tallied beside the done events, and for each of these the letter that brought its message
 abbrev pub with_done : {K : Type 0} → List Letter → List (Event K) → List Letter

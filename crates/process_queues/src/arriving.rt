@@ -4,10 +4,10 @@ ghost use Rattle.vlink.specs.declared.message.Message.{Message};
 ghost use Rattle.virtual_time.specs.Law.{IsIn, IsAscending, plus_of, pluses, minuses, Part, arrive, rolled_back, undone_by};
 ghost use Rattle.reverse.specs.Rules.{rules_of};
 ghost use Rattle.vlink.specs.Order.{message_order};
-ghost use Rattle.antimessages.specs.Counting.{HaveSameCounts, change_by, is_after};
+ghost use Rattle.antimessages.specs.Counting.{HaveSameCounts, change_by, is_after, newest_of};
 ghost use Rattle.antimessages.specs.declared.tally.Change.TheVariants.{Same};
 ghost use Rattle.process_queues.specs.declared.fault.ProcFault.TheVariants.{OutOfMemory};
-ghost use Rattle.process_queues.specs.Past.{Rows, BelongsTo, newest_of};
+ghost use Rattle.process_queues.specs.Past.{Rows, BelongsTo};
 ghost use Rattle.process_queues.specs.Arriving.{Arrives, done_since};
 ghost use Rattle.process_queues.specs.Queues.{AtEachPart, Does};
 

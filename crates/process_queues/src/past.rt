@@ -9,8 +9,8 @@ ghost use Rattle.vlink.specs.declared.message.Message.{Message};
 ghost use Rattle.vlink.specs.Numbering.{greatest_number};
 ghost use Rattle.virtual_time.specs.Law.{rows_of, plus_of};
 ghost use Rattle.reverse.specs.Rules.{rules_of};
-ghost use Rattle.antimessages.specs.Counting.{is_after};
-ghost use Rattle.process_queues.specs.Past.{Past, Rows, IsPastOf, handled_past, newest_of, FirstDone};
+ghost use Rattle.antimessages.specs.Counting.{is_after, newest_of};
+ghost use Rattle.process_queues.specs.Past.{Past, Rows, IsPastOf, handled_past, FirstDone};
 ghost use Rattle.reverse.specs.declared.sends.TheConstants.{MOST_SENT};
 
 use antimessages::{OutOfMemory, Outbox, rewind};

@@ -1,5 +1,5 @@
 -- The rules that an actor gives to the law of virtual time: messages in their order, and the actor's plain functions.
-use Rattle.std.specs.Prelude.{Bool}
+use Rattle.std.specs.Prelude.{Bool, List, [], ◌∷◌, ⊤}
 use Rattle.vlink.specs.declared.message.Message.{Message}
 use Rattle.vlink.specs.declared.note.Note.{Note}
 use Rattle.vlink.specs.Order.{message_order}
@@ -23,3 +23,8 @@ rules_of plain =
       kept = plain.saves;
       undo = plain.before;
     }
+
+-- each of these messages was handled, from the state s on, at a state that is a value of its type
+abbrev pub AreValues : {S K : Type 0} → Rules Message S K Note → (S → Message → Type 0) → S → List Message → Type 0
+AreValues r is_value s [] = ⊤
+AreValues r is_value s (m ∷ ms) = is_value s m × AreValues r is_value (r.after s m) ms

@@ -1,5 +1,4 @@
-use Rattle.std.proofs.Common.{◌≡◌, ◌+◌, ◌<◌, Some, sym, ap, ◌∙◌, subst}
-use Rattle.std.proofs.lemmas.Bool.{both_ways}
+use Rattle.std.proofs.Common.{◌+◌, ◌<◌, Some, sym, ap, ◌∙◌, subst}
 use Rattle.vlink.specs.Numbering.{greatest_number}
 use Rattle.reverse.specs.declared.sends.TheConstants.{MOST_SENT}
 use Rattle.hand.proofs.AtPlace.{at-read, none-past, none-read, not-within, read-member}

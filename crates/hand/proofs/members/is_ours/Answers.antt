@@ -1,6 +1,6 @@
-use Rattle.std.proofs.Common.{◌≡◌, Some, sym, ap, ◌∙◌}
+use Rattle.std.proofs.Common.{Some, sym, ap, ◌∙◌}
 use Rattle.hand.specs.Hands.{is_held}
-use Rattle.hand.proofs.AtPlace.{ours-read, ours-past}
+use Rattle.hand.proofs.AtPlace.{ours-read}
 use Rattle.hand.proofs.members.is_ours.Goals as goal
 
 pub returns-in-Some-Some : goal.returns-in-Some-Some

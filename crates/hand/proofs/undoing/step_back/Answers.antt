@@ -4,7 +4,7 @@ use Rattle.reverse.specs.Rules.{rules_of}
 use Rattle.hand.specs.Undoing.{sent_in}
 use Rattle.hand.proofs.NewestDone.{sent_in-push}
 use Rattle.hand.proofs.Origin.{came-from, undone-came, aside-came}
-use Rattle.hand.proofs.Retreating.{rolls-undone, rolls-aside, newest-late, room-fewer}
+use Rattle.hand.proofs.Retreating.{rolls-undone, rolls-aside, newest-late, room-fewer, some-late}
 use Rattle.hand.proofs.undoing.step_back.Given.{Over}
 use Rattle.hand.proofs.undoing.step_back.Goals.{After-pop_newest-event, After-move_newest}
 use Rattle.hand.proofs.undoing.step_back.Goals as goal
@@ -88,3 +88,21 @@ returns-else-newest_is_for-clause-fewer g c =
 pub returns-else-newest_is_for-clause-sends : goal.returns-else-newest_is_for-clause-sends
 returns-else-newest_is_for-clause-sends g c =
     let d = c.move_newest.ensures.moved in let a = ap sent_in d.1 ∙ sent_in-push c.move_newest.new.self.events d.0 in let h = c.requires.sends in omega arith
+
+pub pop_newest-event-requires-clause-some : goal.pop_newest-event-requires-clause-some
+pop_newest-event-requires-clause-some g c = some-late c.args.message.now c.args.done.now.events c.requires.late
+
+pub move_newest-requires-clause-some : goal.move_newest-requires-clause-some
+move_newest-requires-clause-some g c = some-late c.args.message.now c.args.done.now.events c.requires.late
+
+pub returns-then-newest_is_for-clause-others : goal.returns-then-newest_is_for-clause-others
+returns-then-newest_is_for-clause-others g c = c.wait_again.ensures.others
+
+pub returns-then-newest_is_for-clause-sends : goal.returns-then-newest_is_for-clause-sends
+returns-then-newest_is_for-clause-sends g c = c.pop_newest-event.ensures.room
+
+pub returns-else-newest_is_for-clause-space : goal.returns-else-newest_is_for-clause-space
+returns-else-newest_is_for-clause-space g c = c.move_newest.ensures.room
+
+pub returns-else-newest_is_for-clause-again : goal.returns-else-newest_is_for-clause-again
+returns-else-newest_is_for-clause-again g c = λ h. c.move_newest.ensures.back h

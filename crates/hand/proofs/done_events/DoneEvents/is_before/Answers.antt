@@ -1,7 +1,6 @@
 use Rattle.std.proofs.Common.{◌≡◌, ◌<◌, ◌-◌, Some, length, get_or, subst, sym, ap, ◌∙◌, rules}
 use Rattle.vlink.specs.Order.{message_order}
-use Rattle.antimessages.specs.Counting.{is_after}
-use Rattle.process_queues.specs.Past.{newest_of}
+use Rattle.antimessages.specs.Counting.{is_after, newest_of}
 use Rattle.hand.specs.DoneEvents.{messages_of}
 use Rattle.hand.proofs.Shares.{newest-is}
 use Rattle.hand.proofs.done_events.DoneEvents.is_before.Goals as goal

@@ -1,5 +1,5 @@
 use Rattle.std.proofs.Common.{◌≡◌, ◌==◌, ◌∷◌, [], Some, ap, ◌∙◌}
-use Rattle.process_queues.specs.Past.{newest_of}
+use Rattle.antimessages.specs.Counting.{newest_of}
 use Rattle.hand.specs.DoneEvents.{messages_of}
 use Rattle.hand.proofs.LateDone.{messages-append}
 use Rattle.hand.proofs.NewestDone.{newest-last, same-newest, no-newest}

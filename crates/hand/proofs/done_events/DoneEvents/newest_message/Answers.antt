@@ -1,5 +1,5 @@
 use Rattle.std.proofs.Common.{◌≡◌, ◌<◌, ◌-◌, length, get_or, sym, ap, ◌∙◌, rules}
-use Rattle.process_queues.specs.Past.{newest_of}
+use Rattle.antimessages.specs.Counting.{newest_of}
 use Rattle.hand.specs.DoneEvents.{messages_of}
 use Rattle.hand.proofs.Shares.{newest-is}
 use Rattle.hand.proofs.done_events.DoneEvents.newest_message.Goals as goal

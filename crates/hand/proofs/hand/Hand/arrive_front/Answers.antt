@@ -8,6 +8,7 @@ use Rattle.hand.specs.Passing.{held}
 use Rattle.hand.proofs.Telling.{does-nothing, does-both}
 use Rattle.hand.proofs.Answering.{not-both, not-err}
 use Rattle.hand.proofs.Still.{as-roomy, on-err, still}
+use Rattle.hand.proofs.Came.{came-alike}
 use Rattle.hand.proofs.hand.Hand.arrive_front.Given.{Over}
 use Rattle.hand.proofs.hand.Hand.arrive_front.Goals.{After-make_room, After-arrive}
 use Rattle.hand.proofs.hand.Hand.arrive_front.Goals as goal
@@ -106,3 +107,46 @@ returns-clause-unchanged g c = tt
 
 pub returns-clause-memory : goal.returns-clause-memory
 returns-clause-memory g c = tt
+
+-- what the letter's arrival asks for
+pub arrive-requires-clause-front : goal.arrive-requires-clause-front
+arrive-requires-clause-front g c = (c.in-Some.ensures.front.0, ap (λ z. z.tray) c.make_room.ensures.letters ∙ c.in-Some.ensures.front.1)
+
+pub arrive-requires-clause-came : goal.arrive-requires-clause-came
+arrive-requires-clause-came g c =
+    came-alike (rules_of g.R.Reversible.plain) g.R.Reversible.is_value c.self.inside.members.items _ c.self.inside.done.events _ c.deref_mut.ensures.value refl c.self.invariant.0
+
+pub arrive-requires-clause-empty : goal.arrive-requires-clause-empty
+arrive-requires-clause-empty g c = c.make_room.ensures.aside ∙ c.self.invariant.1
+
+pub arrive-requires-clause-none_back : goal.arrive-requires-clause-none_back
+arrive-requires-clause-none_back g c = c.make_room.ensures.back ∙ c.self.invariant.2
+
+-- what holds of the group is kept
+pub invariant_of-self : goal.invariant_of-self
+invariant_of-self g c = (c.self.invariant.0, c.make_room.ensures.aside ∙ c.self.invariant.1, c.make_room.ensures.back ∙ c.self.invariant.2)
+
+pub invariant_of-self-in_err-arrive : goal.invariant_of-self-in_err-arrive
+invariant_of-self-in_err-arrive g c = (
+  came-alike (rules_of g.R.Reversible.plain) g.R.Reversible.is_value c.arrive.new.members _ c.arrive.new.done.events _
+      (with_items_is c.self.inside.members c.arrive.new.members (c.arrive.ensures.len ∙ c.deref_mut.ensures.len)) refl c.arrive.ensures.came,
+  c.arrive.ensures.empty,
+  c.arrive.ensures.none_back,
+)
+
+pub invariant_of-self-2 : goal.invariant_of-self-2
+invariant_of-self-2 g c = (
+  came-alike (rules_of g.R.Reversible.plain) g.R.Reversible.is_value c.arrive.new.members _ c.arrive.new.done.events _
+      (with_items_is c.self.inside.members c.arrive.new.members (c.arrive.ensures.len ∙ c.deref_mut.ensures.len)) refl c.arrive.ensures.came,
+  c.arrive.ensures.empty,
+  c.arrive.ensures.none_back,
+)
+
+pub arrive-requires-clause-room : goal.arrive-requires-clause-room
+arrive-requires-clause-room g c = c.in_ok-make_room.ensures.room
+
+pub arrive-requires-clause-space : goal.arrive-requires-clause-space
+arrive-requires-clause-space g c = c.in_ok-make_room.ensures.space
+
+pub arrive-requires-clause-sends : goal.arrive-requires-clause-sends
+arrive-requires-clause-sends g c = c.in_ok-make_room.ensures.sends

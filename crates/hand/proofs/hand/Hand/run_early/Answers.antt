@@ -1,14 +1,14 @@
 use Rattle.std.proofs.Common.{◌≡◌, ◌≢◌, ℕ, ◌<◌, ◌≤◌, List, [], ◌∷◌, ◌++◌, Some, Ok, false, All, Contains, slice_get, subst, sym, ap, ◌∙◌, refl, rules, arith}
 use Rattle.std.proofs.lemmas.Result.{err_from_is_err_and}
 use Rattle.std.proofs.lemmas.List.{with_items_is}
-use Rattle.std.proofs.lemmas.List.Elements.{All-weaker}
+use Rattle.std.proofs.lemmas.List.Elements.{All-weaker, All-nil}
 use Rattle.vlink.specs.declared.message.Message.{Message}
 use Rattle.vlink.specs.Order.{message_order}
 use Rattle.virtual_time.specs.Law.{IsAscending, IsOrder}
 use Rattle.virtual_time.proofs.Order.{not_less-time}
 use Rattle.reverse.specs.Rules.{is_before, rules_of}
-use Rattle.antimessages.specs.Counting.{is_after}
-use Rattle.process_queues.specs.Past.{newest_of}
+use Rattle.reverse.specs.declared.sends.TheConstants.{MOST_SENT}
+use Rattle.antimessages.specs.Counting.{is_after, newest_of}
 use Rattle.hand.specs.DoneEvents.{messages_of}
 use Rattle.hand.specs.Hands.{DoesSent, IsAsBefore}
 use Rattle.hand.specs.Passing.{held}
@@ -18,6 +18,8 @@ use Rattle.hand.proofs.Answering.{not-err, not-exhausted, not-idle-late, not-idl
 use Rattle.hand.proofs.NewestDone.{after-none}
 use Rattle.hand.proofs.Still.{as-both, as-empty, as-put_back, as-roomy, on-err, still, took-first}
 use Rattle.hand.proofs.Telling.{does-both}
+use Rattle.hand.proofs.Came.{came-alike}
+use Rattle.hand.proofs.Rooms.{room-still, some-room}
 use Rattle.hand.proofs.hand.Hand.run_early.Given.{Over}
 use Rattle.hand.proofs.hand.Hand.run_early.Goals.{After-make_room, After-wait_again, In-Some}
 use Rattle.hand.proofs.hand.Hand.run_early.Goals as goal
@@ -229,3 +231,55 @@ handle_first-requires-clause-able g c =
     let e : c.early_of-early.result ≡ Ok Ran = search rules in
     let a = third (rw e at c.early_of-early.ensures) in
     (a.0, subst (λ ms. slice_get ms c.in-Some.message.receiver ≡ Some (Some a.0)) (c.deref.ensures.value ∙ sym c.deref_mut.ensures.value) a.1, a.2)
+
+-- what holds of the group is kept
+pub invariant_of-self : goal.invariant_of-self
+invariant_of-self g c = (
+  came-alike (rules_of g.R.Reversible.plain) g.R.Reversible.is_value c.self.inside.members.items _ c.self.inside.done.events _ refl c.make_room.ensures.done c.self.invariant.0,
+  c.self.invariant.1,
+  c.self.invariant.2,
+)
+
+pub invariant_of-self-in_default : goal.invariant_of-self-in_default
+invariant_of-self-in_default g c = (
+  came-alike (rules_of g.R.Reversible.plain) g.R.Reversible.is_value c.self.inside.members.items _ c.self.inside.done.events _ refl c.make_room.ensures.done c.self.invariant.0,
+  c.self.invariant.1,
+  c.self.invariant.2,
+)
+
+pub invariant_of-self-in_default-early : goal.invariant_of-self-in_default-early
+invariant_of-self-in_default-early g c = (
+  came-alike (rules_of g.R.Reversible.plain) g.R.Reversible.is_value c.self.inside.members.items _ c.self.inside.done.events _ refl c.make_room.ensures.done c.self.invariant.0,
+  c.self.invariant.1,
+  c.self.invariant.2,
+)
+
+pub invariant_of-self-in-Ran-1 : goal.invariant_of-self-in-Ran-1
+invariant_of-self-in-Ran-1 g c = (
+  came-alike (rules_of g.R.Reversible.plain) g.R.Reversible.is_value c.handle_first.new.members _ c.handle_first.new.done.events _
+      (with_items_is c.self.inside.members c.handle_first.new.members (c.handle_first.ensures.len ∙ c.deref_mut.ensures.len)) refl
+      (c.handle_first.ensures.came
+      (came-alike (rules_of g.R.Reversible.plain) g.R.Reversible.is_value c.self.inside.members.items _ c.self.inside.done.events _ c.deref_mut.ensures.value c.make_room.ensures.done c.self.invariant.0)),
+  c.self.invariant.1,
+  c.self.invariant.2,
+)
+
+pub handle_first-requires-clause-events : goal.handle_first-requires-clause-events
+handle_first-requires-clause-events g c = c.in_ok-make_room.ensures.events
+
+pub handle_first-requires-clause-sends : goal.handle_first-requires-clause-sends
+handle_first-requires-clause-sends g c = c.in_ok-make_room.ensures.sends
+
+pub handle_first-requires-clause-rows : goal.handle_first-requires-clause-rows
+handle_first-requires-clause-rows g c = c.in_ok-make_room.ensures.rows
+
+pub handle_first-requires-clause-room : goal.handle_first-requires-clause-room
+handle_first-requires-clause-room g c = room-still _ _ _ c.in_ok-make_room.ensures.room c.pop.ensures.room
+
+pub wait_again-requires : goal.wait_again-requires
+wait_again-requires g c = some-room MOST_SENT _ _ c.in_ok-make_room.ensures.room c.pop.ensures.room
+
+pub returns-in_default-clause-idle : goal.returns-in_default-clause-idle
+returns-in_default-clause-idle g c = λ _.
+    subst (λ (q : List Message). All (λ m. c.args.limit ≤ m.time) q)
+    (sym c.in_default.ensures.none ∙ (ap (λ z. z.queue) c.make_room.ensures.letters ∙ ap (λ h. h.flow.queue) c.self.view_is)) (All-nil (λ (m : Message). c.args.limit ≤ m.time))

@@ -18,6 +18,7 @@ use Rattle.hand.proofs.CountsAgain.{counts-again}
 use Rattle.hand.proofs.NotLater.{not-later}
 use Rattle.hand.proofs.Telling.{does-both}
 use Rattle.hand.proofs.Still.{as-both, as-first, as-roomy, on-err, still}
+use Rattle.hand.proofs.Came.{came-alike}
 use Rattle.hand.proofs.hand.Hand.run_late.Given.{Over}
 use Rattle.hand.proofs.hand.Hand.run_late.Goals.{After-first, After-make_late_room, In-Some}
 use Rattle.hand.proofs.hand.Hand.run_late.Goals as goal
@@ -204,3 +205,51 @@ returns-clause-exhausted g c = λ e. not-err _ Exhausted _ refl e
 
 pub returns-clause-unchanged : goal.returns-clause-unchanged
 returns-clause-unchanged g c = tt
+
+pub handle_late-requires-clause-able : goal.handle_late-requires-clause-able
+handle_late-requires-clause-able g c =
+    let a = c.if-not-has_numbers.ensures.yes refl in
+    (a.0, subst (λ ms. slice_get ms c.in-Some.message.receiver ≡ Some (Some a.0)) (c.deref.ensures.value ∙ sym c.deref_mut.ensures.value) a.1, a.2)
+
+pub handle_late-requires-clause-not_done : goal.handle_late-requires-clause-not_done
+handle_late-requires-clause-not_done g c =
+    subst (λ ds. IsAscending message_order (messages_of ds) → All (λ x. x ≢ c.in-Some.message) (messages_of ds)) (sym c.make_late_room.ensures.done) (c.if-has.ensures.no refl)
+
+pub handle_late-requires-clause-came : goal.handle_late-requires-clause-came
+handle_late-requires-clause-came g c =
+    came-alike (rules_of g.R.Reversible.plain) g.R.Reversible.is_value c.self.inside.members.items _ c.self.inside.done.events _ c.deref_mut.ensures.value c.make_late_room.ensures.done c.self.invariant.0
+
+pub handle_late-requires-clause-empty : goal.handle_late-requires-clause-empty
+handle_late-requires-clause-empty g c = c.make_late_room.ensures.aside ∙ c.self.invariant.1
+
+-- what holds of the group is kept
+pub invariant_of-self : goal.invariant_of-self
+invariant_of-self g c = (c.self.invariant.0, c.self.invariant.1, c.self.invariant.2)
+
+pub invariant_of-self-then-has : goal.invariant_of-self-then-has
+invariant_of-self-then-has g c = (c.self.invariant.0, c.self.invariant.1, c.self.invariant.2)
+
+pub invariant_of-self-then-not-has_numbers : goal.invariant_of-self-then-not-has_numbers
+invariant_of-self-then-not-has_numbers g c = (c.self.invariant.0, c.self.invariant.1, c.self.invariant.2)
+
+pub invariant_of-self-in_err-make_late_room : goal.invariant_of-self-in_err-make_late_room
+invariant_of-self-in_err-make_late_room g c = (
+  came-alike (rules_of g.R.Reversible.plain) g.R.Reversible.is_value c.self.inside.members.items _ c.self.inside.done.events _ refl c.make_late_room.ensures.done c.self.invariant.0,
+  c.make_late_room.ensures.aside ∙ c.self.invariant.1,
+  c.self.invariant.2,
+)
+
+pub handle_late-requires-clause-room : goal.handle_late-requires-clause-room
+handle_late-requires-clause-room g c = c.in_ok-make_late_room.ensures.room
+
+pub handle_late-requires-clause-events : goal.handle_late-requires-clause-events
+handle_late-requires-clause-events g c = c.in_ok-make_late_room.ensures.events
+
+pub handle_late-requires-clause-sends : goal.handle_late-requires-clause-sends
+handle_late-requires-clause-sends g c = c.in_ok-make_late_room.ensures.sends
+
+pub handle_late-requires-clause-rows : goal.handle_late-requires-clause-rows
+handle_late-requires-clause-rows g c = c.in_ok-make_late_room.ensures.rows
+
+pub handle_late-requires-clause-space : goal.handle_late-requires-clause-space
+handle_late-requires-clause-space g c = c.in_ok-make_late_room.ensures.space

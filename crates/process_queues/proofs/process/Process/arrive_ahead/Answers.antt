@@ -1,8 +1,7 @@
 use Rattle.std.proofs.Common.{◌≡◌, inr, true, map, drop, slice_get, Some, refl, sym, ap, ◌∙◌, subst}
 use Rattle.vlink.specs.Order.{message_order}
-use Rattle.antimessages.specs.Counting.{is_after, present_after}
+use Rattle.antimessages.specs.Counting.{is_after, present_after, newest_of}
 use Rattle.antimessages.proofs.Agreeing.{added-same_counts}
-use Rattle.process_queues.specs.Past.{newest_of}
 use Rattle.process_queues.proofs.Arrivals.{still-stands, still-answer}
 use Rattle.process_queues.proofs.Counting.{of-messages}
 use Rattle.process_queues.proofs.Stragglers.{next-beside, found-beside}

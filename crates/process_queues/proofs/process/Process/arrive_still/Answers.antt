@@ -1,10 +1,9 @@
 use Rattle.std.proofs.Common.{◌≡◌, inl, ◌∷◌, map, drop, slice_get, Some, refl, sym, ap, ◌∙◌, subst}
 use Rattle.vlink.specs.Order.{message_order}
-use Rattle.antimessages.specs.Counting.{change_by}
+use Rattle.antimessages.specs.Counting.{change_by, newest_of}
 use Rattle.antimessages.specs.declared.tally.Change.TheVariants.{Same}
 use Rattle.antimessages.proofs.Agreeing.{added-same_counts}
 use Rattle.antimessages.proofs.Following.{next-same}
-use Rattle.process_queues.specs.Past.{newest_of}
 use Rattle.process_queues.specs.Queues.{with_done}
 use Rattle.process_queues.proofs.Arrivals.{still-stands, still-answer}
 use Rattle.process_queues.proofs.Beside.{with_done-same}

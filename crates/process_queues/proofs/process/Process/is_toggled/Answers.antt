@@ -1,8 +1,7 @@
 use Rattle.std.proofs.Common.{◌≡◌, ◌≢◌, IsTrue, false, map, refl, sym, subst}
 use Rattle.vlink.specs.Order.{message_order}
-use Rattle.antimessages.specs.Counting.{change_by, is_after}
+use Rattle.antimessages.specs.Counting.{change_by, is_after, newest_of}
 use Rattle.antimessages.specs.declared.tally.Change.TheVariants.{Same}
-use Rattle.process_queues.specs.Past.{newest_of}
 use Rattle.process_queues.proofs.Counting.{of-messages}
 use Rattle.process_queues.proofs.Rolls.{done-ascending}
 use Rattle.process_queues.proofs.Changes.{is-change}

@@ -3,8 +3,7 @@ use Rattle.std.proofs.Common.{◌≡◌, suc, ◌-◌, inl, inr, true, false, Li
 use Rattle.virtual_time.specs.Law.{Rules, IsOrder, IsIn, IsAscending}
 use Rattle.virtual_time.proofs.Lists.{in-head, in-cons}
 use Rattle.virtual_time.proofs.Order.{less-asym, not_less-cases}
-use Rattle.antimessages.specs.Counting.{is_after}
-use Rattle.process_queues.specs.Past.{newest_of}
+use Rattle.antimessages.specs.Counting.{is_after, newest_of}
 
 -- the newest of two or more is that of the rest
 pub newest-more : {M : Type 0} (x y : M) (ys : List M) → newest_of (x ∷ (y ∷ ys)) ≡ newest_of (y ∷ ys)
