@@ -1,5 +1,5 @@
 //! The words that the program knows, and what its help says.
-ghost use Rattle.std.specs.Prelude.{◌≡◌, IfOk, false};
+ghost use Rattle.std.specs.Prelude.{◌≡◌, IfOk, codes, false};
 ghost use Rattle.clap.specs.Words.{App, Rule, app_of, new_app, rule_of, with_rule, with_subcommand};
 ghost use Rattle.command_line.specs.Program.{Knows, bare_program, check_app, network_app, program, replay_app, run_app, seq_app, with_outputs, with_paces};
 
@@ -21,29 +21,42 @@ const EXAMPLES: &str =
 pub(crate) fn program<'a>(alloc: Global) -> Result<Command<'a>, AllocError>
     ensures { IfOk result (λ command. app_of command ≡ program) }
 {
-    let checks = with_command(bare_program(alloc), check(alloc));
-    let simulates = with_command(checks, seq(alloc));
-    let runs = with_command(simulates, run(alloc));
+    let runs = with_command(plain_program(alloc), run(alloc));
     with_command(runs, replay(alloc))
+}
+
+/// The program with the two commands that want no thread and no journal.
+fn plain_program<'a>(alloc: Global) -> Result<Command<'a>, AllocError>
+    ensures { IfOk result (λ command. Knows command (with_subcommand (with_subcommand bare_program check_app.top) seq_app.top)) }
+{
+    let checks = with_command(bare_program(alloc), check(alloc));
+    with_command(checks, seq(alloc))
 }
 
 /// The program without its commands.
 fn bare_program<'a>(alloc: Global) -> Result<Command<'a>, AllocError>
     ensures { IfOk result (λ command. Knows command bare_program) }
 {
-    let program = titled(
-        alloc,
-        "afdxsim",
-        "Simulates an AFDX network, on one thread or on several with the same result.",
-        EXAMPLES,
-    );
+    let program = named_program(alloc)?;
     Ok(
         program
-            .bin_name("afdxsim")?
             .version(VERSION)
             .no_binary_name(true)
             .subcommand_required(true),
     )
+}
+
+/// The program's name, and what its help says.
+fn named_program<'a>(alloc: Global) -> Result<Command<'a>, AllocError>
+    ensures { IfOk result (λ command. Knows command (new_app (codes "afdxsim"))) }
+{
+    titled(
+        alloc,
+        "afdxsim",
+        "Simulates an AFDX network, on one thread or on several with the same result.",
+        EXAMPLES,
+    )
+    .bin_name("afdxsim")
 }
 
 fn check<'a>(alloc: Global) -> Result<Command<'a>, AllocError>
@@ -165,7 +178,13 @@ fn with_arg<'a>(
     ensures { (known : App) (rule : Rule) → IfOk command.entry (λ one. Knows one known) → rule_of arg.entry ≡ rule → arg.entry.global ≡ false
         → IfOk result (λ new. Knows new (with_rule known rule)) }
 {
-    command?.arg(arg)
+    match command {
+        Ok(command) => command.arg(arg),
+        Err(error) => {
+            drop(arg);
+            Err(error)
+        }
+    }
 }
 
 /// A program with one more command. Want of memory is passed on.
@@ -176,5 +195,28 @@ fn with_command<'a>(
     ensures { (known added : App) → IfOk program.entry (λ one. Knows one known) → IfOk command.entry (λ one. Knows one added)
         → IfOk result (λ new. Knows new (with_subcommand known added.top)) }
 {
-    program?.subcommand(command?)
+    match program {
+        Ok(program) => with_one_command(program, command),
+        Err(error) => {
+            drop(command);
+            Err(error)
+        }
+    }
+}
+
+/// That, where memory was there for the program.
+fn with_one_command<'a>(
+    program: Command<'a>,
+    command: Result<Command<'a>, AllocError>,
+) -> Result<Command<'a>, AllocError>
+    ensures { (known added : App) → Knows program.entry known → IfOk command.entry (λ one. Knows one added)
+        → IfOk result (λ new. Knows new (with_subcommand known added.top)) }
+{
+    match command {
+        Ok(command) => program.subcommand(command),
+        Err(error) => {
+            drop(program);
+            Err(error)
+        }
+    }
 }

@@ -4,11 +4,11 @@ use Rattle.command_line.proofs.program.bare_program.Goals as goal
 
 pub returns : goal.returns
 returns c =
-    let named = ap app_of_fields c.in_ok-bin_name.ensures.0 ∙ c.titled-program.ensures.app in
-    let dated = ap app_of_fields c.version.ensures ∙ ap (on_top (λ s. record s { has_version = true })) named in
+    let named = c.in_ok-program.ensures in
+    let dated = ap app_of_fields c.version.ensures ∙ ap (on_top (λ s. record s { has_version = true })) named.app in
     let unnamed = ap app_of_fields c.no_binary_name.ensures ∙ ap (on_top (λ s. record s { no_binary_name = true })) dated in
     record {
       app = ap app_of_fields c.subcommand_required.ensures ∙ ap (on_top (λ s. record s { subcommand_required = true })) unnamed;
       local = ap (λ f. f.has_globals) c.subcommand_required.ensures ∙ (ap (λ f. f.has_globals) c.no_binary_name.ensures ∙
-          (ap (λ f. f.has_globals) c.version.ensures ∙ (ap (λ f. f.has_globals) c.in_ok-bin_name.ensures.0 ∙ c.titled-program.ensures.local)));
+          (ap (λ f. f.has_globals) c.version.ensures ∙ named.local));
     }

@@ -33,5 +33,8 @@ returns-clause-names g c = subst (λ at. Names at c.in_ok-order_of.field-0) (ord
 pub returns-clause-defaults : goal.returns-clause-defaults
 returns-clause-defaults g c = subst (λ at. HasDefaults at c.in_ok-order_of.field-0) (ordered g c).rows_are c.in_ok-order_of.ensures.defaults
 
+pub returns-clause-limits : goal.returns-clause-limits
+returns-clause-limits g c = c.in_ok-order_of.ensures.limits
+
 pub returns-clause-mistake : goal.returns-clause-mistake
 returns-clause-mistake g c = (ordered g c).faultless
