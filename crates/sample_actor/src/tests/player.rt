@@ -23,33 +23,32 @@ pub(crate) struct Stage {
 
 // What the words of the script tell, one after another, and the sum and the counter of the actor once all is undone.
 pub(crate) fn play(rt: &HostRuntime, script: &str, told: &mut String) -> Result<(), ProcFault> {
-    let mut stage = open_again(rt.alloc())?;
+    match open(rt.alloc()) {
+        Ok(stage) => play_on(rt, stage, told, script),
+        Err(fault) => Err(fault),
+    }
+}
+
+fn play_on(
+    rt: &HostRuntime,
+    mut stage: Stage,
+    told: &mut String,
+    script: &str,
+) -> Result<(), ProcFault> {
     let played = play_words(rt, &mut stage, told, script);
     let ended = tell_end(stage.process, told);
     if played.is_err() { played } else { ended }
 }
 
-// A stage, also where it is refused memory once.
-fn open_again(alloc: Global) -> Result<Stage, ProcFault> {
-    match open(alloc) {
-        Ok(stage) => Ok(stage),
-        Err(_) => open(alloc),
-    }
-}
-
 // Nothing done.
 fn open(alloc: Global) -> Result<Stage, ProcFault> {
-    let process = Process::new(alloc, actor(0));
-    let mail = Mail::new(alloc, 3);
-    let floors = Floors::new(alloc, 3, Time::of_known(LATEST_NS));
-    match (process, mail, floors) {
-        (Ok(process), Ok(mail), Ok(floors)) => Ok(Stage {
-            process,
-            mail,
-            floors,
-        }),
-        _ => Err(ProcFault::OutOfMemory),
-    }
+    let floors = Floors::new(alloc, 3, Time::of_known(LATEST_NS))?;
+    let mail = Mail::new(alloc, 3)?;
+    Ok(Stage {
+        process: Process::new(alloc, actor(0))?,
+        mail,
+        floors,
+    })
 }
 
 // The sum and the counter of the actor once all is undone.
@@ -126,7 +125,7 @@ fn act(alloc: Global, stage: &mut Stage, told: &mut String, word: &str) -> Resul
         "reserve_letters" => stage.process.reserve_letters(number(rest) as usize),
         "reserve_rows" => stage.process.reserve_rows(number(rest) as usize),
         "post" | "reserve_post" => mailing::post(&mut stage.process, &mut stage.mail, call),
-        "send" => Ok(mailing::send(alloc, &mut stage.mail, rest)?),
+        "send" => mailing::send(alloc, &mut stage.mail, rest),
         "alone" => alone::tell(alloc, told, number(rest)),
         "back" => alone::tell_back(alloc, told),
         "arrive" | "arrive?" | "run" | "seal" | "commit" => {
