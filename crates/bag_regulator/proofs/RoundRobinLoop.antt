@@ -1,10 +1,13 @@
 -- The round robin, as a loop over the lists finds it.
-use Rattle.std.proofs.Common.{◌≡◌, ℕ, suc, ◌+◌, ◌-◌, ◌<◌, Bool, false, cond, List, [], length, get_or, set, Some, sym, ap, ◌∙◌, arith}
+use Rattle.std.proofs.Common.{◌≡◌, ℕ, suc, ◌+◌, ◌-◌, ◌<◌, ◌≤◌, Bool, true, false, cond, nat_lt, inl, inr, List, [], length, get_or, set, Option, Some, refl, sym, ap, ◌∙◌, arith}
+use Rattle.std.specs.Prelude.{IsTrue}
+use Rattle.std.proofs.lemmas.Bool.{cases_lt}
+use Rattle.std.proofs.lemmas.Bool.Decides.{nat_tests}
 use Rattle.std.proofs.lemmas.List.{get_or_default, set-get_or}
 use Rattle.vlink.specs.declared.frame.Frame.{Frame}
 use Rattle.frame_ring.specs.Queue.{Queue}
 use Rattle.bag_regulator.specs.RoundRobin.{first_from}
-use Rattle.bag_regulator.specs.Regulator.{is_some_frame, list_at, waits, with_frames}
+use Rattle.bag_regulator.specs.Regulator.{Regulator, is_some_frame, list_at, waits, with_frames, appended, queued}
 
 module _ (p : ℕ → Bool) (q : ℕ) where
   first_from-suc : (n m : ℕ) → n ≡ suc m → first_from p q n ≡ cond (p q) (Some q) (first_from p (q + 1) m)
@@ -31,3 +34,16 @@ module _ (lists : List Queue) (q i : ℕ) (list : Queue) (same : i ≡ q) (withi
   -- a list of which nothing was changed
   pub list-kept : (new : Queue) → new.frames ≡ list.frames → new.room ≡ list.room → set lists i new ≡ lists
   list-kept new e r = ap (set lists i) ((λ j. record { frames = e j; room = r j }) ∙ read) ∙ set-get_or lists i list
+
+-- a list that is not full has room for a frame more
+pub room-left : (n room : ℕ) → n ≤ room → (n ≡ room → IsTrue false) → n < room
+room-left n room within not_full = elim (cases_lt n room) [
+  | inl less ↦ less
+  | inr most ↦ absurd (let same : n ≡ room = omega arith in let full = not_full same in cc)
+]
+
+-- and then the frame goes to its back
+pub queued-room : (g : Regulator) (q : ℕ) (frame : Frame) (asks : Option ℕ) → length (list_at g.lists q).frames < (list_at g.lists q).room →
+    queued g q frame asks ≡ appended g q frame asks
+queued-room g q frame asks room =
+    let test : nat_lt (length (list_at g.lists q).frames) (list_at g.lists q).room ≡ true = grind (arith, nat_tests) in rw test refl

@@ -2,7 +2,7 @@
 ghost use Rattle.std.specs.Prelude.{◌≡◌, ◌↔◌, List, IsTrue, [], ◌∷◌, ◌++◌, length, slice_get, OnOk, OnErr, IfOk};
 ghost use Rattle.std.specs.Option.{option_map};
 ghost use Rattle.virtual_time.specs.declared.moved.Move.{Move};
-ghost use Rattle.journal.specs.Moves.{turn_moves, longer};
+ghost use Rattle.journal.specs.Moves.{turn_moves, longer, moves_of};
 
 use crate::turn::Turn;
 use antimessages::OutOfMemory;
@@ -88,15 +88,13 @@ impl Block {
     {
         match &mut self.list {
             MoveList::OneTurn(turn) => {
-                if turn.add(moved) {
-                    return Ok(());
+                if !turn.add(moved) {
+                    self.list = Longer::listed(alloc, *turn, moved)?;
                 }
-                let longer = Longer::new(alloc, *turn, moved)?;
-                self.list = MoveList::Listed(Box::new(alloc, longer)?);
+                Ok(())
             }
-            MoveList::Listed(longer) => longer.rest.push(moved)?,
+            MoveList::Listed(longer) => longer.push(moved),
         }
-        Ok(())
     }
 
     /// One step less: the last one goes.
@@ -105,22 +103,43 @@ impl Block {
     {
         match &mut self.list {
             MoveList::OneTurn(turn) => turn.pop(),
-            MoveList::Listed(longer) => {
-                if longer.rest.pop().is_none() {
-                    longer.turn.pop();
-                }
-            }
+            MoveList::Listed(longer) => longer.pop(),
         }
     }
 }
 
 impl Longer {
+    /// A turn, and one step behind it.
     fn new(alloc: Global, turn: Turn, moved: Move) -> Result<Longer, OutOfMemory>
         ensures { IfOk result (λ l. longer l ≡ turn_moves turn ++ moved ∷ []) }
     {
         let mut rest = Vec::new(alloc);
         rest.push(moved)?;
         Ok(Longer { turn, rest })
+    }
+
+    /// The same, as the steps are kept.
+    fn listed(alloc: Global, turn: Turn, moved: Move) -> Result<MoveList, OutOfMemory>
+        ensures { IfOk result (λ list. moves_of list ≡ turn_moves turn ++ moved ∷ []) }
+    {
+        let longer = Longer::new(alloc, turn, moved)?;
+        Ok(MoveList::Listed(Box::new(alloc, longer)?))
+    }
+
+    fn push(&mut self, moved: Move) -> Result<(), OutOfMemory>
+        ensures pushed { OnOk result (longer self.new ≡ longer self.old ++ moved ∷ []) }
+        ensures unchanged { OnErr result (longer self.new ≡ longer self.old) }
+    {
+        self.rest.push(moved)?;
+        Ok(())
+    }
+
+    fn pop(&mut self)
+        ensures { (moves : List Move) (last : Move) → longer self.old ≡ moves ++ last ∷ [] → longer self.new ≡ moves }
+    {
+        if self.rest.pop().is_none() {
+            self.turn.pop();
+        }
     }
 
     fn get(&self, at: usize) -> Option<Move>

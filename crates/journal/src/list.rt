@@ -1,5 +1,5 @@
 //! The list of a journal's entries.
-ghost use Rattle.std.specs.Prelude.{◌≡◌, ◌<◌, ◌⊎◌, [], ◌∷◌, ◌++◌, true, Some, is_some, length, slice_get, OnOk, IfErr};
+ghost use Rattle.std.specs.Prelude.{◌≡◌, ◌<◌, ◌⊎◌, [], ◌∷◌, ◌++◌, true, Some, is_some, length, slice_get, vec_len, vec_capacity, OnOk, IfErr};
 ghost use Rattle.journal.specs.declared.fault.PoolFault.TheVariants.{OutOfMemory, Torn};
 
 use crate::entry::Entry;
@@ -39,6 +39,21 @@ impl Model for Entries {
     ghost invariant = { λ e. IfSome e.kept (λ k. k.entries.items ≡ map (λ s. s.value) e.told.items) };
 }
 
+impl Kept {
+    /// Makes room for one more entry, and then writes its place in the table.
+    fn reserve(&mut self, place: u64) -> Result<(), PoolFault>
+        ensures room { OnOk result (vec_len self.new.entries < vec_capacity self.new.entries) }
+        ensures entries { self.new.entries.items ≡ self.old.entries.items }
+        ensures faults { IfErr result (λ fault. (fault ≡ OutOfMemory) ⊎ (fault ≡ Torn)) }
+    {
+        self.entries.reserve(1)?;
+        if !self.table.write(place, 1) {
+            return Err(PoolFault::Torn);
+        }
+        Ok(())
+    }
+}
+
 impl Entries {
     /// No entry. Those that come are kept where there is a table, and have its places.
     pub fn new(alloc: Global, table: Option<Table>) -> Self
@@ -75,13 +90,10 @@ impl Entries {
     {
         self.told.reserve(1)?;
         let place = self.told.len() as u64;
-        if let Some(kept) = &mut self.kept {
-            kept.entries.reserve(1)?;
-            if !kept.table.write(place, 1) {
-                return Err(PoolFault::Torn);
-            }
+        match &mut self.kept {
+            Some(kept) => kept.reserve(place),
+            None => Ok(()),
         }
-        Ok(())
     }
 
     /// One more, for which there is room.

@@ -1,8 +1,8 @@
 -- The lines of a text of steps, and the first line that is none.
 use Rattle.std.proofs.Common.{◌≡◌, ◌∙◌, ℕ, ◌+◌, ◌-◌, ◌<◌, ◌≤◌, List, [], ◌∷◌, ◌++◌, All, length, get_or, take, map, refl, sym, ap, subst, inl, inr, ◌⊎◌, append_assoc, length-append, arith, append-nil, length-take, take_at, get_or-take}
 use Rattle.std.specs.List.{concat}
-use Rattle.std.proofs.lemmas.List.{length-map, get_or-append_right}
-use Rattle.std.proofs.lemmas.List.Elements.{All-head, All-tail, All-map, All-weaker, All-get_or}
+use Rattle.std.proofs.lemmas.List.{length-map, get_or-append_right, flat_map_more}
+use Rattle.std.proofs.lemmas.List.Elements.{All-head, All-tail, All-map, All-weaker, All-get_or, All-push}
 use Rattle.std.proofs.lemmas.Bool.{cases_order}
 use Rattle.virtual_time.specs.declared.step.Step.{Step}
 use Rattle.journal_text.specs.Text.{Fits, step_line, steps_text}
@@ -45,6 +45,18 @@ all_step_lines steps fits = All-map IsStepLine step_line steps (All-weaker Fits 
 first_line : (text : List ℕ) (ls : List (List ℕ)) → concat ls ≡ text → 1 ≤ length ls → BeginsWithNone Fits step_line text → IsStepLine (get_or ls 0 []) → ⊥
 first_line text [] is some none line = omega arith
 first_line text (l ∷ ls) is some none (s, fits, e) = none s (concat ls) fits (sym is ∙ ap (λ (x : List ℕ). x ++ concat ls) e)
+
+-- one step more is read from the front of the rest
+pub one_more : (steps new : List Step) (step : Step) (rest behind text : List ℕ) → new ≡ steps ++ step ∷ [] → Fits step × (rest ≡ step_line step ++ behind) →
+    All Fits steps → steps_text steps ++ rest ≡ text → All Fits new × (steps_text new ++ behind ≡ text)
+one_more steps new step rest behind text pushed (fit, front) fits whole = (
+  subst (All Fits) (sym pushed) (All-push Fits steps step fits fit),
+  ap (λ (ss : List Step). steps_text ss ++ behind) pushed
+      ∙ ap (λ (bs : List ℕ). bs ++ behind) (sym (flat_map_more step_line [] steps step))
+      ∙ append_assoc (steps_text steps) (step_line step) behind
+      ∙ ap (λ (bs : List ℕ). steps_text steps ++ bs) (sym front)
+      ∙ whole,
+)
 
 -- where such a rest is behind steps, its first line is the first bad one
 pub bad_behind : (steps : List Step) (rest text : List ℕ) → All Fits steps → steps_text steps ++ rest ≡ text → 0 < length rest → BeginsWithNone Fits step_line rest →

@@ -10,12 +10,12 @@ ghost use Rattle.network.specs.Plan.{node_plan};
 ghost use Rattle.network.specs.Wiring.{passes, is_end_system, is_switch_of};
 ghost use Rattle.network.specs.Trees.{inner_of, is_bad_path, differ, begin_apart, has_double, is_other_way, has_other_way, is_no_tree, is_none, source_among};
 ghost use Rattle.network.specs.Code.Views.{items_of};
-ghost use Rattle.path_trees.specs.Findings.{Finds, Tests, AreWays};
+ghost use Rattle.path_trees.specs.Findings.{Finds, Tests, AreWays, IsFresh};
 
-use crate::kinds::{is_end_system, is_switch_of};
 use crate::paths::{push_all, push_ends};
 use network::{Hop, Routed, source_among};
 use network_rows::{DescFault, NodeRow, Place};
+use node_kinds::{is_end_system, is_switch_of};
 use std::alloc::{AllocError, Global};
 use std::collections::{HashMap, HashSet};
 use vlink::Net;
@@ -174,7 +174,9 @@ pub struct Room {
 
 impl Room {
     /// Room in which nothing was found out yet.
-    pub fn new(alloc: Global) -> Self {
+    pub fn new(alloc: Global) -> Self
+        ensures { IsFresh result }
+    {
         Room {
             ends: Vec::new(alloc),
             seen: HashSet::new(alloc),

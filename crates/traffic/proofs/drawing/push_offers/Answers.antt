@@ -1,4 +1,6 @@
-use Rattle.std.proofs.Common.{append-nil, sym, ◌∙◌}
+use Rattle.std.proofs.Common.{◌≡◌, ◌++◌, map, append-nil, sym, ap, ◌∙◌, arith}
+use Rattle.std.specs.List.{range_with_len}
+use Rattle.traffic.specs.Offers.{come_until, offer_of}
 use Rattle.traffic.proofs.DrawingLemmas.{generator_at-first, drawn_at, come_until_more}
 use Rattle.traffic.proofs.drawing.push_offers.Goals as goal
 
@@ -15,3 +17,11 @@ loop-number-preserved c =
       pushed = come_until_more c.args.seed c.args.until c.args.link.now c.args.source c.loop-number.number _ _ _ _ drawn.0 c.loop-number.invariant.pushed c.in_ok-push_offer.ensures.offers;
       words = drawn.1;
     }
+
+pub returns : goal.returns
+returns c =
+    let upto = c.loop-number.auto.number-end in
+    let done = c.loop-number-test.false in
+    let all : c.loop-number.number ≡ c.due_count-number-end.result = omega arith in
+    c.loop-number.invariant.pushed
+    ∙ ap (λ n. c.args.offers.now.items ++ come_until c.args.until (map (offer_of c.args.seed c.args.link.now c.args.source) (range_with_len 0 n))) (all ∙ c.due_count-number-end.ensures.value)
