@@ -1,5 +1,7 @@
 -- Clauses on results and errors.
-use Rattle.std.proofs.Common.{◌≡◌, Result, Ok, Err, IfOk, OnOk, OnErr, IsErrAnd}
+use Rattle.std.proofs.Common.{◌≡◌, ◌∙◌, Result, Ok, Err, IfOk, OnOk, OnErr, IsErrAnd}
+use Rattle.actor_run.specs.declared.fault.SimFault.{SimFault}
+use Rattle.actor_run.specs.declared.fault.SimFault.TheVariants.{OutOfMemory, Exhausted}
 
 -- what holds in any case holds after an error
 pub after-error : {T E P : Type 0} → P → (r : Result T E) → OnErr r P
@@ -20,3 +22,17 @@ on-ok follows (Err y) p = tt
 pub passed-on : {T U E : Type 0} {d e : E} {r : Result T E} (q : Result U E) → IsErrAnd q (λ z. z ≡ d) → r ≡ Err d → q ≡ Err e → r ≡ Err e
 passed-on (Ok x) is was told = absurd is
 passed-on (Err y) is was told = cc
+
+-- want of memory that is passed on is not that of numbers
+pub passed-short : {T X : Type 0} {d : SimFault} (r : Result T SimFault) → IsErrAnd r (λ z. z ≡ d) → d ≡ OutOfMemory → r ≡ Err Exhausted → X
+passed-short (Ok v) was memory e = absurd was
+passed-short (Err z) was memory e = absurd (let m = was ∙ memory in cc)
+
+-- a fault that is passed on is no success
+pub not-passed : {T E X : Type 0} {v : T} (d : E) (r : Result T E) → IsErrAnd r (λ z. z ≡ d) → r ≡ Ok v → X
+not-passed d (Ok x) was e = absurd was
+not-passed d (Err z) was e = absurd (let k = e in cc)
+
+pub err-on-ok : {T E : Type 0} (P : Type 0) (d : E) (r : Result T E) → IsErrAnd r (λ z. z ≡ d) → OnOk r P
+err-on-ok P d (Ok x) was = absurd was
+err-on-ok P d (Err z) was = tt

@@ -1,9 +1,11 @@
 -- The mail of all processes: one box of it changed, one letter put there or taken, and the letters that a process receives.
-use Rattle.std.proofs.Common.{◌≡◌, ℕ, zero, suc, ◌+◌, ◌-◌, ◌<◌, ◌≤◌, ◌==◌, ◌⊎◌, inl, inr, Bool, true, false, cond, List, [], ◌∷◌, ◌++◌, map, filter, set, get_or, length, take, drop, slice_get, All, Some, Global, refl, sym, ap, ◌∙◌, subst, arith, append_assoc, append-nil, eq-eqb, ne_eqb, ◌≢◌, deque_len, deque_capacity}
+use Rattle.std.proofs.Common.{◌≡◌, ℕ, zero, suc, ◌+◌, ◌-◌, ◌<◌, ◌≤◌, ◌==◌, ◌⊎◌, inl, inr, Bool, true, false, cond, List, [], ◌∷◌, ◌++◌, map, filter, set, get_or, length, take, drop, slice_get, All, Option, Some, None, Bor, option_map, option_copied, Global, refl, sym, ap, ◌∙◌, subst, arith, append_assoc, append-nil, eq-eqb, ne_eqb, ◌≢◌, deque_len, deque_capacity}
 use Rattle.std.specs.declared.collections.VecDeque.{VecDeque}
+use Rattle.std.specs.Slice.{IsItemAt}
 use Rattle.std.proofs.lemmas.Bool.{cases_eq}
+use Rattle.std.proofs.lemmas.Option.{slice_get_past, slice_get_read, slice_get-map}
 use Rattle.std.proofs.lemmas.List.{take_more, at_drop_more, length-map}
-use Rattle.std.proofs.lemmas.List.Elements.{filter-append}
+use Rattle.std.proofs.lemmas.List.Elements.{All-push, filter-append}
 use Rattle.virtual_time.specs.Law.{received_by}
 use Rattle.antimessages.specs.Letters.{Store}
 use Rattle.vlink.specs.Order.{message_order}
@@ -28,6 +30,22 @@ module _ {X Y : Type 0} (f : X → Y) where
   get-at (y ∷ ys) zero x h e = ap (λ z. Some (f z)) (sym e)
   get-at (y ∷ ys) (suc i) x h e = get-at ys i x (omega arith) e
 
+-- the box of a process, read at its place, and that there is none
+module _ (boxes now : List (VecDeque Letter Global)) (i p : ℕ) (mail : List Store) (same : now ≡ boxes) (here : i ≡ p) (seen : map store_of boxes ≡ mail) where
+  from-boxes : slice_get mail p ≡ slice_get (map store_of now) i
+  from-boxes = ap (λ z. slice_get z p) (sym seen ∙ ap (λ z. map store_of z) (sym same)) ∙ ap (slice_get (map store_of now)) (sym here)
+
+  pub box-letters : (box : VecDeque Letter Global) → i < length now → box ≡ get_or now i box → letters_for p mail ≡ box.items
+  box-letters box within read = ap letters_in (from-boxes ∙ get-at store_of now i box within read)
+
+  pub no-box : length now ≤ i → letters_for p mail ≡ []
+  no-box past = ap letters_in (from-boxes ∙ (slice_get-map store_of now i ∙ ap (option_map store_of) (slice_get_past now i past)))
+
+-- the letter that is read at a place, if there is one
+pub letter-read : (ls : List Letter) (i : ℕ) (r : Option (Bor Letter)) → IsItemAt ls i r → option_copied r ≡ slice_get ls i
+letter-read ls i None h = sym (slice_get_past ls i h.3)
+letter-read ls i (Some l) h = sym (slice_get_read ls (length ls) i l.now refl h.3.0 h.1)
+
 -- the letter at a place: those before it and it, and it and those behind
 module _ (p : ℕ) (ls : List Letter) (i : ℕ) (l : Letter) (h : i < length ls) (e : l ≡ get_or ls i l) where
   pub received-more : received_by message_order p (take (i + 1) ls)
@@ -40,6 +58,11 @@ module _ (p : ℕ) (ls : List Letter) (i : ℕ) (l : Letter) (h : i < length ls)
       ≡ cond (l.message.receiver == p) (l ∷ received_by message_order p (drop (i + 1) ls)) (received_by message_order p (drop (i + 1) ls))
   received-rest = at_drop_more (λ z. received_by message_order p z) ls i l h ∙
       ap (λ z. received_by message_order p (z ∷ drop (i + 1) ls)) (sym e)
+
+-- what holds of the first letters and of the next one
+pub all-more : (P : Letter → Type 0) (ls : List Letter) (k : ℕ) (l : Letter) → k < length ls → l ≡ get_or ls k l → P l → All P (take k ls) → All P (take (k + 1) ls)
+all-more P ls k l within here p a =
+    subst (All P) (sym (take_more ls k l within)) (All-push P (take k ls) (get_or ls k l) a (subst P here p))
 
 -- each letter of a list has one of n receivers
 pub receiver-within : (ls : List Letter) (n : ℕ) → All (λ l. l.message.receiver < n) ls → (i : ℕ) (l : Letter) → i < length ls → l ≡ get_or ls i l → l.message.receiver < n

@@ -1,6 +1,5 @@
 //! Room for letters with their receivers, and the letters put there.
-ghost use Rattle.std.specs.Prelude.{◌≡◌, ℕ, [], ◌∷◌, ◌+◌, ◌<◌, ◌≤◌, ◌==◌, ◌++◌, nat_lt, length, map, filter, All, IsOk, OnOk, OnErr};
-ghost use Rattle.std.specs.List.{list_all};
+ghost use Rattle.std.specs.Prelude.{◌≡◌, ◌↔◌, ℕ, true, false, cond, [], ◌∷◌, ◌+◌, ◌<◌, ◌≤◌, ◌==◌, ◌++◌, length, map, filter, All, IsTrue, IsOk, OnOk, OnErr};
 ghost use Rattle.std.specs.VecDeque.{deque_len, deque_capacity};
 ghost use Rattle.virtual_time.specs.Law.{received_by};
 ghost use Rattle.vlink.specs.Order.{message_order};
@@ -91,19 +90,43 @@ fn make_room(
 fn count_for(letters: &[Letter], receiver: usize) -> usize
     ensures { result ≡ length (filter (λ letter. letter.message.receiver == receiver) letters.now) }
 {
-    letters
-        .iter()
-        .filter(|letter| usize::from(letter.message.receiver) == receiver)
-        .count()
+    let mut count = 0;
+    for place in 0..letters.len() {
+        count += one_for(&letters[place], receiver);
+    }
+    count
+}
+
+/// 1 where this process receives the letter, and else 0.
+fn one_for(letter: &Letter, receiver: usize) -> usize
+    ensures one { result ≡ cond (letter.now.message.receiver == receiver) 1 0 }
+    ensures most { result ≤ 1 }
+{
+    if usize::from(letter.message.receiver) == receiver {
+        1
+    } else {
+        0
+    }
 }
 
 /// Whether each of the letters is for one of the processes 0, 1, .. of which there are so many.
 pub(crate) fn are_within(letters: &[Letter], processes: usize) -> bool
-    ensures { result ≡ list_all (λ letter. nat_lt letter.message.receiver processes) letters.now }
+    ensures { IsTrue result ↔ All (λ letter. letter.message.receiver < processes) letters.now }
 {
-    letters
-        .iter()
-        .all(|letter| usize::from(letter.message.receiver) < processes)
+    for place in 0..letters.len() {
+        if !is_within(&letters[place], processes) {
+            return false;
+        }
+    }
+    true
+}
+
+/// Whether the letter is for one of so many processes.
+fn is_within(letter: &Letter, processes: usize) -> bool
+    ensures yes { result ≡ true → letter.now.message.receiver < processes }
+    ensures no { result ≡ false → processes ≤ letter.now.message.receiver }
+{
+    usize::from(letter.message.receiver) < processes
 }
 
 /// Each letter goes to the back of the mail of its receiver, in order. There is room for all.

@@ -9,7 +9,7 @@ use std::snapshot::Snapshot;
 use vlink::Time;
 
 /// Where the last entry of a process stands, and the GVT that its last `collect` saw.
-#[derive(Clone, Copy, Debug, PartialEq, Eq)]
+#[derive(Clone, Copy, PartialEq, Eq)]
 pub struct Mark {
     /// The place of its last entry, from 0; none where there is none.
     pub place: Option<u64>,

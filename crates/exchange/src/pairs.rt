@@ -41,8 +41,8 @@ impl Pairs {
             seen: Time::default(),
         };
         let mut pairs = Pairs {
-            lefts: Vec::with_capacity(alloc, count)?,
-            rights: Vec::with_capacity(alloc, count)?,
+            lefts: Vec::new(alloc),
+            rights: Vec::new(alloc),
         };
         for made in 0..count {
             pairs.add(&blank)?;

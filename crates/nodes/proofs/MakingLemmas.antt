@@ -1,8 +1,9 @@
 -- What is made of the virtual links at a node, against the virtual links of the network.
-use Rattle.std.proofs.Common.{◌≡◌, ℕ, suc, ◌+◌, ◌==◌, ◌&&◌, Less, not, Bool, true, false, cond, List, [], ◌∷◌, map, Option, Some, None, refl, ap, sym, ◌∙◌, arith, add-one, filter, replicate, slice_get, option_map, option_and_then, nat_cmp}
+use Rattle.std.proofs.Common.{◌≡◌, ℕ, suc, ◌+◌, ◌<◌, ◌++◌, ◌==◌, ◌&&◌, Less, not, Bool, true, false, cond, List, [], ◌∷◌, map, take, length, get_or, Option, Some, None, refl, ap, sym, ◌∙◌, arith, add-one, filter, replicate, slice_get, option_map, option_and_then, nat_cmp}
 use Rattle.std.specs.List.{AllByRecursion}
 use Rattle.std.specs.List.Sorted.{IsStrictlySortedBy}
 use Rattle.std.proofs.lemmas.Bool.Decides.{nat_tests}
+use Rattle.std.proofs.lemmas.List.{take_more, map-append}
 use Rattle.std.proofs.lemmas.Map.Keys.{sorted_head, sorted_tail, sorted_from_strictly_increasing}
 use Rattle.network.specs.declared.limits.TheConstants.{GREATEST_PORTS}
 use Rattle.nodes.specs.declared.opening.meeting.Meeting.{Meeting}
@@ -26,6 +27,13 @@ ports_among-cons m meetings id = go (m.link.id.0 == id) (place_of (map number_me
     go true o = refl
     go false None = refl
     go false (Some k) = rw (add-one k) (same (suc k) k (slice_get meetings k))
+
+-- one more is made
+pub made-more : {X Y : Type 0} (f : X → Y) (xs : List X) (i : ℕ) (x : X) (y : Y) (ys zs : List Y) → i < length xs → x ≡ get_or xs i x →
+    ys ≡ map f (take i xs) → zs ≡ ys ++ y ∷ [] → y ≡ f x → zs ≡ map f (take (i + 1) xs)
+made-more f xs i x y ys zs within here before pushed made =
+    pushed ∙ (ap (λ z. z ++ y ∷ []) before ∙ (ap (λ z. map f (take i xs) ++ z ∷ []) (made ∙ ap f here) ∙
+    (sym (map-append f (take i xs) (get_or xs i x ∷ [])) ∙ ap (map f) (sym (take_more xs i x within)))))
 
 -- ---- what is made of the virtual links that meet a node is what is made of those of the network
 

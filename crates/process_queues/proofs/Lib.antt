@@ -15,3 +15,4 @@ pub mod Places
 pub mod Since
 pub mod Changes
 pub mod Seals
+pub mod Passing

@@ -3,7 +3,7 @@ use std::alloc::AllocError;
 use thiserror::Error;
 
 /// Why a process refused a call, which then left it as it was.
-#[derive(Clone, Copy, Debug, PartialEq, Eq, Error)]
+#[derive(Clone, Copy, Debug, Error)]
 pub enum ProcFault {
     /// A growth was refused.
     #[error("out of memory")]

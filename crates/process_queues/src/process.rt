@@ -207,7 +207,7 @@ impl<R: Actor> Process<R> {
         ensures { AtEachPart (rules_of R.plain) R.is_value self.now.queues
             (λ opening part. result ≡ floor_of message_order (R.end (state_in self.now.queues)) part) }
     {
-        floor_of_tray::<R>(&self.tray, self.floor_of_messages())
+        floor_of_tray(&self.tray, self.floor_of_messages())
     }
 
     /// The least time of the present messages that are not done, or the moment after the end.
@@ -299,7 +299,8 @@ fn collect_letters<R: Actor>(
     }
 }
 
-/// The first letter for this process goes from the mail to the back of the tray, which has room for it.
+/// The first letter for this process goes from the mail to the back of the tray, which has room for it. It has a type parameter so that the borrow
+/// checker follows it.
 fn take_letter<R: Actor>(tray: &mut VecDeque<Letter>, mail: &mut Mail, process: u16)
     requires room { deque_len tray.old < deque_capacity tray.old }
     requires some { 0 < length (letters_for process mail.old) }
@@ -326,7 +327,7 @@ fn count_with(tally: &Tally, message: &Message, is_done: bool) -> i128
 }
 
 /// The least time of these letters, or the given moment where that is earlier.
-fn floor_of_tray<R: Actor>(tray: &VecDeque<Letter>, moment: Time) -> Time
+fn floor_of_tray(tray: &VecDeque<Letter>, moment: Time) -> Time
     ensures { result ≡ lowest moment (map (λ l. l.message.time) tray.now.items) }
 {
     let mut floor = moment;

@@ -1,14 +1,14 @@
 use Rattle.std.proofs.Common.{refl, suc, ◌++◌, ◌∙◌, ap, sym, subst, length, List, IsPermutation, arith}
-use Rattle.virtual_time.specs.Law.{rows_of}
+use Rattle.virtual_time.specs.Law.{one, rows_of}
 use Rattle.vlink.specs.declared.message.Message.{Message}
 use Rattle.vlink.specs.declared.time.TheConstants.{GREATEST_NS}
 use Rattle.vlink.specs.Letters.{Row}
 use Rattle.vlink.specs.Order.{message_order}
 use Rattle.reverse.specs.Rules.{rules_of}
-use Rattle.reverse.specs.Setting.{simulation_of}
+use Rattle.reverse.specs.Setting.{AreInStates, simulation_of}
 use Rattle.actor_run.specs.Running.{AtEach, IsCutOffAt, StandsAt}
 use Rattle.actor_run.proofs.Handling.{over, over-numbers, has-numbers, is_next, receiver_is, receiver_within, states_after, handled}
-use Rattle.actor_run.proofs.Errors.{after-error}
+use Rattle.actor_run.proofs.Errors.{after-error, err-on-ok, not-passed, passed-short}
 use Rattle.actor_run.proofs.Loading.{load-falls}
 use Rattle.actor_run.proofs.running.handle_first.Goals as goal
 use Rattle.actor_run.proofs.running.handle_first.Given.{Over}
@@ -113,3 +113,40 @@ returns-in_err-push_all-clause-memory g c = λ e rows taken. cut-off g (goal.at.
 
 pub returns-in_err-record-clause-memory : goal.returns-in_err-record-clause-memory
 returns-in_err-record-clause-memory g c = λ e rows taken. cut-off g (goal.at.returns-in_err-record-clause-memory g c).After-messages rows
+
+-- nothing was handled, and the actors stand as they stood
+pub returns-then-not-act-clause-left : goal.returns-then-not-act-clause-left
+returns-then-not-act-clause-left g c = λ rows taken x L n h.
+    let f = simulation_of (rules_of g.A.Reversible.plain) x in
+    (n, subst (AreInStates f.processes (one f n).states) (sym (c.if-not-act.ensures.unchanged refl)) h.states)
+
+pub returns-in_err-push_all-clause-exhausted : goal.returns-in_err-push_all-clause-exhausted
+returns-in_err-push_all-clause-exhausted g c = λ e. passed-short c.from_residual.result c.from_residual.ensures.1 c.in_err-push_all.ensures.memory e
+
+pub returns-in_err-record-clause-exhausted : goal.returns-in_err-record-clause-exhausted
+returns-in_err-record-clause-exhausted g c = λ e. passed-short c.from_residual-in_err-record.result c.from_residual-in_err-record.ensures.1 refl e
+
+-- an error says nothing of a message that was handled, nor that none was left
+pub returns-in_err-push_all-clause-handled : goal.returns-in_err-push_all-clause-handled
+returns-in_err-push_all-clause-handled g c = λ e. not-passed _ c.from_residual.result c.from_residual.ensures.1 e
+
+pub returns-in_err-push_all-clause-smaller : goal.returns-in_err-push_all-clause-smaller
+returns-in_err-push_all-clause-smaller g c = λ e. not-passed _ c.from_residual.result c.from_residual.ensures.1 e
+
+pub returns-in_err-push_all-clause-over : goal.returns-in_err-push_all-clause-over
+returns-in_err-push_all-clause-over g c = λ e. not-passed _ c.from_residual.result c.from_residual.ensures.1 e
+
+pub returns-in_err-push_all-clause-purpose : goal.returns-in_err-push_all-clause-purpose
+returns-in_err-push_all-clause-purpose g c = err-on-ok _ _ c.from_residual.result c.from_residual.ensures.1
+
+pub returns-in_err-record-clause-handled : goal.returns-in_err-record-clause-handled
+returns-in_err-record-clause-handled g c = λ e. not-passed _ c.from_residual-in_err-record.result c.from_residual-in_err-record.ensures.1 e
+
+pub returns-in_err-record-clause-smaller : goal.returns-in_err-record-clause-smaller
+returns-in_err-record-clause-smaller g c = λ e. not-passed _ c.from_residual-in_err-record.result c.from_residual-in_err-record.ensures.1 e
+
+pub returns-in_err-record-clause-over : goal.returns-in_err-record-clause-over
+returns-in_err-record-clause-over g c = λ e. not-passed _ c.from_residual-in_err-record.result c.from_residual-in_err-record.ensures.1 e
+
+pub returns-in_err-record-clause-purpose : goal.returns-in_err-record-clause-purpose
+returns-in_err-record-clause-purpose g c = err-on-ok _ _ c.from_residual-in_err-record.result c.from_residual-in_err-record.ensures.1

@@ -5,6 +5,9 @@ use Rattle.std.proofs.lemmas.List.{length_push}
 use Rattle.exchange.specs.Views.{opened_held}
 use Rattle.exchange.proofs.Halves.{some-left, first-name, names-left}
 use Rattle.exchange.proofs.Marks.{first-blank, blanks-left}
+use Rattle.journal.specs.declared.fault.PoolFault.TheVariants.{OutOfMemory}
+use Rattle.exchange.proofs.Outcomes.{if-err}
+use Rattle.exchange.proofs.Refused.{err-if-ok}
 use Rattle.exchange.proofs.Opened.{fits-few, actor-opens, as-many, helds-more}
 use Rattle.exchange.proofs.opening.helds_of.Given.{Over}
 use Rattle.exchange.proofs.opening.helds_of.Goals.{In-Some}
@@ -79,3 +82,23 @@ open-requires-clause-layout g c = c.requires.layout
 
 pub returns-clause-memory : goal.returns-clause-memory
 returns-clause-memory g c = tt
+
+pub returns-in_err-helds-clause-count : goal.returns-in_err-helds-clause-count
+returns-in_err-helds-clause-count g c = err-if-ok _ _ c.from_residual.result c.from_residual.ensures.1
+
+pub returns-in_err-helds-clause-each : goal.returns-in_err-helds-clause-each
+returns-in_err-helds-clause-each g c = err-if-ok _ _ c.from_residual.result c.from_residual.ensures.1
+
+pub returns-in_err-held-clause-count : goal.returns-in_err-held-clause-count
+returns-in_err-held-clause-count g c = err-if-ok _ _ c.from_residual-in_err-held.result c.from_residual-in_err-held.ensures.1
+
+pub returns-in_err-held-clause-each : goal.returns-in_err-held-clause-each
+returns-in_err-held-clause-each g c = err-if-ok _ _ c.from_residual-in_err-held.result c.from_residual-in_err-held.ensures.1
+
+pub returns-in_err-held-clause-memory : goal.returns-in_err-held-clause-memory
+returns-in_err-held-clause-memory g c = if-err (λ fault. fault ≡ OutOfMemory) _ c.from_residual-in_err-held.result c.from_residual-in_err-held.ensures.1 c.in_err-held.ensures.memory
+
+pub open-requires-clause-within : goal.open-requires-clause-within
+open-requires-clause-within g c =
+    let number : c.process_number-number.result ≡ length c.loop-actor.yielded = c.process_number-number.ensures ∙ c.len-in-loop-actor.ensures ∙ (c.loop-actor.helds.ok.0 ∙ c.loop-actor.invariant.count) in
+    omega (arith, number, (actor-at g (goal.at.open-requires-clause-within g c).In-Some).0, c.requires.count)

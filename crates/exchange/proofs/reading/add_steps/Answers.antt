@@ -1,4 +1,4 @@
-use Rattle.std.proofs.Common.{◌<◌, length, sym, ◌∙◌, arith}
+use Rattle.std.proofs.Common.{◌<◌, ◌≤◌, ◌++◌, length, sym, ap, ◌∙◌, arith, take_all}
 use Rattle.vlink.specs.declared.message.Message.{Message}
 use Rattle.virtual_time.specs.Law.{steps_of}
 use Rattle.exchange.proofs.Listed.{listed-more, some-step}
@@ -14,3 +14,9 @@ loop-at-preserved c =
           (let pushed = w.in_ok-push.ensures.items in let same = w.list-is in cc)
       | in_default w ↦ let within : c.loop-at.at < length ss = omega arith in absurd (some-step ss c.loop-at.at within (sym c.step.ensures ∙ w.in_default.is))
     ]
+
+pub returns : goal.returns
+returns c =
+    let ss = steps_of {M = Message} c.args.entry.now.process c.args.entry.now.deed in
+    let all : length ss ≤ c.loop-at.at = (let t = c.loop-at-test.false in omega arith) in
+    c.loop-at.invariant ∙ ap (λ z. c.args.list.now.items ++ z) (take_all c.loop-at.at ss all)

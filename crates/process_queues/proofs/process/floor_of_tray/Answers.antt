@@ -5,7 +5,7 @@ use Rattle.process_queues.proofs.Reading.{lowest-push}
 use Rattle.process_queues.proofs.process.floor_of_tray.Goals as goal
 
 pub loop-place-preserved : goal.loop-place-preserved
-loop-place-preserved g c =
+loop-place-preserved c =
     let xs = c.args.tray.now.items in
     let one = take_more xs c.loop-place.place c.index.result.now (omega arith) in
     c.earlier-floor.ensures ∙ (ap (min c.index.result.now.message.time) c.loop-place.invariant ∙

@@ -1,8 +1,9 @@
-use Rattle.std.proofs.Common.{◌≡◌, ◌∙◌, Err, [], ap}
+use Rattle.std.proofs.Common.{◌≡◌, ◌∙◌, Err, [], ap, refl}
 use Rattle.std.proofs.lemmas.Result.{err_from_is_err_and}
 use Rattle.actor_run.specs.declared.fault.SimFault.TheVariants.{Exhausted}
 use Rattle.trace_tables.specs.Tables.{tables_of}
 use Rattle.seqsim.specs.Networks.{setting_of}
+use Rattle.actor_run.proofs.Errors.{err-on-ok, passed-short}
 use Rattle.seqsim.proofs.tables.count_all.Goals as goal
 
 pub handle_all-requires : goal.handle_all-requires
@@ -33,3 +34,18 @@ returns-clause-whole g c =
 pub returns-clause-numbers : goal.returns-clause-numbers
 returns-clause-numbers g c =
     c.in_ok-handle_all.ensures.numbers [] c.in_ok-counted.ensures.none (setting_of c.args.network.now) c.network_law.ensures 0 c.requires
+
+pub returns-in_err-counted-clause-exhausted : goal.returns-in_err-counted-clause-exhausted
+returns-in_err-counted-clause-exhausted g c = λ e. passed-short c.from_residual.result c.from_residual.ensures.1 refl e
+
+pub returns-in_err-counted-clause-numbers : goal.returns-in_err-counted-clause-numbers
+returns-in_err-counted-clause-numbers g c = err-on-ok _ _ c.from_residual.result c.from_residual.ensures.1
+
+pub returns-in_err-handle_all-clause-numbers : goal.returns-in_err-handle_all-clause-numbers
+returns-in_err-handle_all-clause-numbers g c = err-on-ok _ _ c.from_residual-in_err-handle_all.result c.from_residual-in_err-handle_all.ensures.1
+
+pub returns-in_err-into_tables-clause-exhausted : goal.returns-in_err-into_tables-clause-exhausted
+returns-in_err-into_tables-clause-exhausted g c = λ e. passed-short c.from_residual-in_err-into_tables.result c.from_residual-in_err-into_tables.ensures.1 refl e
+
+pub returns-in_err-into_tables-clause-numbers : goal.returns-in_err-into_tables-clause-numbers
+returns-in_err-into_tables-clause-numbers g c = err-on-ok _ _ c.from_residual-in_err-into_tables.result c.from_residual-in_err-into_tables.ensures.1

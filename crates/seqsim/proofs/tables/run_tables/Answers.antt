@@ -9,6 +9,7 @@ use Rattle.seqsim.specs.Networks.{AreRowsOf, setting_of}
 use Rattle.seqsim.proofs.NetworkLemmas.{opened}
 use Rattle.seqsim.proofs.RowLemmas.{same-rows}
 use Rattle.actor_run.proofs.Handling.{started}
+use Rattle.actor_run.proofs.Errors.{err-on-ok, passed-short}
 use Rattle.seqsim.proofs.tables.run_tables.Goals as goal
 
 pub count_all-requires : goal.count_all-requires
@@ -30,3 +31,21 @@ each-of plan L (Err fault) some = some
 
 pub returns-clause-each : goal.returns-clause-each
 returns-clause-each g c = each-of c.args.network.now c.network_law.ensures c.count_all.result c.count_all.ensures.whole
+
+pub returns-in_err-offers-clause-exhausted : goal.returns-in_err-offers-clause-exhausted
+returns-in_err-offers-clause-exhausted g c = λ e. passed-short c.from_residual.result c.from_residual.ensures.1 refl e
+
+pub returns-in_err-offers-clause-numbers : goal.returns-in_err-offers-clause-numbers
+returns-in_err-offers-clause-numbers g c = err-on-ok _ _ c.from_residual.result c.from_residual.ensures.1
+
+pub returns-in_err-nodes-clause-exhausted : goal.returns-in_err-nodes-clause-exhausted
+returns-in_err-nodes-clause-exhausted g c = λ e. passed-short c.from_residual-in_err-nodes.result c.from_residual-in_err-nodes.ensures.1 refl e
+
+pub returns-in_err-nodes-clause-numbers : goal.returns-in_err-nodes-clause-numbers
+returns-in_err-nodes-clause-numbers g c = err-on-ok _ _ c.from_residual-in_err-nodes.result c.from_residual-in_err-nodes.ensures.1
+
+pub returns-in_err-waiting-clause-exhausted : goal.returns-in_err-waiting-clause-exhausted
+returns-in_err-waiting-clause-exhausted g c = λ e. passed-short c.from_residual-in_err-waiting.result c.from_residual-in_err-waiting.ensures.1 c.in_err-waiting.ensures.memory e
+
+pub returns-in_err-waiting-clause-numbers : goal.returns-in_err-waiting-clause-numbers
+returns-in_err-waiting-clause-numbers g c = err-on-ok _ _ c.from_residual-in_err-waiting.result c.from_residual-in_err-waiting.ensures.1

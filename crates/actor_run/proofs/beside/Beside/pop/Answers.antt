@@ -1,8 +1,9 @@
-use Rattle.std.proofs.Common.{◌≡◌, ◌<◌, ◌-◌, ◌∙◌, List, ◌∷◌, ◌++◌, length, slice_get, IfSome, IsPermutation, subst, sym, refl, rules, arith, IsSomeAnd, heap_items}
+use Rattle.std.proofs.Common.{◌≡◌, ◌<◌, ◌-◌, ◌∙◌, List, ◌∷◌, ◌++◌, length, slice_get, IfSome, IsSome, IsPermutation, subst, sym, refl, rules, arith, IsSomeAnd, heap_items}
 use Rattle.std.proofs.lemmas.List.Sorted.{IsPermutation-append_left, length_permutation}
 use Rattle.vlink.specs.declared.message.Message.{Message}
 use Rattle.two_lists.proofs.Firsts.{NoneBefore}
-use Rattle.actor_run.proofs.Waits.{IsNotBeforeTop, offer-out, offer-first, sent-first, none-left}
+use Rattle.actor_run.proofs.Waits.{IsNotBeforeTop, not-none, offer-out, offer-first, sent-first, some-last, none-left}
+use Rattle.actor_run.proofs.beside.Beside.pop.Goals.{After-pop}
 use Rattle.actor_run.proofs.beside.Beside.pop.Goals as goal
 
 pub returns-then-is_offer_next-clause-one : goal.returns-then-is_offer_next-clause-one
@@ -46,3 +47,16 @@ returns-clause-first c =
     (subst (NoneBefore x) c.self.view_is
     (sent-first c.message_order_law.ensures.total c.message_order_law.ensures.written sent offers x c.self.inside.falling over.1
     some c.in-Some.ensures.top (subst (IsNotBeforeTop sent) c.as_slice.ensures.value (c.if-is_offer_next.ensures.sent refl))))
+
+-- the first offer comes before all that was sent: so there is one
+offered : (c : After-pop) → IsSome c.pop.result
+offered c =
+    let sent = heap_items c.self.inside.sent in
+    let next = subst (λ (xs : List Message). IsSomeAnd (slice_get xs (length xs - 1)) (λ m. NoneBefore m sent)) c.as_slice.ensures.value (c.if-is_offer_next.ensures.offer refl) in
+    c.pop.ensures.variant.1 (let l = some-last _ c.self.inside.offers.items (length c.self.inside.offers.items - 1) next in omega (arith, l, c.self.inside.offers.ok.0))
+
+pub returns-then-is_offer_next-clause-none : goal.returns-then-is_offer_next-clause-none
+returns-then-is_offer_next-clause-none c = not-none _ c.pop.result (offered (goal.at.returns-then-is_offer_next-clause-none c).After-pop)
+
+pub returns-then-is_offer_next-clause-unchanged : goal.returns-then-is_offer_next-clause-unchanged
+returns-then-is_offer_next-clause-unchanged c = not-none _ c.pop.result (offered (goal.at.returns-then-is_offer_next-clause-unchanged c).After-pop)

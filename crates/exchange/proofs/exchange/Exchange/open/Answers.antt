@@ -1,8 +1,10 @@
-use Rattle.std.proofs.Common.{length, replicate, sym, ap, ◌∙◌, arith}
+use Rattle.std.proofs.Common.{◌≡◌, length, replicate, sym, ap, ◌∙◌, arith}
 use Rattle.std.proofs.lemmas.List.{length-map}
 use Rattle.halves.specs.declared.LeftHalf.{LeftHalf}
 use Rattle.exchange.specs.declared.mark.Standing.{Standing}
+use Rattle.journal.specs.declared.fault.PoolFault.TheVariants.{OutOfMemory}
 use Rattle.exchange.specs.Views.{unplaced}
+use Rattle.exchange.proofs.Outcomes.{if-err}
 use Rattle.exchange.proofs.Refused.{err-if-ok}
 use Rattle.exchange.proofs.exchange.Exchange.open.Goals as goal
 
@@ -91,3 +93,9 @@ returns-clause-count g c = c.in_ok-helds.ensures.count
 
 pub returns-clause-helds : goal.returns-clause-helds
 returns-clause-helds g c = c.in_ok-helds.ensures.each
+
+pub returns-in_err-exchange-clause-memory : goal.returns-in_err-exchange-clause-memory
+returns-in_err-exchange-clause-memory g c = if-err (λ fault. fault ≡ OutOfMemory) _ c.from_residual.result c.from_residual.ensures.1 c.in_err-exchange.ensures.memory
+
+pub returns-in_err-helds-clause-memory : goal.returns-in_err-helds-clause-memory
+returns-in_err-helds-clause-memory g c = if-err (λ fault. fault ≡ OutOfMemory) _ c.from_residual-in_err-helds.result c.from_residual-in_err-helds.ensures.1 c.in_err-helds.ensures.memory

@@ -3,6 +3,7 @@ use Rattle.virtual_time.specs.declared.moved.Move.TheVariants.{Arrived}
 use Rattle.reverse.specs.Rules.{rules_of}
 use Rattle.reverse.specs.Setting.{simulation_of}
 use Rattle.exchange.proofs.Moves.{moved-more}
+use Rattle.exchange.proofs.Refused.{err-on-ok}
 use Rattle.exchange.proofs.held.Held.arrive_all.Goals as goal
 
 pub loop-arrived-preserved : goal.loop-arrived-preserved
@@ -12,3 +13,6 @@ loop-arrived-preserved g c =
       did = moved-more f c.loop-arrived.arrived Arrived c.args.self.now c.loop-arrived.self c.arrive.new.self c.loop-arrived.invariant.did c.in_ok-arrive.ensures.arrived;
       left = let a = c.in_ok-arrive.ensures.tray in let b = c.loop-arrived.invariant.left in omega arith;
     }
+
+pub returns-in_err-arrive-clause-arrived : goal.returns-in_err-arrive-clause-arrived
+returns-in_err-arrive-clause-arrived g c = err-on-ok _ _ c.from_residual.result c.from_residual.ensures.1

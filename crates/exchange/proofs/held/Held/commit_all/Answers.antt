@@ -7,6 +7,7 @@ use Rattle.exchange.specs.Views.{HeldState}
 use Rattle.exchange.specs.Effects.{StopsAtCommit}
 use Rattle.exchange.proofs.Moves.{moved-more}
 use Rattle.exchange.proofs.Outcomes.{if-err}
+use Rattle.exchange.proofs.Refused.{err-on-ok}
 use Rattle.exchange.proofs.Worked.{not-committed, stops-commit}
 use Rattle.exchange.proofs.held.Held.commit_all.Goals as goal
 
@@ -30,3 +31,6 @@ returns-in_err-commit_oldest-clause-some g c =
     (stops-commit f i.0 c.args.self.now c.loop-seen.self c.commit_oldest.new.self fault i.1
     (not-committed f c.args.self.now c.loop-seen.self (ap (λ (z : HeldState g.row.R.Denot). z.mark.seen) i.1) c.mark-seen.result.seen (ap (λ (m : Mark). m.seen) c.mark-seen.ensures) c.loop-seen-test.ensures).1
     c.in_err-commit_oldest.ensures.unchanged c.in_err-commit_oldest.ensures.memory)
+
+pub returns-in_err-commit_oldest-clause-committed : goal.returns-in_err-commit_oldest-clause-committed
+returns-in_err-commit_oldest-clause-committed g c = err-on-ok _ _ c.from_residual.result c.from_residual.ensures.1

@@ -1,11 +1,13 @@
-use Rattle.std.proofs.Common.{◌+◌, ◌<◌, ap, is_some, subst}
+use Rattle.std.proofs.Common.{◌≡◌, ◌⊎◌, ◌+◌, ◌<◌, ap, is_some, subst}
 use Rattle.virtual_time.specs.declared.moved.Move.TheVariants.{Ran}
 use Rattle.reverse.specs.Rules.{rules_of}
 use Rattle.reverse.specs.Setting.{simulation_of}
+use Rattle.journal.specs.declared.fault.PoolFault.TheVariants.{OutOfMemory, Exhausted}
 use Rattle.exchange.specs.Views.{HeldState}
 use Rattle.exchange.specs.Effects.{StopsAtRun}
 use Rattle.exchange.proofs.Moves.{moved-more, early-more}
 use Rattle.exchange.proofs.Outcomes.{if-err}
+use Rattle.exchange.proofs.Refused.{err-on-ok}
 use Rattle.exchange.proofs.Worked.{stops-run}
 use Rattle.exchange.proofs.held.Held.run_early.Goals as goal
 
@@ -32,3 +34,10 @@ returns-in_err-run_next-clause-some g c =
     if-err (StopsAtRun f c.args.turn (c.args.self.now.mark.seen + c.args.window) c.args.self.now c.run_next.new.self) fault c.from_residual.result c.from_residual.ensures.1
     (stops-run f c.args.turn c.args.window c.loop-run.run c.args.self.now c.loop-run.self c.run_next.new.self fault i.did c.loop-run-test.true i.early
     (c.is_due.ensures.due c.if-not-is_due.false) c.in_err-run_next.ensures.unchanged c.in_err-run_next.ensures.numbers)
+
+pub returns-in_err-run_next-clause-ran : goal.returns-in_err-run_next-clause-ran
+returns-in_err-run_next-clause-ran g c = err-on-ok _ _ c.from_residual.result c.from_residual.ensures.1
+
+pub returns-in_err-run_next-clause-faults : goal.returns-in_err-run_next-clause-faults
+returns-in_err-run_next-clause-faults g c =
+    if-err (λ fault. (fault ≡ OutOfMemory) ⊎ (fault ≡ Exhausted)) _ c.from_residual.result c.from_residual.ensures.1 c.in_err-run_next.ensures.faults

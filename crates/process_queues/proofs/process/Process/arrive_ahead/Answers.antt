@@ -6,6 +6,7 @@ use Rattle.process_queues.proofs.Arrivals.{still-stands, still-answer}
 use Rattle.process_queues.proofs.Counting.{of-messages}
 use Rattle.process_queues.proofs.Stragglers.{next-beside, found-beside}
 use Rattle.process_queues.proofs.Standing.{keeps}
+use Rattle.process_queues.proofs.Passing.{err-if-ok}
 use Rattle.process_queues.proofs.process.Process.arrive_ahead.Goals as goal
 
 pub invariant_of-self : goal.invariant_of-self
@@ -40,3 +41,6 @@ invariant_of-self-2 g c =
     (added-same_counts message_order R.messages l c.tally_front.new.tally t c.in_ok-change.ensures.count c.in_ok-change.ensures.others) c.in_ok-change.ensures.change
     (λ n. ap (λ o. is_after message_order o l.message) newest ∙ ahead)
     (c.self.invariant.3 ∙ (next-beside R h t refl ∙ ap (λ o. present_after message_order o t) (sym newest)))) newest)
+
+pub returns-in_err-change-clause-arrived : goal.returns-in_err-change-clause-arrived
+returns-in_err-change-clause-arrived g c = err-if-ok _ _ c.from_residual.result c.from_residual.ensures.1

@@ -9,6 +9,7 @@ use Rattle.process_queues.proofs.Counting.{of-messages}
 use Rattle.process_queues.proofs.Stragglers.{found-beside, not-owed}
 use Rattle.process_queues.proofs.Rolls.{done-ascending}
 use Rattle.process_queues.proofs.Standing.{keeps}
+use Rattle.process_queues.proofs.Passing.{err-if-ok}
 use Rattle.process_queues.proofs.process.Process.arrive_late.Goals as goal
 
 pub undo_since-requires-clause-some : goal.undo_since-requires-clause-some
@@ -54,3 +55,6 @@ invariant_of-self-2 g c =
     let R = of-messages g.R.Reversible.plain c.actor_rules_law.ensures.order c.actor_rules_law.ensures.undoes in
     keeps c.self.view_is c.self.invariant (returns-clause-arrived g c).arrived
     (λ opening part h s. found-beside R s c.undo_since.new.tally refl c.next_after-self-inside.ensures c.newest.ensures)
+
+pub returns-in_err-undone-clause-arrived : goal.returns-in_err-undone-clause-arrived
+returns-in_err-undone-clause-arrived g c = err-if-ok _ _ c.from_residual.result c.from_residual.ensures.1

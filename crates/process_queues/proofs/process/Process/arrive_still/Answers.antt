@@ -9,6 +9,7 @@ use Rattle.process_queues.proofs.Arrivals.{still-stands, still-answer}
 use Rattle.process_queues.proofs.Beside.{with_done-same}
 use Rattle.process_queues.proofs.Counting.{of-messages}
 use Rattle.process_queues.proofs.Standing.{keeps}
+use Rattle.process_queues.proofs.Passing.{err-if-ok}
 use Rattle.process_queues.proofs.process.Process.arrive_still.Goals as goal
 
 pub invariant_of-self : goal.invariant_of-self
@@ -42,3 +43,6 @@ invariant_of-self-2 g c =
     (added-same_counts message_order O l new c.self.inside.tally c.in_ok-tally_front.ensures.count c.in_ok-tally_front.ensures.others) in
     keeps c.self.view_is c.self.invariant (returns-clause-arrived g c).arrived (λ opening part h s. c.self.invariant.3 ∙
     next-same message_order O (newest_of (map (λ e. e.message) done)) l (with_done c.self.inside.tally done) (with_done new done) counts same)
+
+pub returns-in_err-tally_front-clause-arrived : goal.returns-in_err-tally_front-clause-arrived
+returns-in_err-tally_front-clause-arrived g c = err-if-ok _ _ c.from_residual.result c.from_residual.ensures.1

@@ -1,6 +1,7 @@
 use Rattle.std.proofs.Common.{refl, take}
 use Rattle.antimessages.specs.Mailing.{letters_for}
 use Rattle.process_queues.proofs.Standing.{delivered_all-stands, keeps}
+use Rattle.process_queues.proofs.Passing.{err-if-ok}
 use Rattle.process_queues.proofs.process.Process.collect.Goals as goal
 
 pub invariant_of-self : goal.invariant_of-self
@@ -13,3 +14,15 @@ returns-clause-delivered g c = λ opening part h.
 
 pub invariant_of-self-2 : goal.invariant_of-self-2
 invariant_of-self-2 g c = keeps c.self.view_is c.self.invariant (returns-clause-delivered g c) (λ opening part h s. c.self.invariant.3)
+
+pub returns-in_err-reserve-clause-delivered : goal.returns-in_err-reserve-clause-delivered
+returns-in_err-reserve-clause-delivered g c = err-if-ok _ _ c.from_residual.result c.from_residual.ensures.1
+
+pub returns-in_err-reserve-clause-count : goal.returns-in_err-reserve-clause-count
+returns-in_err-reserve-clause-count g c = err-if-ok _ _ c.from_residual.result c.from_residual.ensures.1
+
+pub returns-in_err-reserve-clause-queues : goal.returns-in_err-reserve-clause-queues
+returns-in_err-reserve-clause-queues g c = err-if-ok _ _ c.from_residual.result c.from_residual.ensures.1
+
+pub returns-in_err-reserve-clause-left : goal.returns-in_err-reserve-clause-left
+returns-in_err-reserve-clause-left g c = err-if-ok _ _ c.from_residual.result c.from_residual.ensures.1
