@@ -73,15 +73,19 @@ impl<R: Actor> Hand<R> {
         let Some(letter) = self.letters.front() else {
             return Ok(false);
         };
-        make_room(&self.done, &mut self.undoing, &mut self.letters)?;
-        arrive(
+        let Ok(()) = make_room(&self.done, &mut self.undoing, &mut self.letters) else {
+            return Err(HandFault::OutOfMemory);
+        };
+        match arrive(
             &mut self.members,
             &mut self.done,
             &mut self.undoing,
             &mut self.letters,
             &letter,
-        )?;
-        Ok(true)
+        ) {
+            Ok(()) => Ok(true),
+            Err(_fault) => Err(HandFault::OutOfMemory),
+        }
     }
 }
 
