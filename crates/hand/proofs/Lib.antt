@@ -23,6 +23,7 @@ pub mod WentOn
 pub mod OneLetter
 pub mod Among
 pub mod Tallied
+pub mod Moved
 pub mod FrontCases
 pub mod WordTold
 pub mod FrontTold
