@@ -7,14 +7,14 @@ use Rattle.virtual_time.specs.declared.step.Step.{Step}
 use Rattle.virtual_time.specs.declared.step.Step.TheVariants.{Take}
 use Rattle.reverse.specs.Rules.{rules_of}
 use Rattle.reverse.specs.Setting.{simulation_of}
-use Rattle.hand.specs.Hands.{StandsForGroup, is_ours}
+use Rattle.hand.specs.Hands.{IsAsBefore, StandsForGroup, is_ours}
 use Rattle.halves.specs.declared.LeftHalf.{LeftHalf}
 use Rattle.exchange.proofs.Halves.{half-within}
 use Rattle.exchange.proofs.Refused.{faults-told, not-full, not-ok}
 use Rattle.group_exchange.specs.declared.mark.Standing.{Standing}
 use Rattle.group_exchange.specs.Views.{box_of, is_of, last_in, marks_in, with_letters}
 use Rattle.group_exchange.specs.Keeps.{Holds, IsMarked}
-use Rattle.group_exchange.specs.Effects.{AreWaiting, TookLetters, takes_of}
+use Rattle.group_exchange.specs.Effects.{AreWaiting, IsGroupAsBefore, TookLetters, takes_of}
 use Rattle.group_exchange.proofs.Again.{group-as-before, group-same, same-keeps, same-words}
 use Rattle.group_exchange.proofs.Collected.{kept-collected, holds-collected}
 use Rattle.group_exchange.proofs.Gathers.{collects-none, collects-shown, kept-none, holds-none, waiting}
@@ -196,7 +196,7 @@ pub returns-then-exchange-len-clause-ok : goal.returns-then-exchange-len-clause-
 returns-then-exchange-len-clause-ok g c = tt
 
 pub returns-then-exchange-len-clause-unchanged : goal.returns-then-exchange-len-clause-unchanged
-returns-then-exchange-len-clause-unchanged g c = rw (sym c.group.view_is, sym c.exchange.view_is) (refl, group-same _)
+returns-then-exchange-len-clause-unchanged g c = (refl, group-same _)
 
 pub returns-then-exchange-len-clause-full : goal.returns-then-exchange-len-clause-full
 returns-then-exchange-len-clause-full g c =
@@ -229,9 +229,9 @@ returns-in-Err-clause-ok g c = tt
 pub returns-in-Err-clause-unchanged : goal.returns-in-Err-clause-unchanged
 returns-in-Err-clause-unchanged g c =
     let e = c.reserve_collect.ensures in
-    rw (sym c.group.view_is, sym c.exchange.view_is) (
-      (λ i. record { steps = e.steps i; marks = marks_in (map (λ (b : LeftHalf Standing). b.value) c.exchange.inside.marks.items); limit = c.exchange.inside.limit }),
-      group-as-before _ c.reserve_collect.new.hand e.same,
+    let new = c.reserve_collect.new.hand in (
+      (λ i. record { steps = e.steps i; marks = marks_in (map (λ (b : LeftHalf Standing). b.value) c.exchange.inside.marks.items); limit = c.exchange.inside.limit }) ∙ c.exchange.view_is,
+      subst (IsGroupAsBefore c.args.group.now) (λ i. record (sym c.group.view_is i) { held = new }) (group-as-before c.args.group.now new (subst (λ h. IsAsBefore h.held new) c.group.view_is e.same)),
     )
 
 pub returns-in-Err-clause-full : goal.returns-in-Err-clause-full

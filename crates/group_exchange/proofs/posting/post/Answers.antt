@@ -11,6 +11,7 @@ use Rattle.halves.specs.declared.LeftHalf.{LeftHalf}
 use Rattle.exchange.proofs.Halves.{half-within}
 use Rattle.exchange.proofs.Refused.{faults-told, not-full, not-ok}
 use Rattle.group_exchange.specs.declared.mark.Standing.{Standing}
+use Rattle.group_exchange.specs.Effects.{IsGroupAsBefore}
 use Rattle.group_exchange.specs.Views.{block_of, box_of, for_group, is_of, last_in, marks_in, world_after}
 use Rattle.group_exchange.specs.Keeps.{Holds, IsMarked}
 use Rattle.group_exchange.proofs.Again.{group-counted, group-same, left-block}
@@ -193,7 +194,7 @@ pub returns-then-exchange-len-clause-ok : goal.returns-then-exchange-len-clause-
 returns-then-exchange-len-clause-ok g c = tt
 
 pub returns-then-exchange-len-clause-unchanged : goal.returns-then-exchange-len-clause-unchanged
-returns-then-exchange-len-clause-unchanged g c = rw (sym c.group.view_is, sym c.exchange.view_is) (refl, group-same _)
+returns-then-exchange-len-clause-unchanged g c = (refl, group-same _)
 
 pub returns-then-exchange-len-clause-full : goal.returns-then-exchange-len-clause-full
 returns-then-exchange-len-clause-full g c =
@@ -216,9 +217,9 @@ returns-in-Err-clause-ok g c = tt
 pub returns-in-Err-clause-unchanged : goal.returns-in-Err-clause-unchanged
 returns-in-Err-clause-unchanged g c =
     let e = c.reserve_post.ensures in
-    rw (sym c.group.view_is, sym c.exchange.view_is) (
-      (λ i. record { steps = e.steps i; marks = marks_in (map (λ (b : LeftHalf Standing). b.value) c.exchange.inside.marks.items); limit = c.exchange.inside.limit }),
-      group-counted _ c.reserve_post.new.hand e.counted,
+    let new = c.reserve_post.new.hand in (
+      (λ i. record { steps = e.steps i; marks = marks_in (map (λ (b : LeftHalf Standing). b.value) c.exchange.inside.marks.items); limit = c.exchange.inside.limit }) ∙ c.exchange.view_is,
+      subst (IsGroupAsBefore c.args.group.now) (λ i. record (sym c.group.view_is i) { held = new }) (group-counted c.args.group.now new (subst (λ h. new ≡ record h.held { flow = record h.held.flow { queue = new.flow.queue; extra = new.flow.extra; room = new.flow.room } }) c.group.view_is e.counted)),
     )
 
 pub returns-in-Err-clause-full : goal.returns-in-Err-clause-full
