@@ -1,5 +1,5 @@
 -- What a call answered, and what that rules out.
-use Rattle.std.proofs.Common.{◌≡◌, Bool, true, false, Result, Ok, Err, IsErrAnd, OnOk, OnErr}
+use Rattle.std.proofs.Common.{◌≡◌, Bool, true, false, Result, Ok, Err, OnOk, OnErr}
 use Rattle.hand.specs.declared.early.Early.{Early}
 use Rattle.hand.specs.declared.early.Early.TheVariants.{Ran, Idle, Late}
 use Rattle.hand.specs.declared.fault.HandFault.{HandFault}
@@ -10,10 +10,6 @@ pub not-err : {T E P : Type 0} (x : T) (y : E) (r : Result T E) → r ≡ Ok x �
 not-err x y r a e = absurd cc
 
 -- memory, and no numbers used up
-pub not-exhausted : {T P : Type 0} (r : Result T HandFault) → IsErrAnd r (λ f. f ≡ OutOfMemory) → r ≡ Err Exhausted → P
-not-exhausted (Ok y) is e = absurd is
-not-exhausted (Err y) is e = absurd cc
-
 pub not-both-faults : {T P : Type 0} (r : Result T HandFault) → r ≡ Err OutOfMemory → r ≡ Err Exhausted → P
 not-both-faults r a e = absurd cc
 

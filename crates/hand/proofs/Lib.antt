@@ -22,7 +22,6 @@ pub mod Arrives
 pub mod WentOn
 pub mod OneLetter
 pub mod Among
-pub mod Tallied
 pub mod Moved
 pub mod FrontCases
 pub mod WordTold
