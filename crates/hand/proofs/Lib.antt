@@ -22,6 +22,7 @@ pub mod Arrives
 pub mod WentOn
 pub mod OneLetter
 pub mod Among
+pub mod Moved
 pub mod FrontCases
 pub mod WordTold
 pub mod FrontTold

@@ -39,18 +39,8 @@ impl<R: Actor> Hand<R> {
         if self.is_quiet() {
             return Ok(());
         }
-        self.arrive_each()?;
-        self.sort_many();
-        Ok(())
-    }
-
-    /// Does what `arrive_all` does, and leaves the queue as it comes.
-    fn arrive_each(&mut self) -> Result<(), HandFault>
-        ensures did { DoesTold (rules_of R.plain) R.is_value self.old self.new }
-        ensures quiet { OnOk result (IsQuiet self.new) }
-        ensures memory { IfErr result (λ fault. fault ≡ OutOfMemory) }
-    {
         'letters: while self.arrive_front()? {}
+        self.sort_many();
         Ok(())
     }
 
@@ -73,15 +63,19 @@ impl<R: Actor> Hand<R> {
         let Some(letter) = self.letters.front() else {
             return Ok(false);
         };
-        make_room(&self.done, &mut self.undoing, &mut self.letters)?;
-        arrive(
+        let Ok(()) = make_room(&self.done, &mut self.undoing, &mut self.letters) else {
+            return Err(HandFault::OutOfMemory);
+        };
+        match arrive(
             &mut self.members,
             &mut self.done,
             &mut self.undoing,
             &mut self.letters,
             &letter,
-        )?;
-        Ok(true)
+        ) {
+            Ok(()) => Ok(true),
+            Err(_fault) => Err(HandFault::OutOfMemory),
+        }
     }
 }
 

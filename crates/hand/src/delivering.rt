@@ -40,8 +40,10 @@ impl<R: Actor> Hand<R> {
         ensures same { IsAsBefore self.old self.new }
         ensures memory { IfErr result (λ fault. fault ≡ OutOfMemory) }
     {
-        self.letters.reserve(more)?;
-        Ok(())
+        match self.letters.reserve(more) {
+            Ok(()) => Ok(()),
+            Err(_fault) => Err(HandFault::OutOfMemory),
+        }
     }
 
     /// A letter to a member, which was taken from the mail of the run, comes to the back of the tray, which has room for it.

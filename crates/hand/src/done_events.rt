@@ -95,12 +95,25 @@ impl<K: Copy> DoneEvents<K> {
         ensures rows { OnOk result (2 ≤ self.new.rows_room) }
         ensures same { self.new.events ≡ self.old.events }
     {
-        self.room = 0;
-        self.events.reserve(AHEAD)?;
-        self.sends.reserve(MOST_SENT * AHEAD)?;
-        self.rows.reserve(MOST_ROWS * AHEAD)?;
+        self.reserve_each(AHEAD, MOST_SENT * AHEAD, MOST_ROWS * AHEAD)?;
         self.room = AHEAD;
         Ok(())
+    }
+
+    /// Makes room for so many events more, so many messages that they send, and so many rows.
+    pub(crate) fn reserve_each(
+        &mut self,
+        events: usize,
+        sends: usize,
+        rows: usize,
+    ) -> Result<(), AllocError>
+        ensures room { OnOk result ((events ≤ self.new.events_room) × (sends ≤ self.new.sends_room) × (rows ≤ self.new.rows_room)) }
+        ensures same { self.new.events ≡ self.old.events }
+    {
+        self.room = 0;
+        self.events.reserve(events)?;
+        self.sends.reserve(sends)?;
+        self.rows.reserve(rows)
     }
 
     /// One event more, the newest, for which there is room.

@@ -41,7 +41,9 @@ impl<R: Actor> Hand<R> {
         if !self.done.has(&message) {
             return Ok(false);
         }
-        self.letters.count_again(&message)?;
-        Ok(true)
+        match self.letters.count_again(&message) {
+            Ok(()) => Ok(true),
+            Err(_fault) => Err(HandFault::OutOfMemory),
+        }
     }
 }

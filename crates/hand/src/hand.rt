@@ -70,15 +70,17 @@ impl<R: Actor + Drop> Hand<R> {
         ensures keeps { IfOk result (λ hand. hand.flow.keeps ≡ keeps) }
         ensures memory { IfErr result (λ fault. fault ≡ OutOfMemory) }
     {
-        let letters = Letters::of_offers(alloc, offers, keeps)?;
-        Ok(Hand {
-            members,
-            done: DoneEvents::new(alloc),
-            undoing: Undoing::new(alloc),
-            rows: Rows::new(alloc),
-            letters,
-            out: Outbound::new(0, Time::default(), 0),
-        })
+        match Letters::of_offers(alloc, offers, keeps) {
+            Ok(letters) => Ok(Hand {
+                members,
+                done: DoneEvents::new(alloc),
+                undoing: Undoing::new(alloc),
+                rows: Rows::new(alloc),
+                letters,
+                out: Outbound::new(0, Time::default(), 0),
+            }),
+            Err(_fault) => Err(HandFault::OutOfMemory),
+        }
     }
 }
 
@@ -109,8 +111,10 @@ impl<R: Actor> Hand<R> {
         actor_rules_law::<R>();
         let first = self.letters.first();
         let count = self.letters.count_early(&self.done, moment, &first);
-        self.letters.commit(&mut self.done, &mut self.rows, count)?;
-        Ok(())
+        match self.letters.commit(&mut self.done, &mut self.rows, count) {
+            Ok(()) => Ok(()),
+            Err(_fault) => Err(HandFault::OutOfMemory),
+        }
     }
 
     /// The rows of committed events but those that have left, in the order of their events.
@@ -131,7 +135,9 @@ impl<R: Actor> Hand<R> {
         ensures memory { IfErr result (λ fault. fault ≡ OutOfMemory) }
     {
         actor_rules_law::<R>();
-        self.rows.let_go(moment)?;
-        Ok(())
+        match self.rows.let_go(moment) {
+            Ok(()) => Ok(()),
+            Err(_fault) => Err(HandFault::OutOfMemory),
+        }
     }
 }

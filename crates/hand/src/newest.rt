@@ -63,11 +63,7 @@ impl<K: Copy> DoneEvents<K> {
         ensures room { OnOk result (HasRoomFor other.now.events self.new) }
         ensures same { self.new.events ≡ self.old.events }
     {
-        self.room = 0;
-        self.events.reserve(other.events.len())?;
-        self.sends.reserve(other.sends.len())?;
-        self.rows.reserve(other.rows.len())?;
-        Ok(())
+        self.reserve_each(other.events.len(), other.sends.len(), other.rows.len())
     }
 
     /// The newest event, which there is, becomes the newest of the other list, which has room for all that are here.

@@ -52,7 +52,9 @@ impl<R: Actor> Hand<R> {
         ensures unchanged { OnErr result (IsAsBefore self.old self.new) }
     {
         actor_rules_law::<R>();
-        make_room(&mut self.done, &mut self.letters)?;
+        let Ok(()) = make_room(&mut self.done, &mut self.letters) else {
+            return Err(HandFault::OutOfMemory);
+        };
         let Some(message) = self.letters.pop() else {
             return Ok(Early::Idle);
         };
@@ -123,13 +125,18 @@ impl<R: Actor> Hand<R> {
             unreachable!()
         };
         if self.done.has(&message) {
-            self.letters.count_again(&message)?;
-            return Ok(());
+            return match self.letters.count_again(&message) {
+                Ok(()) => Ok(()),
+                Err(_fault) => Err(HandFault::OutOfMemory),
+            };
         }
         if !has_numbers(&self.members, message.receiver) {
             return Err(HandFault::Exhausted);
         }
-        make_late_room(&mut self.done, &mut self.undoing.aside, &mut self.letters)?;
+        let Ok(()) = make_late_room(&mut self.done, &mut self.undoing.aside, &mut self.letters)
+        else {
+            return Err(HandFault::OutOfMemory);
+        };
         handle_late(
             &mut self.members,
             &mut self.done,

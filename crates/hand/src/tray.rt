@@ -1,5 +1,5 @@
 //! The front of the tray: how it counts, and what was sent in vain.
-ghost use Rattle.std.specs.Prelude.{◌≡◌, ◌≢◌, ◌+◌, ◌<◌, ◌≤◌, ◌⊎◌, [], ◌∷◌, ◌++◌, true, false, List, Ok, All, Contains, OnOk, OnErr, IfSome, IfNone, IsPermutation, length, map, pos, ◌<ℤ◌, ◌≤ℤ◌};
+ghost use Rattle.std.specs.Prelude.{◌≡◌, ◌≢◌, ◌+◌, ◌<◌, ◌≤◌, ◌⊎◌, [], ◌∷◌, ◌++◌, true, false, List, Ok, All, Contains, OnOk, OnErr, IfOk, IfSome, IfNone, IsPermutation, length, map, pos, ◌<ℤ◌, ◌≤ℤ◌};
 ghost use Rattle.vlink.specs.declared.message.Message.{Message};
 ghost use Rattle.vlink.specs.Letters.{Letter};
 ghost use Rattle.vlink.specs.Order.{message_order};
@@ -10,6 +10,7 @@ ghost use Rattle.hand.specs.Arriving.{WentOn};
 ghost use Rattle.hand.specs.Counted.{FrontCounts};
 ghost use Rattle.hand.specs.declared.block.Did.TheVariants.{Arrived, Taken};
 ghost use Rattle.hand.specs.declared.tray.Way.{Way};
+ghost use Rattle.hand.specs.declared.tray.Way.TheVariants.{Beside};
 
 use crate::block::Did;
 use crate::letters::Letters;
@@ -67,12 +68,10 @@ impl Letters {
         ensures extra { OnErr result (self.new.extra ≡ self.old.extra) }
     {
         if is_done {
-            self.tally(letter)?;
-            return Ok(Way::Beside);
+            return self.tally(letter);
         }
         if self.extra.count(&letter.message) < 0 {
-            self.tally(letter)?;
-            return Ok(Way::Beside);
+            return self.tally(letter);
         }
         Ok(Way::Joins)
     }
@@ -87,8 +86,7 @@ impl Letters {
         ensures extra { OnErr result (self.new.extra ≡ self.old.extra) }
     {
         if self.extra.count(&letter.message) > 0 {
-            self.tally(letter)?;
-            return Ok(Way::Beside);
+            return self.tally(letter);
         }
         if self.queue.remove(&letter.message) {
             return Ok(Way::Leaves);
@@ -96,12 +94,12 @@ impl Letters {
         if is_done {
             return Ok(Way::Undoes);
         }
-        self.tally(letter)?;
-        Ok(Way::Beside)
+        self.tally(letter)
     }
 
     /// The letter counts beside.
-    fn tally(&mut self, letter: &Letter) -> Result<(), OutOfMemory>
+    fn tally(&mut self, letter: &Letter) -> Result<Way, OutOfMemory>
+        ensures beside { IfOk result (λ way. way ≡ Beside) }
         ensures counts { OnOk result (HaveSameCounts message_order self.new.extra (letter.now ∷ self.old.extra)) }
         ensures others { self.new ≡ record self.old { extra = self.new.extra; room = self.new.room } }
         ensures room { self.new.room ≡ self.old.room }
@@ -109,7 +107,7 @@ impl Letters {
     {
         order_law();
         self.extra.add(*letter)?;
-        Ok(())
+        Ok(Way::Beside)
     }
 
     /// The front of the tray, which is this letter, leaves it, and that it arrived is told, for which there is room.

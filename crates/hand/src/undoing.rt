@@ -43,8 +43,7 @@ impl<K: Copy> Undoing<K> {
         ensures back { self.new.back.items ≡ self.old.back.items }
     {
         self.aside.reserve_for(done)?;
-        self.back.reserve(done.sent_count())?;
-        Ok(())
+        self.back.reserve(done.sent_count())
     }
 }
 

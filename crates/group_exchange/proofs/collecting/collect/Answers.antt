@@ -6,14 +6,15 @@ use Rattle.virtual_time.specs.Law.{lowest, times_of}
 use Rattle.virtual_time.specs.declared.step.Step.{Step}
 use Rattle.virtual_time.specs.declared.step.Step.TheVariants.{Take}
 use Rattle.reverse.specs.Rules.{rules_of}
-use Rattle.hand.specs.Hands.{StandsForGroup, is_ours}
+use Rattle.reverse.specs.Setting.{simulation_of}
+use Rattle.hand.specs.Hands.{IsAsBefore, StandsForGroup, is_ours}
 use Rattle.halves.specs.declared.LeftHalf.{LeftHalf}
 use Rattle.exchange.proofs.Halves.{half-within}
 use Rattle.exchange.proofs.Refused.{faults-told, not-full, not-ok}
 use Rattle.group_exchange.specs.declared.mark.Standing.{Standing}
 use Rattle.group_exchange.specs.Views.{box_of, is_of, last_in, marks_in, with_letters}
 use Rattle.group_exchange.specs.Keeps.{Holds, IsMarked}
-use Rattle.group_exchange.specs.Effects.{TookLetters, takes_of}
+use Rattle.group_exchange.specs.Effects.{AreWaiting, IsGroupAsBefore, TookLetters, takes_of}
 use Rattle.group_exchange.proofs.Again.{group-as-before, group-same, same-keeps, same-words}
 use Rattle.group_exchange.proofs.Collected.{kept-collected, holds-collected}
 use Rattle.group_exchange.proofs.Gathers.{collects-none, collects-shown, kept-none, holds-none, waiting}
@@ -32,6 +33,13 @@ marked g c =
     marked-by c.exchange.invariant.3 c.group.inside.number c.group.inside.standing
     (rw (sym c.group.view_is, sym c.exchange.view_is) at c.join_law.ensures.stands) c.group.invariant.3
     (rw (sym c.group.view_is, sym c.exchange.view_is) at c.join_law.ensures.seen)
+
+-- the letters that wait, for the exchange and the group as they are seen
+there : (g : Over) (c : After-join_law g) →
+    AreWaiting (simulation_of (rules_of g.R.Reversible.plain) g.J.GroupRun.setting) g.J.GroupRun.owners c.args.exchange.now c.args.group.now (box_of c.exchange.inside.boxes.boxes c.group.inside.number)
+there g c =
+    rw (sym c.group.view_is, sym c.exchange.view_is)
+    (waiting c.exchange.invariant.3 c.group.inside.number c.group.invariant.0.number_is c.group.inside.hand c.group.inside.standing c.exchange.inside.limit c.group.inside.gone)
 
 -- the group with room for the letters
 roomy : (g : Over) (c : After-reserve_collect g) → Holds (rules_of g.R.Reversible.plain) g.R.Actor.number g.R.Actor.end g.R.Actor.is_placed g.J.GroupRun.setting g.J.GroupRun.owners
@@ -175,11 +183,11 @@ returns-then-count-eq0-clause-full g c = λ e. not-ok _ _ _ refl e
 
 pub returns-then-count-eq0-clause-limited : goal.returns-then-count-eq0-clause-limited
 returns-then-count-eq0-clause-limited g c =
-    rw (sym c.group.view_is, sym c.exchange.view_is) (λ _. (
+    λ _. (
       box_of c.exchange.inside.boxes.boxes c.group.inside.number,
-      waiting c.exchange.invariant.3 c.group.inside.number c.group.invariant.0.number_is c.group.inside.hand c.group.inside.standing c.exchange.inside.limit c.group.inside.gone,
-      omega (arith, ap length c.letters-count.ensures, c.if-count-eq0.true, c.exchange.invariant.0),
-    ))
+      there g (goal.at.returns-then-count-eq0-clause-limited g c).After-join_law,
+      omega (arith, ap (λ z. z.limit) c.exchange.view_is, ap (λ z. length z.steps) c.exchange.view_is, ap length c.letters-count.ensures, c.if-count-eq0.true, c.exchange.invariant.0),
+    )
 
 pub returns-then-count-eq0-clause-faults : goal.returns-then-count-eq0-clause-faults
 returns-then-count-eq0-clause-faults g c = tt
@@ -188,15 +196,15 @@ pub returns-then-exchange-len-clause-ok : goal.returns-then-exchange-len-clause-
 returns-then-exchange-len-clause-ok g c = tt
 
 pub returns-then-exchange-len-clause-unchanged : goal.returns-then-exchange-len-clause-unchanged
-returns-then-exchange-len-clause-unchanged g c = rw (sym c.group.view_is, sym c.exchange.view_is) (refl, group-same _)
+returns-then-exchange-len-clause-unchanged g c = (refl, group-same _)
 
 pub returns-then-exchange-len-clause-full : goal.returns-then-exchange-len-clause-full
 returns-then-exchange-len-clause-full g c =
-    rw (sym c.group.view_is, sym c.exchange.view_is) (λ _. (
+    λ _. (
       box_of c.exchange.inside.boxes.boxes c.group.inside.number,
-      waiting c.exchange.invariant.3 c.group.inside.number c.group.invariant.0.number_is c.group.inside.hand c.group.inside.standing c.exchange.inside.limit c.group.inside.gone,
-      omega (arith, ap length c.letters-count.ensures, c.if-exchange-len.true, c.len.ensures, c.exchange.invariant.0),
-    ))
+      there g (goal.at.returns-then-exchange-len-clause-full g c).After-join_law,
+      omega (arith, ap (λ z. z.limit) c.exchange.view_is, ap (λ z. length z.steps) c.exchange.view_is, ap length c.letters-count.ensures, c.if-exchange-len.true, c.len.ensures, c.exchange.invariant.0),
+    )
 
 pub returns-then-exchange-len-clause-limited : goal.returns-then-exchange-len-clause-limited
 returns-then-exchange-len-clause-limited g c = λ other. absurd (other refl)
@@ -221,9 +229,9 @@ returns-in-Err-clause-ok g c = tt
 pub returns-in-Err-clause-unchanged : goal.returns-in-Err-clause-unchanged
 returns-in-Err-clause-unchanged g c =
     let e = c.reserve_collect.ensures in
-    rw (sym c.group.view_is, sym c.exchange.view_is) (
-      (λ i. record { steps = e.steps i; marks = marks_in (map (λ (b : LeftHalf Standing). b.value) c.exchange.inside.marks.items); limit = c.exchange.inside.limit }),
-      group-as-before _ c.reserve_collect.new.hand e.same,
+    let new = c.reserve_collect.new.hand in (
+      (λ i. record { steps = e.steps i; marks = marks_in (map (λ (b : LeftHalf Standing). b.value) c.exchange.inside.marks.items); limit = c.exchange.inside.limit }) ∙ c.exchange.view_is,
+      subst (IsGroupAsBefore c.args.group.now) (λ i. record (sym c.group.view_is i) { held = new }) (group-as-before c.args.group.now new (subst (λ h. IsAsBefore h.held new) c.group.view_is e.same)),
     )
 
 pub returns-in-Err-clause-full : goal.returns-in-Err-clause-full
@@ -231,11 +239,11 @@ returns-in-Err-clause-full g c = not-full c.in-Err.fault _ c.in-Err.ensures.faul
 
 pub returns-in-Err-clause-limited : goal.returns-in-Err-clause-limited
 returns-in-Err-clause-limited g c =
-    rw (sym c.group.view_is, sym c.exchange.view_is) (λ _. (
+    λ _. (
       box_of c.exchange.inside.boxes.boxes c.group.inside.number,
-      waiting c.exchange.invariant.3 c.group.inside.number c.group.invariant.0.number_is c.group.inside.hand c.group.inside.standing c.exchange.inside.limit c.group.inside.gone,
-      omega (arith, ap length c.letters-count.ensures, c.if-exchange-len.false, c.len.ensures, c.exchange.invariant.0),
-    ))
+      there g (goal.at.returns-in-Err-clause-limited g c).After-join_law,
+      omega (arith, ap (λ z. z.limit) c.exchange.view_is, ap (λ z. length z.steps) c.exchange.view_is, ap length c.letters-count.ensures, c.if-exchange-len.false, c.len.ensures, c.exchange.invariant.0),
+    )
 
 pub returns-in-Err-clause-faults : goal.returns-in-Err-clause-faults
 returns-in-Err-clause-faults g c = faults-told c.in-Err.fault _ c.in-Err.ensures.faults g.J.GroupRun.keeps c.exchange.invariant.5
@@ -248,11 +256,11 @@ returns-clause-full g c = λ e. not-ok _ _ _ refl e
 
 pub returns-clause-limited : goal.returns-clause-limited
 returns-clause-limited g c =
-    rw (sym c.group.view_is, sym c.exchange.view_is) (λ _. (
+    λ _. (
       box_of c.exchange.inside.boxes.boxes c.group.inside.number,
-      waiting c.exchange.invariant.3 c.group.inside.number c.group.invariant.0.number_is c.group.inside.hand c.group.inside.standing c.exchange.inside.limit c.group.inside.gone,
-      omega (arith, ap length c.letters-count.ensures, c.if-exchange-len.false, c.len.ensures, c.exchange.invariant.0),
-    ))
+      there g (goal.at.returns-clause-limited g c).After-join_law,
+      omega (arith, ap (λ z. z.limit) c.exchange.view_is, ap (λ z. length z.steps) c.exchange.view_is, ap length c.letters-count.ensures, c.if-exchange-len.false, c.len.ensures, c.exchange.invariant.0),
+    )
 
 pub returns-clause-faults : goal.returns-clause-faults
 returns-clause-faults g c = tt

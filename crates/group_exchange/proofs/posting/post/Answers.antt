@@ -11,7 +11,8 @@ use Rattle.halves.specs.declared.LeftHalf.{LeftHalf}
 use Rattle.exchange.proofs.Halves.{half-within}
 use Rattle.exchange.proofs.Refused.{faults-told, not-full, not-ok}
 use Rattle.group_exchange.specs.declared.mark.Standing.{Standing}
-use Rattle.group_exchange.specs.Views.{box_of, for_group, is_of, last_in, marks_in, world_after}
+use Rattle.group_exchange.specs.Effects.{IsGroupAsBefore}
+use Rattle.group_exchange.specs.Views.{block_of, box_of, for_group, is_of, last_in, marks_in, world_after}
 use Rattle.group_exchange.specs.Keeps.{Holds, IsMarked}
 use Rattle.group_exchange.proofs.Again.{group-counted, group-same, left-block}
 use Rattle.group_exchange.proofs.Ends.{posts-some}
@@ -193,13 +194,16 @@ pub returns-then-exchange-len-clause-ok : goal.returns-then-exchange-len-clause-
 returns-then-exchange-len-clause-ok g c = tt
 
 pub returns-then-exchange-len-clause-unchanged : goal.returns-then-exchange-len-clause-unchanged
-returns-then-exchange-len-clause-unchanged g c = rw (sym c.group.view_is, sym c.exchange.view_is) (refl, group-same _)
+returns-then-exchange-len-clause-unchanged g c = (refl, group-same _)
 
 pub returns-then-exchange-len-clause-full : goal.returns-then-exchange-len-clause-full
 returns-then-exchange-len-clause-full g c =
     let words = ap (λ ws. length (steps_told ws)) c.block.ensures.words in
-    rw (sym c.group.view_is, sym c.exchange.view_is)
-    (λ _. (omega (arith, c.if-count-eq0.false, c.steps-count.ensures, words), omega (arith, c.if-exchange-len.true, c.len.ensures, c.steps-count.ensures, words, c.exchange.invariant.0)))
+    let block = ap (λ z. length (block_of z)) c.group.view_is in
+    λ _. (
+      omega (arith, c.if-count-eq0.false, c.steps-count.ensures, words, block),
+      omega (arith, c.if-exchange-len.true, c.len.ensures, c.steps-count.ensures, words, c.exchange.invariant.0, ap (λ z. z.limit) c.exchange.view_is, ap (λ z. length z.steps) c.exchange.view_is, block),
+    )
 
 pub returns-then-exchange-len-clause-limited : goal.returns-then-exchange-len-clause-limited
 returns-then-exchange-len-clause-limited g c = λ _ _. refl
@@ -213,9 +217,9 @@ returns-in-Err-clause-ok g c = tt
 pub returns-in-Err-clause-unchanged : goal.returns-in-Err-clause-unchanged
 returns-in-Err-clause-unchanged g c =
     let e = c.reserve_post.ensures in
-    rw (sym c.group.view_is, sym c.exchange.view_is) (
-      (λ i. record { steps = e.steps i; marks = marks_in (map (λ (b : LeftHalf Standing). b.value) c.exchange.inside.marks.items); limit = c.exchange.inside.limit }),
-      group-counted _ c.reserve_post.new.hand e.counted,
+    let new = c.reserve_post.new.hand in (
+      (λ i. record { steps = e.steps i; marks = marks_in (map (λ (b : LeftHalf Standing). b.value) c.exchange.inside.marks.items); limit = c.exchange.inside.limit }) ∙ c.exchange.view_is,
+      subst (IsGroupAsBefore c.args.group.now) (λ i. record (sym c.group.view_is i) { held = new }) (group-counted c.args.group.now new (subst (λ h. new ≡ record h.held { flow = record h.held.flow { queue = new.flow.queue; extra = new.flow.extra; room = new.flow.room } }) c.group.view_is e.counted)),
     )
 
 pub returns-in-Err-clause-full : goal.returns-in-Err-clause-full
@@ -224,7 +228,7 @@ returns-in-Err-clause-full g c = not-full c.in-Err.fault _ c.in-Err.ensures.faul
 pub returns-in-Err-clause-limited : goal.returns-in-Err-clause-limited
 returns-in-Err-clause-limited g c =
     let words = ap (λ ws. length (steps_told ws)) c.block.ensures.words in
-    rw (sym c.group.view_is, sym c.exchange.view_is) (λ over some. absurd (omega (arith, over, c.if-exchange-len.false, c.len.ensures, c.steps-count.ensures, words)))
+    λ over some. absurd (omega (arith, over, c.if-exchange-len.false, c.len.ensures, c.steps-count.ensures, words, ap (λ z. z.limit) c.exchange.view_is, ap (λ z. length z.steps) c.exchange.view_is, ap (λ z. length (block_of z)) c.group.view_is))
 
 pub returns-in-Err-clause-faults : goal.returns-in-Err-clause-faults
 returns-in-Err-clause-faults g c = faults-told c.in-Err.fault _ c.in-Err.ensures.faults g.J.GroupRun.keeps c.exchange.invariant.5
@@ -238,7 +242,7 @@ returns-clause-full g c = λ e. not-ok _ _ _ refl e
 pub returns-clause-limited : goal.returns-clause-limited
 returns-clause-limited g c =
     let words = ap (λ ws. length (steps_told ws)) c.block.ensures.words in
-    rw (sym c.group.view_is, sym c.exchange.view_is) (λ over some. absurd (omega (arith, over, c.if-exchange-len.false, c.len.ensures, c.steps-count.ensures, words)))
+    λ over some. absurd (omega (arith, over, c.if-exchange-len.false, c.len.ensures, c.steps-count.ensures, words, ap (λ z. z.limit) c.exchange.view_is, ap (λ z. length z.steps) c.exchange.view_is, ap (λ z. length (block_of z)) c.group.view_is))
 
 pub returns-clause-faults : goal.returns-clause-faults
 returns-clause-faults g c = tt

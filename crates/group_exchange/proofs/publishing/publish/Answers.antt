@@ -115,7 +115,7 @@ pub returns-in-Err-clause-full : goal.returns-in-Err-clause-full
 returns-in-Err-clause-full g c = not-full c.in-Err.fault _ c.in-Err.ensures.faults _ refl
 
 pub returns-in-Err-clause-limited : goal.returns-in-Err-clause-limited
-returns-in-Err-clause-limited g c = rw (sym c.exchange.view_is) (λ back over. absurd (omega (arith, over, c.if-len-exchange.false, c.len.ensures)))
+returns-in-Err-clause-limited g c = λ back over. absurd (omega (arith, over, c.if-len-exchange.false, c.len.ensures, ap (λ z. z.limit) c.exchange.view_is, ap (λ z. length z.steps) c.exchange.view_is))
 
 pub returns-in-Err-clause-faults : goal.returns-in-Err-clause-faults
 returns-in-Err-clause-faults g c = faults-told c.in-Err.fault _ c.in-Err.ensures.faults g.J.GroupRun.keeps c.exchange.invariant.5
@@ -127,7 +127,7 @@ pub returns-clause-full : goal.returns-clause-full
 returns-clause-full g c = λ e. not-ok _ _ _ refl e
 
 pub returns-clause-limited : goal.returns-clause-limited
-returns-clause-limited g c = rw (sym c.exchange.view_is) (λ back over. absurd (omega (arith, over, c.if-len-exchange.false, c.len.ensures)))
+returns-clause-limited g c = λ back over. absurd (omega (arith, over, c.if-len-exchange.false, c.len.ensures, ap (λ z. z.limit) c.exchange.view_is, ap (λ z. length z.steps) c.exchange.view_is))
 
 pub returns-clause-faults : goal.returns-clause-faults
 returns-clause-faults g c = tt

@@ -45,3 +45,28 @@ returns-clause-fewer g c =
     c.settle.new.undoing.back.items c.requires.front.1 (λ e. contains-in c.actor_rules_law.ensures.order _ _ (c.has.ensures.yes e)) (λ e up. none-among c.actor_rules_law.ensures.order _ _ (c.has.ensures.no e up))
     c.count.ensures.others (c.take_front.ensures.tray c.requires.front.0 (ap (λ z. z.tray) c.count.ensures.others ∙ c.requires.front.1)) c.take_front.ensures.words c.take_front.ensures.others
     c.settle.ensures.others c.take_back_all.ensures.went c.take_back_all.ensures.queue c.take_back_all.ensures.extra c.in_ok-way.way c.settle.ensures.settled
+
+-- what each call asks for, and what stays
+pub settle-requires-clause-empty : goal.settle-requires-clause-empty
+settle-requires-clause-empty g c = c.requires.empty
+
+pub settle-requires-clause-none_back : goal.settle-requires-clause-none_back
+settle-requires-clause-none_back g c = c.requires.none_back
+
+pub settle-requires-clause-came : goal.settle-requires-clause-came
+settle-requires-clause-came g c = c.requires.came
+
+pub settle-requires-clause-space : goal.settle-requires-clause-space
+settle-requires-clause-space g c = c.requires.space
+
+pub settle-requires-clause-sends : goal.settle-requires-clause-sends
+settle-requires-clause-sends g c = c.requires.sends
+
+pub returns-clause-came : goal.returns-clause-came
+returns-clause-came g c = c.settle.ensures.came
+
+pub returns-clause-empty : goal.returns-clause-empty
+returns-clause-empty g c = c.settle.ensures.empty
+
+pub returns-clause-none_back : goal.returns-clause-none_back
+returns-clause-none_back g c = c.take_back_all.ensures.none_back

@@ -7,6 +7,7 @@ use Rattle.hand.specs.Passing.{GoesOn, held}
 use Rattle.hand.specs.Undoing.{CameTo}
 use Rattle.hand.proofs.Came.{pushed-came}
 use Rattle.hand.proofs.FirstEvent.{handles}
+use Rattle.std.proofs.lemmas.Option.{slice_get_within}
 use Rattle.hand.proofs.early.handle_first.Goals as goal
 
 pub returns-clause-did : goal.returns-clause-did
@@ -50,3 +51,9 @@ returns-clause-done g c = (
   c.push_reserved.ensures.events,
   refl,
 )
+
+pub act-kept-requires-clause-within : goal.act-kept-requires-clause-within
+act-kept-requires-clause-within g c = slice_get_within c.args.members.now c.args.message.now.receiver (Some c.requires.able.0) c.requires.able.1
+
+pub act-kept-requires-clause-able : goal.act-kept-requires-clause-able
+act-kept-requires-clause-able g c = c.requires.able

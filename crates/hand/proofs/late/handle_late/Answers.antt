@@ -1,4 +1,4 @@
-use Rattle.std.proofs.Common.{◌≡◌, ℕ, ◌∷◌, [], ◌++◌, Some, inl, inr, length, map, reverse, set, subst, sym, ap, ◌∙◌, arith, rules}
+use Rattle.std.proofs.Common.{◌≡◌, ℕ, ◌∷◌, [], ◌++◌, Some, inl, inr, length, map, reverse, set, subst, sym, ap, ◌∙◌, arith, rules, refl}
 use Rattle.std.proofs.lemmas.List.{length-map}
 use Rattle.std.proofs.lemmas.Option.{slice_get_within}
 use Rattle.vlink.specs.Order.{message_order}
@@ -129,3 +129,31 @@ returns-clause-handled g c =
     inl (one-more c.actor_rules_law.ensures.order c.args.message.now c.args.done.now.events c.set_aside.new.done.events c.set_aside.new.aside.events c.set_aside.ensures.aside
     c.bring_back-2.new.done.events (done_event_of (rules_of g.R.Reversible.plain) c.requires.able.0 c.args.message.now)
     (now-done g (goal.at.returns-clause-handled g c).After-bring_back-2))
+
+-- what each call asks for, and what stays
+pub returns-then-not-is_before-clause-len : goal.returns-then-not-is_before-clause-len
+returns-then-not-is_before-clause-len g c = refl
+
+pub returns-then-not-is_before-clause-empty : goal.returns-then-not-is_before-clause-empty
+returns-then-not-is_before-clause-empty g c = c.bring_back.ensures.aside
+
+pub returns-clause-len : goal.returns-clause-len
+returns-clause-len g c = c.act-kept.ensures.len
+
+pub returns-clause-empty : goal.returns-clause-empty
+returns-clause-empty g c = c.bring_back-2.ensures.aside
+
+pub take_first-requires-clause-among : goal.take_first-requires-clause-among
+take_first-requires-clause-among g c = c.requires.among
+
+pub take_first-requires-clause-first : goal.take_first-requires-clause-first
+take_first-requires-clause-first g c = c.requires.first
+
+pub act-kept-requires-clause-able : goal.act-kept-requires-clause-able
+act-kept-requires-clause-able g c = c.requires.able
+
+pub tell-requires : goal.tell-requires
+tell-requires g c = omega (arith, c.requires.room, c.take_first.ensures.room)
+
+pub send_later-requires : goal.send_later-requires
+send_later-requires g c = omega (arith, c.requires.room, c.take_first.ensures.room, c.tell.ensures.room, c.messages-2.ensures.few)

@@ -1,4 +1,4 @@
-use Rattle.std.proofs.Common.{◌≡◌, false, List, [], ◌∷◌, ◌++◌, subst, sym, ap, ◌∙◌, eqb-true, rules}
+use Rattle.std.proofs.Common.{◌≡◌, false, List, [], ◌∷◌, ◌++◌, length, subst, sym, ap, ◌∙◌, eqb-true, arith, length-append, rules}
 use Rattle.std.proofs.lemmas.Bool.{both_ways}
 use Rattle.vlink.specs.declared.message.Message.{Message}
 use Rattle.vlink.specs.Order.{message_order}
@@ -43,3 +43,20 @@ returns-then-is_before-clause-stops g c = λ _ y e h. elim c.then-is_before.bran
       (sym (ap (λ z. is_after message_order z c.args.message.now) e) ∙ sym w.if-is_before.ensures))
   | then-is_before-via-else-is_before+then-newest_is_for w ↦ eqb-true _ _ (sym (w.if-newest_is_for.ensures.newest y e))
 ]
+
+-- nothing was set aside
+pub returns-then-is_before-clause-aside : goal.returns-then-is_before-clause-aside
+returns-then-is_before-clause-aside g c = λ all a. a
+
+pub returns-then-is_before-clause-space : goal.returns-then-is_before-clause-space
+returns-then-is_before-clause-space g c = c.requires.space
+
+pub returns-then-is_before-clause-again : goal.returns-then-is_before-clause-again
+returns-then-is_before-clause-again g c = λ more h. h
+
+pub returns-clause-space : goal.returns-clause-space
+returns-clause-space g c = c.move_newest.ensures.room
+
+pub returns-clause-fewer : goal.returns-clause-fewer
+returns-clause-fewer g c = λ _.
+    let d = c.move_newest.ensures.moved in let a = ap length d.1 ∙ length-append c.move_newest.new.self.events (d.0 ∷ []) in omega arith

@@ -69,3 +69,9 @@ undo-requires g c =
 
 pub bounds-members-place : goal.bounds-members-place
 bounds-members-place g c = c.if-place-members.true
+
+pub returns-else-place-members-clause-others : goal.returns-else-place-members-clause-others
+returns-else-place-members-clause-others g c = λ q _. refl
+
+pub returns-else-place-members-clause-ours : goal.returns-else-place-members-clause-ours
+returns-else-place-members-clause-ours g c = λ q. refl

@@ -15,3 +15,18 @@ returns-clause-came g c =
       done = c.bring_back.ensures.done;
       newest = c.set_back.ensures.newest;
     }) c.requires.came c.set_back.ensures.came
+
+pub returns-clause-rolled : goal.returns-clause-rolled
+returns-clause-rolled g c = record {
+  front = c.set_back.new.done.events;
+  aside = c.set_back.new.undoing.aside.events;
+  rolled = c.set_back.ensures.rolled;
+  done = c.bring_back.ensures.done;
+  newest = c.set_back.ensures.newest;
+}
+
+pub set_back-requires-clause-came : goal.set_back-requires-clause-came
+set_back-requires-clause-came g c = c.requires.came c.args.message.now.receiver
+
+pub bring_back-requires : goal.bring_back-requires
+bring_back-requires g c = c.set_back.ensures.again

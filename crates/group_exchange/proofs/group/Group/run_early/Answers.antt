@@ -1,4 +1,5 @@
-use Rattle.exchange.proofs.Refused.{err-if-ok, err-on-ok, passed-short}
+use Rattle.std.proofs.Common.{inl, refl, rules}
+use Rattle.exchange.proofs.Refused.{err-if-ok, err-on-ok, not-ok, passed-short}
 use Rattle.group_exchange.proofs.Going.{goes-both}
 use Rattle.group_exchange.proofs.group.Group.run_early.Goals as goal
 
@@ -62,3 +63,15 @@ returns-in_err-arrive_all-2-clause-idle g c = err-if-ok _ _ c.from_residual-in_e
 
 pub returns-in_err-arrive_all-2-clause-arrived : goal.returns-in_err-arrive_all-2-clause-arrived
 returns-in_err-arrive_all-2-clause-arrived g c = err-on-ok _ _ c.from_residual-in_err-arrive_all-2.result c.from_residual-in_err-arrive_all-2.ensures.1
+
+pub returns-in_err-arrive_all-2-clause-short : goal.returns-in_err-arrive_all-2-clause-short
+returns-in_err-arrive_all-2-clause-short g c = passed-short c.from_residual-in_err-arrive_all-2.result c.from_residual-in_err-arrive_all-2.ensures.1 c.in_err-arrive_all-2.ensures.memory
+
+pub returns-then-not-branch-clause-short : goal.returns-then-not-branch-clause-short
+returns-then-not-branch-clause-short g c = λ e. not-ok _ _ _ refl e
+
+pub returns-clause-short : goal.returns-clause-short
+returns-clause-short g c = λ e. not-ok _ _ _ refl e
+
+pub returns-clause-idle : goal.returns-clause-idle
+returns-clause-idle g c = inl (search rules)

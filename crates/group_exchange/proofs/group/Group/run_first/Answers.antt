@@ -1,3 +1,6 @@
+use Rattle.std.proofs.Common.{true, false, inl, inr, Ok, refl, ◌∙◌}
+use Rattle.exchange.proofs.Refused.{not-ok}
+use Rattle.hand.proofs.Answering.{not-both}
 use Rattle.group_exchange.proofs.Going.{goes-both}
 use Rattle.group_exchange.proofs.group.Group.run_first.Goals as goal
 
@@ -24,3 +27,27 @@ returns-in-Late-clause-short g c = c.run_late.ensures.short
 
 pub returns-in-Late-clause-faults : goal.returns-in-Late-clause-faults
 returns-in-Late-clause-faults g c = c.run_late.ensures.faults
+
+pub returns-in-Late-clause-tray : goal.returns-in-Late-clause-tray
+returns-in-Late-clause-tray g c = λ e. c.run_late.ensures.tray e ∙ c.in_ok-run_in_order.ensures.tray (inr (λ j. Ok (c.in-Late.is j)))
+
+pub returns-in-Idle-clause-idle : goal.returns-in-Idle-clause-idle
+returns-in-Idle-clause-idle g c = λ _. c.in_ok-run_in_order.ensures.idle (λ j. Ok (c.in-Idle.is j))
+
+pub returns-in-Idle-clause-tray : goal.returns-in-Idle-clause-tray
+returns-in-Idle-clause-tray g c = λ _. c.in_ok-run_in_order.ensures.tray (inl (λ j. Ok (c.in-Idle.is j)))
+
+pub returns-in-Idle-clause-short : goal.returns-in-Idle-clause-short
+returns-in-Idle-clause-short g c = λ e. not-ok false _ _ refl e
+
+pub returns-in-Ran-clause-idle : goal.returns-in-Ran-clause-idle
+returns-in-Ran-clause-idle g c = λ e. not-both _ refl e
+
+pub returns-in-Ran-clause-tray : goal.returns-in-Ran-clause-tray
+returns-in-Ran-clause-tray g c = λ e. not-both _ refl e
+
+pub returns-in-Ran-clause-short : goal.returns-in-Ran-clause-short
+returns-in-Ran-clause-short g c = λ e. not-ok true _ _ refl e
+
+pub returns-in_err-run_in_order-clause-goes : goal.returns-in_err-run_in_order-clause-goes
+returns-in_err-run_in_order-clause-goes g c = c.run_in_order.ensures.goes

@@ -1,3 +1,6 @@
+use Rattle.std.proofs.Common.{false, refl, ap, ◌∙◌}
+use Rattle.hand.specs.Flow.{Flow}
+use Rattle.exchange.proofs.Refused.{not-ok, passed-short}
 use Rattle.group_exchange.proofs.Going.{goes-both, goes-same}
 use Rattle.group_exchange.proofs.group.Group.run_told.Goals as goal
 
@@ -12,3 +15,19 @@ returns-in_default-clause-faults g c = tt
 
 pub returns-clause-faults : goal.returns-clause-faults
 returns-clause-faults g c = tt
+
+pub returns-in_err-count_done-clause-short : goal.returns-in_err-count_done-clause-short
+returns-in_err-count_done-clause-short g c = passed-short c.from_residual.result c.from_residual.ensures.1 c.in_err-count_done.ensures.memory
+
+pub returns-in_default-clause-idle : goal.returns-in_default-clause-idle
+returns-in_default-clause-idle g c = λ _. c.in_default.ensures.idle
+
+pub returns-in_default-clause-tray : goal.returns-in_default-clause-tray
+returns-in_default-clause-tray g c = λ _. ap (λ (z : Flow). z.tray) c.next_before.ensures.stood.flow ∙ ap (λ (z : Flow). z.tray) c.count_done.ensures.stood.flow
+
+pub returns-in_default-clause-short : goal.returns-in_default-clause-short
+returns-in_default-clause-short g c = λ e. not-ok false _ _ refl e
+
+pub returns-in_err-has_run-clause-goes : goal.returns-in_err-has_run-clause-goes
+returns-in_err-has_run-clause-goes g c =
+    goes-both _ _ _ _ _ (goes-both _ _ _ _ _ (goes-same _ _ _ _ c.count_done.ensures.stood) (goes-same _ _ _ _ c.next_before.ensures.stood)) c.run_first.ensures.goes

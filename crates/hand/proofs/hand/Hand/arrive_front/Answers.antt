@@ -1,16 +1,15 @@
 use Rattle.std.proofs.Common.{◌≡◌, [], true, false, refl, sym, ap, ◌∙◌, subst}
-use Rattle.std.proofs.lemmas.Result.{err_from_is_err_and}
 use Rattle.std.proofs.lemmas.List.{with_items_is}
 use Rattle.reverse.specs.Rules.{rules_of}
 use Rattle.hand.specs.Flow.{Flow}
 use Rattle.hand.specs.Hands.{DoesSent, IsAsBefore}
 use Rattle.hand.specs.Passing.{held}
 use Rattle.hand.proofs.Telling.{does-nothing, does-both}
-use Rattle.hand.proofs.Answering.{not-both, not-err}
+use Rattle.hand.proofs.Answering.{no-err, not-both, not-err}
 use Rattle.hand.proofs.Still.{as-roomy, on-err, still}
 use Rattle.hand.proofs.Came.{came-alike}
 use Rattle.hand.proofs.hand.Hand.arrive_front.Given.{Over}
-use Rattle.hand.proofs.hand.Hand.arrive_front.Goals.{After-make_room, After-arrive}
+use Rattle.hand.proofs.hand.Hand.arrive_front.Goals.{After-make_room, After-arrive, in-Ok-arrive, in-Err}
 use Rattle.hand.proofs.hand.Hand.arrive_front.Goals as goal
 
 -- after room was made
@@ -28,8 +27,8 @@ roomy g c =
 pub returns-in_default-clause-did : goal.returns-in_default-clause-did
 returns-in_default-clause-did g c = does-nothing (rules_of g.R.Reversible.plain) g.R.Reversible.is_value c.args.self.now []
 
-pub returns-in_err-make_room-clause-did : goal.returns-in_err-make_room-clause-did
-returns-in_err-make_room-clause-did g c = roomy g (goal.at.returns-in_err-make_room-clause-did g c).After-make_room
+pub returns-in_default-make_room-clause-did : goal.returns-in_default-make_room-clause-did
+returns-in_default-make_room-clause-did g c = roomy g (goal.at.returns-in_default-make_room-clause-did g c).After-make_room
 
 -- where the letter was refused
 refused : (g : Over) (c : After-arrive g) → c.arrive.new.done.events ≡ c.self.inside.done.events → c.arrive.new.letters ≡ record c.make_room.new.letters { room = c.arrive.new.letters.room } →
@@ -39,56 +38,17 @@ refused g c d e =
     (as-roomy c.self.inside.members.items c.self.inside.done.events c.arrive.new.done.events c.self.inside.rows c.self.inside.letters c.arrive.new.letters d
     (e ∙ ap {A = Flow} (λ (z : Flow). record z { room = c.arrive.new.letters.room }) c.make_room.ensures.letters))
 
-pub returns-in_err-arrive-clause-did : goal.returns-in_err-arrive-clause-did
-returns-in_err-arrive-clause-did g c =
-    let r = rules_of g.R.Reversible.plain in
-    let V = g.R.Reversible.is_value in
-    let rows = c.self.inside.rows in
-    subst (λ ms. DoesSent r V c.args.self.now [] (held ms c.arrive.new.done.events rows c.arrive.new.letters) [])
-    (sym (with_items_is c.self.inside.members c.arrive.new.members (c.arrive.ensures.len ∙ c.deref_mut.ensures.len) ∙ (c.in_err-arrive.ensures.members ∙ c.deref_mut.ensures.value)))
-    (still g.R.Reversible.plain V c.actor_rules_law.ensures.order c.actor_rules_law.ensures.undoes c.args.self.now
-    (held c.self.inside.members.items c.arrive.new.done.events rows c.arrive.new.letters)
-    (refused g (goal.at.returns-in_err-arrive-clause-did g c).After-arrive c.in_err-arrive.ensures.done c.in_err-arrive.ensures.letters))
+pub returns-in_default-make_room-clause-quiet : goal.returns-in_default-make_room-clause-quiet
+returns-in_default-make_room-clause-quiet g c = λ e. not-err false _ _ e refl
 
-pub returns-in_err-arrive-clause-unchanged : goal.returns-in_err-arrive-clause-unchanged
-returns-in_err-arrive-clause-unchanged g c =
-    on-err c.from_residual-in_err-arrive.result _
-    (subst (λ ms. IsAsBefore c.args.self.now (held ms c.arrive.new.done.events c.self.inside.rows c.arrive.new.letters))
-    (sym (with_items_is c.self.inside.members c.arrive.new.members (c.arrive.ensures.len ∙ c.deref_mut.ensures.len) ∙ (c.in_err-arrive.ensures.members ∙ c.deref_mut.ensures.value)))
-    (refused g (goal.at.returns-in_err-arrive-clause-unchanged g c).After-arrive c.in_err-arrive.ensures.done c.in_err-arrive.ensures.letters))
+pub returns-in_default-make_room-clause-fewer : goal.returns-in_default-make_room-clause-fewer
+returns-in_default-make_room-clause-fewer g c = λ e. not-err true _ _ e refl
 
-pub returns-clause-did : goal.returns-clause-did
-returns-clause-did g c =
-    let r = rules_of g.R.Reversible.plain in
-    let V = g.R.Reversible.is_value in
-    let rows = c.self.inside.rows in
-    subst (λ ms. DoesSent r V c.args.self.now [] (held ms c.arrive.new.done.events rows c.arrive.new.letters) [])
-    (sym (with_items_is c.self.inside.members c.arrive.new.members (c.arrive.ensures.len ∙ c.deref_mut.ensures.len)))
-    (does-both r V c.args.self.now (held c.self.inside.members.items c.self.inside.done.events rows c.make_room.new.letters)
-    (held c.arrive.new.members c.arrive.new.done.events rows c.arrive.new.letters) [] [] [] (roomy g (goal.at.returns-clause-did g c).After-make_room)
-    (subst (λ ms. DoesSent r V (held ms c.self.inside.done.events rows c.make_room.new.letters) [] (held c.arrive.new.members c.arrive.new.done.events rows c.arrive.new.letters) [])
-    c.deref_mut.ensures.value (c.in_ok-arrive.ensures.did rows)))
+pub returns-in_default-make_room-clause-memory : goal.returns-in_default-make_room-clause-memory
+returns-in_default-make_room-clause-memory g c = refl
 
-pub returns-in_err-make_room-clause-quiet : goal.returns-in_err-make_room-clause-quiet
-returns-in_err-make_room-clause-quiet g c = λ e. not-err false _ c.from_residual.result e (err_from_is_err_and c.from_residual.result c.from_residual.ensures.1).1
-
-pub returns-in_err-make_room-clause-fewer : goal.returns-in_err-make_room-clause-fewer
-returns-in_err-make_room-clause-fewer g c = λ e. not-err true _ c.from_residual.result e (err_from_is_err_and c.from_residual.result c.from_residual.ensures.1).1
-
-pub returns-in_err-make_room-clause-memory : goal.returns-in_err-make_room-clause-memory
-returns-in_err-make_room-clause-memory g c = let p = err_from_is_err_and c.from_residual.result c.from_residual.ensures.1 in rw p.1 p.2
-
-pub returns-in_err-arrive-clause-quiet : goal.returns-in_err-arrive-clause-quiet
-returns-in_err-arrive-clause-quiet g c = λ e. not-err false _ c.from_residual-in_err-arrive.result e (err_from_is_err_and c.from_residual-in_err-arrive.result c.from_residual-in_err-arrive.ensures.1).1
-
-pub returns-in_err-arrive-clause-fewer : goal.returns-in_err-arrive-clause-fewer
-returns-in_err-arrive-clause-fewer g c = λ e. not-err true _ c.from_residual-in_err-arrive.result e (err_from_is_err_and c.from_residual-in_err-arrive.result c.from_residual-in_err-arrive.ensures.1).1
-
-pub returns-in_err-arrive-clause-memory : goal.returns-in_err-arrive-clause-memory
-returns-in_err-arrive-clause-memory g c = let p = err_from_is_err_and c.from_residual-in_err-arrive.result c.from_residual-in_err-arrive.ensures.1 in rw p.1 p.2
-
-pub returns-in_err-make_room-clause-unchanged : goal.returns-in_err-make_room-clause-unchanged
-returns-in_err-make_room-clause-unchanged g c = on-err c.from_residual.result _ (as-it-was g (goal.at.returns-in_err-make_room-clause-unchanged g c).After-make_room)
+pub returns-in_default-make_room-clause-unchanged : goal.returns-in_default-make_room-clause-unchanged
+returns-in_default-make_room-clause-unchanged g c = as-it-was g (goal.at.returns-in_default-make_room-clause-unchanged g c).After-make_room
 
 pub returns-in_default-clause-fewer : goal.returns-in_default-clause-fewer
 returns-in_default-clause-fewer g c = λ e. not-both _ e refl
@@ -98,15 +58,6 @@ returns-in_default-clause-unchanged g c = tt
 
 pub returns-in_default-clause-memory : goal.returns-in_default-clause-memory
 returns-in_default-clause-memory g c = tt
-
-pub returns-clause-quiet : goal.returns-clause-quiet
-returns-clause-quiet g c = λ e. not-both _ refl e
-
-pub returns-clause-unchanged : goal.returns-clause-unchanged
-returns-clause-unchanged g c = tt
-
-pub returns-clause-memory : goal.returns-clause-memory
-returns-clause-memory g c = tt
 
 -- what the letter's arrival asks for
 pub arrive-requires-clause-front : goal.arrive-requires-clause-front
@@ -126,14 +77,6 @@ arrive-requires-clause-none_back g c = c.make_room.ensures.back ∙ c.self.invar
 pub invariant_of-self : goal.invariant_of-self
 invariant_of-self g c = (c.self.invariant.0, c.make_room.ensures.aside ∙ c.self.invariant.1, c.make_room.ensures.back ∙ c.self.invariant.2)
 
-pub invariant_of-self-in_err-arrive : goal.invariant_of-self-in_err-arrive
-invariant_of-self-in_err-arrive g c = (
-  came-alike (rules_of g.R.Reversible.plain) g.R.Reversible.is_value c.arrive.new.members _ c.arrive.new.done.events _
-      (with_items_is c.self.inside.members c.arrive.new.members (c.arrive.ensures.len ∙ c.deref_mut.ensures.len)) refl c.arrive.ensures.came,
-  c.arrive.ensures.empty,
-  c.arrive.ensures.none_back,
-)
-
 pub invariant_of-self-2 : goal.invariant_of-self-2
 invariant_of-self-2 g c = (
   came-alike (rules_of g.R.Reversible.plain) g.R.Reversible.is_value c.arrive.new.members _ c.arrive.new.done.events _
@@ -143,10 +86,49 @@ invariant_of-self-2 g c = (
 )
 
 pub arrive-requires-clause-room : goal.arrive-requires-clause-room
-arrive-requires-clause-room g c = c.in_ok-make_room.ensures.room
+arrive-requires-clause-room g c = c.in-Ok.ensures.room
 
 pub arrive-requires-clause-space : goal.arrive-requires-clause-space
-arrive-requires-clause-space g c = c.in_ok-make_room.ensures.space
+arrive-requires-clause-space g c = c.in-Ok.ensures.space
 
 pub arrive-requires-clause-sends : goal.arrive-requires-clause-sends
-arrive-requires-clause-sends g c = c.in_ok-make_room.ensures.sends
+arrive-requires-clause-sends g c = c.in-Ok.ensures.sends
+
+-- the letter arrived, or was refused
+pub returns-clause-did : goal.returns-clause-did
+returns-clause-did g c =
+    let r = rules_of g.R.Reversible.plain in
+    let V = g.R.Reversible.is_value in
+    let rows = c.self.inside.rows in
+    let at = goal.at.returns-clause-did g c in
+    subst (λ ms. DoesSent r V c.args.self.now [] (held ms c.arrive.new.done.events rows c.arrive.new.letters) [])
+    (sym (with_items_is c.self.inside.members c.arrive.new.members (c.arrive.ensures.len ∙ c.deref_mut.ensures.len)))
+    (elim c.match-arrive.branch [
+      | in-Ok-arrive w ↦
+          does-both r V c.args.self.now (held c.self.inside.members.items c.self.inside.done.events rows c.make_room.new.letters)
+          (held c.arrive.new.members c.arrive.new.done.events rows c.arrive.new.letters) [] [] [] (roomy g at.After-make_room)
+          (subst (λ ms. DoesSent r V (held ms c.self.inside.done.events rows c.make_room.new.letters) [] (held c.arrive.new.members c.arrive.new.done.events rows c.arrive.new.letters) [])
+          c.deref_mut.ensures.value (w.in-Ok-arrive.ensures.did rows))
+      | in-Err w ↦
+          subst (λ ms. DoesSent r V c.args.self.now [] (held ms c.arrive.new.done.events rows c.arrive.new.letters) [])
+          (sym (w.in-Err.ensures.members ∙ c.deref_mut.ensures.value))
+          (still g.R.Reversible.plain V c.actor_rules_law.ensures.order c.actor_rules_law.ensures.undoes c.args.self.now
+          (held c.self.inside.members.items c.arrive.new.done.events rows c.arrive.new.letters)
+          (refused g at.After-arrive w.in-Err.ensures.done w.in-Err.ensures.letters))
+    ])
+
+pub returns-clause-quiet : goal.returns-clause-quiet
+returns-clause-quiet g c = elim c.match-arrive.branch [
+  | in-Ok-arrive w ↦ λ e. not-both _ w.result-is e
+  | in-Err w ↦ λ e. not-err false _ _ e w.result-is
+]
+
+pub returns-clause-unchanged : goal.returns-clause-unchanged
+returns-clause-unchanged g c =
+    elim c.match-arrive.branch [
+      | in-Ok-arrive w ↦ no-err _ _ _ w.result-is
+      | in-Err w ↦ on-err _ _
+          (subst (λ ms. IsAsBefore c.args.self.now (held ms c.arrive.new.done.events c.self.inside.rows c.arrive.new.letters))
+          (sym (with_items_is c.self.inside.members c.arrive.new.members (c.arrive.ensures.len ∙ c.deref_mut.ensures.len) ∙ (w.in-Err.ensures.members ∙ c.deref_mut.ensures.value)))
+          (refused g (goal.at.returns-clause-unchanged g c).After-arrive w.in-Err.ensures.done w.in-Err.ensures.letters))
+    ]

@@ -1,5 +1,4 @@
 use Rattle.std.proofs.Common.{◌≡◌, ◌∷◌, Contains, IsPermutation, length, false, sym, ap, subst, refl, arith, true}
-use Rattle.std.proofs.lemmas.Result.{err_from_is_err_and}
 use Rattle.std.proofs.lemmas.List.Sorted.{Contains-permutation, All-permutation, length_permutation}
 use Rattle.vlink.specs.declared.message.Message.{Message}
 use Rattle.vlink.specs.Order.{message_order}
@@ -15,7 +14,7 @@ use Rattle.hand.proofs.Among.{contains-in}
 use Rattle.hand.proofs.FrontWaits.{CountedBeside, counted-again, counted-as, counted-both, first-least, front-waits, nothing-left, nothing-waits}
 use Rattle.hand.proofs.Still.{as-first}
 use Rattle.hand.proofs.hand.Hand.count_first_done.Given.{Over}
-use Rattle.hand.proofs.hand.Hand.count_first_done.Goals.{After-first}
+use Rattle.hand.proofs.hand.Hand.count_first_done.Goals.{After-first, in-Ok, in-Err}
 use Rattle.hand.proofs.hand.Hand.count_first_done.Goals as goal
 
 -- after a look at the first message
@@ -65,14 +64,6 @@ refused g c now e =
     subst (λ z. CountedBeside (rules_of g.R.Reversible.plain) g.R.Reversible.is_value c.args.self.now (held c.self.inside.members.items c.self.inside.done.events c.self.inside.rows z)) (sym e)
     (looked g c)
 
-pub returns-in_err-count_again-clause-stands : goal.returns-in_err-count_again-clause-stands
-returns-in_err-count_again-clause-stands g c =
-    (refused g (goal.at.returns-in_err-count_again-clause-stands g c).After-first c.count_again.new.self c.in_err-count_again.ensures.unchanged).stands
-
-pub returns-in_err-count_again-clause-others : goal.returns-in_err-count_again-clause-others
-returns-in_err-count_again-clause-others g c =
-    (refused g (goal.at.returns-in_err-count_again-clause-others g c).After-first c.count_again.new.self c.in_err-count_again.ensures.unchanged).others
-
 -- it counts beside
 counted : (g : Over) (c : After-first g) (m : Message) (now : Flow) → Contains (messages_of c.self.inside.done.events) m → IsPermutation c.first.new.self.queue (m ∷ now.queue) →
     HaveSameCounts message_order now.extra (plus_of m ∷ c.first.new.self.extra) → now ≡ record c.first.new.self { queue = now.queue; extra = now.extra; room = now.room } →
@@ -91,23 +82,6 @@ counted g c m now there queue extra others =
       keeps = ap (λ z. z.keeps) others;
     }) others)
 
-pub returns-clause-stands : goal.returns-clause-stands
-returns-clause-stands g c =
-    (counted g (goal.at.returns-clause-stands g c).After-first c.in-Some.message c.count_again.new.self (c.if-not-has.ensures.yes refl)
-    c.in_ok-count_again.ensures.queue c.in_ok-count_again.ensures.extra c.in_ok-count_again.ensures.others).stands
-
-pub returns-clause-others : goal.returns-clause-others
-returns-clause-others g c =
-    (counted g (goal.at.returns-clause-others g c).After-first c.in-Some.message c.count_again.new.self (c.if-not-has.ensures.yes refl)
-    c.in_ok-count_again.ensures.queue c.in_ok-count_again.ensures.extra c.in_ok-count_again.ensures.others).others
-
-pub returns-clause-fewer : goal.returns-clause-fewer
-returns-clause-fewer g c = λ e.
-    let a = length_permutation c.first.new.self.queue (c.in-Some.message ∷ c.count_again.new.self.queue) c.in_ok-count_again.ensures.queue in
-    let b = length_permutation c.self.inside.letters.queue c.first.new.self.queue c.first.ensures.same in
-    let d = ap (λ h. length h.flow.queue) c.self.view_is in
-    omega arith
-
 pub returns-in_default-clause-fewer : goal.returns-in_default-clause-fewer
 returns-in_default-clause-fewer g c = λ e. not-both _ e refl
 
@@ -120,17 +94,35 @@ returns-then-not-has-clause-fewer g c = λ e. not-both _ e refl
 pub returns-then-not-has-clause-memory : goal.returns-then-not-has-clause-memory
 returns-then-not-has-clause-memory g c = tt
 
-pub returns-in_err-count_again-clause-waits : goal.returns-in_err-count_again-clause-waits
-returns-in_err-count_again-clause-waits g c = λ e. not-err false _ c.from_residual.result e (err_from_is_err_and c.from_residual.result c.from_residual.ensures.1).1
+-- the message counts beside, where the call was not refused
+pub returns-clause-stands : goal.returns-clause-stands
+returns-clause-stands g c =
+    let at = (goal.at.returns-clause-stands g c).After-first in
+    elim c.match-count_again.branch [
+      | in-Ok w ↦ (counted g at c.in-Some.message c.count_again.new.self (c.if-not-has.ensures.yes refl) w.in-Ok.ensures.queue w.in-Ok.ensures.extra w.in-Ok.ensures.others).stands
+      | in-Err w ↦ (refused g at c.count_again.new.self w.in-Err.ensures.unchanged).stands
+    ]
 
-pub returns-in_err-count_again-clause-fewer : goal.returns-in_err-count_again-clause-fewer
-returns-in_err-count_again-clause-fewer g c = λ e. not-err true _ c.from_residual.result e (err_from_is_err_and c.from_residual.result c.from_residual.ensures.1).1
-
-pub returns-in_err-count_again-clause-memory : goal.returns-in_err-count_again-clause-memory
-returns-in_err-count_again-clause-memory g c = let p = err_from_is_err_and c.from_residual.result c.from_residual.ensures.1 in rw p.1 p.2
+pub returns-clause-others : goal.returns-clause-others
+returns-clause-others g c =
+    let at = (goal.at.returns-clause-others g c).After-first in
+    elim c.match-count_again.branch [
+      | in-Ok w ↦ (counted g at c.in-Some.message c.count_again.new.self (c.if-not-has.ensures.yes refl) w.in-Ok.ensures.queue w.in-Ok.ensures.extra w.in-Ok.ensures.others).others
+      | in-Err w ↦ (refused g at c.count_again.new.self w.in-Err.ensures.unchanged).others
+    ]
 
 pub returns-clause-waits : goal.returns-clause-waits
-returns-clause-waits g c = λ e. not-both _ refl e
+returns-clause-waits g c = elim c.match-count_again.branch [
+  | in-Ok w ↦ λ e. not-both _ w.result-is e
+  | in-Err w ↦ λ e. not-err false _ _ e w.result-is
+]
 
-pub returns-clause-memory : goal.returns-clause-memory
-returns-clause-memory g c = tt
+pub returns-clause-fewer : goal.returns-clause-fewer
+returns-clause-fewer g c = elim c.match-count_again.branch [
+  | in-Ok w ↦ λ e.
+      let a = length_permutation c.first.new.self.queue (c.in-Some.message ∷ c.count_again.new.self.queue) w.in-Ok.ensures.queue in
+      let b = length_permutation c.self.inside.letters.queue c.first.new.self.queue c.first.ensures.same in
+      let d = ap (λ h. length h.flow.queue) c.self.view_is in
+      omega arith
+  | in-Err w ↦ λ e. not-err true _ _ e w.result-is
+]

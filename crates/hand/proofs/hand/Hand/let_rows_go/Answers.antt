@@ -1,5 +1,4 @@
 use Rattle.std.proofs.Common.{◌≡◌, ℕ, ◌+◌, ◌<◌, ◌≤◌, [], All, drop, length, take, refl, subst, sym, ap, ◌∙◌}
-use Rattle.std.proofs.lemmas.Result.{err_from_is_err_and}
 use Rattle.vlink.specs.Letters.{Row}
 use Rattle.reverse.specs.Rules.{rules_of}
 use Rattle.reverse.specs.Setting.{Setting}
@@ -38,15 +37,6 @@ stands g c x v s =
     let t = subst (StandsForGroup r V x v) (sym c.self.view_is) s in
     stands-kept r c.actor_rules_law.ensures.order V c.actor_rules_law.ensures.undoes x v old new [] [] refl refl c.let_go.ensures.all (λ y. refl) refl refl (λ q. refl) t.elsewhere t
 
-pub returns-in_err-let_go-clause-rows : goal.returns-in_err-let_go-clause-rows
-returns-in_err-let_go-clause-rows g c = kept g (goal.at.returns-in_err-let_go-clause-rows g c).After-let_go
-
-pub returns-in_err-let_go-clause-gone : goal.returns-in_err-let_go-clause-gone
-returns-in_err-let_go-clause-gone g c = gone g (goal.at.returns-in_err-let_go-clause-gone g c).After-let_go
-
-pub returns-in_err-let_go-clause-stands : goal.returns-in_err-let_go-clause-stands
-returns-in_err-let_go-clause-stands g c = λ x v s. stands g (goal.at.returns-in_err-let_go-clause-stands g c).After-let_go x v s
-
 pub returns-clause-rows : goal.returns-clause-rows
 returns-clause-rows g c = kept g (goal.at.returns-clause-rows g c).After-let_go
 
@@ -55,12 +45,3 @@ returns-clause-gone g c = gone g (goal.at.returns-clause-gone g c).After-let_go
 
 pub returns-clause-stands : goal.returns-clause-stands
 returns-clause-stands g c = λ x v s. stands g (goal.at.returns-clause-stands g c).After-let_go x v s
-
-pub returns-in_err-let_go-clause-late : goal.returns-in_err-let_go-clause-late
-returns-in_err-let_go-clause-late g c = rw (err_from_is_err_and c.from_residual.result c.from_residual.ensures.1).1 tt
-
-pub returns-in_err-let_go-clause-memory : goal.returns-in_err-let_go-clause-memory
-returns-in_err-let_go-clause-memory g c = let p = err_from_is_err_and c.from_residual.result c.from_residual.ensures.1 in rw p.1 p.2
-
-pub returns-clause-memory : goal.returns-clause-memory
-returns-clause-memory g c = tt

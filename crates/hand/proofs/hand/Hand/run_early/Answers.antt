@@ -1,5 +1,4 @@
 use Rattle.std.proofs.Common.{◌≡◌, ◌≢◌, ℕ, ◌<◌, ◌≤◌, List, [], ◌∷◌, ◌++◌, Some, Ok, false, All, Contains, slice_get, subst, sym, ap, ◌∙◌, refl, rules, arith}
-use Rattle.std.proofs.lemmas.Result.{err_from_is_err_and}
 use Rattle.std.proofs.lemmas.List.{with_items_is}
 use Rattle.std.proofs.lemmas.List.Elements.{All-weaker, All-nil}
 use Rattle.vlink.specs.declared.message.Message.{Message}
@@ -14,7 +13,7 @@ use Rattle.hand.specs.Hands.{DoesSent, IsAsBefore}
 use Rattle.hand.specs.Passing.{held}
 use Rattle.hand.specs.declared.early.Early.TheVariants.{Ran, Idle, Late}
 use Rattle.hand.specs.declared.fault.HandFault.TheVariants.{Exhausted}
-use Rattle.hand.proofs.Answering.{not-err, not-exhausted, not-idle-late, not-idle-ran, not-ran-late}
+use Rattle.hand.proofs.Answering.{not-both-faults, not-err, not-idle-late, not-idle-ran, not-ran-late}
 use Rattle.hand.proofs.NewestDone.{after-none}
 use Rattle.hand.proofs.Still.{as-both, as-empty, as-put_back, as-roomy, on-err, still, took-first}
 use Rattle.hand.proofs.Telling.{does-both}
@@ -35,19 +34,19 @@ roomy g c =
     subst (λ h. IsAsBefore h (held c.self.inside.members.items c.make_room.new.done.events c.self.inside.rows c.make_room.new.letters)) c.self.view_is
     (as-roomy c.self.inside.members.items c.self.inside.done.events c.make_room.new.done.events c.self.inside.rows c.self.inside.letters c.make_room.new.letters c.make_room.ensures.done c.make_room.ensures.letters)
 
-pub returns-in_err-make_room-clause-did : goal.returns-in_err-make_room-clause-did
-returns-in_err-make_room-clause-did g c =
-    still g.R.Reversible.plain g.R.Reversible.is_value c.actor_rules_law.ensures.order c.actor_rules_law.ensures.undoes c.args.self.now
-    (held c.self.inside.members.items c.make_room.new.done.events c.self.inside.rows c.make_room.new.letters) (roomy g (goal.at.returns-in_err-make_room-clause-did g c).After-make_room)
-
 pub returns-in_default-clause-did : goal.returns-in_default-clause-did
 returns-in_default-clause-did g c =
+    still g.R.Reversible.plain g.R.Reversible.is_value c.actor_rules_law.ensures.order c.actor_rules_law.ensures.undoes c.args.self.now
+    (held c.self.inside.members.items c.make_room.new.done.events c.self.inside.rows c.make_room.new.letters) (roomy g (goal.at.returns-in_default-clause-did g c).After-make_room)
+
+pub returns-in_default-pop-clause-did : goal.returns-in_default-pop-clause-did
+returns-in_default-pop-clause-did g c =
     let members = c.self.inside.members.items in
     let events = c.make_room.new.done.events in
     let rows = c.self.inside.rows in
     still g.R.Reversible.plain g.R.Reversible.is_value c.actor_rules_law.ensures.order c.actor_rules_law.ensures.undoes c.args.self.now (held members events rows c.pop.new.self)
-    (as-both c.args.self.now (held members events rows c.make_room.new.letters) (held members events rows c.pop.new.self) (roomy g (goal.at.returns-in_default-clause-did g c).After-make_room)
-    (as-empty members events rows c.make_room.new.letters c.pop.new.self c.in_default.ensures.none c.in_default.ensures.empty c.pop.ensures.others))
+    (as-both c.args.self.now (held members events rows c.make_room.new.letters) (held members events rows c.pop.new.self) (roomy g (goal.at.returns-in_default-pop-clause-did g c).After-make_room)
+    (as-empty members events rows c.make_room.new.letters c.pop.new.self c.in_default-pop.ensures.none c.in_default-pop.ensures.empty c.pop.ensures.others))
 
 -- the first message waits again
 back : (g : Over) (c : After-wait_again g) (before : IsAsBefore c.args.self.now (held c.self.inside.members.items c.make_room.new.done.events c.self.inside.rows c.make_room.new.letters)) →
@@ -105,13 +104,13 @@ returns-in_default-early-clause-still g c = λ e.
     let at = goal.at.returns-in_default-early-clause-still g c in
     back g at.After-wait_again (roomy g at.After-make_room)
 
-pub returns-in_default-clause-idle_still : goal.returns-in_default-clause-idle_still
-returns-in_default-clause-idle_still g c = λ _.
+pub returns-in_default-pop-clause-idle_still : goal.returns-in_default-pop-clause-idle_still
+returns-in_default-pop-clause-idle_still g c = λ _.
     let members = c.self.inside.members.items in
     let events = c.make_room.new.done.events in
     let rows = c.self.inside.rows in
-    as-both c.args.self.now (held members events rows c.make_room.new.letters) (held members events rows c.pop.new.self) (roomy g (goal.at.returns-in_default-clause-idle_still g c).After-make_room)
-    (as-empty members events rows c.make_room.new.letters c.pop.new.self c.in_default.ensures.none c.in_default.ensures.empty c.pop.ensures.others)
+    as-both c.args.self.now (held members events rows c.make_room.new.letters) (held members events rows c.pop.new.self) (roomy g (goal.at.returns-in_default-pop-clause-idle_still g c).After-make_room)
+    (as-empty members events rows c.make_room.new.letters c.pop.new.self c.in_default-pop.ensures.none c.in_default-pop.ensures.empty c.pop.ensures.others)
 
 pub returns-in_default-early-clause-idle_still : goal.returns-in_default-early-clause-idle_still
 returns-in_default-early-clause-idle_still g c = λ e.
@@ -135,47 +134,47 @@ returns-in-Ok-Ran-clause-ran g c = λ _.
     (d.0, d.1 ∙ ap (λ z. z ++ d.0 ∷ []) (c.make_room.ensures.done ∙ ap (λ h. h.done) c.self.view_is), w.0, w.1, w.2)
 
 -- nothing was answered, and the fault is want of memory
-pub returns-in_err-make_room-clause-idle : goal.returns-in_err-make_room-clause-idle
-returns-in_err-make_room-clause-idle g c = λ e. not-err Idle _ c.from_residual.result e (err_from_is_err_and c.from_residual.result c.from_residual.ensures.1).1
-
-pub returns-in_err-make_room-clause-late : goal.returns-in_err-make_room-clause-late
-returns-in_err-make_room-clause-late g c = λ e. not-err Late _ c.from_residual.result e (err_from_is_err_and c.from_residual.result c.from_residual.ensures.1).1
-
-pub returns-in_err-make_room-clause-still : goal.returns-in_err-make_room-clause-still
-returns-in_err-make_room-clause-still g c = λ e. not-err Late _ c.from_residual.result e (err_from_is_err_and c.from_residual.result c.from_residual.ensures.1).1
-
-pub returns-in_err-make_room-clause-idle_still : goal.returns-in_err-make_room-clause-idle_still
-returns-in_err-make_room-clause-idle_still g c = λ e. not-err Idle _ c.from_residual.result e (err_from_is_err_and c.from_residual.result c.from_residual.ensures.1).1
-
-pub returns-in_err-make_room-clause-ran : goal.returns-in_err-make_room-clause-ran
-returns-in_err-make_room-clause-ran g c = λ e. not-err Ran _ c.from_residual.result e (err_from_is_err_and c.from_residual.result c.from_residual.ensures.1).1
-
-pub returns-in_err-make_room-clause-soon : goal.returns-in_err-make_room-clause-soon
-returns-in_err-make_room-clause-soon g c = λ e. not-err Late _ c.from_residual.result e (err_from_is_err_and c.from_residual.result c.from_residual.ensures.1).1
-
-pub returns-in_err-make_room-clause-exhausted : goal.returns-in_err-make_room-clause-exhausted
-returns-in_err-make_room-clause-exhausted g c = λ e. not-exhausted c.from_residual.result c.from_residual.ensures.1 e
-
-pub returns-in_err-make_room-clause-unchanged : goal.returns-in_err-make_room-clause-unchanged
-returns-in_err-make_room-clause-unchanged g c = on-err c.from_residual.result _ (roomy g (goal.at.returns-in_err-make_room-clause-unchanged g c).After-make_room)
+pub returns-in_default-clause-idle : goal.returns-in_default-clause-idle
+returns-in_default-clause-idle g c = λ e. not-err Idle _ _ e refl
 
 pub returns-in_default-clause-late : goal.returns-in_default-clause-late
-returns-in_default-clause-late g c = λ e. not-idle-late _ refl e
+returns-in_default-clause-late g c = λ e. not-err Late _ _ e refl
 
 pub returns-in_default-clause-still : goal.returns-in_default-clause-still
-returns-in_default-clause-still g c = λ e. not-idle-late _ refl e
+returns-in_default-clause-still g c = λ e. not-err Late _ _ e refl
 
-pub returns-in_default-clause-soon : goal.returns-in_default-clause-soon
-returns-in_default-clause-soon g c = λ e. not-idle-late _ refl e
+pub returns-in_default-clause-idle_still : goal.returns-in_default-clause-idle_still
+returns-in_default-clause-idle_still g c = λ e. not-err Idle _ _ e refl
 
 pub returns-in_default-clause-ran : goal.returns-in_default-clause-ran
-returns-in_default-clause-ran g c = λ e. not-idle-ran _ refl e
+returns-in_default-clause-ran g c = λ e. not-err Ran _ _ e refl
+
+pub returns-in_default-clause-soon : goal.returns-in_default-clause-soon
+returns-in_default-clause-soon g c = λ e. not-err Late _ _ e refl
 
 pub returns-in_default-clause-exhausted : goal.returns-in_default-clause-exhausted
-returns-in_default-clause-exhausted g c = λ e. not-err Idle Exhausted _ refl e
+returns-in_default-clause-exhausted g c = λ e. not-both-faults _ refl e
 
 pub returns-in_default-clause-unchanged : goal.returns-in_default-clause-unchanged
-returns-in_default-clause-unchanged g c = tt
+returns-in_default-clause-unchanged g c = roomy g (goal.at.returns-in_default-clause-unchanged g c).After-make_room
+
+pub returns-in_default-pop-clause-late : goal.returns-in_default-pop-clause-late
+returns-in_default-pop-clause-late g c = λ e. not-idle-late _ refl e
+
+pub returns-in_default-pop-clause-still : goal.returns-in_default-pop-clause-still
+returns-in_default-pop-clause-still g c = λ e. not-idle-late _ refl e
+
+pub returns-in_default-pop-clause-soon : goal.returns-in_default-pop-clause-soon
+returns-in_default-pop-clause-soon g c = λ e. not-idle-late _ refl e
+
+pub returns-in_default-pop-clause-ran : goal.returns-in_default-pop-clause-ran
+returns-in_default-pop-clause-ran g c = λ e. not-idle-ran _ refl e
+
+pub returns-in_default-pop-clause-exhausted : goal.returns-in_default-pop-clause-exhausted
+returns-in_default-pop-clause-exhausted g c = λ e. not-err Idle Exhausted _ refl e
+
+pub returns-in_default-pop-clause-unchanged : goal.returns-in_default-pop-clause-unchanged
+returns-in_default-pop-clause-unchanged g c = tt
 
 pub returns-in-Ok-Ran-clause-late : goal.returns-in-Ok-Ran-clause-late
 returns-in-Ok-Ran-clause-late g c = λ e. not-ran-late _ refl e
@@ -240,8 +239,8 @@ invariant_of-self g c = (
   c.self.invariant.2,
 )
 
-pub invariant_of-self-in_default : goal.invariant_of-self-in_default
-invariant_of-self-in_default g c = (
+pub invariant_of-self-in_default-pop : goal.invariant_of-self-in_default-pop
+invariant_of-self-in_default-pop g c = (
   came-alike (rules_of g.R.Reversible.plain) g.R.Reversible.is_value c.self.inside.members.items _ c.self.inside.done.events _ refl c.make_room.ensures.done c.self.invariant.0,
   c.self.invariant.1,
   c.self.invariant.2,
@@ -265,21 +264,21 @@ invariant_of-self-in-Ran-1 g c = (
 )
 
 pub handle_first-requires-clause-events : goal.handle_first-requires-clause-events
-handle_first-requires-clause-events g c = c.in_ok-make_room.ensures.events
+handle_first-requires-clause-events g c = c.in-Ok.ensures.events
 
 pub handle_first-requires-clause-sends : goal.handle_first-requires-clause-sends
-handle_first-requires-clause-sends g c = c.in_ok-make_room.ensures.sends
+handle_first-requires-clause-sends g c = c.in-Ok.ensures.sends
 
 pub handle_first-requires-clause-rows : goal.handle_first-requires-clause-rows
-handle_first-requires-clause-rows g c = c.in_ok-make_room.ensures.rows
+handle_first-requires-clause-rows g c = c.in-Ok.ensures.rows
 
 pub handle_first-requires-clause-room : goal.handle_first-requires-clause-room
-handle_first-requires-clause-room g c = room-still _ _ _ c.in_ok-make_room.ensures.room c.pop.ensures.room
+handle_first-requires-clause-room g c = room-still _ _ _ c.in-Ok.ensures.room c.pop.ensures.room
 
 pub wait_again-requires : goal.wait_again-requires
-wait_again-requires g c = some-room MOST_SENT _ _ c.in_ok-make_room.ensures.room c.pop.ensures.room
+wait_again-requires g c = some-room MOST_SENT _ _ c.in-Ok.ensures.room c.pop.ensures.room
 
-pub returns-in_default-clause-idle : goal.returns-in_default-clause-idle
-returns-in_default-clause-idle g c = λ _.
+pub returns-in_default-pop-clause-idle : goal.returns-in_default-pop-clause-idle
+returns-in_default-pop-clause-idle g c = λ _.
     subst (λ (q : List Message). All (λ m. c.args.limit ≤ m.time) q)
-    (sym c.in_default.ensures.none ∙ (ap (λ z. z.queue) c.make_room.ensures.letters ∙ ap (λ h. h.flow.queue) c.self.view_is)) (All-nil (λ (m : Message). c.args.limit ≤ m.time))
+    (sym c.in_default-pop.ensures.none ∙ (ap (λ z. z.queue) c.make_room.ensures.letters ∙ ap (λ h. h.flow.queue) c.self.view_is)) (All-nil (λ (m : Message). c.args.limit ≤ m.time))

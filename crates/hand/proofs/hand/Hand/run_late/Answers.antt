@@ -1,5 +1,4 @@
 use Rattle.std.proofs.Common.{ℕ, ◌≡◌, ◌≢◌, ◌+◌, [], ◌∷◌, List, Some, inl, inr, false, All, Contains, IsPermutation, length, slice_get, subst, sym, ap, ◌∙◌, refl, rules}
-use Rattle.std.proofs.lemmas.Result.{err_from_is_err_and}
 use Rattle.std.proofs.lemmas.List.{with_items_is}
 use Rattle.std.proofs.lemmas.List.Sorted.{Contains-permutation, IsPermutation-trans, All-permutation}
 use Rattle.vlink.specs.declared.message.Message.{Message}
@@ -13,14 +12,14 @@ use Rattle.hand.specs.Passing.{held}
 use Rattle.hand.specs.Undoing.{CameTo}
 use Rattle.hand.specs.declared.fault.HandFault.TheVariants.{Exhausted}
 use Rattle.hand.proofs.Among.{contains-in}
-use Rattle.hand.proofs.Answering.{not-err, not-exhausted}
+use Rattle.hand.proofs.Answering.{no-err, no-ok, not-both-faults, not-err, where-ok}
 use Rattle.hand.proofs.CountsAgain.{counts-again}
 use Rattle.hand.proofs.NotLater.{not-later}
 use Rattle.hand.proofs.Telling.{does-both}
 use Rattle.hand.proofs.Still.{as-both, as-first, as-roomy, on-err, still}
 use Rattle.hand.proofs.Came.{came-alike}
 use Rattle.hand.proofs.hand.Hand.run_late.Given.{Over}
-use Rattle.hand.proofs.hand.Hand.run_late.Goals.{After-first, After-make_late_room, In-Some}
+use Rattle.hand.proofs.hand.Hand.run_late.Goals.{After-first, After-make_late_room, In-Some, in-Ok, in-Err}
 use Rattle.hand.proofs.hand.Hand.run_late.Goals as goal
 
 -- after a look at the first message
@@ -43,31 +42,6 @@ count_again-requires-clause-among g c =
 pub count_again-requires-clause-first : goal.count_again-requires-clause-first
 count_again-requires-clause-first g c =
     All-permutation (λ (x : Message). is_before x c.in-Some.message ≡ false) c.self.inside.letters.queue c.first.new.self.queue c.first.ensures.same c.in-Some.ensures.first
-
-pub returns-in_err-count_again-clause-did : goal.returns-in_err-count_again-clause-did
-returns-in_err-count_again-clause-did g c =
-    subst (λ ls. DoesSent (rules_of g.R.Reversible.plain) g.R.Reversible.is_value c.args.self.now [] (held c.self.inside.members.items c.self.inside.done.events c.self.inside.rows ls) [])
-    (sym c.in_err-count_again.ensures.unchanged) (looked g (goal.at.returns-in_err-count_again-clause-did g c).After-first)
-
-pub returns-then-has-clause-did : goal.returns-then-has-clause-did
-returns-then-has-clause-did g c =
-    let r = rules_of g.R.Reversible.plain in
-    let V = g.R.Reversible.is_value in
-    let O = c.actor_rules_law.ensures.order in
-    let members = c.self.inside.members.items in
-    let done = c.self.inside.done.events in
-    let rows = c.self.inside.rows in
-    does-both r V c.args.self.now (held members done rows c.first.new.self) (held members done rows c.count_again.new.self) [] [] []
-    (looked g (goal.at.returns-then-has-clause-did g c).After-first)
-    (counts-again r O V members done rows c.in-Some.message c.first.new.self c.count_again.new.self (record {
-      is_done = contains-in O (messages_of done) c.in-Some.message (c.if-has.ensures.yes refl);
-      queue = c.in_ok-count_again.ensures.queue;
-      extra = c.in_ok-count_again.ensures.extra;
-      tray = ap (λ z. z.tray) c.in_ok-count_again.ensures.others;
-      abroad = ap (λ z. z.abroad) c.in_ok-count_again.ensures.others;
-      words = ap (λ z. z.words) c.in_ok-count_again.ensures.others;
-      keeps = ap (λ z. z.keeps) c.in_ok-count_again.ensures.others;
-    }))
 
 pub returns-then-not-has_numbers-clause-did : goal.returns-then-not-has_numbers-clause-did
 returns-then-not-has_numbers-clause-did g c = looked g (goal.at.returns-then-not-has_numbers-clause-did g c).After-first
@@ -100,8 +74,8 @@ roomy g c =
     still g.R.Reversible.plain g.R.Reversible.is_value c.actor_rules_law.ensures.order c.actor_rules_law.ensures.undoes c.args.self.now
     (held c.self.inside.members.items c.make_late_room.new.done.events c.self.inside.rows c.make_late_room.new.letters) (as-it-was g c)
 
-pub returns-in_err-make_late_room-clause-did : goal.returns-in_err-make_late_room-clause-did
-returns-in_err-make_late_room-clause-did g c = roomy g (goal.at.returns-in_err-make_late_room-clause-did g c).After-make_late_room
+pub returns-in_default-make_late_room-clause-did : goal.returns-in_default-make_late_room-clause-did
+returns-in_default-make_late_room-clause-did g c = roomy g (goal.at.returns-in_default-make_late_room-clause-did g c).After-make_late_room
 
 pub handle_late-requires-clause-among : goal.handle_late-requires-clause-among
 handle_late-requires-clause-among g c =
@@ -139,16 +113,6 @@ first g c =
     subst (λ (q : List Message). Contains q c.in-Some.message × All (λ x. is_before x c.in-Some.message ≡ false) q) (ap (λ h. h.flow.queue) c.self.view_is)
     (c.in-Some.ensures.among, c.in-Some.ensures.first)
 
-pub returns-then-has-clause-ran : goal.returns-then-has-clause-ran
-returns-then-has-clause-ran g c = λ x v s.
-    let k = first g (goal.at.returns-then-has-clause-ran g c).In-Some in (
-      c.in-Some.message,
-      k.0,
-      k.1,
-      inr (subst (λ (q : List Message). IsPermutation q (c.in-Some.message ∷ c.count_again.new.self.queue)) (ap (λ h. h.flow.queue) c.self.view_is)
-          (IsPermutation-trans c.self.inside.letters.queue c.first.new.self.queue (c.in-Some.message ∷ c.count_again.new.self.queue) c.first.ensures.same c.in_ok-count_again.ensures.queue)),
-    )
-
 pub returns-clause-ran : goal.returns-clause-ran
 returns-clause-ran g c = λ x v stands.
     let m = c.in-Some.message in
@@ -168,37 +132,20 @@ returns-clause-ran g c = λ x v stands.
       ],
     )
 
-pub returns-in_err-count_again-clause-ran : goal.returns-in_err-count_again-clause-ran
-returns-in_err-count_again-clause-ran g c = rw (err_from_is_err_and c.from_residual.result c.from_residual.ensures.1).1 tt
-
-pub returns-in_err-count_again-clause-exhausted : goal.returns-in_err-count_again-clause-exhausted
-returns-in_err-count_again-clause-exhausted g c = λ e. not-exhausted c.from_residual.result c.from_residual.ensures.1 e
-
-pub returns-in_err-count_again-clause-unchanged : goal.returns-in_err-count_again-clause-unchanged
-returns-in_err-count_again-clause-unchanged g c =
-    on-err c.from_residual.result _ (subst (λ ls. IsAsBefore c.args.self.now (held c.self.inside.members.items c.self.inside.done.events c.self.inside.rows ls))
-    (sym c.in_err-count_again.ensures.unchanged) (as-looked g (goal.at.returns-in_err-count_again-clause-unchanged g c).After-first))
-
-pub returns-then-has-clause-exhausted : goal.returns-then-has-clause-exhausted
-returns-then-has-clause-exhausted g c = λ e. not-err _ Exhausted _ refl e
-
-pub returns-then-has-clause-unchanged : goal.returns-then-has-clause-unchanged
-returns-then-has-clause-unchanged g c = tt
-
 pub returns-then-not-has_numbers-clause-ran : goal.returns-then-not-has_numbers-clause-ran
 returns-then-not-has_numbers-clause-ran g c = tt
 
 pub returns-then-not-has_numbers-clause-unchanged : goal.returns-then-not-has_numbers-clause-unchanged
 returns-then-not-has_numbers-clause-unchanged g c = as-looked g (goal.at.returns-then-not-has_numbers-clause-unchanged g c).After-first
 
-pub returns-in_err-make_late_room-clause-ran : goal.returns-in_err-make_late_room-clause-ran
-returns-in_err-make_late_room-clause-ran g c = rw (err_from_is_err_and c.from_residual-in_err-make_late_room.result c.from_residual-in_err-make_late_room.ensures.1).1 tt
+pub returns-in_default-make_late_room-clause-ran : goal.returns-in_default-make_late_room-clause-ran
+returns-in_default-make_late_room-clause-ran g c = tt
 
-pub returns-in_err-make_late_room-clause-exhausted : goal.returns-in_err-make_late_room-clause-exhausted
-returns-in_err-make_late_room-clause-exhausted g c = λ e. not-exhausted c.from_residual-in_err-make_late_room.result c.from_residual-in_err-make_late_room.ensures.1 e
+pub returns-in_default-make_late_room-clause-exhausted : goal.returns-in_default-make_late_room-clause-exhausted
+returns-in_default-make_late_room-clause-exhausted g c = λ e. not-both-faults _ refl e
 
-pub returns-in_err-make_late_room-clause-unchanged : goal.returns-in_err-make_late_room-clause-unchanged
-returns-in_err-make_late_room-clause-unchanged g c = on-err c.from_residual-in_err-make_late_room.result _ (as-it-was g (goal.at.returns-in_err-make_late_room-clause-unchanged g c).After-make_late_room)
+pub returns-in_default-make_late_room-clause-unchanged : goal.returns-in_default-make_late_room-clause-unchanged
+returns-in_default-make_late_room-clause-unchanged g c = as-it-was g (goal.at.returns-in_default-make_late_room-clause-unchanged g c).After-make_late_room
 
 pub returns-clause-exhausted : goal.returns-clause-exhausted
 returns-clause-exhausted g c = λ e. not-err _ Exhausted _ refl e
@@ -226,30 +173,80 @@ handle_late-requires-clause-empty g c = c.make_late_room.ensures.aside ∙ c.sel
 pub invariant_of-self : goal.invariant_of-self
 invariant_of-self g c = (c.self.invariant.0, c.self.invariant.1, c.self.invariant.2)
 
-pub invariant_of-self-then-has : goal.invariant_of-self-then-has
-invariant_of-self-then-has g c = (c.self.invariant.0, c.self.invariant.1, c.self.invariant.2)
-
 pub invariant_of-self-then-not-has_numbers : goal.invariant_of-self-then-not-has_numbers
 invariant_of-self-then-not-has_numbers g c = (c.self.invariant.0, c.self.invariant.1, c.self.invariant.2)
 
-pub invariant_of-self-in_err-make_late_room : goal.invariant_of-self-in_err-make_late_room
-invariant_of-self-in_err-make_late_room g c = (
+pub invariant_of-self-in_default-make_late_room : goal.invariant_of-self-in_default-make_late_room
+invariant_of-self-in_default-make_late_room g c = (
   came-alike (rules_of g.R.Reversible.plain) g.R.Reversible.is_value c.self.inside.members.items _ c.self.inside.done.events _ refl c.make_late_room.ensures.done c.self.invariant.0,
   c.make_late_room.ensures.aside ∙ c.self.invariant.1,
   c.self.invariant.2,
 )
 
 pub handle_late-requires-clause-room : goal.handle_late-requires-clause-room
-handle_late-requires-clause-room g c = c.in_ok-make_late_room.ensures.room
+handle_late-requires-clause-room g c = c.in-Ok-make_late_room.ensures.room
 
 pub handle_late-requires-clause-events : goal.handle_late-requires-clause-events
-handle_late-requires-clause-events g c = c.in_ok-make_late_room.ensures.events
+handle_late-requires-clause-events g c = c.in-Ok-make_late_room.ensures.events
 
 pub handle_late-requires-clause-sends : goal.handle_late-requires-clause-sends
-handle_late-requires-clause-sends g c = c.in_ok-make_late_room.ensures.sends
+handle_late-requires-clause-sends g c = c.in-Ok-make_late_room.ensures.sends
 
 pub handle_late-requires-clause-rows : goal.handle_late-requires-clause-rows
-handle_late-requires-clause-rows g c = c.in_ok-make_late_room.ensures.rows
+handle_late-requires-clause-rows g c = c.in-Ok-make_late_room.ensures.rows
 
 pub handle_late-requires-clause-space : goal.handle_late-requires-clause-space
-handle_late-requires-clause-space g c = c.in_ok-make_late_room.ensures.space
+handle_late-requires-clause-space g c = c.in-Ok-make_late_room.ensures.space
+
+-- it is done already, and counts beside where the call was not refused
+pub returns-then-has-clause-did : goal.returns-then-has-clause-did
+returns-then-has-clause-did g c =
+    let r = rules_of g.R.Reversible.plain in
+    let V = g.R.Reversible.is_value in
+    let O = c.actor_rules_law.ensures.order in
+    let members = c.self.inside.members.items in
+    let done = c.self.inside.done.events in
+    let rows = c.self.inside.rows in
+    let before = looked g (goal.at.returns-then-has-clause-did g c).After-first in
+    elim c.match-count_again.branch [
+      | in-Ok w ↦
+          does-both r V c.args.self.now (held members done rows c.first.new.self) (held members done rows c.count_again.new.self) [] [] [] before
+          (counts-again r O V members done rows c.in-Some.message c.first.new.self c.count_again.new.self (record {
+            is_done = contains-in O (messages_of done) c.in-Some.message (c.if-has.ensures.yes refl);
+            queue = w.in-Ok.ensures.queue;
+            extra = w.in-Ok.ensures.extra;
+            tray = ap (λ z. z.tray) w.in-Ok.ensures.others;
+            abroad = ap (λ z. z.abroad) w.in-Ok.ensures.others;
+            words = ap (λ z. z.words) w.in-Ok.ensures.others;
+            keeps = ap (λ z. z.keeps) w.in-Ok.ensures.others;
+          }))
+      | in-Err w ↦ subst (λ ls. DoesSent r V c.args.self.now [] (held members done rows ls) []) (sym w.in-Err.ensures.unchanged) before
+    ]
+
+pub returns-then-has-clause-ran : goal.returns-then-has-clause-ran
+returns-then-has-clause-ran g c =
+    let k = first g (goal.at.returns-then-has-clause-ran g c).In-Some in
+    elim c.match-count_again.branch [
+      | in-Ok w ↦ where-ok _ _ w.result-is (λ x v s. (
+        c.in-Some.message,
+        k.0,
+        k.1,
+        inr (subst (λ (q : List Message). IsPermutation q (c.in-Some.message ∷ c.count_again.new.self.queue)) (ap (λ h. h.flow.queue) c.self.view_is)
+            (IsPermutation-trans c.self.inside.letters.queue c.first.new.self.queue (c.in-Some.message ∷ c.count_again.new.self.queue) c.first.ensures.same w.in-Ok.ensures.queue)),
+      ))
+      | in-Err w ↦ no-ok _ _ _ w.result-is
+    ]
+
+pub returns-then-has-clause-exhausted : goal.returns-then-has-clause-exhausted
+returns-then-has-clause-exhausted g c = λ e. elim c.match-count_again.branch [
+  | in-Ok w ↦ not-err _ Exhausted _ w.result-is e
+  | in-Err w ↦ not-both-faults _ w.result-is e
+]
+
+pub returns-then-has-clause-unchanged : goal.returns-then-has-clause-unchanged
+returns-then-has-clause-unchanged g c =
+    elim c.match-count_again.branch [
+      | in-Ok w ↦ no-err _ _ _ w.result-is
+      | in-Err w ↦ on-err _ _ (subst (λ ls. IsAsBefore c.args.self.now (held c.self.inside.members.items c.self.inside.done.events c.self.inside.rows ls))
+          (sym w.in-Err.ensures.unchanged) (as-looked g (goal.at.returns-then-has-clause-unchanged g c).After-first))
+    ]

@@ -97,3 +97,18 @@ returns-in_ok-run_late-in-Late-clause-exhausted g c = λ e. not-err true Exhaust
 
 pub returns-in_ok-run_late-in-Late-clause-unchanged : goal.returns-in_ok-run_late-in-Late-clause-unchanged
 returns-in_ok-run_late-in-Late-clause-unchanged g c = tt
+
+pub returns-in-Idle-clause-did : goal.returns-in-Idle-clause-did
+returns-in-Idle-clause-did g c = c.run_early.ensures.did
+
+pub returns-in-Ran-clause-did : goal.returns-in-Ran-clause-did
+returns-in-Ran-clause-did g c = c.run_early.ensures.did
+
+pub returns-in-Idle-clause-idle : goal.returns-in-Idle-clause-idle
+returns-in-Idle-clause-idle g c = λ _. c.in_ok-run_early.ensures.idle (λ j. Ok (c.in-Idle.is j))
+
+pub returns-in-Idle-clause-still : goal.returns-in-Idle-clause-still
+returns-in-Idle-clause-still g c = λ _. c.in_ok-run_early.ensures.idle_still (λ j. Ok (c.in-Idle.is j))
+
+pub returns-in_err-run_early-clause-did : goal.returns-in_err-run_early-clause-did
+returns-in_err-run_early-clause-did g c = c.run_early.ensures.did

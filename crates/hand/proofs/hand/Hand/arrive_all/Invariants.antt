@@ -2,7 +2,7 @@ use Rattle.std.proofs.Common.{◌+◌, length, []}
 use Rattle.reverse.specs.Rules.{rules_of}
 use Rattle.hand.specs.Hands.{DoesSent}
 use Rattle.hand.specs.Undoing.{sent_in}
-use Rattle.hand.proofs.hand.Hand.arrive_each.Given as goal
+use Rattle.hand.proofs.hand.Hand.arrive_all.Given as goal
 
 abbrev pub invariant-letters : goal.invariant-letters
 invariant-letters g l = DoesSent (rules_of g.R.Reversible.plain) g.R.Reversible.is_value l.initial.self [] l.self []
