@@ -7,7 +7,9 @@ ghost use Rattle.afdxsim.specs.Orders.{Done, DoneOn, Ends, IsFaultOf, IsFaultOn,
 
 use crate::run::run;
 use command_line::Order;
-use commands::{Fault, Host, check, named_twice, net_of, network_of, refuse_twice, replay, seq, tell_outcome};
+use commands::{
+    Fault, Host, check, named_twice, net_of, network_of, refuse_twice, replay, seq, tell_outcome,
+};
 use network::Network;
 use std::alloc::Global;
 use std::sync::Wait;
@@ -28,9 +30,21 @@ fn done_on<'a, H: Host, T: Threads + Wait + Clock + Sync>(
     ensures heard { OnErr result (IsHeard H.outside host.old (asks_progress order.entry.now) network (H.outside.errors host.new)) }
 {
     match order {
-        Order::Check(_) => check(alloc, &network, host),
-        Order::Seq(order) => seq(rt, alloc, &network, order, host),
-        Order::Run(order) => run(rt, alloc, &network, order, host),
+        Order::Check(_) => {
+            let done = check(alloc, &network, host);
+            drop(network);
+            done
+        }
+        Order::Seq(order) => {
+            let done = seq(rt, alloc, &network, order, host);
+            drop(network);
+            done
+        }
+        Order::Run(order) => {
+            let done = run(rt, alloc, &network, order, host);
+            drop(network);
+            done
+        }
         Order::Replay(order) => replay(alloc, network, order, host),
     }
 }

@@ -19,7 +19,7 @@ use Rattle.timewarp.specs.Replayed.{IsReplayed}
 use Rattle.commands.specs.declared.conclusion.Conclusion.{Conclusion}
 use Rattle.commands.specs.declared.fault.Fault.{Fault}
 use Rattle.commands.specs.declared.fault.Fault.TheVariants.{OutOfMemory, Exhausted}
-use Rattle.commands.specs.Replaying.{most_lines, summary_text, fault_of_lines, IsSummary, IsJournal, AreCommittedTables, TellsOfSteps, TellsOfJournal, IsExhaustedIn, IsFaultOfJournal}
+use Rattle.commands.specs.Replaying.{most_lines, summary_text, fault_of_lines, IsSummary, IsJournal, AreCommittedTables, TellsOfSteps, IsExhaustedIn, IsFaultOfJournal}
 
 -- a text that was read has at most as many lines as are allowed
 pub few_lines : (n most : ℕ) (r : Result (Vec Step) LinesFault) (v : Vec Step) → r ≡ Ok v → (most < n → IsErrOf r journal.TooMany) → n ≤ most
@@ -69,16 +69,12 @@ pub committed : (world : NetworkWorld) (tables : TableLists) (steps : List Step)
     ((steps : List Step) → IsAfter world steps → (rows : List Row) × AreCommittedRows world.plan steps rows) → AreCommittedTables world.plan steps tables
 committed world tables steps is sealed rows = let some = rows steps is in (some.0, some.1, sealed steps is some.0 some.1)
 
--- what tells of the steps of a journal tells of the journal
-pub tells : (plan other : Plan) (text : List ℕ) (steps : List Step) (conclusion : Conclusion) → other ≡ plan → IsJournal text steps → TellsOfSteps other steps conclusion →
-    TellsOfJournal plan text conclusion
-tells plan other text steps conclusion e is told = (steps, is, subst (λ (p : Plan). TellsOfSteps p steps conclusion) e told)
+-- what tells of the steps on the network that a replay was left with tells of them on the network that it began with
+pub told_there : (plan other : Plan) (steps : List Step) (conclusion : Conclusion) → other ≡ plan → TellsOfSteps other steps conclusion → TellsOfSteps plan steps conclusion
+told_there plan other steps conclusion e told = subst (λ (p : Plan). TellsOfSteps p steps conclusion) e told
 
--- want of memory, and what gives up a replay, as faults of a journal
-pub memory_fault : (plan : Plan) (text : List ℕ) (steps : List Step) (fault : Fault) → IsJournal text steps → fault ≡ OutOfMemory → IsFaultOfJournal plan text fault
-memory_fault plan text steps fault is e = subst (IsFaultOfJournal plan text) (sym e) is.within
-
+-- what gives up a replay, as a fault of a journal
 pub steps_fault : (plan : Plan) (text : List ℕ) (steps : List Step) (fault : Fault) → IsJournal text steps →
     (fault ≡ OutOfMemory) ⊎ ((fault ≡ Exhausted) × IsExhaustedIn plan steps) → IsFaultOfJournal plan text fault
-steps_fault plan text steps fault is (inl e) = memory_fault plan text steps fault is e
+steps_fault plan text steps fault is (inl e) = subst (IsFaultOfJournal plan text) (sym e) is.within
 steps_fault plan text steps fault is (inr h) = subst (IsFaultOfJournal plan text) (sym h.0) (steps, is, h.1)

@@ -20,6 +20,7 @@ use network::Network;
 use std::alloc::{AllocError, Global};
 use timewarp::{Replay, World};
 use trace_tables::Tables;
+use vlink::Step;
 
 /// What is told of a journal that was done on a network.
 #[derive(Drop)]
@@ -105,18 +106,50 @@ fn committed_tables(alloc: Global, world: &World) -> Result<Tables, AllocError>
     }
 }
 
+/// The line and the tables of a replay.
+fn told_of(alloc: Global, found: &Replay) -> Result<(String, Tables), AllocError>
+    ensures line { IfOk result (λ told. (steps : List Step) → IsReplayed found.now steps → IsSummary found.now.world.plan steps (string_bytes told.0)) }
+    ensures committed { IfOk result (λ told. (steps : List Step) → IsAfter found.now.world steps → AreCommittedTables found.now.world.plan steps told.1) }
+    ensures whole { IfOk result (λ told. (steps : List Step) → IsAfter found.now.world steps →
+        IsFinished (simulation_of found.now.world.plan) (after found.now.world.plan steps) → (rows : List Row) → AreRowsOf found.now.world.plan rows →
+        told.1 ≡ tables_of found.now.world.plan rows) }
+{
+    let line = summary_of(alloc, found)?;
+    let tables = committed_tables(alloc, &found.world)?;
+    Ok((line, tables))
+}
+
 /// Tells what a replay has found.
 fn conclusion_after(alloc: Global, found: Replay) -> Result<Conclusion, AllocError>
     ensures told { IfOk result (λ conclusion. (steps : List Step) → IsReplayed found steps → TellsOfSteps found.world.plan steps conclusion) }
     ensures network { IfOk result (λ conclusion. conclusion.world.plan ≡ found.world.plan) }
 {
-    let line = summary_of(alloc, &found)?;
-    let tables = committed_tables(alloc, &found.world)?;
-    Ok(Conclusion {
-        world: found.world,
-        tables,
-        line,
-    })
+    match told_of(alloc, &found) {
+        Ok((line, tables)) => Ok(Conclusion {
+            world: found.world,
+            tables,
+            line,
+        }),
+        Err(error) => {
+            drop(found);
+            Err(error)
+        }
+    }
+}
+
+/// Does these steps on a network, and tells what they came to.
+#[tactic(auto, using(crate::proofs::Conclusions::told_there))]
+fn conclusion_by(
+    alloc: Global,
+    network: Network,
+    steps: &[Step],
+) -> Result<Conclusion, Fault<'static>>
+    ensures told { IfOk result (TellsOfSteps network steps.now) }
+    ensures network { IfOk result (λ conclusion. conclusion.world.plan ≡ network) }
+    ensures fault { IfErr result (λ fault. (fault ≡ OutOfMemory) ⊎ ((fault ≡ Exhausted) × IsExhaustedIn network steps.now)) }
+{
+    let found = do_steps(alloc, network, steps)?;
+    Ok(conclusion_after(alloc, found)?)
 }
 
 /// Does the journal with this text on a network, and tells what it came to. All its lines are read before its first step is done.
@@ -124,7 +157,6 @@ fn conclusion_after(alloc: Global, found: Replay) -> Result<Conclusion, AllocErr
 /// `JournalFull` comes exactly where the text has more than 67108864 lines, and `JournalLine` tells the first line, from 1, that is the
 /// text of no step. `OutOfMemory` comes only where a growth was refused, and `Exhausted` only at `Run` of a process that has a next
 /// message, and not enough numbers left for what one event can send.
-#[tactic(auto, using(crate::proofs::Conclusions::tells, crate::proofs::Conclusions::memory_fault, crate::proofs::Conclusions::steps_fault))]
 pub fn conclusion_of(
     alloc: Global,
     network: Network,
@@ -134,7 +166,11 @@ pub fn conclusion_of(
     ensures network { IfOk result (λ conclusion. conclusion.world.plan ≡ network) }
     ensures fault { IfErr result (IsFaultOfJournal network text.now) }
 {
-    let steps = steps_of(alloc, text)?;
-    let found = do_steps(alloc, network, &steps)?;
-    Ok(conclusion_after(alloc, found)?)
+    match steps_of(alloc, text) {
+        Ok(steps) => conclusion_by(alloc, network, &steps),
+        Err(fault) => {
+            drop(network);
+            Err(fault)
+        }
+    }
 }

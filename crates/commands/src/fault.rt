@@ -14,7 +14,7 @@ pub const DONE: u8 = 0;
 pub const BAD_WORDS: u8 = 2;
 
 /// Why the program ends before it has done what it was told to do.
-#[derive(Clone, Copy, Debug, PartialEq, Eq)]
+#[derive(Clone, Copy)]
 pub enum Fault<'a> {
     /// The description of the network has this fault.
     Description(DescFault),

@@ -9,7 +9,7 @@ use thiserror::Error;
 use trace_tables::Sink;
 
 /// Why a file was not read, or not made.
-#[derive(Clone, Copy, Debug, PartialEq, Eq, Error)]
+#[derive(Clone, Copy, Debug, Error)]
 pub enum FileFault {
     /// The file is not there, or it cannot be read; or it cannot be made.
     #[error("cannot open")]

@@ -2,7 +2,7 @@
 #![tactic(auto)]
 
 mod answering;
-mod check;
+mod checking;
 mod conclusion;
 mod fault;
 mod host;
@@ -12,14 +12,14 @@ mod naming;
 mod pace_text;
 mod progress;
 mod reading;
-mod replay;
-mod seq;
+mod replaying;
+mod sequencing;
 mod steps;
 mod system;
 mod telling;
 
 pub use answering::{answer, refuse_twice, tell_outcome};
-pub use check::check;
+pub use checking::check;
 pub use conclusion::Conclusion;
 pub use fault::Fault;
 pub use host::{FileFault, Host};
@@ -27,8 +27,8 @@ pub use keeping::{Kept, fault_of_trace, keep, make_file};
 pub use naming::{named_twice, net_of};
 pub use progress::{Asked, Progress, asked_of};
 pub use reading::network_of;
-pub use replay::replay;
-pub use seq::{seq, show_tables};
+pub use replaying::replay;
+pub use sequencing::{seq, show_tables};
 pub use steps::write_steps;
 pub use system::System;
 pub use telling::{tell_memory, tell_no_text};

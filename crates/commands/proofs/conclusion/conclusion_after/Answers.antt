@@ -1,10 +1,10 @@
 use Rattle.std.proofs.Common.{map}
 use Rattle.commands.proofs.conclusion.conclusion_after.Goals as goal
 
-pub returns-clause-told : goal.returns-clause-told
-returns-clause-told c steps is =
+pub returns-in-Ok-clause-told : goal.returns-in-Ok-clause-told
+returns-in-Ok-clause-told c steps is =
     record {
-      tables = c.in_ok-tables.ensures.committed steps is.after;
-      whole = c.in_ok-tables.ensures.whole steps is.after;
-      line = c.in_ok-line.ensures steps is;
+      tables = c.in-Ok.ensures.committed steps is.after;
+      whole = c.in-Ok.ensures.whole steps is.after;
+      line = c.in-Ok.ensures.line steps is;
     }

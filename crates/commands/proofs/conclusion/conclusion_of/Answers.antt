@@ -1,11 +1,21 @@
-use Rattle.std.proofs.Common.{◌≡◌, IfErr, sym, subst}
-use Rattle.std.proofs.lemmas.Result.{err_from_is_err_and}
-use Rattle.commands.specs.Replaying.{IsFaultOfJournal}
+use Rattle.std.proofs.Common.{subst, sym}
+use Rattle.commands.specs.Replaying.{IsJournal}
+use Rattle.commands.proofs.Conclusions.{steps_fault}
+use Rattle.commands.proofs.Outcomes.{err_then, ok_if}
 use Rattle.commands.proofs.conclusion.conclusion_of.Goals as goal
 
-pub returns-in_err-steps-clause-fault : goal.returns-in_err-steps-clause-fault
-returns-in_err-steps-clause-fault c =
-    let P = IsFaultOfJournal c.args.network c.args.text.now in
-    let p = err_from_is_err_and c.from_residual.result c.from_residual.ensures.1 in
-    let q : p.0 ≡ c.in_err-steps.field-0.0 = p.2 in
-    subst (λ r. IfErr r P) (sym p.1) (subst P (sym q) (c.in_err-steps.ensures.fault c.args.network))
+pub returns-in-Ok-clause-told : goal.returns-in-Ok-clause-told
+returns-in-Ok-clause-told c =
+    ok_if c.conclusion_by.result c.conclusion_by.ensures.told (λ conclusion tells. (
+      c.deref.result.now,
+      subst (IsJournal c.args.text.now) (sym c.deref.ensures.value) c.in-Ok.ensures.steps,
+      tells,
+    ))
+
+pub returns-in-Ok-clause-fault : goal.returns-in-Ok-clause-fault
+returns-in-Ok-clause-fault c =
+    err_then c.conclusion_by.result c.conclusion_by.ensures.fault (λ fault is.
+    steps_fault c.args.network c.args.text.now c.deref.result.now fault (subst (IsJournal c.args.text.now) (sym c.deref.ensures.value) c.in-Ok.ensures.steps) is)
+
+pub returns-in-Err-clause-fault : goal.returns-in-Err-clause-fault
+returns-in-Err-clause-fault c = c.in-Err.ensures.fault c.args.network

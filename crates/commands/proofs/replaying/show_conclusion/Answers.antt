@@ -4,7 +4,7 @@ use Rattle.commands.specs.Ending.{Took}
 use Rattle.commands.proofs.Outcomes.{same_err}
 use Rattle.commands.proofs.Lacking.{no_output}
 use Rattle.commands.proofs.Streams.{says, shows}
-use Rattle.commands.proofs.replay.show_conclusion.Goals as goal
+use Rattle.commands.proofs.replaying.show_conclusion.Goals as goal
 
 pub returns-clause-tables : goal.returns-clause-tables
 returns-clause-tables g c =

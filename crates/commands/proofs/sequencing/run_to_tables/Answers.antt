@@ -3,15 +3,15 @@ use Rattle.commands.specs.Files.{LacksSeq, ShowsAlone}
 use Rattle.commands.proofs.Outcomes.{err_then, ok_then, same_err}
 use Rattle.commands.proofs.Heard.{at_end}
 use Rattle.commands.proofs.Lacking.{no_output}
-use Rattle.commands.proofs.seq.run_to_tables.Goals as goal
+use Rattle.commands.proofs.sequencing.run_to_tables.Goals as goal
 
 pub returns-clause-left : goal.returns-clause-left
 returns-clause-left g c =
     let outside = g.H.Host.outside in
     let heard = c.heard_tables.new.host in
-    let out = c.show_tables.new.output in
+    let out = c.show_tables-shown.new.output in
     let new = outside.with_output heard out in
-    ok_then c.show_tables.result c.show_tables.ensures.text (λ took.
+    ok_then c.show_tables-shown.result c.show_tables-shown.ensures.text (λ took.
     at_end outside c.args.is_asked c.args.host.now heard new (λ host. ShowsAlone outside host new) c.heard_tables.ensures.host
     (g.met.H.Host.lawful.errors_beside heard out) (out, refl))
 
@@ -24,9 +24,9 @@ returns-clause-fault g c =
     let outside = g.H.Host.outside in
     let law = g.met.H.Host.lawful in
     let heard = c.heard_tables.new.host in
-    let out = c.show_tables.new.output in
+    let out = c.show_tables-shown.new.output in
     let new = outside.with_output heard out in
-    err_then c.show_tables.result c.show_tables.ensures.fault (λ fault met.
+    err_then c.show_tables-shown.result c.show_tables-shown.ensures.fault (λ fault met.
     at_end outside c.args.is_asked c.args.host.now heard new (λ host. LacksSeq outside None host new c.args.network.now fault) c.heard_tables.ensures.host
     (law.errors_beside heard out)
     (inr (inr (heard, refl, no_output outside law true heard c.output.result.now out fault c.output.ensures.value met))))

@@ -130,7 +130,9 @@ fn run_to_tables<H: Host, T: Clock>(
     ensures heard { IsHeard H.outside host.old is_asked network.now (H.outside.errors host.new) }
 {
     let tables = heard_tables(rt, alloc, network, is_asked, host)?;
-    show_tables(alloc, network, &tables, host.output())
+    let shown = show_tables(alloc, network, &tables, host.output());
+    drop(tables);
+    shown
 }
 
 /// Simulates the network on one thread, tells error output how far it is, where that is asked for, makes the file with this path and writes the

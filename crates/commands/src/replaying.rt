@@ -10,7 +10,7 @@ use crate::conclusion::{Conclusion, conclusion_of};
 use crate::fault::Fault;
 use crate::host::Host;
 use crate::reading::bytes_of;
-use crate::seq::show_tables;
+use crate::sequencing::show_tables;
 use crate::telling::say;
 use command_line::Replay;
 use network::Network;
@@ -30,8 +30,13 @@ fn conclusion_in<'a, H: Host>(
     ensures output { H.outside.output host.new ≡ H.outside.output host.old }
     ensures quiet { IsQuiet H.outside host.old host.new }
 {
-    let text = bytes_of(alloc, steps, host)?;
-    conclusion_of(alloc, network, text.as_slice())
+    match bytes_of(alloc, steps, host) {
+        Ok(text) => conclusion_of(alloc, network, text.as_slice()),
+        Err(fault) => {
+            drop(network);
+            Err(fault)
+        }
+    }
 }
 
 /// Writes what a journal came to: its tables on standard output, and then its line on error output.
@@ -71,5 +76,7 @@ pub fn replay<'a, H: Host>(
     ensures quiet { OnErr result (IsQuiet H.outside host.old host.new) }
 {
     let conclusion = conclusion_in(alloc, network, order.steps.as_str(), host)?;
-    show_conclusion(alloc, &conclusion, host)
+    let shown = show_conclusion(alloc, &conclusion, host);
+    drop(conclusion);
+    shown
 }

@@ -7,7 +7,7 @@ use Rattle.commands.proofs.Outcomes.{err_then, ok_then, same_err}
 use Rattle.commands.proofs.Heard.{at_end}
 use Rattle.commands.proofs.Lacking.{lacks_rows, no_output}
 use Rattle.commands.proofs.Leaving.{of_text}
-use Rattle.commands.proofs.seq.run_to_trace.Goals as goal
+use Rattle.commands.proofs.sequencing.run_to_trace.Goals as goal
 
 pub returns-in_err-finished-clause-fault : goal.returns-in_err-finished-clause-fault
 returns-in_err-finished-clause-fault g c =

@@ -1,6 +1,6 @@
 use Rattle.commands.proofs.Outcomes.{err_then}
 use Rattle.commands.proofs.Lacking.{no_output}
-use Rattle.commands.proofs.check.check.Goals as goal
+use Rattle.commands.proofs.checking.check.Goals as goal
 
 pub returns-clause-fault : goal.returns-clause-fault
 returns-clause-fault g c =
