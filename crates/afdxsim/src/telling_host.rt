@@ -4,15 +4,15 @@ ghost use Rattle.std.specs.Prelude.{◌≡◌, ℕ, [], List, None, Some, IfSome
 ghost use Rattle.command_line.specs.declared.orders.Order.{Order};
 ghost use Rattle.network.specs.Words.{Plan};
 ghost use Rattle.netdesc.specs.Words.{Describes};
-ghost use Rattle.afdxsim.specs.Files.{ShowsAlone, WritesFile};
-ghost use Rattle.afdxsim.specs.Naming.{journal_of, net_of, trace_of};
-ghost use Rattle.afdxsim.specs.Reading.{GivesNetwork};
+ghost use Rattle.commands.specs.Files.{ShowsAlone, WritesFile};
+ghost use Rattle.commands.specs.Naming.{journal_of, net_of, trace_of};
+ghost use Rattle.commands.specs.Reading.{GivesNetwork};
 ghost use Rattle.afdxsim.specs.Performing.{Means, found_in};
-ghost use Rattle.afdxsim.specs.Sequencing.{IsTraceText};
+ghost use Rattle.commands.specs.Sequencing.{IsTraceText};
 ghost use Rattle.afdxsim.specs.Workers.{IsJournalText};
 
-use crate::host::{FileFault, Host};
 use crate::perform;
+use commands::{FileFault, Host};
 use std::alloc::Global;
 use std::convert::AsStr;
 use std::sync::Wait;

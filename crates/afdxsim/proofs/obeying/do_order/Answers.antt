@@ -1,5 +1,6 @@
 use Rattle.std.proofs.Common.{◌∙◌, ap}
-use Rattle.afdxsim.proofs.Ended.{done_there, err_then, fault_there}
+use Rattle.commands.proofs.Outcomes.{err_then}
+use Rattle.afdxsim.proofs.Ended.{done_there, fault_there}
 use Rattle.afdxsim.proofs.obeying.do_order.Goals as goal
 
 pub returns-clause-done : goal.returns-clause-done

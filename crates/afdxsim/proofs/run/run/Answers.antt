@@ -1,10 +1,10 @@
 use Rattle.std.proofs.Common.{◌≡◌, ◌∙◌, List, ℕ, inl, inr, refl, sym, subst, true, false, option_map, string_bytes, is_some}
 use Rattle.worker_pool.specs.Runs.{IsJournalAsked}
 use Rattle.afdxsim.specs.Files.{LacksRun, LeavesRun}
-use Rattle.afdxsim.specs.Orders.{heard_host}
-use Rattle.afdxsim.proofs.Ended.{err_then, ok_then, same_err}
-use Rattle.afdxsim.proofs.Lacking.{lacks_steps, no_output}
-use Rattle.afdxsim.proofs.Leaving.{journal_written}
+use Rattle.commands.specs.Streams.{heard_host}
+use Rattle.commands.proofs.Lacking.{no_output}
+use Rattle.commands.proofs.Outcomes.{err_then, ok_then, same_err}
+use Rattle.afdxsim.proofs.Journals.{journal_written, lacks_steps}
 use Rattle.afdxsim.proofs.run.run.Goals as goal
 
 pub returns-in_err-found-clause-fault : goal.returns-in_err-found-clause-fault

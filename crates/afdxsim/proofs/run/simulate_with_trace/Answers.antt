@@ -2,14 +2,14 @@ use Rattle.std.proofs.Common.{◌≡◌, ◌∙◌, List, inr, Ok, Err, true, re
 use Rattle.vlink.specs.Letters.{Row}
 use Rattle.seqsim.specs.Networks.{AreRowsOf}
 use Rattle.trace_segments.specs.Words.{trace_text}
-use Rattle.afdxsim.specs.Ending.{Took}
+use Rattle.commands.specs.Ending.{Took}
 use Rattle.afdxsim.specs.Files.{LacksTrace}
-use Rattle.afdxsim.specs.Orders.{heard_host}
-use Rattle.afdxsim.specs.Sequencing.{IsTraceText}
-use Rattle.afdxsim.proofs.Ended.{at_err, at_ok}
-use Rattle.afdxsim.proofs.Heard.{begins_given, heard_beside, heard_given, makes_there}
-use Rattle.afdxsim.proofs.Lacking.{lacks_trace}
-use Rattle.afdxsim.proofs.Leaving.{written}
+use Rattle.commands.specs.Streams.{heard_host}
+use Rattle.commands.specs.Sequencing.{IsTraceText}
+use Rattle.commands.proofs.Outcomes.{at_err, at_ok}
+use Rattle.commands.proofs.Heard.{begins_given, heard_beside, heard_given, makes_there}
+use Rattle.commands.proofs.Lacking.{lacks_trace}
+use Rattle.commands.proofs.Leaving.{written}
 use Rattle.afdxsim.proofs.run.simulate_with_trace.Goals as goal
 
 pub returns-in_err-outcome-clause-heard : goal.returns-in_err-outcome-clause-heard

@@ -1,7 +1,7 @@
 use Rattle.std.proofs.Common.{◌∙◌, option_map, ap, subst}
 use Rattle.std.proofs.lemmas.Option.{IfSome_then}
 use Rattle.netdesc.specs.Words.{Describes}
-use Rattle.afdxsim.specs.Naming.{journal_of, trace_of}
+use Rattle.commands.specs.Naming.{journal_of, trace_of}
 use Rattle.afdxsim.proofs.telling_host.status_of.Goals as goal
 
 pub returns : goal.returns

@@ -1,5 +1,5 @@
 use Rattle.std.proofs.Common.{map}
-use Rattle.afdxsim.specs.Naming.{journal_of, trace_of}
+use Rattle.commands.specs.Naming.{journal_of, trace_of}
 use Rattle.afdxsim.proofs.Doing.{if_there, journal_left, trace_left, was_done}
 use Rattle.afdxsim.proofs.telling_host.status_on.Goals as goal
 
