@@ -1,10 +1,10 @@
 //! The program: a simulator of AFDX networks.
 #![tactic(auto)]
 
+mod bytes_left;
 mod obeying;
 mod perform;
 mod run;
-mod telling_host;
 mod workers;
 
 pub use command_line::order;

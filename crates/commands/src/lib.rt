@@ -17,6 +17,7 @@ mod sequencing;
 mod steps;
 mod system;
 mod telling;
+mod telling_host;
 
 pub use answering::{answer, refuse_twice, tell_outcome};
 pub use checking::check;
@@ -32,3 +33,4 @@ pub use sequencing::{seq, show_tables};
 pub use steps::write_steps;
 pub use system::System;
 pub use telling::{tell_memory, tell_no_text};
+pub use telling_host::{Sheet, TellingHost};

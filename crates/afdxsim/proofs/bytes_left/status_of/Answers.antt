@@ -2,7 +2,7 @@ use Rattle.std.proofs.Common.{◌∙◌, option_map, ap, subst}
 use Rattle.std.proofs.lemmas.Option.{IfSome_then}
 use Rattle.netdesc.specs.Words.{Describes}
 use Rattle.commands.specs.Naming.{journal_of, trace_of}
-use Rattle.afdxsim.proofs.telling_host.status_of.Goals as goal
+use Rattle.afdxsim.proofs.bytes_left.status_of.Goals as goal
 
 pub returns : goal.returns
 returns g c = λ none zero.

@@ -1,7 +1,7 @@
 use Rattle.std.proofs.Common.{map}
 use Rattle.commands.specs.Naming.{journal_of, trace_of}
 use Rattle.afdxsim.proofs.Doing.{if_there, journal_left, trace_left, was_done}
-use Rattle.afdxsim.proofs.telling_host.status_on.Goals as goal
+use Rattle.afdxsim.proofs.bytes_left.status_on.Goals as goal
 
 pub returns : goal.returns
 returns g c = λ none zero.
