@@ -59,6 +59,18 @@ module _ {S F O E : Type 0} (outside : Outside S F O E) {w : F → Option (List 
       pub begins_given : outside.with_errors begun said ≡ outside.made (heard_host outside old asked (outside.errors new)) path
       begins_given = begins ∙ ap (λ e. outside.made (heard_host outside old asked e) path) (sym stays)
 
+  -- error output was lent, heard of the run and was put back
+  module _ (asked was_asked : Bool) (plan : Plan) (old : S) (lent said : E) (is : was_asked ≡ asked) (from : lent ≡ outside.errors old)
+      (h : HearsAsked taken failures was_asked plan.until lent said) where
+    here : HearsAsked taken failures asked plan.until (outside.errors old) said
+    here = subst (λ e. HearsAsked taken failures asked plan.until e said) from (subst (λ a. HearsAsked taken failures a plan.until lent said) is h)
+
+    pub heard_lent : IsHeard outside old asked plan (outside.errors (outside.with_errors old said))
+    heard_lent = subst (IsHeard outside old asked plan) (sym (law.errors_stay old said)) (told asked plan.until (outside.errors old) said here)
+
+    pub host_lent : outside.with_errors old said ≡ heard_host outside old asked (outside.errors (outside.with_errors old said))
+    host_lent = heard_same asked plan.until taken failures old said here ∙ ap (heard_host outside old asked) (sym (law.errors_stay old said))
+
 module _ {S F O E : Type 0} (outside : Outside S F O E) where
   -- what holds of the host once its error output had heard of a run holds at the end too, where it heard no more
   pub at_end : (asked : Bool) (old heard new : S) (P : S → Type 0) → heard ≡ heard_host outside old asked (outside.errors heard) →

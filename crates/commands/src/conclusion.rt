@@ -4,7 +4,6 @@ ghost use Rattle.std.specs.Prelude.{◌≡◌, ◌⊎◌, List, IfOk, IfErr, str
 ghost use Rattle.vlink.specs.Letters.{Row};
 ghost use Rattle.virtual_time.specs.declared.step.Step.{Step};
 ghost use Rattle.virtual_time.specs.Law.{IsFinished};
-ghost use Rattle.network.specs.Words.{Plan};
 ghost use Rattle.nodes.specs.Words.{simulation_of};
 ghost use Rattle.trace_tables.specs.Tables.{tables_of};
 ghost use Rattle.seqsim.specs.Networks.{AreRowsOf};
@@ -12,7 +11,7 @@ ghost use Rattle.seqsim.specs.Committed.{after};
 ghost use Rattle.timewarp.specs.Networks.{IsAfter};
 ghost use Rattle.timewarp.specs.Replayed.{IsReplayed};
 ghost use Rattle.commands.specs.declared.fault.Fault.TheVariants.{OutOfMemory, Exhausted};
-ghost use Rattle.commands.specs.Replaying.{counts_text, finish_text, summary_text, fault_of_lines, IsSummary, IsJournal, AreCommittedTables, TellsOfSteps, TellsOfJournal, IsExhaustedIn, IsFaultOfJournal};
+ghost use Rattle.commands.specs.Replaying.{counts_text, finish_text, summary_text, IsSummary, AreCommittedTables, TellsOfSteps, TellsOfJournal, IsExhaustedIn, IsFaultOfJournal};
 
 use crate::fault::Fault;
 use crate::journal_steps::{do_steps, steps_of};

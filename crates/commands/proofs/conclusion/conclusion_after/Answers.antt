@@ -1,4 +1,3 @@
-use Rattle.std.proofs.Common.{map}
 use Rattle.commands.proofs.conclusion.conclusion_after.Goals as goal
 
 pub returns-in-Ok-clause-told : goal.returns-in-Ok-clause-told

@@ -1,4 +1,4 @@
-use Rattle.std.proofs.Common.{map, string_bytes}
+use Rattle.std.proofs.Common.{string_bytes}
 use Rattle.commands.proofs.Conclusions.{summary}
 use Rattle.commands.proofs.conclusion.summary_of.Goals as goal
 

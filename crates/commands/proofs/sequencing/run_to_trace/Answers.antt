@@ -3,7 +3,8 @@ use Rattle.trace_segments.specs.Words.{trace_text}
 use Rattle.seqsim.specs.Networks.{AreRowsOf}
 use Rattle.commands.specs.Files.{LacksFile, LacksSeq, LeavesSeq}
 use Rattle.commands.specs.Sequencing.{IsTraceText}
-use Rattle.commands.proofs.Outcomes.{err_then, ok_then, same_err}
+use Rattle.commands.specs.Streams.{IsHeard}
+use Rattle.commands.proofs.Outcomes.{err_then, no_ok, ok_then, same_err}
 use Rattle.commands.proofs.Heard.{at_end}
 use Rattle.commands.proofs.Lacking.{lacks_rows, no_output}
 use Rattle.commands.proofs.Leaving.{of_text}
@@ -70,3 +71,41 @@ returns-clause-left g c =
           (λ text same. (rows, are, same)),
       (out, refl),
     ))
+
+pub returns-in_err-finished-clause-tables : goal.returns-in_err-finished-clause-tables
+returns-in_err-finished-clause-tables g c = no_ok _ c.from_residual.result _ c.from_residual.ensures.1
+
+pub returns-in_err-finished-clause-left : goal.returns-in_err-finished-clause-left
+returns-in_err-finished-clause-left g c = no_ok _ c.from_residual.result _ c.from_residual.ensures.1
+
+pub returns-in_err-finished-clause-kept : goal.returns-in_err-finished-clause-kept
+returns-in_err-finished-clause-kept g c =
+    same_err _ c.from_residual.result c.in_err-finished.field-0.0 c.from_residual.ensures.1 (λ other. c.heard_run.ensures.output)
+
+pub returns-in_err-finished-clause-heard : goal.returns-in_err-finished-clause-heard
+returns-in_err-finished-clause-heard g c = c.heard_run.ensures.heard
+
+pub returns-in_err-keep-clause-tables : goal.returns-in_err-keep-clause-tables
+returns-in_err-keep-clause-tables g c = no_ok _ c.from_residual-in_err-keep.result _ c.from_residual-in_err-keep.ensures.1
+
+pub returns-in_err-keep-clause-left : goal.returns-in_err-keep-clause-left
+returns-in_err-keep-clause-left g c = no_ok _ c.from_residual-in_err-keep.result _ c.from_residual-in_err-keep.ensures.1
+
+pub returns-in_err-keep-clause-kept : goal.returns-in_err-keep-clause-kept
+returns-in_err-keep-clause-kept g c =
+    same_err _ c.from_residual-in_err-keep.result c.in_err-keep.field-0.0 c.from_residual-in_err-keep.ensures.1
+    (λ other. c.keep.ensures.output ∙ c.heard_run.ensures.output)
+
+pub returns-in_err-keep-clause-heard : goal.returns-in_err-keep-clause-heard
+returns-in_err-keep-clause-heard g c = subst (IsHeard g.H.Host.outside c.args.host.now c.args.is_asked c.args.network.now) (sym c.keep.ensures.quiet) c.heard_run.ensures.heard
+
+pub returns-clause-kept : goal.returns-clause-kept
+returns-clause-kept g c =
+    err_then c.show_tables.result c.show_tables.ensures.kept (λ fault same other.
+    g.met.H.Host.lawful.output_stays c.keep.new.host c.show_tables.new.output
+    ∙ (same other ∙ (c.output.ensures.value ∙ (c.keep.ensures.output ∙ c.heard_run.ensures.output))))
+
+pub returns-clause-heard : goal.returns-clause-heard
+returns-clause-heard g c =
+    subst (IsHeard g.H.Host.outside c.args.host.now c.args.is_asked c.args.network.now)
+    (sym (g.met.H.Host.lawful.errors_beside c.keep.new.host c.show_tables.new.output ∙ c.keep.ensures.quiet)) c.heard_run.ensures.heard
