@@ -23,14 +23,14 @@ module _ {S F O E : Type 0} (outside : Outside S F O E) where
       WritesAsked outside (option_map bytes journal) (IsJournalText plan) old new
   journal_written bytes plan None steps old new is wrote = wrote
   journal_written bytes plan (Some path) steps old new is wrote =
-      of_text (bytes path) (λ text. text ≡ steps_text steps) (IsJournalText plan) old new wrote (λ text same. (steps, is, same))
+      of_text outside (bytes path) (λ text. text ≡ steps_text steps) (IsJournalText plan) old new wrote (λ text same. (steps, is, same))
 
   -- the journal of a run, of its steps
   pub lacks_steps : {X : Type 0} (bytes : X → List ℕ) (journal : Option X) (plan : Plan) (steps : List Step) (path : List ℕ) (old new : S) (fault : Fault) →
       IsJournalAsked plan (is_some journal) steps → option_map bytes journal ≡ Some path →
       LacksFile outside false path (λ text. text ≡ steps_text steps) old new fault → LacksFile outside false path (IsJournalText plan) old new fault
   lacks_steps {X} bytes journal plan steps path old new fault is there met =
-      lacks_other false path (λ text. text ≡ steps_text steps) (IsJournalText plan) old new fault
+      lacks_other outside false path (λ text. text ≡ steps_text steps) (IsJournalText plan) old new fault
       (λ text same. (steps, asked plan steps (is_some journal) (some_there journal there) is, same)) met
     where
       some_there : (o : Option X) → option_map bytes o ≡ Some path → is_some o ≡ true
