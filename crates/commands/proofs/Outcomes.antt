@@ -19,10 +19,10 @@ pub on_three : {T F P Q R V : Type 0} (r : Result T F) → OnOk r P → OnOk r Q
 on_three (Ok x) p q s f = f p q s
 on_three (Err e) p q s f = tt
 
--- an answer that is this fault: no value has to be as wished, and the fault is
-pub no_ok : {T F : Type 0} (P : Type 0) (r : Result T F) (fault : F) → IsErrAnd r (λ x. x ≡ fault) → OnOk r P
-no_ok P (Ok x) fault same = absurd same
-no_ok P (Err x) fault same = tt
+-- an answer that is this fault: it has no value, and what holds of the fault is known
+pub no_value : {T F : Type 0} (P : T → Type 0) (r : Result T F) (fault : F) → IsErrAnd r (λ x. x ≡ fault) → IfOk r P
+no_value P (Ok x) fault same = absurd same
+no_value P (Err x) fault same = tt
 
 pub same_err : {T : Type 0} (P : Fault → Type 0) (r : Result T Fault) (fault : Fault) → IsErrAnd r (λ x. x ≡ fault) → P fault → IfErr r P
 same_err P (Ok x) fault same p = tt

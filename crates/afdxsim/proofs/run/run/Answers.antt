@@ -3,7 +3,7 @@ use Rattle.worker_pool.specs.Runs.{IsJournalAsked}
 use Rattle.afdxsim.specs.Files.{LacksRun, LeavesRun}
 use Rattle.commands.specs.Streams.{IsHeard, heard_host}
 use Rattle.commands.proofs.Lacking.{no_output}
-use Rattle.commands.proofs.Outcomes.{err_then, no_ok, ok_then, same_err}
+use Rattle.commands.proofs.Outcomes.{err_then, no_value, ok_then, same_err}
 use Rattle.afdxsim.proofs.Journals.{journal_written, lacks_steps}
 use Rattle.afdxsim.proofs.run.run.Goals as goal
 
@@ -84,10 +84,10 @@ returns-clause-left g c =
     ))
 
 pub returns-in_err-found-clause-tables : goal.returns-in_err-found-clause-tables
-returns-in_err-found-clause-tables g c = no_ok _ c.from_residual.result _ c.from_residual.ensures.1
+returns-in_err-found-clause-tables g c = no_value _ c.from_residual.result _ c.from_residual.ensures.1
 
 pub returns-in_err-found-clause-left : goal.returns-in_err-found-clause-left
-returns-in_err-found-clause-left g c = no_ok _ c.from_residual.result _ c.from_residual.ensures.1
+returns-in_err-found-clause-left g c = no_value _ c.from_residual.result _ c.from_residual.ensures.1
 
 pub returns-in_err-found-clause-kept : goal.returns-in_err-found-clause-kept
 returns-in_err-found-clause-kept g c =
@@ -97,10 +97,10 @@ pub returns-in_err-found-clause-heard : goal.returns-in_err-found-clause-heard
 returns-in_err-found-clause-heard g c = c.simulate.ensures.heard
 
 pub returns-in_err-keep_journal-clause-tables : goal.returns-in_err-keep_journal-clause-tables
-returns-in_err-keep_journal-clause-tables g c = no_ok _ c.from_residual-in_err-keep_journal.result _ c.from_residual-in_err-keep_journal.ensures.1
+returns-in_err-keep_journal-clause-tables g c = no_value _ c.from_residual-in_err-keep_journal.result _ c.from_residual-in_err-keep_journal.ensures.1
 
 pub returns-in_err-keep_journal-clause-left : goal.returns-in_err-keep_journal-clause-left
-returns-in_err-keep_journal-clause-left g c = no_ok _ c.from_residual-in_err-keep_journal.result _ c.from_residual-in_err-keep_journal.ensures.1
+returns-in_err-keep_journal-clause-left g c = no_value _ c.from_residual-in_err-keep_journal.result _ c.from_residual-in_err-keep_journal.ensures.1
 
 pub returns-in_err-keep_journal-clause-kept : goal.returns-in_err-keep_journal-clause-kept
 returns-in_err-keep_journal-clause-kept g c =

@@ -4,7 +4,7 @@ use Rattle.seqsim.specs.Networks.{AreRowsOf}
 use Rattle.commands.specs.Files.{LacksFile, LacksSeq, LeavesSeq}
 use Rattle.commands.specs.Sequencing.{IsTraceText}
 use Rattle.commands.specs.Streams.{IsHeard}
-use Rattle.commands.proofs.Outcomes.{err_then, no_ok, ok_then, same_err}
+use Rattle.commands.proofs.Outcomes.{err_then, no_value, ok_then, same_err}
 use Rattle.commands.proofs.Heard.{at_end}
 use Rattle.commands.proofs.Lacking.{lacks_rows, no_output}
 use Rattle.commands.proofs.Leaving.{of_text}
@@ -73,10 +73,10 @@ returns-clause-left g c =
     ))
 
 pub returns-in_err-finished-clause-tables : goal.returns-in_err-finished-clause-tables
-returns-in_err-finished-clause-tables g c = no_ok _ c.from_residual.result _ c.from_residual.ensures.1
+returns-in_err-finished-clause-tables g c = no_value _ c.from_residual.result _ c.from_residual.ensures.1
 
 pub returns-in_err-finished-clause-left : goal.returns-in_err-finished-clause-left
-returns-in_err-finished-clause-left g c = no_ok _ c.from_residual.result _ c.from_residual.ensures.1
+returns-in_err-finished-clause-left g c = no_value _ c.from_residual.result _ c.from_residual.ensures.1
 
 pub returns-in_err-finished-clause-kept : goal.returns-in_err-finished-clause-kept
 returns-in_err-finished-clause-kept g c =
@@ -86,10 +86,10 @@ pub returns-in_err-finished-clause-heard : goal.returns-in_err-finished-clause-h
 returns-in_err-finished-clause-heard g c = c.heard_run.ensures.heard
 
 pub returns-in_err-keep-clause-tables : goal.returns-in_err-keep-clause-tables
-returns-in_err-keep-clause-tables g c = no_ok _ c.from_residual-in_err-keep.result _ c.from_residual-in_err-keep.ensures.1
+returns-in_err-keep-clause-tables g c = no_value _ c.from_residual-in_err-keep.result _ c.from_residual-in_err-keep.ensures.1
 
 pub returns-in_err-keep-clause-left : goal.returns-in_err-keep-clause-left
-returns-in_err-keep-clause-left g c = no_ok _ c.from_residual-in_err-keep.result _ c.from_residual-in_err-keep.ensures.1
+returns-in_err-keep-clause-left g c = no_value _ c.from_residual-in_err-keep.result _ c.from_residual-in_err-keep.ensures.1
 
 pub returns-in_err-keep-clause-kept : goal.returns-in_err-keep-clause-kept
 returns-in_err-keep-clause-kept g c =
