@@ -19,11 +19,12 @@ pub on_three : {T F P Q R V : Type 0} (r : Result T F) → OnOk r P → OnOk r Q
 on_three (Ok x) p q s f = f p q s
 on_three (Err e) p q s f = tt
 
--- an answer that is this fault: it has no value, and what holds of the fault is known
-pub no_value : {T F : Type 0} (P : T → Type 0) (r : Result T F) (fault : F) → IsErrAnd r (λ x. x ≡ fault) → IfOk r P
-no_value P (Ok x) fault same = absurd same
-no_value P (Err x) fault same = tt
+-- an answer that is a fault has no value of which something would have to hold
+pub no_value : {T F : Type 0} (P : T → Type 0) (Q : F → Type 0) (r : Result T F) → IsErrAnd r Q → IfOk r P
+no_value P Q (Ok x) is = absurd is
+no_value P Q (Err x) is = tt
 
+-- an answer that is this fault
 pub same_err : {T : Type 0} (P : Fault → Type 0) (r : Result T Fault) (fault : Fault) → IsErrAnd r (λ x. x ≡ fault) → P fault → IfErr r P
 same_err P (Ok x) fault same p = tt
 same_err P (Err x) fault same p = subst P (sym same) p

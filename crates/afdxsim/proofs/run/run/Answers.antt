@@ -84,10 +84,10 @@ returns-clause-left g c =
     ))
 
 pub returns-in_err-found-clause-tables : goal.returns-in_err-found-clause-tables
-returns-in_err-found-clause-tables g c = no_value _ c.from_residual.result _ c.from_residual.ensures.1
+returns-in_err-found-clause-tables g c = no_value _ _ c.from_residual.result c.from_residual.ensures.1
 
 pub returns-in_err-found-clause-left : goal.returns-in_err-found-clause-left
-returns-in_err-found-clause-left g c = no_value _ c.from_residual.result _ c.from_residual.ensures.1
+returns-in_err-found-clause-left g c = no_value _ _ c.from_residual.result c.from_residual.ensures.1
 
 pub returns-in_err-found-clause-kept : goal.returns-in_err-found-clause-kept
 returns-in_err-found-clause-kept g c =
@@ -97,10 +97,10 @@ pub returns-in_err-found-clause-heard : goal.returns-in_err-found-clause-heard
 returns-in_err-found-clause-heard g c = c.simulate.ensures.heard
 
 pub returns-in_err-keep_journal-clause-tables : goal.returns-in_err-keep_journal-clause-tables
-returns-in_err-keep_journal-clause-tables g c = no_value _ c.from_residual-in_err-keep_journal.result _ c.from_residual-in_err-keep_journal.ensures.1
+returns-in_err-keep_journal-clause-tables g c = no_value _ _ c.from_residual-in_err-keep_journal.result c.from_residual-in_err-keep_journal.ensures.1
 
 pub returns-in_err-keep_journal-clause-left : goal.returns-in_err-keep_journal-clause-left
-returns-in_err-keep_journal-clause-left g c = no_value _ c.from_residual-in_err-keep_journal.result _ c.from_residual-in_err-keep_journal.ensures.1
+returns-in_err-keep_journal-clause-left g c = no_value _ _ c.from_residual-in_err-keep_journal.result c.from_residual-in_err-keep_journal.ensures.1
 
 pub returns-in_err-keep_journal-clause-kept : goal.returns-in_err-keep_journal-clause-kept
 returns-in_err-keep_journal-clause-kept g c =

@@ -89,22 +89,22 @@ returns-in-Err-clause-fault g c =
     (at_err _ found.written c.in-Err.why is c.in_ok-outcome.ensures.kept)))
 
 pub returns-in_err-file-clause-text : goal.returns-in_err-file-clause-text
-returns-in_err-file-clause-text g c = no_value _ c.from_residual.result _ c.from_residual.ensures.1
+returns-in_err-file-clause-text g c = no_value _ _ c.from_residual.result c.from_residual.ensures.1
 
 pub returns-in_err-file-clause-journal : goal.returns-in_err-file-clause-journal
-returns-in_err-file-clause-journal g c = no_value _ c.from_residual.result _ c.from_residual.ensures.1
+returns-in_err-file-clause-journal g c = no_value _ _ c.from_residual.result c.from_residual.ensures.1
 
 pub returns-in_err-file-clause-trace : goal.returns-in_err-file-clause-trace
-returns-in_err-file-clause-trace g c = no_value _ c.from_residual.result _ c.from_residual.ensures.1
+returns-in_err-file-clause-trace g c = no_value _ _ c.from_residual.result c.from_residual.ensures.1
 
 pub returns-in_err-outcome-clause-text : goal.returns-in_err-outcome-clause-text
-returns-in_err-outcome-clause-text g c = no_value _ c.from_residual-in_err-outcome.result _ c.from_residual-in_err-outcome.ensures.1
+returns-in_err-outcome-clause-text g c = no_value _ _ c.from_residual-in_err-outcome.result c.from_residual-in_err-outcome.ensures.1
 
 pub returns-in_err-outcome-clause-journal : goal.returns-in_err-outcome-clause-journal
-returns-in_err-outcome-clause-journal g c = no_value _ c.from_residual-in_err-outcome.result _ c.from_residual-in_err-outcome.ensures.1
+returns-in_err-outcome-clause-journal g c = no_value _ _ c.from_residual-in_err-outcome.result c.from_residual-in_err-outcome.ensures.1
 
 pub returns-in_err-outcome-clause-trace : goal.returns-in_err-outcome-clause-trace
-returns-in_err-outcome-clause-trace g c = no_value _ c.from_residual-in_err-outcome.result _ c.from_residual-in_err-outcome.ensures.1
+returns-in_err-outcome-clause-trace g c = no_value _ _ c.from_residual-in_err-outcome.result c.from_residual-in_err-outcome.ensures.1
 
 pub returns-in_err-file-clause-output : goal.returns-in_err-file-clause-output
 returns-in_err-file-clause-output g c = c.make_file.ensures.output

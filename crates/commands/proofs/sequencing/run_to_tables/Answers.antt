@@ -33,10 +33,10 @@ returns-clause-fault g c =
     (inr (inr (heard, refl, no_output outside law true heard c.output.result.now out fault c.output.ensures.value met))))
 
 pub returns-in_err-tables-clause-tables : goal.returns-in_err-tables-clause-tables
-returns-in_err-tables-clause-tables g c = no_value _ c.from_residual.result _ c.from_residual.ensures.1
+returns-in_err-tables-clause-tables g c = no_value _ _ c.from_residual.result c.from_residual.ensures.1
 
 pub returns-in_err-tables-clause-left : goal.returns-in_err-tables-clause-left
-returns-in_err-tables-clause-left g c = no_value _ c.from_residual.result _ c.from_residual.ensures.1
+returns-in_err-tables-clause-left g c = no_value _ _ c.from_residual.result c.from_residual.ensures.1
 
 pub returns-in_err-tables-clause-kept : goal.returns-in_err-tables-clause-kept
 returns-in_err-tables-clause-kept g c =

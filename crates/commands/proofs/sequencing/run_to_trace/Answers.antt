@@ -73,10 +73,10 @@ returns-clause-left g c =
     ))
 
 pub returns-in_err-finished-clause-tables : goal.returns-in_err-finished-clause-tables
-returns-in_err-finished-clause-tables g c = no_value _ c.from_residual.result _ c.from_residual.ensures.1
+returns-in_err-finished-clause-tables g c = no_value _ _ c.from_residual.result c.from_residual.ensures.1
 
 pub returns-in_err-finished-clause-left : goal.returns-in_err-finished-clause-left
-returns-in_err-finished-clause-left g c = no_value _ c.from_residual.result _ c.from_residual.ensures.1
+returns-in_err-finished-clause-left g c = no_value _ _ c.from_residual.result c.from_residual.ensures.1
 
 pub returns-in_err-finished-clause-kept : goal.returns-in_err-finished-clause-kept
 returns-in_err-finished-clause-kept g c =
@@ -86,10 +86,10 @@ pub returns-in_err-finished-clause-heard : goal.returns-in_err-finished-clause-h
 returns-in_err-finished-clause-heard g c = c.heard_run.ensures.heard
 
 pub returns-in_err-keep-clause-tables : goal.returns-in_err-keep-clause-tables
-returns-in_err-keep-clause-tables g c = no_value _ c.from_residual-in_err-keep.result _ c.from_residual-in_err-keep.ensures.1
+returns-in_err-keep-clause-tables g c = no_value _ _ c.from_residual-in_err-keep.result c.from_residual-in_err-keep.ensures.1
 
 pub returns-in_err-keep-clause-left : goal.returns-in_err-keep-clause-left
-returns-in_err-keep-clause-left g c = no_value _ c.from_residual-in_err-keep.result _ c.from_residual-in_err-keep.ensures.1
+returns-in_err-keep-clause-left g c = no_value _ _ c.from_residual-in_err-keep.result c.from_residual-in_err-keep.ensures.1
 
 pub returns-in_err-keep-clause-kept : goal.returns-in_err-keep-clause-kept
 returns-in_err-keep-clause-kept g c =
