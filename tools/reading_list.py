@@ -30,7 +30,7 @@ MARKS = "<!-- by tools/reading_list.py --write: from here -->\n\n", "\n\n<!-- to
 # The contracts that each list begins with, by crate, file in src/ and function: the promise itself, and what the program
 # makes of it.
 BEGINNINGS = {
-    "replay": [("timewarp", "journal", "replay"), ("afdxsim", "replay", "replay")],
+    "replay": [("timewarp", "journal", "replay"), ("commands", "replaying", "replay")],
     "run": [
         ("worker_pool", "running", "run"),
         ("worker_pool", "summary", "run_summary"),

@@ -4,17 +4,17 @@ use Rattle.clap.specs.Words.{Text}
 use Rattle.command_line.specs.declared.orders.Order.{Order}
 use Rattle.command_line.specs.declared.orders.Order.TheVariants as ordered
 use Rattle.network.specs.Words.{Plan}
-use Rattle.network_rows.specs.declared.fault.DescFault.{DescFault}
 use Rattle.network_rows.specs.declared.fault.DescFault.TheVariants as desc
-use Rattle.afdxsim.specs.declared.fault.Fault.{Fault}
-use Rattle.afdxsim.specs.declared.fault.Fault.TheVariants.{Description, JournalLine, JournalFull, CannotRead, CannotWriteFile, CannotWrite, Layout, OutOfMemory, Exhausted, Spawn, Torn}
-use Rattle.afdxsim.specs.Files.{ShowsAlone, WritesAsked, WritesFile}
-use Rattle.afdxsim.specs.Naming.{journal_of, trace_of}
-use Rattle.afdxsim.specs.Orders.{Done, DoneOn, heard_host}
-use Rattle.afdxsim.specs.Outside.{Outside}
+use Rattle.commands.specs.declared.fault.Fault.{Fault}
+use Rattle.commands.specs.declared.fault.Fault.TheVariants.{Description, JournalLine, JournalFull, CannotRead, CannotWriteFile, CannotWrite, Layout, OutOfMemory, Exhausted, Spawn, Torn}
+use Rattle.commands.specs.Files.{ShowsAlone, WritesAsked, WritesFile}
+use Rattle.commands.specs.Naming.{journal_of, trace_of}
+use Rattle.commands.specs.Streams.{heard_host}
+use Rattle.afdxsim.specs.Orders.{Done, DoneOn}
+use Rattle.commands.specs.Outside.{Outside}
 use Rattle.afdxsim.specs.Performing.{Means, Performs}
-use Rattle.afdxsim.specs.Sequencing.{IsTraceText}
-use Rattle.afdxsim.specs.Telling.{status_of}
+use Rattle.commands.specs.Sequencing.{IsTraceText}
+use Rattle.commands.specs.Telling.{status_of}
 use Rattle.afdxsim.specs.Workers.{IsJournalText}
 
 -- no fault has the status 0

@@ -1,51 +1,25 @@
 -- An order that was done, or whose fault was told, has ended.
-use Rattle.std.proofs.Common.{◌≡◌, ◌∙◌, ◌⊎◌, ℕ, inl, inr, List, [], Result, Ok, Err, sym, subst, ◌≢◌, OnOk, OnErr, IfOk, IfErr, IsErrAnd}
+use Rattle.std.proofs.Common.{◌≡◌, ◌∙◌, ◌⊎◌, ◌≢◌, ℕ, inl, inr, List, [], Result, Ok, Err, sym, subst, OnOk, OnErr, IfErr}
 use Rattle.clap.specs.Words.{IsAmong, Text}
 use Rattle.clap.specs.declared.error.kind.ErrorKind.{ErrorKind}
 use Rattle.clap.specs.declared.error.kind.ErrorKind.TheVariants as kind
 use Rattle.command_line.specs.declared.orders.Order.{Order}
 use Rattle.network.specs.Words.{Plan}
-use Rattle.afdxsim.specs.declared.fault.Fault.{Fault}
-use Rattle.afdxsim.specs.declared.fault.Fault.TheVariants.{CannotWrite}
-use Rattle.afdxsim.specs.Files.{TellsAlone}
-use Rattle.afdxsim.specs.Naming.{net_of}
-use Rattle.afdxsim.specs.Orders.{Done, DoneOn, HasEnded, IsFaultOf, IsFaultOn, IsHeard, IsTold, asks_progress}
-use Rattle.afdxsim.specs.Outside.{Outside}
+use Rattle.commands.specs.declared.fault.Fault.{Fault}
+use Rattle.commands.specs.declared.fault.Fault.TheVariants.{CannotWrite}
+use Rattle.commands.specs.Files.{TellsAlone}
+use Rattle.commands.specs.Naming.{net_of}
+use Rattle.commands.specs.Outside.{Outside}
+use Rattle.commands.specs.Reading.{GivesNetwork}
+use Rattle.commands.specs.Streams.{IsHeard, IsTold}
+use Rattle.commands.specs.Telling.{TellsOne}
+use Rattle.afdxsim.specs.Orders.{Done, DoneOn, HasEnded, IsFaultOf, IsFaultOn, asks_progress}
 use Rattle.afdxsim.specs.Performing.{found_in}
-use Rattle.afdxsim.specs.Reading.{GivesNetwork}
-use Rattle.afdxsim.specs.Telling.{TellsOne}
-
--- what follows from what holds of an answer that is good, and of a fault
-pub ok_then : {T F P Q : Type 0} (r : Result T F) → OnOk r P → (P → Q) → OnOk r Q
-ok_then (Ok x) p f = f p
-ok_then (Err e) p f = tt
-
-pub err_then : {T F : Type 0} {P Q : F → Type 0} (r : Result T F) → IfErr r P → ((e : F) → P e → Q e) → IfErr r Q
-err_then (Ok x) p f = tt
-err_then (Err e) p f = f e p
-
-pub ok_if : {T F : Type 0} {P Q : T → Type 0} (r : Result T F) → IfOk r P → ((x : T) → P x → Q x) → IfOk r Q
-ok_if (Ok x) p f = f x p
-ok_if (Err e) p f = tt
-
-pub on_three : {T F P Q R V : Type 0} (r : Result T F) → OnOk r P → OnOk r Q → OnOk r R → (P → Q → R → V) → OnOk r V
-on_three (Ok x) p q s f = f p q s
-on_three (Err e) p q s f = tt
+use Rattle.commands.proofs.Outcomes.{ok_then}
 
 err_both : {T F Q : Type 0} {P R : F → Type 0} (r : Result T F) → IfErr r P → OnErr r Q → ((e : F) → P e → Q → R e) → IfErr r R
 err_both (Ok x) p q f = tt
 err_both (Err e) p q f = f e p q
-
-pub same_err : {T : Type 0} (P : Fault → Type 0) (r : Result T Fault) (fault : Fault) → IsErrAnd r (λ x. x ≡ fault) → P fault → IfErr r P
-same_err P (Ok x) fault same p = tt
-same_err P (Err x) fault same p = subst P (sym same) p
-
--- what holds of the value or the fault that an answer has
-pub at_ok : {T F : Type 0} (P : Type 0) (r : Result T F) (x : T) → r ≡ Ok x → OnOk r P → P
-at_ok P r x is holds = subst (λ y. OnOk y P) is holds
-
-pub at_err : {T F : Type 0} (P : F → Type 0) (r : Result T F) (why : F) → r ≡ Err why → IfErr r P → P why
-at_err P r why is holds = subst (λ x. IfErr x P) is holds
 
 module _ {S F O E : Type 0} (outside : Outside S F O E) (r : Result (Unit {0}) Fault) (order : Order) where
   -- the order was done on a network that was read before: the host was `old` before, and `begun` once it was read

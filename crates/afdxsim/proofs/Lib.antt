@@ -1,10 +1,5 @@
-pub mod Conclusions
 pub mod Running
 pub mod Statuses
 pub mod Ended
-pub mod Leaving
-pub mod Lacking
-pub mod Streams
-pub mod Holding
-pub mod Heard
+pub mod Journals
 pub mod Doing

@@ -3,7 +3,7 @@ use Rattle.std.proofs.Common.{◌≡◌, ◌⊎◌, ℕ, inl, inr, List, [], ◌
 use Rattle.clap.specs.declared.error.kind.ErrorKind.{ErrorKind}
 use Rattle.clap.specs.declared.error.kind.ErrorKind.TheVariants.{OutOfMemory}
 use Rattle.clap.specs.Words.{IsAmong, Kinds, Text}
-use Rattle.afdxsim.specs.Words.{AsksFor, AsksForText}
+use Rattle.commands.specs.Words.{AsksFor, AsksForText}
 use Rattle.afdxsim.specs.Performing.{AnswersWords, HasMistake, found_in}
 
 among-mistakes : (kind : ErrorKind) (kinds : Kinds) → IsAmong kind kinds → ¬ (AsksFor kind) → HasMistake kinds

@@ -1,15 +1,4 @@
-pub mod Words
-pub mod Outside
-pub mod Telling
-pub mod Ending
-pub mod Checking
-pub mod Sequencing
 pub mod Workers
 pub mod Files
-pub mod Naming
-pub mod Reading
-pub mod Replaying
 pub mod Orders
-pub mod Progress
-pub mod MoreProgress
 pub mod Performing

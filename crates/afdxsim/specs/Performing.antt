@@ -4,13 +4,14 @@ use Rattle.clap.specs.Words.{Kinds, Text, fault_of}
 use Rattle.command_line.specs.Meaning.{Names, command_in, command_of, rows_in}
 use Rattle.command_line.specs.Program.{program}
 use Rattle.command_line.specs.declared.orders.Order.{Order}
-use Rattle.afdxsim.specs.declared.fault.Fault.TheVariants.{OutOfMemory}
-use Rattle.afdxsim.specs.Files.{ShowsBoth, TellsAlone}
-use Rattle.afdxsim.specs.Naming.{NamesTwice}
-use Rattle.afdxsim.specs.Orders.{Ends, IsTold}
-use Rattle.afdxsim.specs.Outside.{Outside}
-use Rattle.afdxsim.specs.Telling.{TellsOne}
-use Rattle.afdxsim.specs.Words.{AsksFor, AsksForText}
+use Rattle.commands.specs.declared.fault.Fault.TheVariants.{OutOfMemory}
+use Rattle.commands.specs.Files.{ShowsBoth, TellsAlone}
+use Rattle.commands.specs.Naming.{NamesTwice}
+use Rattle.commands.specs.Outside.{Outside}
+use Rattle.commands.specs.Telling.{TellsOne}
+use Rattle.commands.specs.Streams.{IsTold}
+use Rattle.commands.specs.Words.{AsksFor, AsksForText}
+use Rattle.afdxsim.specs.Orders.{Ends}
 
 -- among these kinds is a mistake in the words
 abbrev pub HasMistake : Kinds → Type 0

@@ -1,22 +1,15 @@
 //! What an order comes to: it is done, or the fault that it met is told.
 ghost use Rattle.std.specs.Prelude.{◌≡◌, ◌≢◌, ◌⊎◌, ℕ, List, OnOk, OnErr, IfErr};
-ghost use Rattle.afdxsim.specs.declared.fault.Fault.TheVariants.{CannotWrite};
-ghost use Rattle.afdxsim.specs.Files.{TellsAlone};
-ghost use Rattle.afdxsim.specs.Naming.{NamesTwice};
-ghost use Rattle.afdxsim.specs.Orders.{Done, DoneOn, Ends, IsFaultOf, IsFaultOn, IsHeard, IsTold, asks_progress};
-ghost use Rattle.afdxsim.specs.Telling.{TellsOne};
+ghost use Rattle.commands.specs.declared.fault.Fault.TheVariants.{CannotWrite};
+ghost use Rattle.commands.specs.Naming.{NamesTwice};
+ghost use Rattle.commands.specs.Streams.{IsHeard};
+ghost use Rattle.afdxsim.specs.Orders.{Done, DoneOn, Ends, IsFaultOf, IsFaultOn, asks_progress};
 
-use crate::answering::refuse_twice;
-use crate::check::check;
-use crate::fault::{DONE, Fault};
-use crate::host::Host;
-use crate::naming::{named_twice, net_of};
-use crate::reading::network_of;
-use crate::replay::replay;
 use crate::run::run;
-use crate::seq::seq;
-use crate::telling::tell;
 use command_line::Order;
+use commands::{
+    Fault, Host, check, named_twice, net_of, network_of, refuse_twice, replay, seq, tell_outcome,
+};
 use network::Network;
 use std::alloc::Global;
 use std::sync::Wait;
@@ -37,9 +30,21 @@ fn done_on<'a, H: Host, T: Threads + Wait + Clock + Sync>(
     ensures heard { OnErr result (IsHeard H.outside host.old (asks_progress order.entry.now) network (H.outside.errors host.new)) }
 {
     match order {
-        Order::Check(_) => check(alloc, &network, host),
-        Order::Seq(order) => seq(rt, alloc, &network, order, host),
-        Order::Run(order) => run(rt, alloc, &network, order, host),
+        Order::Check(_) => {
+            let done = check(alloc, &network, host);
+            drop(network);
+            done
+        }
+        Order::Seq(order) => {
+            let done = seq(rt, alloc, &network, order, host);
+            drop(network);
+            done
+        }
+        Order::Run(order) => {
+            let done = run(rt, alloc, &network, order, host);
+            drop(network);
+            done
+        }
         Order::Replay(order) => replay(alloc, network, order, host),
     }
 }
@@ -59,20 +64,6 @@ fn do_order<'a, H: Host, T: Threads + Wait + Clock + Sync>(
     done_on(rt, alloc, network, order, host)
 }
 
-/// Tells a fault, if there was one.
-fn end<H: Host>(alloc: Global, outcome: Result<(), Fault<'_>>, host: &mut H) -> u8
-    ensures status { (result ≡ 0) ⊎ (result ≡ 3) ⊎ (result ≡ 4) ⊎ (result ≡ 5) }
-    ensures done { OnOk outcome.entry ((result ≡ 0) × (host.new ≡ host.old)) }
-    ensures told { IfErr outcome.entry (λ fault. TellsOne fault (IsTold H.outside host.old host.new result)) }
-    ensures alone { OnErr outcome.entry (TellsAlone H.outside host.old host.new) }
-    ensures output { H.outside.output host.new ≡ H.outside.output host.old }
-{
-    match outcome {
-        Ok(()) => DONE,
-        Err(fault) => tell(alloc, &fault, host.errors()),
-    }
-}
-
 /// Does what is ordered, and tells the fault that it met, if there was one. Where the order names a file twice, that is told, and nothing is
 /// read, made or written.
 pub fn obey<H: Host, T: Threads + Wait + Clock + Sync>(
@@ -89,7 +80,7 @@ pub fn obey<H: Host, T: Threads + Wait + Clock + Sync>(
         Some(path) => refuse_twice(alloc, path, host),
         None => {
             let outcome = do_order(rt, alloc, order, host);
-            end(alloc, outcome, host)
+            tell_outcome(alloc, outcome, host)
         }
     }
 }

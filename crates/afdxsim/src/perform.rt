@@ -1,12 +1,11 @@
 //! The whole program: from its words to its status.
 ghost use Rattle.std.specs.Prelude.{◌≡◌, [], map};
-ghost use Rattle.afdxsim.specs.Telling.{IsStatus};
+ghost use Rattle.commands.specs.Telling.{IsStatus};
 ghost use Rattle.afdxsim.specs.Performing.{AnswersWords, NameTwice, Performs, TouchNoFile, found_in};
 
-use crate::answering::answer;
-use crate::host::Host;
 use crate::obeying::obey;
 use command_line::order;
+use commands::{Host, answer};
 use std::alloc::Global;
 use std::convert::AsStr;
 use std::sync::Wait;

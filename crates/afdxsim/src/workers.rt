@@ -9,21 +9,19 @@ ghost use Rattle.trace_tables.specs.Text.{tables_text};
 ghost use Rattle.seqsim.specs.Networks.{AreRowsOf};
 ghost use Rattle.worker_pool.specs.Outcomes.{CanWantWorkers};
 ghost use Rattle.worker_pool.specs.Runs.{IsJournalAsked};
-ghost use Rattle.afdxsim.specs.Ending.{Took};
-ghost use Rattle.afdxsim.specs.Progress.{HearsAsked};
-ghost use Rattle.afdxsim.specs.Sequencing.{IsTablesText};
-ghost use Rattle.afdxsim.specs.Workers.{fault_of_trace, IsFaultOfPool};
+ghost use Rattle.commands.specs.Ending.{Took};
+ghost use Rattle.commands.specs.Progress.{HearsAsked};
+ghost use Rattle.commands.specs.Sequencing.{IsTablesText};
+ghost use Rattle.afdxsim.specs.Workers.{IsFaultOfPool};
 
-use crate::fault::Fault;
-use crate::keeping::fault_of_file;
-use crate::progress::{Asked, Progress};
 use command_line::Run;
+use commands::{Asked, Fault, Progress};
 use network::Network;
 use std::alloc::Global;
 use std::sync::Wait;
 use std::thread::Threads;
 use std::time::Clock;
-use trace_tables::{SegmentFault, Sink, TraceFault};
+use trace_tables::Sink;
 use worker_pool::{Gate, Pace, Summary, Traced, run_summary, run_traced};
 
 /// A gate that is told of each message and does nothing.
@@ -52,7 +50,7 @@ pub fn pace_of(order: &Run) -> Pace
 
 /// What a run of the network by workers finds: its tables, and its steps where they are asked for. No rows are listed. Error output is told how
 /// far it is, where that is asked for.
-#[tactic(auto, using(crate::proofs::Running::tables_made, crate::proofs::Running::workers_gave_up))]
+#[tactic(auto, using(commands::proofs::Running::tables_made, crate::proofs::Running::workers_gave_up))]
 pub fn found_by_workers<E: Sink, T: Threads + Wait + Clock + Sync>(
     rt: &T,
     alloc: Global,
@@ -75,7 +73,7 @@ pub fn found_by_workers<E: Sink, T: Threads + Wait + Clock + Sync>(
 
 /// That run, where it writes its trace into this file, which is given back at the end of the run. What it has taken is then a beginning of the trace
 /// of the one-thread run, whatever became of its writing. Where the run itself is given up, the file is dropped.
-#[tactic(auto, using(crate::proofs::Running::tables_made, crate::proofs::Running::tracers_gave_up))]
+#[tactic(auto, using(commands::proofs::Running::tables_made, crate::proofs::Running::tracers_gave_up))]
 pub fn traced_by_workers<F: Sink + Drop + Send, E: Sink, T: Threads + Wait + Clock + Sync>(
     rt: &T,
     alloc: Global,
@@ -110,15 +108,4 @@ pub fn traced_by_workers<F: Sink + Drop + Send, E: Sink, T: Threads + Wait + Clo
     )?;
     progress.end();
     Ok(found)
-}
-
-/// Why a trace was not written into the file with this path, as a fault of the program.
-pub fn fault_of_trace<'a>(path: &'a str, why: TraceFault) -> Fault<'a>
-    ensures { result ≡ fault_of_trace path.entry why }
-{
-    match why {
-        TraceFault::Segment(SegmentFault::OutOfMemory) => Fault::OutOfMemory,
-        TraceFault::Segment(_) => Fault::Torn,
-        TraceFault::Out(why) => fault_of_file(path, why),
-    }
 }

@@ -1,5 +1,6 @@
 use Rattle.std.proofs.Common.{◌∙◌, ap}
-use Rattle.afdxsim.proofs.Ended.{done_there, err_then, fault_there}
+use Rattle.commands.proofs.Outcomes.{err_then, no_value, same_err}
+use Rattle.afdxsim.proofs.Ended.{done_there, fault_there}
 use Rattle.afdxsim.proofs.obeying.do_order.Goals as goal
 
 pub returns-clause-done : goal.returns-clause-done
@@ -15,3 +16,10 @@ returns-clause-fault g c =
 pub returns-clause-kept : goal.returns-clause-kept
 returns-clause-kept g c =
     err_then c.done_on.result c.done_on.ensures.kept (λ fault kept other. kept other ∙ ap g.H.Host.outside.output c.in_ok-network.ensures.host)
+
+pub returns-in_err-network-clause-done : goal.returns-in_err-network-clause-done
+returns-in_err-network-clause-done g c = no_value _ _ c.from_residual.result c.from_residual.ensures.1
+
+pub returns-in_err-network-clause-kept : goal.returns-in_err-network-clause-kept
+returns-in_err-network-clause-kept g c =
+    same_err _ c.from_residual.result c.in_err-network.field-0.0 c.from_residual.ensures.1 (λ other. c.network_of.ensures.output)

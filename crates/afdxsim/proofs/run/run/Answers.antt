@@ -1,10 +1,10 @@
-use Rattle.std.proofs.Common.{◌≡◌, ◌∙◌, List, ℕ, inl, inr, refl, sym, subst, true, false, option_map, string_bytes, is_some}
+use Rattle.std.proofs.Common.{◌∙◌, inl, inr, refl, sym, subst, true, option_map, string_bytes, is_some}
 use Rattle.worker_pool.specs.Runs.{IsJournalAsked}
 use Rattle.afdxsim.specs.Files.{LacksRun, LeavesRun}
-use Rattle.afdxsim.specs.Orders.{heard_host}
-use Rattle.afdxsim.proofs.Ended.{err_then, ok_then, same_err}
-use Rattle.afdxsim.proofs.Lacking.{lacks_steps, no_output}
-use Rattle.afdxsim.proofs.Leaving.{journal_written}
+use Rattle.commands.specs.Streams.{IsHeard, heard_host}
+use Rattle.commands.proofs.Lacking.{no_output}
+use Rattle.commands.proofs.Outcomes.{err_then, no_value, ok_then, same_err}
+use Rattle.afdxsim.proofs.Journals.{journal_written, lacks_steps}
 use Rattle.afdxsim.proofs.run.run.Goals as goal
 
 pub returns-in_err-found-clause-fault : goal.returns-in_err-found-clause-fault
@@ -82,3 +82,41 @@ returns-clause-left g c =
       ),
       (out, refl),
     ))
+
+pub returns-in_err-found-clause-tables : goal.returns-in_err-found-clause-tables
+returns-in_err-found-clause-tables g c = no_value _ _ c.from_residual.result c.from_residual.ensures.1
+
+pub returns-in_err-found-clause-left : goal.returns-in_err-found-clause-left
+returns-in_err-found-clause-left g c = no_value _ _ c.from_residual.result c.from_residual.ensures.1
+
+pub returns-in_err-found-clause-kept : goal.returns-in_err-found-clause-kept
+returns-in_err-found-clause-kept g c =
+    same_err _ c.from_residual.result c.in_err-found.field-0.0 c.from_residual.ensures.1 (λ other. c.simulate.ensures.output)
+
+pub returns-in_err-found-clause-heard : goal.returns-in_err-found-clause-heard
+returns-in_err-found-clause-heard g c = c.simulate.ensures.heard
+
+pub returns-in_err-keep_journal-clause-tables : goal.returns-in_err-keep_journal-clause-tables
+returns-in_err-keep_journal-clause-tables g c = no_value _ _ c.from_residual-in_err-keep_journal.result c.from_residual-in_err-keep_journal.ensures.1
+
+pub returns-in_err-keep_journal-clause-left : goal.returns-in_err-keep_journal-clause-left
+returns-in_err-keep_journal-clause-left g c = no_value _ _ c.from_residual-in_err-keep_journal.result c.from_residual-in_err-keep_journal.ensures.1
+
+pub returns-in_err-keep_journal-clause-kept : goal.returns-in_err-keep_journal-clause-kept
+returns-in_err-keep_journal-clause-kept g c =
+    same_err _ c.from_residual-in_err-keep_journal.result c.in_err-keep_journal.field-0.0 c.from_residual-in_err-keep_journal.ensures.1
+    (λ other. c.keep_journal.ensures.output ∙ c.simulate.ensures.output)
+
+pub returns-in_err-keep_journal-clause-heard : goal.returns-in_err-keep_journal-clause-heard
+returns-in_err-keep_journal-clause-heard g c = subst (IsHeard g.H.Host.outside c.args.host.now c.args.order.now.progress c.args.network.now) (sym c.keep_journal.ensures.quiet) c.simulate.ensures.heard
+
+pub returns-clause-kept : goal.returns-clause-kept
+returns-clause-kept g c =
+    err_then c.show_tables.result c.show_tables.ensures.kept (λ fault same other.
+    g.met.H.Host.lawful.output_stays c.keep_journal.new.host c.show_tables.new.output
+    ∙ (same other ∙ (c.output.ensures.value ∙ (c.keep_journal.ensures.output ∙ c.simulate.ensures.output))))
+
+pub returns-clause-heard : goal.returns-clause-heard
+returns-clause-heard g c =
+    subst (IsHeard g.H.Host.outside c.args.host.now c.args.order.now.progress c.args.network.now)
+    (sym (g.met.H.Host.lawful.errors_beside c.keep_journal.new.host c.show_tables.new.output ∙ c.keep_journal.ensures.quiet)) c.simulate.ensures.heard

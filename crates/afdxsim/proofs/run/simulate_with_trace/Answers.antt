@@ -2,14 +2,14 @@ use Rattle.std.proofs.Common.{◌≡◌, ◌∙◌, List, inr, Ok, Err, true, re
 use Rattle.vlink.specs.Letters.{Row}
 use Rattle.seqsim.specs.Networks.{AreRowsOf}
 use Rattle.trace_segments.specs.Words.{trace_text}
-use Rattle.afdxsim.specs.Ending.{Took}
+use Rattle.commands.specs.Ending.{Took}
 use Rattle.afdxsim.specs.Files.{LacksTrace}
-use Rattle.afdxsim.specs.Orders.{heard_host}
-use Rattle.afdxsim.specs.Sequencing.{IsTraceText}
-use Rattle.afdxsim.proofs.Ended.{at_err, at_ok}
-use Rattle.afdxsim.proofs.Heard.{begins_given, heard_beside, heard_given, makes_there}
-use Rattle.afdxsim.proofs.Lacking.{lacks_trace}
-use Rattle.afdxsim.proofs.Leaving.{written}
+use Rattle.commands.specs.Streams.{heard_host}
+use Rattle.commands.specs.Sequencing.{IsTraceText}
+use Rattle.commands.proofs.Outcomes.{at_err, at_ok, no_value}
+use Rattle.commands.proofs.Heard.{begins_given, heard_beside, heard_given, makes_there}
+use Rattle.commands.proofs.Lacking.{lacks_trace}
+use Rattle.commands.proofs.Leaving.{written}
 use Rattle.afdxsim.proofs.run.simulate_with_trace.Goals as goal
 
 pub returns-in_err-outcome-clause-heard : goal.returns-in_err-outcome-clause-heard
@@ -87,3 +87,28 @@ returns-in-Err-clause-fault g c =
     (c.in_ok-outcome.ensures.beginning rows.0 rows.1) c.in-Err.why
     (at_err _ found.written c.in-Err.why is c.in_ok-outcome.ensures.device)
     (at_err _ found.written c.in-Err.why is c.in_ok-outcome.ensures.kept)))
+
+pub returns-in_err-file-clause-text : goal.returns-in_err-file-clause-text
+returns-in_err-file-clause-text g c = no_value _ _ c.from_residual.result c.from_residual.ensures.1
+
+pub returns-in_err-file-clause-journal : goal.returns-in_err-file-clause-journal
+returns-in_err-file-clause-journal g c = no_value _ _ c.from_residual.result c.from_residual.ensures.1
+
+pub returns-in_err-file-clause-trace : goal.returns-in_err-file-clause-trace
+returns-in_err-file-clause-trace g c = no_value _ _ c.from_residual.result c.from_residual.ensures.1
+
+pub returns-in_err-outcome-clause-text : goal.returns-in_err-outcome-clause-text
+returns-in_err-outcome-clause-text g c = no_value _ _ c.from_residual-in_err-outcome.result c.from_residual-in_err-outcome.ensures.1
+
+pub returns-in_err-outcome-clause-journal : goal.returns-in_err-outcome-clause-journal
+returns-in_err-outcome-clause-journal g c = no_value _ _ c.from_residual-in_err-outcome.result c.from_residual-in_err-outcome.ensures.1
+
+pub returns-in_err-outcome-clause-trace : goal.returns-in_err-outcome-clause-trace
+returns-in_err-outcome-clause-trace g c = no_value _ _ c.from_residual-in_err-outcome.result c.from_residual-in_err-outcome.ensures.1
+
+pub returns-in_err-file-clause-output : goal.returns-in_err-file-clause-output
+returns-in_err-file-clause-output g c = c.make_file.ensures.output
+
+pub returns-in_err-outcome-clause-output : goal.returns-in_err-outcome-clause-output
+returns-in_err-outcome-clause-output g c =
+    g.met.H.Host.lawful.output_beside c.make_file.new.host c.traced_by_workers.new.errors ∙ c.make_file.ensures.output

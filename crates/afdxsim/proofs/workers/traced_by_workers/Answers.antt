@@ -1,5 +1,5 @@
 use Rattle.std.proofs.Common.{◌∙◌, rules}
-use Rattle.afdxsim.specs.MoreProgress.{one_behind_another}
+use Rattle.commands.specs.MoreProgress.{one_behind_another}
 use Rattle.afdxsim.proofs.workers.traced_by_workers.Goals as goal
 
 pub returns-clause-heard : goal.returns-clause-heard

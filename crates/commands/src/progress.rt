@@ -1,0 +1,190 @@
+//! Progress: error output is told how far a run is.
+//! On a terminal a line ends like any other, and the next one goes up into its place: so a fault behind it has a line of its own.
+ghost use Rattle.std.specs.Prelude.{◌≡◌, ◌⊎◌, ◌++◌, [], IfOk, OnOk, string_bytes};
+ghost use Rattle.commands.specs.Progress.{HearsAsked, IsProgressLine, progress_text, upwards};
+
+use crate::host::Host;
+use crate::pace_text::{pace_at_end, pace_so_far};
+use crate::telling::say;
+use actor_run::Watch;
+use std::alloc::{AllocError, Global};
+use std::time::{Clock, Instant};
+use trace_tables::Sink;
+use vlink::Time;
+
+const NS_PER_MS: u64 = 1_000_000;
+
+/// A line is told so long after the one before it, at the least.
+const MS_PER_LINE: u64 = 250;
+
+/// Whether progress is asked for, and whether error output is a terminal: there a line goes into the place of the one before it.
+#[derive(Clone, Copy)]
+pub struct Asked {
+    pub is_asked: bool,
+    pub is_terminal: bool,
+}
+
+/// What is asked of a host.
+pub fn asked_of<H: Host>(is_asked: bool, host: &H) -> Asked
+    ensures { result.is_asked ≡ is_asked }
+{
+    Asked {
+        is_asked,
+        is_terminal: host.is_terminal(),
+    }
+}
+
+/// Tells error output how far a run is, where that is asked for. Where the clock cannot be read, or memory for a line is refused, no line is
+/// told.
+#[derive(Drop)]
+pub struct Progress<'a, E: Sink, T: Clock> {
+    pub errors: &'a mut E,
+    clock: &'a T,
+    alloc: Global,
+    pub until: Time,
+    pub asked: Asked,
+    /// When the run began, where the clock tells it and progress is asked for.
+    start: Option<Instant>,
+    /// When the last line was told, in ms from the start.
+    told_ms: u64,
+    /// Whether a line was told.
+    has_told: bool,
+    events: u64,
+}
+
+impl<'a, E: Sink, T: Clock> Progress<'a, E, T> {
+    /// A run begins that ends at this moment, in ns. Nothing is told of it yet.
+    pub fn new(clock: &'a T, alloc: Global, until: Time, asked: Asked, errors: &'a mut E) -> Self
+        ensures same_reference { result.errors.ghost_name ≡ errors.entry.ghost_name }
+        ensures errors { result.errors.now ≡ errors.old }
+        ensures asked { result.asked.is_asked ≡ asked.is_asked }
+        ensures until { result.until ≡ until }
+    {
+        let start = if asked.is_asked {
+            Instant::now(clock).ok()
+        } else {
+            None
+        };
+        Progress {
+            errors,
+            clock,
+            alloc,
+            until,
+            asked,
+            start,
+            told_ms: 0,
+            has_told: false,
+            events: 0,
+        }
+    }
+
+    /// How long the run has gone on, in ms, where the clock tells it and progress is asked for.
+    fn elapsed_ms(&self) -> Option<u64> {
+        let elapsed = self.start?.elapsed(self.clock).ok()?;
+        u64::try_from(elapsed.as_millis()).ok()
+    }
+
+    /// Tells a line, where progress is asked for.
+    fn tell(&mut self, moment: Time, rest: &str)
+        ensures same_reference { self.new.errors.ghost_name ≡ self.old.errors.ghost_name }
+        ensures asked { self.new.asked.is_asked ≡ self.old.asked.is_asked }
+        ensures until { self.new.until ≡ self.old.until }
+        ensures heard { HearsAsked E.taken E.failures self.old.asked.is_asked self.old.until self.old.errors.now self.new.errors.now }
+    {
+        if !self.asked.is_asked {
+            return;
+        }
+        let is_over = self.asked.is_terminal && self.has_told;
+        let Ok(line) = line_of(self.alloc, self.until, moment, is_over, rest) else {
+            return;
+        };
+        say(line.as_str(), self.errors);
+        self.has_told = true;
+    }
+
+    /// Tells the last line: the run has come to its end.
+    pub fn end(&mut self)
+        ensures same_reference { self.new.errors.ghost_name ≡ self.old.errors.ghost_name }
+        ensures asked { self.new.asked.is_asked ≡ self.old.asked.is_asked }
+        ensures until { self.new.until ≡ self.old.until }
+        ensures heard { HearsAsked E.taken E.failures self.old.asked.is_asked self.old.until self.old.errors.now self.new.errors.now }
+    {
+        let rest = match self.elapsed_ms() {
+            Some(ms) => pace_at_end(self.alloc, self.events, ms),
+            None => Err(AllocError),
+        };
+        let until = self.until;
+        if let Ok(rest) = rest {
+            self.tell(until, rest.as_str());
+        }
+    }
+}
+
+/// The line of a run that ends at this moment, in ns: how far it is, and then the rest.
+fn line_of(
+    alloc: Global,
+    until: Time,
+    moment: Time,
+    is_over: bool,
+    rest: &str,
+) -> Result<String, AllocError>
+    ensures { IfOk result (λ line. IsProgressLine until (string_bytes line)) }
+{
+    let until_ms = until.ns() / NS_PER_MS;
+    let moment_ms = until_ms.min(moment.ns() / NS_PER_MS);
+    let mut line = String::from_str(alloc, front_of(is_over))?;
+    push_line(&mut line, moment_ms, until_ms, rest)?;
+    Ok(line)
+}
+
+/// What stands before a line: nothing, or what leads to the place of the line before it.
+fn front_of(is_over: bool) -> &'static str
+    ensures { (result.now ≡ []) ⊎ (result.now ≡ upwards) }
+{
+    if is_over { "\x1b[1A\x1b[2K" } else { "" }
+}
+
+/// So many ms of so many, and then the rest of the line.
+fn push_line(line: &mut String, moment_ms: u64, until_ms: u64, rest: &str) -> Result<(), AllocError>
+    ensures { OnOk result (string_bytes line.new ≡ string_bytes line.old ++ progress_text moment_ms until_ms rest.now) }
+{
+    write!(line, "afdxsim: {moment_ms}")?;
+    write!(line, " of {until_ms} ms")?;
+    line.push_str(rest)?;
+    line.push_str("\n")
+}
+
+impl<'a, E: Sink, T: Clock> Watch for Progress<'a, E, T> {
+    ghost use Rattle.std.specs.Prelude.{◌≡◌, ℕ, Bool};
+    ghost use Rattle.std.proofs.Common.{refl, subst, ◌∙◌};
+    ghost use Rattle.commands.specs.Progress.{HearsAsked};
+    ghost use Rattle.commands.specs.MoreProgress.{asked_none, asked_more};
+
+    ghost becomes = { λ old new. (new.errors.ghost_name ≡ old.errors.ghost_name) × (new.asked.is_asked ≡ old.asked.is_asked) × (new.until ≡ old.until)
+        × HearsAsked E.taken E.failures old.asked.is_asked old.until old.errors.now new.errors.now };
+
+    fn look(&mut self, moment: Time, events: u32) {
+        self.events = self.events.saturating_add(u64::from(events));
+        let Some(ms) = self.elapsed_ms() else {
+            return;
+        };
+        if ms < self.told_ms.saturating_add(MS_PER_LINE) {
+            return;
+        }
+        self.told_ms = ms;
+        if let Ok(rest) = pace_so_far(self.alloc, moment, self.until, self.events, ms) {
+            self.tell(moment, rest.as_str());
+        }
+    }
+
+    ghost stays = { λ w. (refl, refl, refl, asked_none E.taken E.failures w.until w.asked.is_asked w.errors.now) };
+
+    ghost goes_on = { λ a b c f g. (
+      g.0 ∙ f.0,
+      g.1 ∙ f.1,
+      g.2 ∙ f.2,
+      asked_more E.taken E.failures a.until a.asked.is_asked a.errors.now b.errors.now c.errors.now f.3
+          (subst (λ (asked : Bool). HearsAsked E.taken E.failures asked a.until b.errors.now c.errors.now) f.1
+          (subst (λ (until : ℕ). HearsAsked E.taken E.failures b.asked.is_asked until b.errors.now c.errors.now) f.2 g.3)),
+    ) };
+}
