@@ -1,23 +1,22 @@
 //! The test actor alone: in a one-thread run of one message, and as it handles messages and undoes them.
 ghost use Rattle.std.specs.Prelude.{◌<◌};
 
-use super::player::{actor, letter};
+use super::player::{actor, letter, tell, tell_number};
 use crate::Summing;
 use actor_run::{SimFault, Unwatched, run_actors};
 use process_queues::ProcFault;
 use reverse::{act_and_undo, actor_law, actor_rules_law};
 use std::alloc::Global;
-use std::fmt::Write;
 use vlink::{Body, Message, Time};
 
 // Tells how many rows the run of an actor with this counter gives, or why it is given up. It ends at 4 ns, so that nothing is sent.
-pub(crate) fn tell(alloc: Global, told: &mut String, counter: u64) -> Result<(), ProcFault> {
+pub(crate) fn tell_run(alloc: Global, told: &mut String, counter: u64) -> Result<(), ProcFault> {
     let mut actor = Summing::new(Time::of_known(4));
     actor.counter = counter;
     match rows(alloc, actor) {
-        Ok(rows) => Ok(write!(told, "{rows} ")?),
+        Ok(rows) => Ok(tell_number(told, rows as u64)),
         Err(SimFault::OutOfMemory) => Err(ProcFault::OutOfMemory),
-        Err(SimFault::Exhausted) => Ok(told.push_str("exhausted ")?),
+        Err(SimFault::Exhausted) => Ok(tell(told, "exhausted ")),
     }
 }
 
@@ -45,6 +44,8 @@ pub(crate) fn tell_back(alloc: Global, told: &mut String) -> Result<(), ProcFaul
     let mut actor = actor(0);
     let mut answers = Vec::new(alloc);
     act_and_undo(&mut actor, &[letter("10").message; 3], &mut answers)?;
-    write!(told, "{} {} {} ", answers.len(), actor.sum, actor.counter)?;
+    tell_number(told, answers.len() as u64);
+    tell_number(told, actor.sum);
+    tell_number(told, actor.counter);
     Ok(())
 }

@@ -2,45 +2,8 @@
 use super::player::{letter, moment, tell, tell_answer, two_numbers};
 use crate::Summing;
 use process_queues::{ProcFault, Process};
-use std::alloc::AllocError;
 use std::fmt::Write;
-use vlink::{GREATEST_NS, Letter, Message, Sign, Time};
-
-// What can be seen of a process: how many letters are in its tray and in its outbox, its oldest done event, the message that comes next, its
-// floor, how many events are committed, and how many more could be at the end.
-#[derive(Clone, Copy)]
-pub(crate) struct Seen {
-    tray: usize,
-    outbox: usize,
-    oldest: Option<Time>,
-    next: Option<Message>,
-    floor: Time,
-    committed: u64,
-    committable: usize,
-}
-
-pub(crate) fn look_at(process: &Process<Summing>) -> Seen {
-    Seen {
-        tray: process.tray_len(),
-        outbox: process.outbox().len(),
-        oldest: process.oldest(),
-        next: process.next(),
-        floor: process.floor(),
-        committed: process.committed(),
-        committable: process.committable(Time::of_known(GREATEST_NS), usize::MAX),
-    }
-}
-
-// Whether no change is to be seen.
-pub(crate) fn is_same(first: &Seen, second: &Seen) -> bool {
-    first.tray == second.tray
-        && first.outbox == second.outbox
-        && first.oldest == second.oldest
-        && first.next == second.next
-        && first.floor == second.floor
-        && first.committed == second.committed
-        && first.committable == second.committable
-}
+use vlink::{Letter, Message, Sign};
 
 // Tells what the call answers.
 pub(crate) fn tell_asked(
@@ -49,8 +12,7 @@ pub(crate) fn tell_asked(
     call: &str,
     rest: &str,
 ) -> Result<(), ProcFault> {
-    let answer = ask(process, call, rest)?;
-    tell_answer(told, answer)?;
+    tell_answer(told, ask(process, call, rest)?);
     Ok(())
 }
 
@@ -89,16 +51,13 @@ fn commit(process: &mut Process<Summing>, rest: &str) -> Result<Option<u64>, Pro
 }
 
 // Tells what a call answers that changes nothing.
-pub(crate) fn look(
-    process: &Process<Summing>,
-    told: &mut String,
-    call: &str,
-    rest: &str,
-) -> Result<(), AllocError> {
+pub(crate) fn look(process: &Process<Summing>, told: &mut String, call: &str, rest: &str) {
     match call {
         "outbox" => tell_letters(process.outbox(), told),
         "next" => tell_next(process.next(), told),
-        "count" => write!(told, "{} ", process.count(&letter(rest).message)),
+        "count" => {
+            let _ = write!(told, "{} ", process.count(&letter(rest).message));
+        }
         _ => tell_answer(told, number_of(process, call, rest)),
     }
 }
@@ -121,23 +80,23 @@ fn committable(process: &Process<Summing>, rest: &str) -> usize {
 }
 
 // The message that comes next: its moment and its sender.
-fn tell_next(next: Option<Message>, told: &mut String) -> Result<(), AllocError> {
-    match next {
-        Some(message) => write!(told, "{}@{} ", message.time.ns(), message.sender),
-        None => tell(told, "none "),
+fn tell_next(next: Option<Message>, told: &mut String) {
+    if let Some(message) = next {
+        let _ = write!(told, "{}@{} ", message.time.ns(), message.sender);
+    } else {
+        tell(told, "none ");
     }
 }
 
-fn tell_letters(letters: &[Letter], told: &mut String) -> Result<(), AllocError> {
+fn tell_letters(letters: &[Letter], told: &mut String) {
     for letter in letters {
-        tell_letter(letter, told)?;
+        tell_letter(letter, told);
     }
-    Ok(())
 }
 
 // The letter as it is written: its sign, its moment and its number.
-pub(crate) fn tell_letter(letter: &Letter, told: &mut String) -> Result<(), AllocError> {
-    let sign = if letter.sign == Sign::Plus { '+' } else { '-' };
-    let message = letter.message;
-    write!(told, "{sign}{}.{} ", message.time.ns(), message.number)
+pub(crate) fn tell_letter(letter: &Letter, told: &mut String) {
+    tell(told, if letter.sign == Sign::Plus { "+" } else { "-" });
+    let (ns, number) = (letter.message.time.ns(), letter.message.number);
+    let _ = write!(told, "{ns}.{number} ");
 }

@@ -9,33 +9,27 @@
 //! `C`: an event was committed.
 use super::player::{moment, number, split_at_colon, tell, tell_number, tell_refused};
 use crate::Passing;
-use hand::{Did, Hand, HandFault, Words};
-use std::alloc::{AllocError, Global};
+use hand::{Did, Hand, HandFault};
+use std::alloc::Global;
 use std::fmt::Write;
+use std::mem::forget;
 use vlink::{LATEST_NS, Letter, Message, Row, Sign, Time};
 
 // How many processes letters can be for.
 const PROCESSES: u16 = 5;
 
-// What the words of the script tell, one after another.
-pub(crate) fn play(rt: &HostRuntime, script: &str, told: &mut String) -> Result<(), HandFault> {
+// What the words of the script tell, one after another. The answer is whether there was memory to begin.
+pub(crate) fn play(rt: &HostRuntime, script: &str, told: &mut String) -> bool {
     let (opening, words) = script.split_once(' ').unwrap_or((script, ""));
     let (_, members) = split_at_colon(opening);
     match open(rt.alloc(), number(members)) {
-        Ok(hand) => play_on(rt, hand, told, words),
-        Err(fault) => Err(fault),
+        Ok(mut hand) => {
+            play_words(rt, &mut hand, told, words);
+            forget(hand);
+            true
+        }
+        Err(_) => false,
     }
-}
-
-fn play_on(
-    rt: &HostRuntime,
-    mut hand: Hand<Passing>,
-    told: &mut String,
-    words: &str,
-) -> Result<(), HandFault> {
-    let played = play_words(rt, &mut hand, told, words);
-    drop(hand);
-    played
 }
 
 // A group of the first processes, so many.
@@ -62,49 +56,28 @@ fn member(process: u16, count: u64) -> Option<Passing> {
     }
 }
 
-fn play_words(
-    rt: &HostRuntime,
-    hand: &mut Hand<Passing>,
-    told: &mut String,
-    words: &str,
-) -> Result<(), HandFault> {
+fn play_words(rt: &HostRuntime, hand: &mut Hand<Passing>, told: &mut String, words: &str) {
     let mut steps = 0;
     for word in words.split_whitespace() {
-        play_word(rt, hand, &mut steps, told, word)?;
+        play_word(rt, hand, told, word);
+        look(hand, told, word, steps);
+        tell_block(rt.alloc(), hand, &mut steps, told);
     }
-    Ok(())
 }
 
-// Does what one word says, where all blocks so far stood for so many steps. Where that was refused memory, it is done again: a refused call stopped
-// between two words of its block. `tools/refuse_memory.py` counts the words that were refused memory.
-fn play_word(
-    rt: &HostRuntime,
-    hand: &mut Hand<Passing>,
-    steps: &mut u64,
-    told: &mut String,
-    word: &str,
-) -> Result<(), HandFault> {
-    match act(rt.alloc(), hand, steps, told, word) {
-        Err(HandFault::Exhausted) => Ok(tell(told, "exhausted ")?),
+// Does the steps of a word. Where that was refused memory, it is done again: a refused call stopped between two words of its block.
+// `tools/refuse_memory.py` counts the words that were refused memory.
+fn play_word(rt: &HostRuntime, hand: &mut Hand<Passing>, told: &mut String, word: &str) {
+    match do_steps(hand, told, word) {
+        Ok(()) => {}
+        Err(HandFault::Exhausted) => tell(told, "exhausted "),
         Err(HandFault::OutOfMemory) => {
             tell_refused(rt, word);
-            act(rt.alloc(), hand, steps, told, word)
+            if do_steps(hand, told, word).is_err() {
+                tell(told, "refused ");
+            }
         }
-        done => done,
     }
-}
-
-// A word, and what was done.
-fn act(
-    alloc: Global,
-    hand: &mut Hand<Passing>,
-    steps: &mut u64,
-    told: &mut String,
-    word: &str,
-) -> Result<(), HandFault> {
-    do_steps(hand, told, word)?;
-    look(hand, told, word, *steps)?;
-    tell_block(alloc, hand, steps, told)
 }
 
 // A letter, or a call that does steps.
@@ -123,7 +96,8 @@ fn do_steps(hand: &mut Hand<Passing>, told: &mut String, word: &str) -> Result<(
 
 // Whether the first message was handled, or counts beside.
 fn tell_run(ran: Result<bool, HandFault>, told: &mut String) -> Result<(), HandFault> {
-    Ok(tell(told, if ran? { "ran " } else { "idle " })?)
+    tell(told, if ran? { "ran " } else { "idle " });
+    Ok(())
 }
 
 // A letter comes to a member, if it is for one.
@@ -138,13 +112,8 @@ fn deliver(hand: &mut Hand<Passing>, word: &str) -> Result<(), HandFault> {
     hand.deliver(letter)
 }
 
-// What the word tells of the group once its steps are done.
-fn look(
-    hand: &mut Hand<Passing>,
-    told: &mut String,
-    word: &str,
-    steps: u64,
-) -> Result<(), AllocError> {
+// What the word tells of the group once its steps are done, where all blocks so far stood for so many steps.
+fn look(hand: &mut Hand<Passing>, told: &mut String, word: &str, steps: u64) {
     let (call, rest) = split_at_colon(word);
     match call {
         "steps" => tell_number(told, steps),
@@ -154,47 +123,40 @@ fn look(
         "abroad" => tell_abroad(hand, told),
         "rows" => tell_rows(hand.rows(), told),
         "states" => tell_states(hand.members(), told),
-        _ => Ok(()),
+        _ => {}
     }
 }
 
 // The words of the block, which ends.
-fn tell_block(
-    alloc: Global,
-    hand: &mut Hand<Passing>,
-    steps: &mut u64,
-    told: &mut String,
-) -> Result<(), HandFault> {
+fn tell_block(alloc: Global, hand: &mut Hand<Passing>, steps: &mut u64, told: &mut String) {
     let block = hand.next_block(alloc);
     *steps = steps.saturating_add(block.steps());
-    let words = tell_words(&block, told);
-    drop(block);
-    words
-}
-
-fn tell_words(block: &Words, told: &mut String) -> Result<(), HandFault> {
     if block.keeps() {
-        for did in block.list() {
-            tell_did(*did, told)?;
-        }
+        tell_words(block.list(), told);
     }
-    tell(told, ". ")?;
-    Ok(())
+    tell(told, ". ");
 }
 
-fn tell_did(did: Did, told: &mut String) -> Result<(), AllocError> {
+fn tell_words(words: &[Did], told: &mut String) {
+    for did in words {
+        tell_did(*did, told);
+    }
+}
+
+fn tell_did(did: Did, told: &mut String) {
     let (letter, process) = match did {
-        Did::Ran { process } => ('R', process),
-        Did::Home { process } => ('H', process),
-        Did::Taken { process } => ('T', process),
-        Did::Arrived { process } => ('A', process),
-        Did::Committed { process } => ('C', process),
+        Did::Ran { process } => ("R", process),
+        Did::Home { process } => ("H", process),
+        Did::Taken { process } => ("T", process),
+        Did::Arrived { process } => ("A", process),
+        Did::Committed { process } => ("C", process),
     };
-    write!(told, "{letter}{process} ")
+    tell(told, letter);
+    tell_number(told, u64::from(process));
 }
 
 // The first message of the queue.
-fn tell_next(next: Option<Message>, told: &mut String) -> Result<(), AllocError> {
+fn tell_next(next: Option<Message>, told: &mut String) {
     match next {
         Some(message) => tell_message(&message, told),
         None => tell(told, "none "),
@@ -202,56 +164,51 @@ fn tell_next(next: Option<Message>, told: &mut String) -> Result<(), AllocError>
 }
 
 // Whether some event is done before the moment, and the oldest moment of one.
-fn tell_before(hand: &Hand<Passing>, told: &mut String, limit: Time) -> Result<(), AllocError> {
+fn tell_before(hand: &Hand<Passing>, told: &mut String, limit: Time) {
     let done = hand.is_done_before(limit);
-    tell(told, if done { "yes " } else { "no " })?;
+    tell(told, if done { "yes " } else { "no " });
     if hand.all_committed() {
         return tell(told, "none ");
     }
-    match hand.oldest() {
-        Some(oldest) => tell_number(told, oldest.ns()),
-        None => Ok(()),
+    if let Some(oldest) = hand.oldest() {
+        tell_number(told, oldest.ns());
     }
 }
 
 // The letters for others, which leave.
-fn tell_abroad(hand: &mut Hand<Passing>, told: &mut String) -> Result<(), AllocError> {
-    tell_letters(hand.letters_abroad(), told)?;
+fn tell_abroad(hand: &mut Hand<Passing>, told: &mut String) {
+    tell_letters(hand.letters_abroad(), told);
     hand.clear_abroad();
-    Ok(())
 }
 
-fn tell_letters(letters: &[Letter], told: &mut String) -> Result<(), AllocError> {
+fn tell_letters(letters: &[Letter], told: &mut String) {
     for letter in letters {
-        tell(told, if letter.sign == Sign::Plus { "+" } else { "-" })?;
-        tell_message(&letter.message, told)?;
+        tell(told, if letter.sign == Sign::Plus { "+" } else { "-" });
+        tell_message(&letter.message, told);
     }
-    Ok(())
 }
 
 // The events whose rows are sealed.
-fn tell_rows(rows: &[Row], told: &mut String) -> Result<(), AllocError> {
+fn tell_rows(rows: &[Row], told: &mut String) {
     for row in rows {
-        tell_message(&row.message, told)?;
+        tell_message(&row.message, told);
     }
-    Ok(())
 }
 
 // The sum and the counter of each member.
-fn tell_states(members: &[Option<Passing>], told: &mut String) -> Result<(), AllocError> {
+fn tell_states(members: &[Option<Passing>], told: &mut String) {
     for member in members {
         if let Some(actor) = member {
-            write!(told, "{}.{} ", actor.sum, actor.counter)?;
+            let _ = write!(told, "{}.{} ", actor.sum, actor.counter);
         }
     }
-    Ok(())
 }
 
 // A message as its letter is written, without the sign.
-fn tell_message(message: &Message, told: &mut String) -> Result<(), AllocError> {
+fn tell_message(message: &Message, told: &mut String) {
     let (ns, receiver) = (message.time.ns(), message.receiver);
     let (sender, number) = (message.sender, message.number);
-    write!(told, "{ns}:{receiver}:{sender}:{number} ")
+    let _ = write!(told, "{ns}:{receiver}:{sender}:{number} ");
 }
 
 // The letter that is written so.

@@ -5,7 +5,7 @@ use crate::Summing;
 use antimessages::{Mail, OutOfMemory, Outbox};
 use gvt::Floors;
 use process_queues::{ProcFault, Process};
-use std::alloc::{AllocError, Global};
+use std::alloc::Global;
 use vlink::Letter;
 
 fn process_of(number: u64) -> u16 {
@@ -48,7 +48,7 @@ fn post_letter(mail: &mut Mail, outbox: &mut Outbox, letter: Letter) -> Result<(
     mail.post(outbox)
 }
 
-pub(crate) fn take(mail: &mut Mail, told: &mut String, rest: &str) -> Result<(), AllocError> {
+pub(crate) fn take(mail: &mut Mail, told: &mut String, rest: &str) {
     let (receiver, place) = two_numbers(rest);
     match mail.take(process_of(receiver), place as usize) {
         Some(letter) => tell_letter(&letter, told),

@@ -9,8 +9,9 @@ use crate::Summing;
 use antimessages::Mail;
 use gvt::Floors;
 use process_queues::{ProcFault, Process, sending_law};
-use std::alloc::{AllocError, Global};
+use std::alloc::Global;
 use std::fmt::Write;
+use std::mem::{forget, replace};
 use vlink::{LATEST_NS, Letter, Message, Sign, Time};
 
 // What a script acts on: a process, the mail and the floors of three.
@@ -21,23 +22,27 @@ pub(crate) struct Stage {
     pub(crate) floors: Floors,
 }
 
-// What the words of the script tell, one after another, and the sum and the counter of the actor once all is undone.
-pub(crate) fn play(rt: &HostRuntime, script: &str, told: &mut String) -> Result<(), ProcFault> {
+// What the words of the script tell, one after another, and the sum and the counter of the actor once all is undone. The answer is whether there
+// was memory to begin.
+pub(crate) fn play(rt: &HostRuntime, script: &str, told: &mut String) -> bool {
     match open(rt.alloc()) {
-        Ok(stage) => play_on(rt, stage, told, script),
-        Err(fault) => Err(fault),
+        Ok(stage) => {
+            play_on(rt, stage, told, script);
+            true
+        }
+        Err(_) => false,
     }
 }
 
-fn play_on(
-    rt: &HostRuntime,
-    mut stage: Stage,
-    told: &mut String,
-    script: &str,
-) -> Result<(), ProcFault> {
-    let played = play_words(rt, &mut stage, told, script);
-    let ended = tell_end(stage.process, told);
-    if played.is_err() { played } else { ended }
+fn play_on(rt: &HostRuntime, mut stage: Stage, told: &mut String, script: &str) {
+    play_words(rt, &mut stage, told, script);
+    tell_end(stage.process, told);
+}
+
+fn play_words(rt: &HostRuntime, stage: &mut Stage, told: &mut String, script: &str) {
+    for word in script.split_whitespace() {
+        play_word(rt, stage, told, word);
+    }
 }
 
 // Nothing done.
@@ -52,58 +57,25 @@ fn open(alloc: Global) -> Result<Stage, ProcFault> {
 }
 
 // The sum and the counter of the actor once all is undone.
-fn tell_end(process: Process<Summing>, told: &mut String) -> Result<(), ProcFault> {
+fn tell_end(process: Process<Summing>, told: &mut String) {
     sending_law::<Summing>();
     process.stands_law();
     let actor = process.undo_all();
-    write!(told, "sum {} counter {}", actor.sum, actor.counter)?;
-    Ok(())
+    let _ = write!(told, "sum {} counter {}", actor.sum, actor.counter);
 }
 
-fn play_words(
-    rt: &HostRuntime,
-    stage: &mut Stage,
-    told: &mut String,
-    script: &str,
-) -> Result<(), ProcFault> {
-    for word in script.split_whitespace() {
-        play_word(rt, stage, told, word)?;
+// Does what one word says. One that was refused memory is done again, but for `arrive?`: `tools/refuse_memory.py` counts those.
+fn play_word(rt: &HostRuntime, stage: &mut Stage, told: &mut String, word: &str) {
+    match act(rt.alloc(), stage, told, word) {
+        Ok(()) => {}
+        Err(ProcFault::Exhausted) => tell(told, "exhausted "),
+        Err(ProcFault::OutOfMemory) => {
+            tell_refused(rt, word);
+            if word == "arrive?" || act(rt.alloc(), stage, told, word).is_err() {
+                tell(told, "refused ");
+            }
+        }
     }
-    Ok(())
-}
-
-// Does what one word says. A word that is refused leaves the process as it was.
-fn play_word(
-    rt: &HostRuntime,
-    stage: &mut Stage,
-    told: &mut String,
-    word: &str,
-) -> Result<(), ProcFault> {
-    let before = asking::look_at(&stage.process);
-    let Err(fault) = act(rt.alloc(), stage, told, word) else {
-        return Ok(());
-    };
-    if !asking::is_same(&before, &asking::look_at(&stage.process)) {
-        tell(told, "changed ")?;
-    }
-    match fault {
-        ProcFault::Exhausted => Ok(tell(told, "exhausted ")?),
-        ProcFault::OutOfMemory => act_again(rt, stage, told, word),
-    }
-}
-
-// A word that was refused memory is done again, but for `arrive?`. `tools/refuse_memory.py` counts the words that were refused memory.
-fn act_again(
-    rt: &HostRuntime,
-    stage: &mut Stage,
-    told: &mut String,
-    word: &str,
-) -> Result<(), ProcFault> {
-    tell_refused(rt, word);
-    if word == "arrive?" {
-        return Ok(tell(told, "refused ")?);
-    }
-    act(rt.alloc(), stage, told, word)
 }
 
 // The line of a word that was refused memory.
@@ -121,49 +93,64 @@ pub(crate) fn split_at_colon(word: &str) -> (&str, &str) {
 fn act(alloc: Global, stage: &mut Stage, told: &mut String, word: &str) -> Result<(), ProcFault> {
     let (call, rest) = split_at_colon(word);
     match call {
-        "counter" => set_counter(alloc, stage, number(rest)),
-        "reserve_letters" => stage.process.reserve_letters(number(rest) as usize),
-        "reserve_rows" => stage.process.reserve_rows(number(rest) as usize),
-        "post" | "reserve_post" => mailing::post(&mut stage.process, &mut stage.mail, call),
-        "send" => mailing::send(alloc, &mut stage.mail, rest),
-        "alone" => alone::tell(alloc, told, number(rest)),
-        "back" => alone::tell_back(alloc, told),
         "arrive" | "arrive?" | "run" | "seal" | "commit" => {
             asking::tell_asked(&mut stage.process, told, call, rest)
         }
+        "post" | "reserve_post" => mailing::post(&mut stage.process, &mut stage.mail, call),
+        "send" => mailing::send(alloc, &mut stage.mail, rest),
         _ if word.starts_with('+') || word.starts_with('-') => stage.process.deliver(letter(word)),
-        _ => Ok(look(stage, told, call, rest)?),
+        _ => act_beside(alloc, stage, told, call, rest),
+    }
+}
+
+// The words that few scripts have, and those that tell what can be seen.
+fn act_beside(
+    alloc: Global,
+    stage: &mut Stage,
+    told: &mut String,
+    call: &str,
+    rest: &str,
+) -> Result<(), ProcFault> {
+    match call {
+        "counter" => set_counter(alloc, stage, number(rest)),
+        "reserve_letters" => stage.process.reserve_letters(number(rest) as usize),
+        "reserve_rows" => stage.process.reserve_rows(number(rest) as usize),
+        "alone" => alone::tell_run(alloc, told, number(rest)),
+        "back" => alone::tell_back(alloc, told),
+        _ => {
+            look(stage, told, call, rest);
+            Ok(())
+        }
     }
 }
 
 // A process of an actor with this counter.
 fn set_counter(alloc: Global, stage: &mut Stage, counter: u64) -> Result<(), ProcFault> {
-    stage.process = Process::new(alloc, actor(counter))?;
+    let process = Process::new(alloc, actor(counter))?;
+    forget(replace(&mut stage.process, process));
     Ok(())
 }
 
 // A word that nothing refuses.
-fn look(stage: &mut Stage, told: &mut String, call: &str, rest: &str) -> Result<(), AllocError> {
+fn look(stage: &mut Stage, told: &mut String, call: &str, rest: &str) {
     match call {
         "take" => mailing::take(&mut stage.mail, told, rest),
-        "set" | "lower" => {
-            mailing::put(&mut stage.floors, call, rest);
-            Ok(())
-        }
+        "set" | "lower" => mailing::put(&mut stage.floors, call, rest),
         "horizon" => tell_number(told, gvt::horizon(&stage.floors, &stage.mail).ns()),
         _ => asking::look(&stage.process, told, call, rest),
     }
 }
 
-pub(crate) fn tell(told: &mut String, text: &str) -> Result<(), AllocError> {
-    told.push_str(text)
+// What finds no room is not told, and then the row is wrong.
+pub(crate) fn tell(told: &mut String, text: &str) {
+    let _ = told.push_str(text);
 }
 
-pub(crate) fn tell_number(told: &mut String, number: u64) -> Result<(), AllocError> {
-    write!(told, "{number} ")
+pub(crate) fn tell_number(told: &mut String, number: u64) {
+    let _ = write!(told, "{number} ");
 }
 
-pub(crate) fn tell_answer(told: &mut String, answer: Option<u64>) -> Result<(), AllocError> {
+pub(crate) fn tell_answer(told: &mut String, answer: Option<u64>) {
     match answer {
         Some(number) => tell_number(told, number),
         None => tell(told, "none "),
