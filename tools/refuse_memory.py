@@ -15,9 +15,9 @@ for ever. Where a trace is written some 80 requests more are refused: for the se
 their text, and the channel to the writer's thread.
 
 Tests that are made for it are run so too, and have to pass: the scripts of processes (crate `sample_actor`) and those of the
-calls of an exchange (crate `element_rows`). There a call that is refused has to leave all as it was, but for `work`, which leaves
-what was done, and to answer as ever when it is made again. The tests tell which calls were refused, and each of those that
-are named below has to be.
+calls of an exchange (crate `element_rows`). There a call that is refused is made again, and then has to answer as ever; so has what
+comes behind it. `work` goes on with what its first try left. The tests tell which calls were refused, and each of those that are
+named below has to be.
 
 A line for each command and each test tells how many requests were refused. The status is 0 where each run was as it has to
 be, 1 where not, and 2 where nothing could be run. It needs the programs that `rt ci` leaves in out/, and a C compiler, `cc`
@@ -121,9 +121,8 @@ COMMANDS = (
     Command("seq unknown.toml", "", "afdxsim: description: 5 UnknownName at top\n", {}, (NO_MEMORY,), 3),
 )
 
-# A test: its program, its name, and how often each of these calls has to be refused in it, at least. The test of the
-# exchange makes networks and exchanges too: where these are refused memory, it ends.
-Test = namedtuple("Test", "crate name calls may_end")
+# A test: its program, its name, and how often each of these calls has to be refused in it, at least.
+Test = namedtuple("Test", "crate name calls")
 
 TESTS = (
     # Each of the six lines with an arrival `arrive?`, of which a refusal is told, is refused at least once.
@@ -131,18 +130,13 @@ TESTS = (
         "sample_actor",
         "tests::scripts_tell_what_their_lines_say",
         {"deliver": 1, "arrive": 1, "arrive?": 6, "run": 1, "commit": 1, "post": 1},
-        False,
     ),
     Test(
         "element_rows",
         "tests::an_exchange_does_what_scripts_say",
         {"collect": 1, "work": 1, "post": 1, "publish": 1},
-        True,
     ),
 )
-
-# How a test ends that makes nothing of a refusal.
-NOTHING_MADE = re.compile(r"error: (?:AllocError|OutOfMemory)\nthe test failed: its result gives status 1\n")
 
 # How a run ended: its status, both streams, the files that are there, and how many requests it made (None where it was
 # killed).
@@ -222,11 +216,9 @@ def fault_of_command(command, found, is_replayed):
     return None
 
 
-def fault_of_test(test, found):
+def fault_of_test(found):
     """What is wrong with how a test ended, or None."""
     if found.status == 0 and found.output.rstrip().endswith("test result: ok"):
-        return None
-    if test.may_end and NOTHING_MADE.fullmatch(found.errors):
         return None
     return f"status {found.status} and {found.errors.strip()!r}"
 
@@ -283,7 +275,7 @@ def refuse_command(program, command, folder, library):
 def refuse_test(program, test, folder, library):
     """Refuses each request of a test, and says how that went. Whether it went well."""
     refused, _, calls, faults = refuse_each(
-        lambda place: ended(program, [test.name], folder, library, place), lambda found: fault_of_test(test, found)
+        lambda place: ended(program, [test.name], folder, library, place), fault_of_test
     )
     faults += [f"{call} was refused {calls[call]} times" for call, least in test.calls.items() if calls[call] < least]
     ways = ", ".join(f"{call} {calls[call]}" for call in sorted(calls))

@@ -1,16 +1,14 @@
 //! The account of a virtual link in hand: `BYTES@NS`, a frame that comes.
 use crate::tests::playing::Played;
-use crate::tests::words::{moment, numbers, size};
+use crate::tests::words::{moment_at, size_at, tell, tell_number};
 use policer::{Account, Arrival, Verdict};
-use std::alloc::AllocError;
 use std::fmt::Write;
 
 impl Played for Account {
     fn event(word: &str) -> Arrival {
-        let [bytes, ns, ..] = numbers(word);
         Arrival {
-            at: moment(ns),
-            size: size(bytes),
+            at: moment_at(word, 1),
+            size: size_at(word, 0),
         }
     }
 
@@ -18,13 +16,18 @@ impl Played for Account {
         true
     }
 
-    fn tell_answer(answer: &Verdict, told: &mut String) -> Result<(), AllocError> {
-        write!(told, "{answer:?} ")
+    fn tell_answer(answer: &Verdict, told: &mut String) {
+        let _ = write!(told, "{answer:?} ");
     }
 
     // The level, the cap, and the moment of the last frame.
-    fn tell_state(&self, told: &mut String) -> Result<(), AllocError> {
-        let (level, cap, ns) = (self.level(), self.cap(), self.last().ns());
-        write!(told, " ({level}/{cap}@{ns})")
+    fn tell_state(&self, told: &mut String) {
+        tell(told, " (");
+        tell_number(told, self.level());
+        tell(told, "/");
+        tell_number(told, self.cap());
+        tell(told, "@");
+        tell_number(told, self.last().ns());
+        tell(told, ")");
     }
 }

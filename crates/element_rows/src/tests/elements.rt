@@ -1,13 +1,13 @@
 //! Rows of elements in hand.
-use crate::tests::node_rows;
-use crate::tests::playing::told_by;
-use crate::tests::words::{byte, long, numbers, size};
+use crate::tests::playing::play_script;
+use crate::tests::words::{byte_at, long_at, number_at, size_at, tell};
 use bag_regulator::BagRegulator;
 use integrity::Integrity;
 use output_port::Port;
 use policer::{Account, Measure};
 use redundancy::Redundancy;
-use std::alloc::{AllocError, Global};
+use std::alloc::Global;
+use std::mem::forget;
 
 // An element with its fixed numbers, and the events that it is given; then its answers, the state that it comes to, and the states to
 // which undoing the events leads back, one after another, up to the first.
@@ -15,12 +15,12 @@ use std::alloc::{AllocError, Global};
 // A regulator has its BAG in ns, its depth and its sub-virtual links, an account the greatest frame in bytes, BAG and jitter in ns, and
 // behind them `frames` where it counts frames, redundancy management the greatest skew in ns, a port its bytes.
 pub const ROWS: &str = "\
-regulator 1000000 2 1, offer@0 offer@10 offer@20 offer@30 => Released 0:0:0 Kept, release@1000000 Kept Dropped | (1 Some(0)) (1 Some(0)) (1 Some(0)) (1 Some(0)) (0 None)
-regulator 1000000 2 1, offer@0 offer@10 offer@20 release@999999 release@1000000 release@2000000 => Released 0:0:0 Kept, release@1000000 Kept Nothing Released 1:10:1000000, release@2000000 Released 2:20:2000000 | (3 Some(2000000)) (2 Some(1000000)) (1 Some(0)) (1 Some(0)) (1 Some(0)) (1 Some(0)) (0 None)
-regulator 1000000 0 1, offer@0 offer@10 => Released 0:0:0 Dropped | (1 Some(0)) (1 Some(0)) (0 None)
-regulator 1000000 16385 1, offer@0 offer@10 => Released 0:0:0 Kept, release@1000000 | (1 Some(0)) (1 Some(0)) (0 None)
-regulator 1000000 2 1, offer@0:1 => Dropped | (0 None) (0 None)
-regulator 1000000 2 2, offer@0:0 offer@10:1 offer@20:0 offer@30:0 offer@40:0 release@1000000 release@2000000 release@3000000 => Released 0:0:0 Kept, release@1000000 Kept Kept Dropped Released 1:10:1000000, release@2000000 Released 2:20:2000000, release@3000000 Released 3:30:3000000 | (4 Some(3000000)) (3 Some(2000000)) (2 Some(1000000)) (1 Some(0)) (1 Some(0)) (1 Some(0)) (1 Some(0)) (1 Some(0)) (0 None)
+regulator 1000000 2 1, offer@0 offer@10 offer@20 offer@30 => Released 0:0:0 Kept, release@1000000 Kept Dropped | (1 after 0) (1 after 0) (1 after 0) (1 after 0) (0)
+regulator 1000000 2 1, offer@0 offer@10 offer@20 release@999999 release@1000000 release@2000000 => Released 0:0:0 Kept, release@1000000 Kept Nothing Released 1:10:1000000, release@2000000 Released 2:20:2000000 | (3 after 2000000) (2 after 1000000) (1 after 0) (1 after 0) (1 after 0) (1 after 0) (0)
+regulator 1000000 0 1, offer@0 offer@10 => Released 0:0:0 Dropped | (1 after 0) (1 after 0) (0)
+regulator 1000000 16385 1, offer@0 offer@10 => Released 0:0:0 Kept, release@1000000 | (1 after 0) (1 after 0) (0)
+regulator 1000000 2 1, offer@0:1 => Dropped | (0) (0)
+regulator 1000000 2 2, offer@0:0 offer@10:1 offer@20:0 offer@30:0 offer@40:0 release@1000000 release@2000000 release@3000000 => Released 0:0:0 Kept, release@1000000 Kept Kept Dropped Released 1:10:1000000, release@2000000 Released 2:20:2000000, release@3000000 Released 3:30:3000000 | (4 after 3000000) (3 after 2000000) (2 after 1000000) (1 after 0) (1 after 0) (1 after 0) (1 after 0) (1 after 0) (0)
 account 100 1000000 0, 100@0 100@999999 100@1000000 => Passed Refused Passed | (0/100000000@1000000) (99999900/100000000@999999) (0/100000000@0) (100000000/100000000@0)
 account 100 1000000 0, 64@0 100@540000 100@0 64@10000000 => Passed Refused Refused Passed | (36000000/100000000@10000000) (90000000/100000000@0) (90000000/100000000@540000) (36000000/100000000@0) (100000000/100000000@0)
 account 100 1000000 0, 64@0 64@140000 64@100 64@40 => Passed Refused Refused Refused | (50000000/100000000@40) (50000000/100000000@100) (50000000/100000000@140000) (36000000/100000000@0) (100000000/100000000@0)
@@ -31,19 +31,19 @@ account 1518 128000000 1000000000, 1518@0 1518@1000000000000001 => Passed Passed
 account 1518 0 0, => none
 account 1518 128000001 0, => none
 account 1518 1000000 1000000001, => none
-integrity, => | None
-integrity, 254 255 => Passed Passed | Some(255) Some(254) None
-integrity, 254 1 => Passed Passed | Some(1) Some(254) None
-integrity, 254 2 => Passed Refused | Some(2) Some(254) None
-integrity, 254 0 => Passed Passed | Some(0) Some(254) None
-integrity, 255 1 => Passed Passed | Some(1) Some(255) None
-integrity, 255 2 => Passed Passed | Some(2) Some(255) None
-integrity, 255 0 => Passed Passed | Some(0) Some(255) None
-integrity, 255 3 => Passed Refused | Some(3) Some(255) None
-integrity, 255 255 => Passed Refused | Some(255) Some(255) None
-integrity, 0 1 => Passed Passed | Some(1) Some(0) None
-integrity, 0 2 => Passed Passed | Some(2) Some(0) None
-integrity, 0 255 => Passed Refused | Some(255) Some(0) None
+integrity, => | none
+integrity, 254 255 => Passed Passed | 255 254 none
+integrity, 254 1 => Passed Passed | 1 254 none
+integrity, 254 2 => Passed Refused | 2 254 none
+integrity, 254 0 => Passed Passed | 0 254 none
+integrity, 255 1 => Passed Passed | 1 255 none
+integrity, 255 2 => Passed Passed | 2 255 none
+integrity, 255 0 => Passed Passed | 0 255 none
+integrity, 255 3 => Passed Refused | 3 255 none
+integrity, 255 255 => Passed Refused | 255 255 none
+integrity, 0 1 => Passed Passed | 1 0 none
+integrity, 0 2 => Passed Passed | 2 0 none
+integrity, 0 255 => Passed Refused | 255 0 none
 redundancy 0, => | none
 redundancy 1000000000, => | none
 redundancy 1000000001, => none
@@ -64,52 +64,48 @@ port 100, low:1:64 high:2:80 free free free => Started 1 for 6720 Kept Started 2
 port 0, low:1:64 low:2:64 => Started 1 for 6720 Dropped | (busy 0) (busy 0) (idle 0)
 port 1048576, low:1:64 low:2:1518 => Started 1 for 6720 Kept | (busy 1518) (busy 0) (idle 0)";
 
-// What the element that is opened so tells of the script, `none` where its numbers are beyond the limits; or what a node does.
-pub fn tells(alloc: Global, opening: &str, script: &str) -> Result<String, AllocError> {
-    let (label, written) = opening.split_once(' ').unwrap_or((opening, ""));
-    let fixed = numbers(written);
+// What the element that is opened so tells of the script, `none` where its numbers are beyond the limits.
+pub fn tell_element(alloc: Global, label: &str, fixed: &str, script: &str, told: &mut String) {
     match label {
-        "regulator" => of_regulator(alloc, fixed, script),
-        "account" => of_account(alloc, measure_in(written), fixed, script),
-        "integrity" => told_by(alloc, Integrity::default(), script),
-        "redundancy" => of_redundancy(alloc, fixed, script),
-        "port" => told_by(alloc, Port::new(alloc, long(fixed[0]))?, script),
-        _ => node_rows::tells(alloc, opening, script),
+        "regulator" => play_regulator(alloc, fixed, script, told),
+        "account" => play_account(alloc, fixed, script, told),
+        "integrity" => play_script(alloc, &mut Integrity::default(), script, told),
+        "redundancy" => play_redundancy(alloc, fixed, script, told),
+        _ => play_port(alloc, fixed, script, told),
     }
 }
 
-fn of_regulator(alloc: Global, fixed: [u64; 8], script: &str) -> Result<String, AllocError> {
-    let [bag_ns, depth, subs, ..] = fixed;
-    let regulator = BagRegulator::new(alloc, long(bag_ns), long(depth), byte(subs))?;
-    told_by(alloc, regulator, script)
+fn play_regulator(alloc: Global, fixed: &str, script: &str, told: &mut String) {
+    let (bag_ns, depth) = (long_at(fixed, 0), long_at(fixed, 1));
+    if let Ok(mut regulator) = BagRegulator::new(alloc, bag_ns, depth, byte_at(fixed, 2)) {
+        play_script(alloc, &mut regulator, script, told);
+        forget(regulator);
+    }
 }
 
-// What an account counts that is written so.
-fn measure_in(written: &str) -> Measure {
-    if written.ends_with(" frames") {
+fn play_account(alloc: Global, fixed: &str, script: &str, told: &mut String) {
+    let (smax, bag_ns, jitter_ns) = (size_at(fixed, 0), number_at(fixed, 1), number_at(fixed, 2));
+    let measure = if fixed.ends_with("frames") {
         Measure::Frames
     } else {
         Measure::Bytes
+    };
+    match Account::new(smax, bag_ns, jitter_ns, measure) {
+        Some(mut account) => play_script(alloc, &mut account, script, told),
+        None => tell(told, "none"),
     }
 }
 
-fn of_account(
-    alloc: Global,
-    measure: Measure,
-    fixed: [u64; 8],
-    script: &str,
-) -> Result<String, AllocError> {
-    let [smax, bag_ns, jitter_ns, ..] = fixed;
-    match Account::new(size(smax), bag_ns, jitter_ns, measure) {
-        Some(account) => told_by(alloc, account, script),
-        None => String::from_str(alloc, "none"),
+fn play_redundancy(alloc: Global, fixed: &str, script: &str, told: &mut String) {
+    match Redundancy::new(number_at(fixed, 0)) {
+        Some(mut redundancy) => play_script(alloc, &mut redundancy, script, told),
+        None => tell(told, "none"),
     }
 }
 
-fn of_redundancy(alloc: Global, fixed: [u64; 8], script: &str) -> Result<String, AllocError> {
-    let [skew_ns, ..] = fixed;
-    match Redundancy::new(skew_ns) {
-        Some(redundancy) => told_by(alloc, redundancy, script),
-        None => String::from_str(alloc, "none"),
+fn play_port(alloc: Global, fixed: &str, script: &str, told: &mut String) {
+    if let Ok(mut port) = Port::new(alloc, long_at(fixed, 0)) {
+        play_script(alloc, &mut port, script, told);
+        forget(port);
     }
 }

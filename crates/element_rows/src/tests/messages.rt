@@ -1,54 +1,63 @@
 //! How rows write messages: `RECEIVER.SENDER.NUMBER/` and then one of `offer@NS:VL.BYTES.SUB`, `release@NS:VL`, `free@NS:PORT`,
 //! `arrive@NS:PORT:FRAME`, `enqueue@NS:PORT:FRAME` and `carry@NS:FRAME`. A frame is `VL.BYTES.NUMBER.NET.OFFERED.RELEASED`, with its moments
 //! in ns and 0 for network A. What is left out, in front or behind, is 0.
-use crate::tests::words::{byte, long, moment, numbers, short, size};
-use std::alloc::AllocError;
-use std::fmt::Write;
-use vlink::{Body, Frame, Message, Net, VlId};
+ghost use Rattle.std.specs.Prelude.{◌≤◌};
+
+use crate::tests::words::{
+    byte_at, long_at, moment_at, number_at, short_at, size_at, tell, tell_number, tell_numbers,
+};
+use vlink::{Body, Frame, FrameSize, Message, Net, VlId};
 
 pub fn message(word: &str) -> Message {
     let (head, event) = word.split_once('/').unwrap_or(("", word));
-    let [receiver, sender, number, ..] = numbers(head);
-    let (label, fields) = event.split_once('@').unwrap_or((event, ""));
-    let [ns, ..] = numbers(fields);
     Message {
-        time: moment(ns),
-        receiver: short(receiver),
-        sender: long(sender),
-        number,
-        body: body(label, fields),
+        time: moment_at(event, 1),
+        receiver: short_at(head, 0),
+        sender: long_at(head, 1),
+        number: number_at(head, 2),
+        body: body(event),
     }
 }
 
-fn body(label: &str, fields: &str) -> Body {
-    let [_, first, second, third, ..] = numbers(fields);
-    let (vl, port) = (VlId(short(first)), byte(first));
-    let frame = frame(fields);
+fn body(event: &str) -> Body {
+    let (label, _) = event.split_once('@').unwrap_or((event, ""));
     match label {
         "offer" => Body::Offer {
-            vl,
-            size: size(second),
-            sub: byte(third),
+            vl: VlId(short_at(event, 2)),
+            size: size_at(event, 3),
+            sub: byte_at(event, 4),
         },
-        "release" => Body::Release { vl },
-        "arrive" => Body::Arrive { port, frame },
-        "enqueue" => Body::Enqueue { port, frame },
-        "carry" => Body::Carry { frame },
-        _ => Body::PortFree { port },
+        "release" => Body::Release {
+            vl: VlId(short_at(event, 2)),
+        },
+        "arrive" => Body::Arrive {
+            port: byte_at(event, 2),
+            frame: frame(event, 3),
+        },
+        "enqueue" => Body::Enqueue {
+            port: byte_at(event, 2),
+            frame: frame(event, 3),
+        },
+        "carry" => Body::Carry {
+            frame: frame(event, 2),
+        },
+        _ => Body::PortFree {
+            port: byte_at(event, 2),
+        },
     }
 }
 
-// The frame behind the last colon.
-fn frame(fields: &str) -> Frame {
-    let (_, frame) = fields.rsplit_once(':').unwrap_or(("", ""));
-    let [vl, bytes, number, net, offered, released, ..] = numbers(frame);
+// The frame of which the numbers begin at this place.
+fn frame(event: &str, place: usize) -> Frame
+    requires { place ≤ 3 }
+{
     Frame {
-        vl: VlId(short(vl)),
-        number: byte(number),
-        net: net_of(net),
-        size: size(bytes),
-        offered: moment(offered),
-        released: moment(released),
+        vl: VlId(short_at(event, place)),
+        size: size_at(event, place + 1),
+        number: byte_at(event, place + 2),
+        net: net_of(number_at(event, place + 3)),
+        offered: moment_at(event, place + 4),
+        released: moment_at(event, place + 5),
     }
 }
 
@@ -56,11 +65,16 @@ fn net_of(number: u64) -> Net {
     if number == 0 { Net::A } else { Net::B }
 }
 
-pub fn tell_message(message: &Message, told: &mut String) -> Result<(), AllocError> {
-    let (receiver, sender, number) = (message.receiver, message.sender, message.number);
-    let (ns, label) = (message.time.ns(), label_of(&message.body));
-    write!(told, "{receiver}.{sender}.{number}/{label}@{ns}:")?;
-    tell_body(&message.body, told)
+pub fn tell_message(message: &Message, told: &mut String) {
+    let (receiver, sender) = (u64::from(message.receiver), u64::from(message.sender));
+    tell_numbers(told, &[receiver, sender, message.number]);
+    tell(told, "/");
+    tell(told, label_of(&message.body));
+    tell(told, "@");
+    tell_number(told, message.time.ns());
+    tell(told, ":");
+    tell_body(&message.body, told);
+    tell(told, " ");
 }
 
 fn label_of(body: &Body) -> &'static str {
@@ -74,23 +88,29 @@ fn label_of(body: &Body) -> &'static str {
     }
 }
 
-fn tell_body(body: &Body, told: &mut String) -> Result<(), AllocError> {
+fn tell_body(body: &Body, told: &mut String) {
     match *body {
-        Body::Offer { vl, size, sub } => {
-            let numbers = [u64::from(vl.0), u64::from(size.bytes()), u64::from(sub)];
-            tell_numbers(&numbers, told)
-        }
-        Body::Release { vl } => tell_numbers(&[u64::from(vl.0)], told),
-        Body::PortFree { port } => tell_numbers(&[u64::from(port)], told),
-        Body::Arrive { port, frame } | Body::Enqueue { port, frame } => {
-            write!(told, "{port}:")?;
-            tell_frame(&frame, told)
-        }
+        Body::Offer { vl, size, sub } => tell_offer(vl, size, sub, told),
+        Body::Release { vl } => tell_number(told, u64::from(vl.0)),
+        Body::PortFree { port } => tell_number(told, u64::from(port)),
+        Body::Arrive { port, frame } => tell_at_port(port, &frame, told),
+        Body::Enqueue { port, frame } => tell_at_port(port, &frame, told),
         Body::Carry { frame } => tell_frame(&frame, told),
     }
 }
 
-fn tell_frame(frame: &Frame, told: &mut String) -> Result<(), AllocError> {
+fn tell_offer(vl: VlId, size: FrameSize, sub: u8, told: &mut String) {
+    let (vl, bytes) = (u64::from(vl.0), u64::from(size.bytes()));
+    tell_numbers(told, &[vl, bytes, u64::from(sub)]);
+}
+
+fn tell_at_port(port: u8, frame: &Frame, told: &mut String) {
+    tell_number(told, u64::from(port));
+    tell(told, ":");
+    tell_frame(frame, told);
+}
+
+fn tell_frame(frame: &Frame, told: &mut String) {
     let numbers = [
         u64::from(frame.vl.0),
         u64::from(frame.size.bytes()),
@@ -99,15 +119,5 @@ fn tell_frame(frame: &Frame, told: &mut String) -> Result<(), AllocError> {
         frame.offered.ns(),
         frame.released.ns(),
     ];
-    tell_numbers(&numbers, told)
-}
-
-// Numbers with a mark between two of them, and a blank behind.
-fn tell_numbers(numbers: &[u64], told: &mut String) -> Result<(), AllocError> {
-    let mut mark = "";
-    for number in numbers {
-        write!(told, "{mark}{number}")?;
-        mark = ".";
-    }
-    told.push_str(" ")
+    tell_numbers(told, &numbers);
 }

@@ -1,23 +1,21 @@
 //! An output port in hand: `high:NUMBER:BYTES` and `low:NUMBER:BYTES`, a frame put, and `free`.
 use crate::tests::playing::Played;
-use crate::tests::words::{byte, numbers, size};
+use crate::tests::words::{byte_at, size_at, tell, tell_number};
 use output_port::{Port, PortAnswer, PortEvent, Priority};
-use std::alloc::AllocError;
 use std::fmt::Write;
 use vlink::{Frame, busy_ns};
 
 impl Played for Port {
     fn event(word: &str) -> PortEvent {
-        let Some((label, frame)) = word.split_once(':') else {
+        if word == "free" {
             return PortEvent::Free;
-        };
-        let [number, bytes, ..] = numbers(frame);
+        }
         let frame = Frame {
-            number: byte(number),
-            size: size(bytes),
+            number: byte_at(word, 1),
+            size: size_at(word, 2),
             ..Frame::default()
         };
-        let priority = if label == "high" {
+        let priority = if word.starts_with("high") {
             Priority::High
         } else {
             Priority::Low
@@ -30,19 +28,22 @@ impl Played for Port {
     }
 
     // A frame that starts is told with how long the port is busy with it, in ns, at 80 ns a byte.
-    fn tell_answer(answer: &PortAnswer, told: &mut String) -> Result<(), AllocError> {
-        match *answer {
-            PortAnswer::Started(frame) => {
-                let (number, busy) = (frame.number, busy_ns(frame.size, 80));
-                write!(told, "Started {number} for {busy} ")
-            }
-            other => write!(told, "{other:?} "),
+    fn tell_answer(answer: &PortAnswer, told: &mut String) {
+        if let PortAnswer::Started(frame) = *answer {
+            tell(told, "Started ");
+            tell_number(told, u64::from(frame.number));
+            tell(told, " for ");
+            tell_number(told, busy_ns(frame.size, 80));
+            tell(told, " ");
+        } else {
+            let _ = write!(told, "{answer:?} ");
         }
     }
 
     // Whether it is busy, and how many bytes wait.
-    fn tell_state(&self, told: &mut String) -> Result<(), AllocError> {
-        let line = if self.is_busy() { "busy" } else { "idle" };
-        write!(told, " ({line} {})", self.waiting_bytes())
+    fn tell_state(&self, told: &mut String) {
+        tell(told, if self.is_busy() { " (busy " } else { " (idle " });
+        tell_number(told, u64::from(self.waiting_bytes()));
+        tell(told, ")");
     }
 }

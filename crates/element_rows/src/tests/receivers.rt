@@ -1,16 +1,14 @@
 //! Redundancy management in hand: `NUMBER@NS`, a frame that comes.
 use crate::tests::playing::Played;
-use crate::tests::words::{byte, moment, numbers};
+use crate::tests::words::{byte_at, moment_at, tell, tell_number};
 use redundancy::{Delivery, Received, Redundancy};
-use std::alloc::AllocError;
 use std::fmt::Write;
 
 impl Played for Redundancy {
     fn event(word: &str) -> Received {
-        let [number, ns, ..] = numbers(word);
         Received {
-            number: byte(number),
-            at: moment(ns),
+            number: byte_at(word, 0),
+            at: moment_at(word, 1),
         }
     }
 
@@ -18,15 +16,19 @@ impl Played for Redundancy {
         true
     }
 
-    fn tell_answer(answer: &Delivery, told: &mut String) -> Result<(), AllocError> {
-        write!(told, "{answer:?} ")
+    fn tell_answer(answer: &Delivery, told: &mut String) {
+        let _ = write!(told, "{answer:?} ");
     }
 
     // The last frame delivered.
-    fn tell_state(&self, told: &mut String) -> Result<(), AllocError> {
-        match self.last() {
-            Some((number, at)) => write!(told, " {number}@{}", at.ns()),
-            None => write!(told, " none"),
+    fn tell_state(&self, told: &mut String) {
+        if let Some((number, at)) = self.last() {
+            tell(told, " ");
+            tell_number(told, u64::from(number));
+            tell(told, "@");
+            tell_number(told, at.ns());
+        } else {
+            tell(told, " none");
         }
     }
 }

@@ -1,22 +1,19 @@
 //! A regulator in hand: `offer@NS:SUB` and `release@NS`.
 use crate::tests::playing::Played;
-use crate::tests::words::{byte, moment, numbers};
+use crate::tests::words::{byte_at, moment_at, tell, tell_number};
 use bag_regulator::{BagRegulator, RegAnswer, RegEvent, RegOut};
-use std::alloc::AllocError;
 use std::fmt::Write;
-use vlink::{Frame, Time};
+use vlink::Frame;
 
 impl Played for BagRegulator {
     fn event(word: &str) -> RegEvent {
-        let (label, ns) = word.split_once('@').unwrap_or((word, ""));
-        let [ns, sub, ..] = numbers(ns);
-        let at = moment(ns);
-        if label == "release" {
+        let at = moment_at(word, 1);
+        if word.starts_with("release") {
             return RegEvent::Release { at };
         }
         RegEvent::Offer {
             at,
-            sub: byte(sub),
+            sub: byte_at(word, 2),
             frame: Frame {
                 offered: at,
                 ..Frame::default()
@@ -29,22 +26,32 @@ impl Played for BagRegulator {
     }
 
     // A frame released is told by its number and the moments of its offer and its release.
-    fn tell_answer(answer: &RegOut, told: &mut String) -> Result<(), AllocError> {
-        match answer.answer {
-            RegAnswer::Released(frame) => {
-                let (offered, released) = (frame.offered.ns(), frame.released.ns());
-                write!(told, "Released {}:{offered}:{released}", frame.number)?;
-            }
-            other => write!(told, "{other:?}")?,
+    fn tell_answer(answer: &RegOut, told: &mut String) {
+        if let RegAnswer::Released(frame) = answer.answer {
+            tell(told, "Released ");
+            tell_number(told, u64::from(frame.number));
+            tell(told, ":");
+            tell_number(told, frame.offered.ns());
+            tell(told, ":");
+            tell_number(told, frame.released.ns());
+        } else {
+            let _ = write!(told, "{:?}", answer.answer);
         }
-        match answer.release_at {
-            Some(ns) => write!(told, ", release@{ns} "),
-            None => told.push_str(" "),
+        if let Some(ns) = answer.release_at {
+            tell(told, ", release@");
+            tell_number(told, ns);
         }
+        tell(told, " ");
     }
 
     // The next number, and the moment of the last release.
-    fn tell_state(&self, told: &mut String) -> Result<(), AllocError> {
-        write!(told, " ({} {:?})", self.sn(), self.last().map(Time::ns))
+    fn tell_state(&self, told: &mut String) {
+        tell(told, " (");
+        tell_number(told, u64::from(self.sn()));
+        if let Some(last) = self.last() {
+            tell(told, " after ");
+            tell_number(told, last.ns());
+        }
+        tell(told, ")");
     }
 }

@@ -1,98 +1,40 @@
 //! A trace in segments: its intervals, and what a gathering answers to segments.
-use crate::tests::networks::network_of;
-use crate::tests::stage::{Word, word_of};
-use crate::tests::words::{moment, short};
+use crate::tests::words::{moment_at, number_at, short_at, tell, tell_number};
+use network::Network;
 use seqsim::{Unwatched, run};
 use std::alloc::{AllocError, Global};
 use std::fmt::Write;
+use std::mem::forget;
 use trace_segments::{Batch, Gather, Segment, SegmentFault, width};
 use vlink::{GREATEST_NS, Row, Time};
 
-// A script, and what its words tell. `width:9` tells the width of an interval of a trace until 9 ns, `cut:1:14` the segment of n1's process 1
-// for interval 14, and `take:7:1:0` what a gathering of run 7 of two processes until 9 ns answers to the segment of that run, that process
-// and that interval without rows. A segment and a batch are told by the moments of their begin and end, and those of their rows.
+// Numbers, and the width of an interval of a trace until so many ns. The segment of process 1 of a network for each interval. What a gathering
+// of run 7 of two processes until 9 ns answers to `7:1:0`, the segment of that run, that process and that interval without rows, one after
+// another. A segment and a batch are told by the moments of their begin and end, and those of their rows.
 pub const ROWS: &str = "\
-segments width:2000000 cut:1:0 cut:1:14 cut:1:1023 cut:1:1024 => 1954 0..1954 27356..29310:27720 1998942..2000001 none
-segments take:7:0:0 take:7:0:0 take:7:0:2 take:8:0:1 take:7:2:0 take:7:0:1 take:7:1:0 take:7:1:1 => none Double Gap Stranger Stranger none 0..1 1..2";
+width, 2000000 => 1954
+segments n1 1, 0 14 1023 1024 => 0..1954 27356..29310:27720 1998942..2000001 none
+gather, 7:0:0 7:0:0 7:0:2 8:0:1 7:2:0 7:0:1 7:1:0 7:1:1 => none Double Gap Stranger Stranger none 0..1 1..2";
 
-pub fn tells(alloc: Global, script: &str) -> Result<String, AllocError> {
-    let mut told = String::new(alloc);
-    let mut gather = Gather::new(alloc, 7, 2, Time::of_known(9))?;
-    let played = play_all(alloc, script, &mut gather, &mut told);
-    drop(gather);
-    played?;
-    Ok(told)
+pub fn tell_width(script: &str, told: &mut String) {
+    tell_number(told, width(moment_at(script, 1)).ns());
 }
 
-fn play_all(
+// The segments of a process of this network.
+pub fn tell_segments(
     alloc: Global,
+    network: &Network,
+    process: u16,
     script: &str,
-    gather: &mut Gather,
     told: &mut String,
-) -> Result<(), AllocError> {
-    for word in script.split(' ') {
-        told.push_str(" ")?;
-        play(alloc, word_of(word), gather, told)?;
-    }
-    Ok(())
-}
-
-fn play(
-    alloc: Global,
-    word: Word<'_>,
-    gather: &mut Gather,
-    told: &mut String,
-) -> Result<(), AllocError> {
-    match word.name {
-        "width" => write!(told, "{}", width(moment(word.first)).ns()),
-        "cut" => tell_cut(alloc, word, told),
-        _ => tell_taken(alloc, word, gather, told),
-    }
-}
-
-fn tell_cut(alloc: Global, word: Word<'_>, told: &mut String) -> Result<(), AllocError> {
-    let network = network_of(alloc, "n1")?;
-    let until = network.until();
-    match run(alloc, &network, &mut Unwatched) {
-        Ok(found) => {
-            let rows = found.rows.as_slice();
-            tell_segment(
-                segment_of(alloc, rows, 0, word.first, word.second, until)?,
-                told,
-            )
+) {
+    if let Ok(found) = run(alloc, network, &mut Unwatched) {
+        for word in script.split_whitespace() {
+            let interval = number_at(word, 0);
+            let cut = segment_of(alloc, &found.rows, 0, process, interval, network.until());
+            tell_segment(cut, told);
         }
-        Err(_) => Err(AllocError),
-    }
-}
-
-fn tell_segment(segment: Option<Segment>, told: &mut String) -> Result<(), AllocError> {
-    match segment {
-        Some(segment) => tell_rows(segment.from(), segment.to(), segment.rows(), told),
-        None => told.push_str("none"),
-    }
-}
-
-fn tell_taken(
-    alloc: Global,
-    word: Word<'_>,
-    gather: &mut Gather,
-    told: &mut String,
-) -> Result<(), AllocError> {
-    let until = Time::of_known(9);
-    match segment_of(alloc, &[], word.first, word.second, word.third, until)? {
-        Some(segment) => tell_batch(gather.take(segment), told),
-        None => told.push_str("no interval"),
-    }
-}
-
-fn tell_batch(
-    answer: Result<Option<Batch>, SegmentFault>,
-    told: &mut String,
-) -> Result<(), AllocError> {
-    match answer {
-        Ok(Some(batch)) => tell_rows(batch.from(), batch.to(), batch.rows(), told),
-        Ok(None) => told.push_str("none"),
-        Err(fault) => write!(told, "{fault:?}"),
+        forget(found);
     }
 }
 
@@ -101,20 +43,62 @@ fn segment_of(
     alloc: Global,
     rows: &[Row],
     run: u64,
-    process: u64,
+    process: u16,
     interval: u64,
     until: Time,
 ) -> Result<Option<Segment>, AllocError> {
     if until.ns() >= GREATEST_NS {
         return Ok(None);
     }
-    Segment::cut(alloc, rows, run, short(process), interval, until)
+    Segment::cut(alloc, rows, run, process, interval, until)
 }
 
-fn tell_rows(from: Time, to: Time, rows: &[Row], told: &mut String) -> Result<(), AllocError> {
-    write!(told, "{}..{}", from.ns(), to.ns())?;
-    for row in rows {
-        write!(told, ":{}", row.message.time.ns())?;
+fn tell_segment(cut: Result<Option<Segment>, AllocError>, told: &mut String) {
+    if let Ok(Some(segment)) = cut {
+        tell_rows(segment.from(), segment.to(), segment.rows(), told);
+        forget(segment);
+    } else {
+        tell(told, "none ");
     }
-    Ok(())
+}
+
+pub fn tell_gathered(alloc: Global, script: &str, told: &mut String) {
+    if let Ok(mut gather) = Gather::new(alloc, 7, 2, Time::of_known(9)) {
+        for word in script.split_whitespace() {
+            tell_taken(alloc, &mut gather, word, told);
+        }
+        forget(gather);
+    }
+}
+
+fn tell_taken(alloc: Global, gather: &mut Gather, word: &str, told: &mut String) {
+    let (run, process, interval) = (number_at(word, 0), short_at(word, 1), number_at(word, 2));
+    match segment_of(alloc, &[], run, process, interval, Time::of_known(9)) {
+        Ok(Some(segment)) => tell_batch(gather.take(segment), told),
+        _ => tell(told, "no interval "),
+    }
+}
+
+fn tell_batch(answer: Result<Option<Batch>, SegmentFault>, told: &mut String) {
+    match answer {
+        Ok(Some(batch)) => {
+            tell_rows(batch.from(), batch.to(), batch.rows(), told);
+            forget(batch);
+        }
+        Ok(None) => tell(told, "none "),
+        Err(fault) => {
+            let _ = write!(told, "{fault:?} ");
+        }
+    }
+}
+
+fn tell_rows(from: Time, to: Time, rows: &[Row], told: &mut String) {
+    tell_number(told, from.ns());
+    tell(told, "..");
+    tell_number(told, to.ns());
+    for row in rows {
+        tell(told, ":");
+        tell_number(told, row.message.time.ns());
+    }
+    tell(told, " ");
 }

@@ -1,32 +1,22 @@
 //! Plays the words of a script on an exchange and its processes, and tells what it answers.
 //!
 //! A word stands for the call of that name; behind colons stand its numbers, that of the process first: `collect:0:8` collects 8 letters
-//! at most, `work:0:16:1` works with turn 16 and window 1 ns, `mail:0` counts the letters in a mail, `before` and `after` tell how often
-//! the gate was told of a message, and `step:3` tells the fourth step of the journal. An answer is told as a number, as `ok`, `yes`, `no`
-//! or `none`, a step as in a journal, with colons, and a refusal by one word.
+//! at most, `work:0:16:1` works with turn 16 and window 1 ns, `mail:0` counts the letters in a mail, and `before` and `after` tell how often
+//! the gate was told of a message. An answer is told as a number, 1 where it is yes, or done, or as `none`, and a refusal by one word. Behind
+//! a bar stand the steps of the journal.
 //!
-//! A call that is refused memory is made again, where it left all as it was; `work` goes on with what its first try left. So a row holds
-//! with ample memory, and where any one growth of its calls is refused.
+//! A call that is refused memory is made again, and what comes of it then is told; of `work`, how many steps both tries did. So a row holds
+//! with ample memory, and where any one growth of its calls is refused, but for one that a refused call had in part.
 ghost use Rattle.std.specs.Prelude.{◌≡◌, true};
 
-use crate::tests::words::{long, numbers, short};
-use exchange::{Exchange, Gate, Held, Mark, collect, post, publish, work};
+use crate::tests::words::{long_at, number_at, short_at, tell, tell_number, tell_numbers};
+use exchange::{Exchange, Gate, Held, collect, post, publish, work};
 use journal::PoolFault;
 use network_exchange::Of;
 use nodes::Node;
 use run_rows::NetworkRun;
-use std::alloc::AllocError;
 use std::cell::Cell;
-use std::fmt::Write;
-use vlink::{Step, Time};
-
-// An exchange of a network, its processes, and their gate.
-#[derive(Drop)]
-pub struct Stage<J: NetworkRun> {
-    exchange: Exchange<Node, Of<J>>,
-    helds: Vec<Held<Node, Of<J>>>,
-    gate: CountingGate,
-}
+use vlink::Step;
 
 // Counts what it is told of, as long as the counts of a process come in order.
 #[derive(Drop)]
@@ -52,153 +42,73 @@ impl Gate for CountingGate {
     }
 }
 
-// A word: the name of a call, and its numbers, 0 where there is none.
-#[derive(Clone, Copy)]
-pub struct Word<'w> {
-    pub name: &'w str,
-    pub first: u64,
-    pub second: u64,
-    pub third: u64,
-}
-
-// The word that this text writes.
-pub fn word_of(text: &str) -> Word<'_> {
-    let (name, written) = text.split_once(':').unwrap_or((text, ""));
-    let [first, second, third, ..] = numbers(written);
-    Word {
-        name,
-        first,
-        second,
-        third,
-    }
-}
-
-// What a call answers.
-#[derive(Clone, Copy)]
-enum Answer {
-    Number(u64),
-    Name(&'static str),
-    Step(Option<Step>),
-}
-
-// What a refused call leaves as it was: the count of steps, GVT, and the mail, the block and the mark of its process.
-type Seen = (u64, Time, u64, Option<(u64, Mark)>);
-
-// How many steps the block had.
-fn pending_in(seen: Seen) -> u64 {
-    match seen.3 {
-        Some((pending, _)) => pending,
-        None => 0,
-    }
-}
-
-impl<J: NetworkRun> Stage<J> {
-    pub fn new(exchange: Exchange<Node, Of<J>>, helds: Vec<Held<Node, Of<J>>>) -> Self {
-        Stage {
-            exchange,
-            helds,
-            gate: CountingGate {
-                before: Cell::new(0),
-                after: Cell::new(0),
-            },
-        }
-    }
-
-    // Plays each word, and tells what it answers.
-    pub fn play_all(
-        &mut self,
-        script: &str,
-        told: &mut String,
-        refused: &mut String,
-    ) -> Result<(), PoolFault>
-        requires { J.keeps ≡ true }
-    {
-        for word in script.split(' ') {
-            let answer = self.answer(word_of(word), refused);
-            tell_answer(answer, told)?;
-        }
-        Ok(())
-    }
-
-    // What the call answers, if need be at a second try.
-    fn answer(&mut self, word: Word<'_>, refused: &mut String) -> Result<Answer, PoolFault>
-        requires { J.keeps ≡ true }
-    {
-        let seen = self.look(word);
-        match self.act(word) {
-            Err(PoolFault::OutOfMemory) => self.act_again(word, seen, refused),
-            answer => answer,
-        }
-    }
-
-    fn act_again(
-        &mut self,
-        word: Word<'_>,
-        seen: Seen,
-        refused: &mut String,
-    ) -> Result<Answer, PoolFault>
-        requires { J.keeps ≡ true }
-    {
-        let left = self.look(word);
-        let is_as_before = left == seen;
-        if !is_as_before && word.name != "work" {
-            return Ok(Answer::Name("changed"));
-        }
-        let call = word.name;
-        write!(refused, "{call} was refused memory\n")?;
-        match self.act(word) {
-            Ok(Answer::Number(count)) => {
-                let before = pending_in(left).saturating_sub(pending_in(seen));
-                Ok(Answer::Number(count.saturating_add(before)))
+// Plays each word, and tells what it answers.
+pub fn play_words<J: NetworkRun>(
+    exchange: &mut Exchange<Node, Of<J>>,
+    helds: &mut Vec<Held<Node, Of<J>>>,
+    script: &str,
+    told: &mut String,
+    refused: &mut String,
+) {
+    let gate = CountingGate {
+        before: Cell::new(0),
+        after: Cell::new(0),
+    };
+    for word in script.split_whitespace() {
+        let answer = match act(exchange, helds, &gate, word, refused) {
+            Err(PoolFault::OutOfMemory) => {
+                tell_refused(name_in(word), refused);
+                act(exchange, helds, &gate, word, refused)
             }
             answer => answer,
-        }
-    }
-
-    fn look(&self, word: Word<'_>) -> Seen {
-        let process = short(word.first);
-        let (steps, gvt) = (self.exchange.steps(), self.exchange.gvt());
-        let letters = self.letters(process);
-        match self.helds.get(usize::from(process)) {
-            Some(held) => (steps, gvt, letters, Some((held.pending(), held.mark()))),
-            None => (steps, gvt, letters, None),
-        }
-    }
-
-    // What the call answers, or what is asked of the exchange, the gate or a process.
-    fn act(&mut self, word: Word<'_>) -> Result<Answer, PoolFault>
-        requires { J.keeps ≡ true }
-    {
-        let number = match word.name {
-            "publish" => publish(&mut self.exchange)?.ns(),
-            "steps" => self.exchange.steps(),
-            "gvt" => self.exchange.gvt().ns(),
-            "mail" => self.letters(short(word.first)),
-            "before" => self.gate.before.get(),
-            "after" => self.gate.after.get(),
-            "step" => return Ok(Answer::Step(self.exchange.step_at(word.first))),
-            _ => return self.act_on_process(word),
         };
-        Ok(Answer::Number(number))
+        tell_answer(answer, told);
     }
+    tell(told, "| ");
+}
 
-    fn act_on_process(&mut self, word: Word<'_>) -> Result<Answer, PoolFault> {
-        match self.helds.get_mut(usize::from(short(word.first))) {
-            Some(held) => act_on(held, &mut self.exchange, &self.gate, word),
-            None => Ok(Answer::Name("none")),
+// The name of the call that a word stands for.
+fn name_in(word: &str) -> &str {
+    word.split_once(':').unwrap_or((word, "")).0
+}
+
+fn tell_refused(call: &str, refused: &mut String) {
+    tell(refused, call);
+    tell(refused, " was refused memory\n");
+}
+
+// What the call answers, or what is asked of the exchange, the gate or a process.
+fn act<J: NetworkRun>(
+    exchange: &mut Exchange<Node, Of<J>>,
+    helds: &mut Vec<Held<Node, Of<J>>>,
+    gate: &CountingGate,
+    word: &str,
+    refused: &mut String,
+) -> Result<Option<u64>, PoolFault> {
+    let number = match name_in(word) {
+        "publish" => publish(exchange)?.ns(),
+        "steps" => exchange.steps(),
+        "gvt" => exchange.gvt().ns(),
+        "mail" => letters(exchange, short_at(word, 1)),
+        "before" => gate.before.get(),
+        "after" => gate.after.get(),
+        _ => match helds.get_mut(usize::from(short_at(word, 1))) {
+            Some(held) => act_on(held, exchange, gate, word, refused)?,
+            None => return Ok(None),
+        },
+    };
+    Ok(Some(number))
+}
+
+// How many letters there are in the mail of a process, up to 100.
+fn letters<J: NetworkRun>(exchange: &Exchange<Node, Of<J>>, process: u16) -> u64 {
+    let mut count = 0;
+    for place in 0..100usize {
+        if exchange.look(process, place).is_some() {
+            count = place as u64 + 1;
         }
     }
-
-    // How many letters there are in the mail of a process, up to 100.
-    fn letters(&self, process: u16) -> u64 {
-        let mut count = 0;
-        for place in 0..100usize {
-            if self.exchange.look(process, place).is_some() {
-                count = place as u64 + 1;
-            }
-        }
-        count
-    }
+    count
 }
 
 // What a call on a process in hand answers. One with a block is not let collect.
@@ -206,33 +116,49 @@ fn act_on<J: NetworkRun>(
     held: &mut Held<Node, Of<J>>,
     exchange: &mut Exchange<Node, Of<J>>,
     gate: &CountingGate,
-    word: Word<'_>,
-) -> Result<Answer, PoolFault> {
-    let second = long(word.second);
-    match word.name {
+    word: &str,
+    refused: &mut String,
+) -> Result<u64, PoolFault> {
+    match name_in(word) {
         "collect" if held.pending() == 0 => {
-            let count = collect(held, exchange, second)?;
-            Ok(Answer::Number(u64::from(count)))
+            let count = collect(held, exchange, long_at(word, 2))?;
+            Ok(u64::from(count))
         }
-        "work" => Ok(Answer::Number(work(held, second, word.third, gate)?)),
+        "work" => do_work(held, gate, word, refused),
         "post" => {
             post(held, exchange)?;
-            Ok(Answer::Name("ok"))
+            Ok(1)
         }
-        "pending" => Ok(Answer::Number(held.pending())),
-        "fits" if exchange.fits(held) => Ok(Answer::Name("yes")),
-        _ => Ok(Answer::Name("no")),
+        "pending" => Ok(held.pending()),
+        _ => Ok(u64::from(exchange.fits(held))),
     }
 }
 
-fn tell_answer(answer: Result<Answer, PoolFault>, told: &mut String) -> Result<(), AllocError> {
-    told.push_str(" ")?;
-    match answer {
-        Ok(Answer::Number(number)) => write!(told, "{number}"),
-        Ok(Answer::Name(name)) => told.push_str(name),
-        Ok(Answer::Step(step)) => tell_step(step, told),
-        Err(fault) => told.push_str(name_of(fault)),
+// How many steps were done, if need be at two tries.
+fn do_work<J: NetworkRun>(
+    held: &mut Held<Node, Of<J>>,
+    gate: &CountingGate,
+    word: &str,
+    refused: &mut String,
+) -> Result<u64, PoolFault> {
+    let (turn, window, before) = (long_at(word, 2), number_at(word, 3), held.pending());
+    match work(held, turn, window, gate) {
+        Err(PoolFault::OutOfMemory) => {
+            tell_refused("work", refused);
+            work(held, turn, window, gate)?;
+            Ok(held.pending().saturating_sub(before))
+        }
+        answer => answer,
     }
+}
+
+fn tell_answer(answer: Result<Option<u64>, PoolFault>, told: &mut String) {
+    match answer {
+        Ok(Some(number)) => tell_number(told, number),
+        Ok(None) => tell(told, "none"),
+        Err(fault) => tell(told, name_of(fault)),
+    }
+    tell(told, " ");
 }
 
 // How a row tells a refusal.
@@ -246,14 +172,32 @@ fn name_of(fault: PoolFault) -> &'static str {
     }
 }
 
-fn tell_step(step: Option<Step>, told: &mut String) -> Result<(), AllocError> {
-    match step {
-        Some(Step::Take { process, place }) => write!(told, "T:{process}:{place}"),
-        Some(Step::Arrive { process }) => write!(told, "A:{process}"),
-        Some(Step::Run { process }) => write!(told, "R:{process}"),
-        Some(Step::Post { process }) => write!(told, "P:{process}"),
-        Some(Step::Gvt) => told.push_str("G"),
-        Some(Step::Commit { process }) => write!(told, "C:{process}"),
-        None => told.push_str("none"),
+// The steps of the journal.
+pub fn tell_journal<J: NetworkRun>(exchange: &Exchange<Node, Of<J>>, told: &mut String)
+    requires { J.keeps ≡ true }
+{
+    for place in 0..exchange.steps() {
+        if let Some(step) = exchange.step_at(place) {
+            tell_step(step, told);
+        }
     }
+}
+
+fn tell_step(step: Step, told: &mut String) {
+    match step {
+        Step::Take { process, place } => {
+            tell_labelled("T:", &[u64::from(process), u64::from(place)], told);
+        }
+        Step::Arrive { process } => tell_labelled("A:", &[u64::from(process)], told),
+        Step::Run { process } => tell_labelled("R:", &[u64::from(process)], told),
+        Step::Post { process } => tell_labelled("P:", &[u64::from(process)], told),
+        Step::Gvt => tell_labelled("G", &[], told),
+        Step::Commit { process } => tell_labelled("C:", &[u64::from(process)], told),
+    }
+}
+
+fn tell_labelled(label: &str, numbers: &[u64], told: &mut String) {
+    tell(told, label);
+    tell_numbers(told, numbers);
+    tell(told, " ");
 }

@@ -1,31 +1,47 @@
-//! How rows write numbers.
+//! How rows write numbers, and what is told of rows. What finds no room is not told, and then the row is wrong.
+use std::fmt::Write;
 use vlink::{FrameSize, Time};
 
-// The numbers in a text, with a mark or a blank between two of them, and 0 where there are no more.
-pub fn numbers(text: &str) -> [u64; 8] {
-    let mut found = [0; 8];
-    for (number, digits) in found.iter_mut().zip(text.split(['.', ':', '/', '@', ' '])) {
-        *number = digits.parse().unwrap_or(0);
+// The number at this place of a text, from 0, where a mark or a blank stands between two of them. What is no number, or not there, is 0.
+pub fn number_at(text: &str, place: usize) -> u64 {
+    let digits = text.split(['.', ':', '/', '@', ' ']).nth(place);
+    digits.unwrap_or("").parse().unwrap_or(0)
+}
+
+pub fn byte_at(text: &str, place: usize) -> u8 {
+    (number_at(text, place) & 0xff) as u8
+}
+
+pub fn short_at(text: &str, place: usize) -> u16 {
+    (number_at(text, place) & 0xffff) as u16
+}
+
+pub fn long_at(text: &str, place: usize) -> u32 {
+    (number_at(text, place) & 0xffff_ffff) as u32
+}
+
+pub fn moment_at(text: &str, place: usize) -> Time {
+    Time::new(number_at(text, place)).unwrap_or_default()
+}
+
+pub fn size_at(text: &str, place: usize) -> FrameSize {
+    FrameSize::new(short_at(text, place)).unwrap_or_default()
+}
+
+pub fn tell(told: &mut String, text: &str) {
+    let _ = told.push_str(text);
+}
+
+pub fn tell_number(told: &mut String, number: u64) {
+    let _ = write!(told, "{number}");
+}
+
+// Numbers with a mark between two of them.
+pub fn tell_numbers(told: &mut String, numbers: &[u64]) {
+    let mut mark = "";
+    for number in numbers {
+        tell(told, mark);
+        tell_number(told, *number);
+        mark = ".";
     }
-    found
-}
-
-pub fn byte(number: u64) -> u8 {
-    (number & 0xff) as u8
-}
-
-pub fn short(number: u64) -> u16 {
-    (number & 0xffff) as u16
-}
-
-pub fn moment(ns: u64) -> Time {
-    Time::new(ns).unwrap_or_default()
-}
-
-pub fn size(bytes: u64) -> FrameSize {
-    FrameSize::new(short(bytes)).unwrap_or_default()
-}
-
-pub fn long(number: u64) -> u32 {
-    (number & 0xffff_ffff) as u32
 }
