@@ -46,19 +46,18 @@ use Rattle.nodes.proofs.node.Node.TheSendSync as node
 use Rattle.nodes.proofs.node.NodeRecord.TheSendSync as node_record
 use Rattle.run_rows.specs.declared.network_run.NetworkRun.{Ghosts as NetworkGhosts}
 use Rattle.trace_tables.proofs.so_far.TablesSoFar.TheSendSync as so_far
-use Rattle.worker_pool.specs.contracts.counted.Counted as Counted
+use Rattle.run_rows.specs.contracts.counted.Counted as Counted
 use Rattle.worker_pool.specs.contracts.leaving.Leaving as Leaving
 use Rattle.worker_pool.specs.contracts.rounds.common.Common as Common
-use Rattle.worker_pool.specs.contracts.rounds.seat.Seat as Seat
-use Rattle.worker_pool.specs.contracts.rounds.seats.Seats as Seats
 use Rattle.run_rows.specs.contracts.row_tables.RowTables as RowTables
 use Rattle.run_rows.specs.contracts.row_tables.RowTables.TheInside as RowTablesIn
 use Rattle.worker_pool.specs.contracts.shared.Shared as Shared
 use Rattle.worker_pool.specs.contracts.shared.Shared.TheInside as SharedIn
 use Rattle.worker_pool.proofs.desk.TraceLock.TheSendSync as trace
 use Rattle.worker_pool.proofs.pace.Pace.TheSendSync as pace
-use Rattle.worker_pool.proofs.rounds.apart.Apart.TheSendSync as apart
-use Rattle.worker_pool.proofs.rounds.moments.Moments.TheSendSync as moments
+use Rattle.turns.proofs.apart.Apart.TheSendSync as apart
+use Rattle.worker_pool.proofs.rounds.seats.Seats.TheSendSync as seats
+use Rattle.worker_pool.proofs.rounds.signals.Signals.TheSendSync as signals
 
 -- ---- a hand
 words-send : IsSend Words.the_row
@@ -96,12 +95,6 @@ exchange-send R J K g h k = view_send _ _ _ _ _ (declared_send (ExchangeIn.the_t
 shared-send : (J : RattleType) (g : NetworkGhosts J.Denot) → IsSend (Shared.the_row J g)
 shared-send J g = view_send _ _ _ _ _ (declared_send (SharedIn.the_type J g) (search (exchange-send, sendable, crosses) depth 10))
 
-seat-send : (J : RattleType) (g : NetworkGhosts J.Denot) → IsSend (Seat.the_row J g)
-seat-send J g = declared_send (Seat.the_type J g) (search (group-send, node.the_send, node_record.the_send, sendable, crosses) depth 10)
-
-seats-sync : (J : RattleType) (g : NetworkGhosts J.Denot) → IsSync (Seats.the_row J g)
-seats-sync J g = declared_sync (Seats.the_type J g) (search (seat-send, apart.the_sync, sendable, crosses) depth 20)
-
 tables-send : (J : RattleType) (g : NetworkGhosts J.Denot) → IsSend (RowTables.the_row J g)
 tables-send J g = view_send _ _ _ _ _ (declared_send (RowTablesIn.the_type J g) (search (so_far.the_send, sendable, crosses) depth 20))
 
@@ -114,6 +107,6 @@ leaving-sync J g = declared_sync (Leaving.the_type J g) (
   (search (trace.the_sync, option.the_sync, sendable, crosses) depth 20, tt),
 )
 
-pub common-sync : (κ : NamedLft) (J : RattleType) (g : NetworkGhosts J.Denot) → IsSync (Common.the_row κ J g)
-common-sync κ J g = declared_sync (Common.the_type κ J g)
-    (search (seats-sync, leaving-sync, shared-send, network.the_sync, apart.the_send, moments.the_sync, pace.the_sync, sendable, crosses) depth 20)
+pub common-sync : (κ ι : NamedLft) (J : RattleType) (g : NetworkGhosts J.Denot) → IsSync (Common.the_row κ ι J g)
+common-sync κ ι J g = declared_sync (Common.the_type κ ι J g)
+    (search (seats.the_sync, group-send, node.the_send, node_record.the_send, leaving-sync, shared-send, network.the_sync, apart.the_send, signals.the_sync, pace.the_sync, sendable, crosses) depth 20)

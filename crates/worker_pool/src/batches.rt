@@ -1,10 +1,9 @@
 //! What the writer's thread does.
 ghost use Rattle.std.specs.Prelude.{◌≡◌};
 
-use crate::counted::Counted;
 use crossbeam_channel::Receiver;
 use network::Network;
-use run_rows::{NetworkRun, RunBatch, TraceRun, Writing};
+use run_rows::{Counted, NetworkRun, RunBatch, TraceRun, Writing};
 use std::sync::Wait;
 use trace_tables::Sink;
 

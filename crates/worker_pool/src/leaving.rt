@@ -3,12 +3,13 @@ ghost use Rattle.std.specs.Prelude.{◌≡◌, IfErr, IfSome};
 ghost use Rattle.journal.specs.declared.fault.PoolFault.TheVariants.{OutOfMemory};
 ghost use Rattle.run_rows.specs.Written.{IsPlaceFault};
 
-use crate::counted::Counted;
 use crate::desk::TraceLock;
 use crate::network_run::NetworkRun;
 use crate::rounds::seat::NetworkGroup;
 use crate::run_fault::RunFault;
 use network::Network;
+use run_rows::{Counted, moment_of};
+use std::alloc::AllocError;
 use std::sync::{Mutex, Wait};
 use trace_tables::SegmentFault;
 
@@ -63,7 +64,8 @@ impl<J: NetworkRun> Leaving<J> {
         }
         if let Some(counted) = &self.counted {
             if group.sealed().len() >= MANY_ROWS {
-                counted.lock(rt).take_rows(network, group)?;
+                let mut counted = counted.lock(rt);
+                count_rows(&mut counted, network, group)?;
             }
         }
         Ok(())
@@ -71,16 +73,40 @@ impl<J: NetworkRun> Leaving<J> {
 
     /// The first fault of a segment that is not want of memory, where a trace is written, to which no batch is sent from here on; and what was
     /// counted, where rows are.
-    pub(crate) fn close(&mut self) -> (Option<SegmentFault>, Option<Counted<J>>)
+    pub(crate) fn close(self) -> (Option<SegmentFault>, Option<Counted<J>>)
         ensures { IfSome result.0 IsPlaceFault }
     {
-        let counted = match self.counted.take() {
+        let Leaving { counted, trace } = self;
+        let counted = match counted {
             Some(counted) => Some(counted.into_inner()),
             None => None,
         };
-        match self.trace.take() {
+        match trace {
             Some(trace) => (trace.into_fault(), counted),
             None => (None, counted),
         }
     }
+}
+
+/// The rows of a group that are for good are counted, as far as it saw, and leave it, where it has a moment of its own there. It fails only where memory is
+/// refused, or was before; then there are no tables from then on.
+fn count_rows<J: NetworkRun>(
+    counted: &mut Counted<J>,
+    network: &Network,
+    group: &mut NetworkGroup<J>,
+) -> Result<(), AllocError>
+    requires { network.now ≡ J.plan }
+{
+    let number = usize::from(group.number());
+    let to = group.gvt_seen();
+    if number >= counted.own.len() || !group.is_committed_before(to) {
+        return Ok(());
+    }
+    let from = moment_of(counted.own.as_slice(), counted.end, number);
+    if from.ns() < group.gone_before().ns() || to.ns() < from.ns() {
+        return Ok(());
+    }
+    counted.take_of_group(network, number, to, group.rows_between(from, to))?;
+    group.let_rows_go(to);
+    Ok(())
 }

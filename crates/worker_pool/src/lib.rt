@@ -3,7 +3,6 @@
 #![tactic(auto)]
 
 mod batches;
-mod counted;
 mod desk;
 mod ending;
 mod group_opening;

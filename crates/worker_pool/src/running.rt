@@ -1,5 +1,5 @@
 //! The run of a network by workers.
-ghost use Rattle.std.specs.Prelude.{◌≡◌, true, [], IsTrue, IfOk, IfErr};
+ghost use Rattle.std.specs.Prelude.{◌≡◌, ◌≢◌, true, [], IsTrue, IfOk, IfErr};
 ghost use Rattle.network.specs.Words.{process_count};
 ghost use Rattle.journal.specs.declared.fault.PoolFault.TheVariants.{Exhausted, Spawn};
 ghost use Rattle.trace_tables.specs.Tables.{tables_of};
@@ -10,7 +10,7 @@ ghost use Rattle.worker_pool.specs.Starts.{BeginsRun};
 
 use crate::ending::Unlocked;
 use crate::group_opening::open_groups;
-use crate::grouping::groups_for;
+use crate::grouping::marked_groups;
 use crate::leaving::Leaving;
 use crate::network_run::NetworkRun;
 use crate::pace::Pace;
@@ -20,7 +20,6 @@ use crate::start::{Start, StartOf};
 use crate::workers::work_all;
 use actor_run::{Unwatched, Watch};
 use exchange::Gate;
-use group_exchange::Pairs;
 use journal::PoolFault;
 use network::Network;
 use std::alloc::{AllocError, Global};
@@ -52,7 +51,7 @@ pub(crate) fn run_to_end<
     alloc: Global,
     start: StartOf<'n, J>,
     gate: &G,
-    leaving: Leaving<J>,
+    leaving: &Leaving<J>,
     keeps_rows: bool,
     watch: &mut W,
 ) -> Result<Unlocked<'n, J>, RunFault<J>>
@@ -61,19 +60,44 @@ pub(crate) fn run_to_end<
     ensures spawn { IfErr result (λ fault. fault ≡ Spawn → CanWantWorkers start.entry.pace.workers (process_count J.plan)) }
     ensures watched { W.becomes watch.old watch.new }
 {
+    let Ok(common) = opened(alloc, start, leaving) else {
+        return Err(RunFault::other(PoolFault::OutOfMemory));
+    };
+    let (worked, _watch) = work_all(rt, alloc, common, gate, watch);
+    match worked {
+        Ok(unlocked) => to_end(rt, unlocked, leaving, keeps_rows, gate),
+        Err(fault) => Err(fault),
+    }
+}
+
+/// What the workers of a run have in common at the start. It is refused for memory alone.
+fn opened<'n, 'l, J: NetworkRun>(
+    alloc: Global,
+    start: StartOf<'n, J>,
+    leaving: &'l Leaving<J>,
+) -> Result<Common<'n, 'l, J>, AllocError>
+    ensures { IfOk result (λ common. common.pace.workers ≡ start.entry.pace.workers) }
+{
     let network = start.network;
     let pace = start.pace;
-    let (exchange, groups) = match open_groups(alloc, start) {
-        Ok(opened) => opened,
-        Err(fault) => {
-            drop(leaving);
-            return Err(RunFault::from(fault));
-        }
-    };
-    let common = Common::of(alloc, network, pace, exchange, groups, leaving)?;
-    let (worked, _watch) = work_all(rt, alloc, common, gate, watch);
-    let mut unlocked = worked?;
-    match unlocked.end(rt, keeps_rows, gate) {
+    let (exchange, groups) = open_groups(alloc, start)?;
+    Common::of(alloc, network, pace, exchange, groups, leaving)
+}
+
+/// One thread has all in hand, and gives turns until the run is ended.
+fn to_end<'n, J: NetworkRun, G: Gate, T: Wait>(
+    rt: &T,
+    unlocked: Unlocked<'n, J>,
+    leaving: &Leaving<J>,
+    keeps_rows: bool,
+    gate: &G,
+) -> Result<Unlocked<'n, J>, RunFault<J>>
+    ensures ended { IfOk result (λ r. IsEnded J.plan J.owners r.exchange.steps r.groups.items) }
+    ensures kept { IfOk result (λ r. IsTrue keeps_rows → HaveGoneBy [] 0 r.groups.items) }
+    ensures no_spawn { IfErr result (λ fault. fault ≢ Spawn) }
+{
+    let mut unlocked = unlocked;
+    match unlocked.end(rt, leaving, keeps_rows, gate) {
         Ok(()) => Ok(unlocked),
         Err(fault) => {
             drop(unlocked);
@@ -124,7 +148,7 @@ fn run_named<J: NetworkRun + Send + Sync, G: Gate + Sync, T: Threads + Wait + Sy
         alloc,
         start,
         gate,
-        Leaving::stay(),
+        &Leaving::stay(),
         true,
         watch,
     )?;
@@ -155,8 +179,9 @@ pub fn run<G: Gate + Sync, T: Threads + Wait + Sync>(
     ensures exhausted { IfErr result (λ fault. fault ≡ Exhausted → UsesUpNumbers network.now) }
     ensures spawn { IfErr result (λ fault. fault ≡ Spawn → CanWantWorkers pace.workers (process_count network.now)) }
 {
-    let grouping = groups_for(rt, alloc, network, pace.workers)?;
-    let pairs = Pairs::new(alloc, usize::from(grouping.groups))?;
+    let Ok((grouping, pairs)) = marked_groups(rt, alloc, network, pace.workers) else {
+        return Err(PoolFault::OutOfMemory);
+    };
     let start = Start {
         network,
         pace: pace.that_goes(),

@@ -9,9 +9,8 @@ ghost use Rattle.worker_pool.specs.Outcomes.{CanWantWorkers, UsesUpNumbers};
 ghost use Rattle.worker_pool.specs.Runs.{IsEnded, IsJournalAsked, IsSummaryOf};
 ghost use Rattle.worker_pool.specs.Starts.{BeginsRun};
 
-use crate::counted::Counted;
 use crate::ending::Unlocked;
-use crate::grouping::groups_for;
+use crate::grouping::marked_groups;
 use crate::leaving::Leaving;
 use crate::network_run::NetworkRun;
 use crate::pace::Pace;
@@ -20,9 +19,9 @@ use crate::running::run_to_end;
 use crate::start::{Start, StartOf};
 use actor_run::Watch;
 use exchange::Gate;
-use group_exchange::Pairs;
 use journal::PoolFault;
 use network::Network;
+use run_rows::Counted;
 use std::alloc::{AllocError, Global};
 use std::marker::Brand;
 use std::sync::Wait;
@@ -104,8 +103,8 @@ fn summary_named<J: NetworkRun + Send + Sync, G: Gate + Sync, T: Threads + Wait 
     let keeps = start.keeps;
     let counted = Counted::each(alloc, start.network, start.grouping.groups)?;
     let leaving = Leaving::to_tables(counted);
-    let mut ended = run_to_end::<J, G, T, W>(rt, alloc, start, gate, leaving, false, watch)?;
-    let (_none, counted) = ended.leaving.close();
+    let ended = run_to_end::<J, G, T, W>(rt, alloc, start, gate, &leaving, false, watch)?;
+    let (_none, counted) = leaving.close();
     let found = ended.summary(alloc, counted, keeps);
     drop(ended);
     Ok(found?)
@@ -129,8 +128,9 @@ pub fn run_summary<G: Gate + Sync, T: Threads + Wait + Sync, W: Watch>(
     ensures spawn { IfErr result (λ fault. fault ≡ Spawn → CanWantWorkers pace.workers (process_count network.now)) }
     ensures watched { W.becomes watch.old watch.new }
 {
-    let grouping = groups_for(rt, alloc, network, pace.workers)?;
-    let pairs = Pairs::new(alloc, usize::from(grouping.groups))?;
+    let Ok((grouping, pairs)) = marked_groups(rt, alloc, network, pace.workers) else {
+        return Err(PoolFault::OutOfMemory);
+    };
     let start = Start {
         network,
         pace: pace.that_goes(),

@@ -14,10 +14,9 @@ ghost use Rattle.worker_pool.specs.Starts.{BeginsRun};
 ghost use Rattle.run_rows.specs.Written.{IsFaultOfTrace, IsPlaceFault, IsWritten};
 
 use crate::batches::write_batches;
-use crate::counted::Counted;
 use crate::desk::TraceLock;
 use crate::ending::Unlocked;
-use crate::grouping::groups_for;
+use crate::grouping::marked_groups;
 use crate::leaving::Leaving;
 use crate::network_run::NetworkRun;
 use crate::pace::Pace;
@@ -28,15 +27,14 @@ use crate::summary::Summary;
 use actor_run::Watch;
 use crossbeam_channel::{Receiver, bounded};
 use exchange::Gate;
-use group_exchange::Pairs;
 use journal::PoolFault;
 use network::Network;
-use run_rows::{RunBatch, TraceRun, Writing};
+use run_rows::{Counted, RunBatch, TraceRun, Writing};
 use std::alloc::{AllocError, Global};
 use std::marker::Brand;
 use std::sync::Wait;
 use std::thread;
-use std::thread::Threads;
+use std::thread::{JoinHandle, Threads};
 use trace_tables::{SegmentFault, Sink, TraceFault};
 
 /// So many batches can wait for the writer's thread. Workers wait where one more is there.
@@ -70,8 +68,8 @@ fn run_to_trace<
     ensures fault { IfOk result (λ r. IfSome r.1 IsPlaceFault) }
     ensures watched { W.becomes watch.old watch.new }
 {
-    let mut ended = run_to_end::<J, G, T, W>(rt, alloc, start, gate, leaving, false, watch)?;
-    let (fault, none) = ended.leaving.close();
+    let ended = run_to_end::<J, G, T, W>(rt, alloc, start, gate, &leaving, false, watch)?;
+    let (fault, none) = leaving.close();
     drop(none);
     Ok((ended, fault))
 }
@@ -113,6 +111,35 @@ fn traced_of<'a, J: NetworkRun, K: TraceRun, S: Sink + Drop>(
         written,
         sink,
     })
+}
+
+/// Runs a network whose trace a thread writes that was started, and joins that thread. The watch is given back.
+fn run_beside<
+    'a,
+    J: NetworkRun + Send + Sync,
+    K: TraceRun,
+    S: Sink + Drop,
+    G: Gate + Sync,
+    T: Threads + Wait + Sync,
+    W: Watch + Drop,
+>(
+    rt: &T,
+    alloc: Global,
+    start: StartOf<'_, J>,
+    gate: &G,
+    leaving: Leaving<J>,
+    watch: W,
+    writer: JoinHandle<(Writing<'a, J, K, S>, Counted<J>)>,
+) -> (Result<Traced<S>, RunFault<J>>, W)
+    ensures found { IfOk result.0 (λ t. IsSummaryOf J.plan J.keeps t.outcome.tables t.outcome.journal.items) }
+    ensures written { IfOk result.0 (λ t. IsWritten J.plan K.taken K.failures t.written (S.taken t.sink) (S.failures t.sink)) }
+    ensures watched { W.becomes watch result.1 }
+{
+    let mut watch = watch;
+    let keeps = start.keeps;
+    let ran = run_to_trace(rt, alloc, start, gate, leaving, &mut watch);
+    let (writing, counted) = writer.join(rt);
+    (traced_of(alloc, ran, writing, counted, keeps), watch)
 }
 
 /// Where the rows of a run go whose trace is written, the end of the channel where their batches come, and what counts them. It is refused for memory
@@ -180,16 +207,14 @@ fn traced_named<
             ensures written { IfOk result.0 (λ t. IsWritten J.plan K.taken K.failures t.written (S.taken t.sink) (S.failures t.sink)) }
             ensures watched { W.becomes watch result.1 }
         {
-            let mut watch = watch;
-            let Ok(writer) = scope.spawn(move || write_batches(
-                rt, network, writing, counted, batches,
-            )) else {
-                return (Err(RunFault::other(PoolFault::Spawn)), watch);
-            };
-            let keeps = start.keeps;
-            let ran = run_to_trace(rt, alloc, start, gate, leaving, &mut watch);
-            let (writing, counted) = writer.join(rt);
-            (traced_of(alloc, ran, writing, counted, keeps), watch)
+            match scope.spawn(move || write_batches(rt, network, writing, counted, batches)) {
+                Ok(writer) => run_beside(rt, alloc, start, gate, leaving, watch, writer),
+                Err(_) => {
+                    drop(start);
+                    drop(leaving);
+                    (Err(RunFault::other(PoolFault::Spawn)), watch)
+                }
+            }
         },
     );
     match traced {
@@ -238,8 +263,9 @@ pub fn run_traced<S: Sink + Drop + Send, G: Gate + Sync, T: Threads + Wait + Syn
     ensures exhausted { IfErr result (λ fault. fault ≡ Exhausted → UsesUpNumbers network.now) }
     ensures watched { W.becomes watch.old watch.new }
 {
-    let grouping = groups_for(rt, alloc, network, pace.workers)?;
-    let pairs = Pairs::new(alloc, usize::from(grouping.groups))?;
+    let Ok((grouping, pairs)) = marked_groups(rt, alloc, network, pace.workers) else {
+        return Err(PoolFault::OutOfMemory);
+    };
     let start = Start {
         network,
         pace: pace.that_goes(),

@@ -9,7 +9,7 @@ use crate::network_run::NetworkRun;
 use crate::outcomes::{add_outcome, least_fault};
 use crate::rounds::LOOK_US;
 use crate::rounds::common::Common;
-use crate::rounds::moments::Moments;
+use crate::rounds::signals::Signals;
 use crate::rounds::worker::Worker;
 use crate::run_fault::RunFault;
 use actor_run::Watch;
@@ -34,7 +34,7 @@ pub(crate) fn work_all<
 >(
     rt: &T,
     alloc: Global,
-    common: Common<'n, J>,
+    common: Common<'n, '_, J>,
     gate: &G,
     watch: W,
 ) -> (Result<Unlocked<'n, J>, RunFault<J>>, W)
@@ -49,36 +49,43 @@ pub(crate) fn work_all<
 fn unlocked_of<'n, J: NetworkRun>(
     alloc: Global,
     started: Result<(), RunFault<J>>,
-    common: Common<'n, J>,
+    common: Common<'n, '_, J>,
 ) -> Result<Unlocked<'n, J>, RunFault<J>>
     ensures { IfErr result (λ fault. fault ≡ Spawn → started ≡ Err Spawn) }
 {
-    if let Err(fault) = started {
-        drop(common);
-        return Err(fault);
+    match started {
+        Ok(()) => Ok(taken_back(alloc, common)?),
+        Err(fault) => {
+            drop(common);
+            Err(fault)
+        }
     }
+}
+
+/// The exchange and all groups, which no worker has any more. It is refused for memory alone.
+fn taken_back<'n, J: NetworkRun>(
+    alloc: Global,
+    common: Common<'n, '_, J>,
+) -> Result<Unlocked<'n, J>, AllocError> {
     let Common {
         network,
         pace,
         seats,
-        moments,
+        signals,
         exchange,
-        leaving,
         ..
     } = common;
-    drop(moments);
+    drop(signals);
     match seats.into_groups(alloc) {
         Ok(groups) => Ok(Unlocked {
             network,
             pace,
             exchange: exchange.into_inner().into_inner(),
             groups,
-            leaving,
         }),
         Err(fault) => {
             drop(exchange);
-            drop(leaving);
-            Err(RunFault::from(fault))
+            Err(fault)
         }
     }
 }
@@ -89,7 +96,13 @@ fn start_all<
     G: Gate + Sync,
     T: Threads + Wait + Sync,
     W: Watch + Drop,
->(rt: &T, alloc: Global, common: &Common<'_, J>, gate: &G, watch: W) -> (Result<(), RunFault<J>>, W)
+>(
+    rt: &T,
+    alloc: Global,
+    common: &Common<'_, '_, J>,
+    gate: &G,
+    watch: W,
+) -> (Result<(), RunFault<J>>, W)
     ensures spawn { IfErr result.0 (λ fault. fault ≡ Spawn → 0 < common.now.workers) }
     ensures watched { W.becomes watch result.1 }
 {
@@ -116,27 +129,43 @@ fn start_all<
                 };
                 handles.push_reserved(handle);
             }
-            let mut watch = watch;
-            if start.is_ok() {
-                show_gvt(rt, &common.moments, &mut watch);
-            } else {
-                common.moments.stop();
-            }
-            (join_all(rt, alloc, start, handles), watch)
+            watch_all(rt, alloc, &common.signals, start, handles, watch)
         },
     )
 }
 
+/// The watch is shown GVT until the run ends; where the start was refused, the workers are to end. They are joined. The answer is the least fault of
+/// what they ended with, and of the start.
+fn watch_all<J: NetworkRun, T: Threads + Wait, W: Watch + Drop>(
+    rt: &T,
+    alloc: Global,
+    signals: &Signals,
+    start: Result<(), RunFault<J>>,
+    handles: Vec<JoinHandle<Result<(), RunFault<J>>>>,
+    watch: W,
+) -> (Result<(), RunFault<J>>, W)
+    ensures told { IsToldOf start (length handles.items) result.0 }
+    ensures watched { W.becomes watch result.1 }
+{
+    let mut watch = watch;
+    if start.is_ok() {
+        show_gvt(rt, signals, &mut watch);
+    } else {
+        signals.moments.stop();
+    }
+    (join_all(rt, alloc, start, handles), watch)
+}
+
 /// The watch is shown GVT once in `LOOK_US`, until the run ends.
-fn show_gvt<T: Wait, W: Watch>(rt: &T, moments: &Moments, watch: &mut W)
+fn show_gvt<T: Wait, W: Watch>(rt: &T, signals: &Signals, watch: &mut W)
     ensures watched { W.becomes watch.old watch.new }
 {
     for _ in rt.forever() {
-        moments.watch(rt, LOOK_US);
-        if moments.is_ended() {
+        signals.watch(rt, LOOK_US);
+        if signals.is_ended() {
             return;
         }
-        if let Some(moment) = Time::new(moments.gvt_ns()) {
+        if let Some(moment) = Time::new(signals.moments.gvt_ns()) {
             watch.look(moment, 0);
         }
     }
@@ -177,7 +206,7 @@ fn join_all<J: NetworkRun, T: Threads + Wait>(
 fn give_turns<J: NetworkRun, G: Gate, T: Wait>(
     rt: &T,
     alloc: Global,
-    common: &Common<'_, J>,
+    common: &Common<'_, '_, J>,
     gate: &G,
     number: usize,
 ) -> Result<(), RunFault<J>> {
@@ -190,8 +219,8 @@ fn give_turns<J: NetworkRun, G: Gate, T: Wait>(
         Err(fault) => Err(RunFault::from(fault)),
     };
     if outcome.is_err() {
-        common.moments.stop();
+        common.signals.moments.stop();
     }
-    common.moments.end();
+    common.signals.end();
     outcome
 }

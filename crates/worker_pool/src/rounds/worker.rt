@@ -1,12 +1,9 @@
 //! A worker: it gives groups their turns.
-use super::apart::Apart;
 use super::common::Common;
-use super::moments::Moments;
-use super::seat::{NetworkGroup, Seat};
-use super::{
-    LOOKS_BEFORE_HELP, LOOKS_BEFORE_REST, LOOKS_BEFORE_YIELD, LOOKS_PER_GVT, PAUSES, PAUSES_OF_TRY,
-    PIECE, TRIES,
-};
+use super::seat::{NetworkGroup, NetworkSeat, next_ns, report_of};
+use super::seats::Seats;
+use super::signals::Signals;
+use super::{PAUSES, PAUSES_OF_TRY, TRIES};
 use crate::group_work::work_ahead;
 use crate::network_run::{NetworkRun, OfGroups};
 use crate::run_fault::RunFault;
@@ -17,43 +14,40 @@ use nodes::Node;
 use std::alloc::{AllocError, Global};
 use std::sync::{Mutex, MutexGuard, Wait};
 use std::{hint, thread};
+use turns::{Apart, Looks, Moments};
 
 /// The lock of the exchange.
 pub(crate) type ExchangeLock<J> = Mutex<Apart<Shared<J>>>;
 
 /// What a worker has for itself, and what it shares with the others.
 #[derive(Drop)]
-pub(crate) struct Worker<'s, 'n, J: NetworkRun, G: Gate, T: Wait> {
+pub(crate) struct Worker<'s, 'n, 'l, J: NetworkRun, G: Gate, T: Wait> {
     rt: &'s T,
-    common: &'s Common<'n, J>,
+    common: &'s Common<'n, 'l, J>,
     gate: &'s G,
     number: usize,
     /// For each group the least moment of the letters that were posted to it last, in ns.
     letters_ns: Vec<u64>,
-    /// How often it has looked in vain since a turn.
-    looks: u64,
-    /// How often it looks in vain before it gives groups of others a turn.
-    patience: u64,
+    looks: Looks,
 }
 
-impl<'s, 'n, J: NetworkRun, G: Gate, T: Wait> Worker<'s, 'n, J, G, T> {
+impl<'s, 'n, 'l, J: NetworkRun, G: Gate, T: Wait> Worker<'s, 'n, 'l, J, G, T> {
     /// The worker of this number, which has given no turn. It is refused for memory alone.
     pub(crate) fn new(
         rt: &'s T,
         alloc: Global,
-        common: &'s Common<'n, J>,
+        common: &'s Common<'n, 'l, J>,
         gate: &'s G,
         number: usize,
     ) -> Result<Self, AllocError> {
-        let letters_ns = vec![in alloc; u64::MAX; common.moments.groups()]?;
+        let letters_ns = vec![in alloc; u64::MAX; common.signals.moments.groups()]?;
         Ok(Worker {
             rt,
             common,
             gate,
             number,
             letters_ns,
-            looks: 0,
-            patience: LOOKS_BEFORE_HELP,
+            looks: Looks::none(),
         })
     }
 
@@ -61,7 +55,7 @@ impl<'s, 'n, J: NetworkRun, G: Gate, T: Wait> Worker<'s, 'n, J, G, T> {
     pub(crate) fn turns_until_over(&mut self) -> Result<(), RunFault<J>> {
         let rt = self.rt;
         for _ in rt.forever() {
-            if self.common.moments.is_over() {
+            if self.common.signals.moments.is_over() {
                 return Ok(());
             }
             if !self.own_turns()? && !self.turn_of_others()? {
@@ -73,15 +67,16 @@ impl<'s, 'n, J: NetworkRun, G: Gate, T: Wait> Worker<'s, 'n, J, G, T> {
 
     /// A turn for each group of its own that no other worker has. The answer is whether a message was handled.
     fn own_turns(&mut self) -> Result<bool, RunFault<J>> {
+        let common = self.common;
+        let moments = &common.signals.moments;
         let mut has_worked = false;
-        for group in 0..self.common.moments.groups() {
-            if self.common.moments.is_of(group, self.number) && self.turn_of(group, true)? {
+        for group in 0..moments.groups() {
+            if moments.is_of(group, self.number) && self.turn_of(group, true)? {
                 has_worked = true;
             }
         }
         if has_worked {
-            self.looks = 0;
-            self.patience = self.patience.saturating_add(8).min(LOOKS_BEFORE_HELP);
+            self.looks.work();
         }
         Ok(has_worked)
     }
@@ -89,18 +84,16 @@ impl<'s, 'n, J: NetworkRun, G: Gate, T: Wait> Worker<'s, 'n, J, G, T> {
     /// A turn for a group of another worker, which may be off its core, where nothing was to do for its own for a while. The more often that served, the
     /// sooner it does so. The answer is whether a message was handled.
     fn turn_of_others(&mut self) -> Result<bool, RunFault<J>> {
-        if self.looks < self.patience {
+        if !self.looks.are_to_help() {
             return Ok(false);
         }
-        let limit_ns = self.common.moments.limit_ns();
-        for group in 0..self.common.moments.groups() {
-            let is_own = self.common.moments.is_of(group, self.number);
-            if !is_own
-                && self.common.moments.is_due(group, limit_ns)
-                && self.turn_of(group, false)?
-            {
-                self.patience /= 2;
-                self.looks = self.patience;
+        let common = self.common;
+        let moments = &common.signals.moments;
+        let limit_ns = moments.limit_ns();
+        for group in 0..moments.groups() {
+            let is_other = !moments.is_of(group, self.number) && moments.is_due(group, limit_ns);
+            if is_other && self.turn_of(group, false)? {
+                self.looks.help();
                 return Ok(true);
             }
         }
@@ -126,58 +119,52 @@ impl<'s, 'n, J: NetworkRun, G: Gate, T: Wait> Worker<'s, 'n, J, G, T> {
     }
 
     /// A turn for a group. The answer is whether a message was handled.
-    fn turn(&mut self, seat: &mut Seat<J>) -> Result<bool, RunFault<J>> {
-        let limit_ns = self.common.moments.limit_ns();
-        let window_ns = self.common.pace.window_ns;
-        let report = seat.report();
-        if report.is_to_meet(&self.common.moments, limit_ns, window_ns, self.looks) {
+    fn turn(&mut self, seat: &mut NetworkSeat<J>) -> Result<bool, RunFault<J>> {
+        let common = self.common;
+        let moments = &common.signals.moments;
+        let limit_ns = moments.limit_ns();
+        let window_ns = common.pace.window_ns;
+        let report = report_of::<J>(seat);
+        if report.is_to_meet(moments, limit_ns, window_ns, self.looks.vain()) {
             self.meet(seat)?;
         } else if !report.is_due(limit_ns, window_ns) {
             return Ok(false);
         }
         let has_worked = self.handle_due(seat)?;
-        self.common.moments.wake_due();
-        self.common
+        common.signals.wake_due();
+        common
             .leaving
-            .take_rows(self.rt, self.common.network, &mut seat.group)?;
+            .take_rows(self.rt, common.network, &mut seat.group)?;
         Ok(has_worked)
     }
 
     /// In one section of the exchange what the group did goes to the journal, its letters go to the other groups, and its own come to it. Then the other
     /// groups are told.
-    fn meet(&mut self, seat: &mut Seat<J>) -> Result<(), RunFault<J>> {
+    fn meet(&mut self, seat: &mut NetworkSeat<J>) -> Result<(), RunFault<J>> {
         let common = self.common;
-        let waits = seat.report().waits_for_gvt(common.pace.window_ns);
+        let waits = report_of::<J>(seat).waits_for_gvt(common.pace.window_ns);
         let mut exchange = locked_soon(self.rt, &common.exchange);
         let shared = &mut exchange.value;
-        let met = meet_at(shared, &common.moments, seat, waits, &mut self.letters_ns);
+        let moments = &common.signals.moments;
+        let met = meet_at(shared, moments, seat, waits, &mut self.letters_ns);
         drop(exchange);
         met?;
-        common.moments.call_all(&mut self.letters_ns);
+        moments.call_all(&mut self.letters_ns);
         Ok(())
     }
 
     /// The group handles messages as long as they are due, as many as a turn has, and tells now and then how far it is. It ends where it is to meet the
     /// others. The answer is whether a message was handled.
-    fn handle_due(&self, seat: &mut Seat<J>) -> Result<bool, RunFault<J>> {
-        let number = seat.group.number();
+    fn handle_due(&self, seat: &mut NetworkSeat<J>) -> Result<bool, RunFault<J>> {
+        let moments = &self.common.signals.moments;
         let turn = u32::from(self.common.pace.turn);
         let mut handled = 0;
-        // Nobody asks how far the only group is.
-        let piece = if self.common.moments.groups() == 1 {
-            turn
-        } else {
-            PIECE
-        };
         for given in 0..turn {
-            let most = piece.min(turn - handled.min(turn));
-            let limit_ns = self.common.moments.limit_ns();
-            let count = self.handle_before(&mut seat.group, most, limit_ns)?;
+            let most = moments.piece(turn, handled);
+            let count = self.handle_piece(seat, most)?;
             handled = handled.saturating_add(count);
-            seat.look();
-            self.common.moments.tell(number, seat.next_ns);
             let is_done = count < most || handled >= turn;
-            if is_done || seat.report().ends_turn(&self.common.moments, handled) {
+            if is_done || report_of::<J>(seat).ends_turn(moments, handled) {
                 break;
             }
         }
@@ -185,89 +172,108 @@ impl<'s, 'n, J: NetworkRun, G: Gate, T: Wait> Worker<'s, 'n, J, G, T> {
         Ok(handled != 0)
     }
 
-    /// The group handles messages before the limit, in ns, so many at most, no further ahead of the GVT that it saw than the window. The answer is how
-    /// many. At a refusal the exchange tells whether numbers are used up.
-    fn handle_before(
-        &self,
-        group: &mut NetworkGroup<J>,
-        most: u32,
-        limit_ns: u64,
-    ) -> Result<u32, RunFault<J>> {
-        let ahead_ns = limit_ns
-            .saturating_sub(group.gvt_seen().ns())
-            .min(self.common.pace.window_ns);
-        match work_ahead(group, most, ahead_ns, self.gate) {
-            Ok(count) => Ok(count),
+    /// The group handles messages that are due, so many at most, no further ahead of the GVT that it saw than the window, and tells how far it is. The
+    /// answer is how many. At a refusal the exchange tells whether numbers are used up.
+    fn handle_piece(&self, seat: &mut NetworkSeat<J>, most: u32) -> Result<u32, RunFault<J>> {
+        let moments = &self.common.signals.moments;
+        let due_ns = moments
+            .limit_ns()
+            .saturating_sub(seat.group.gvt_seen().ns());
+        let ahead_ns = due_ns.min(self.common.pace.window_ns);
+        match work_ahead(&mut seat.group, most, ahead_ns, self.gate) {
+            Ok(count) => {
+                seat.next_ns = next_ns(&mut seat.group);
+                moments.tell(seat.group.number(), seat.next_ns);
+                Ok(count)
+            }
             Err(fault) => Err(
                 self.common
                     .exchange
                     .lock(self.rt)
                     .value
-                    .fault_of(group, fault),
+                    .fault_of(&seat.group, fault),
             ),
         }
     }
 
-    /// Nothing was due: it looks again soon, and rests after `LOOKS_BEFORE_REST` looks. Where it waits for GVT, or has waited for long, that is set once in
-    /// `LOOKS_PER_GVT` looks.
+    /// Nothing was due: it looks again soon, and rests after many looks. Where it waits for GVT, or has waited for long, that is set now and then.
     fn found_nothing(&mut self) -> Result<(), RunFault<J>> {
-        self.looks = self.looks.saturating_add(1);
-        let is_long = self.looks >= LOOKS_BEFORE_REST;
-        if self.looks % LOOKS_PER_GVT == 0
-            && (is_long || self.common.moments.waits_for_gvt(self.number))
+        let common = self.common;
+        self.looks.look_in_vain();
+        if self.looks.may_publish()
+            && (self.looks.are_to_rest() || common.signals.moments.waits_for_gvt(self.number))
         {
-            self.publish()?;
+            publish(&common.exchange, &common.signals)?;
         }
-        if is_long {
-            self.rest();
+        if self.looks.are_to_rest() {
+            let window_ns = common.pace.window_ns;
+            rest(
+                self.rt,
+                &common.signals,
+                &common.seats,
+                self.number,
+                window_ns,
+            );
         } else {
             pause(self.looks);
         }
         Ok(())
     }
+}
 
-    /// Rests until a group of its own is due, unless one is.
-    fn rest(&self) {
-        let moments = &self.common.moments;
-        moments.begin_rest(self.number);
-        if !moments.is_over() && !self.can_go_on() {
-            moments.rest(self.rt, self.number);
-        }
-        moments.end_rest(self.number);
+/// A worker that has looked in vain for long rests until a group of its own is due, unless one is.
+fn rest<J: NetworkRun, T: Wait>(
+    rt: &T,
+    signals: &Signals,
+    seats: &Seats<NetworkGroup<J>>,
+    number: usize,
+    window_ns: u64,
+) {
+    signals.begin_rest(number);
+    if !signals.moments.is_over() && !is_any_due(&signals.moments, seats, number, window_ns) {
+        signals.rest(rt, number);
     }
+    signals.end_rest(number);
+}
 
-    /// Whether there is something to do for a group of its own that no other thread has.
-    fn can_go_on(&self) -> bool {
-        let moments = &self.common.moments;
-        let window_ns = self.common.pace.window_ns;
-        let limit_ns = moments.limit_ns();
-        for group in 0..moments.groups() {
-            if moments.is_of(group, self.number) {
-                if let Some(report) = self.common.seats.report_of(group) {
-                    if report.is_due(limit_ns, window_ns)
-                        || report.is_to_meet(moments, limit_ns, window_ns, self.looks)
-                    {
-                        return true;
-                    }
+/// Whether there is something to do for a group of a worker, which looked in vain for long, that no other thread has.
+fn is_any_due<J: NetworkRun>(
+    moments: &Moments,
+    seats: &Seats<NetworkGroup<J>>,
+    number: usize,
+    window_ns: u64,
+) -> bool {
+    let limit_ns = moments.limit_ns();
+    for group in 0..moments.groups() {
+        if moments.is_of(group, number) {
+            if let Some(seat) = seats.try_take(group) {
+                let report = report_of::<J>(&seat);
+                if report.is_due(limit_ns, window_ns)
+                    || report.is_to_meet(moments, limit_ns, window_ns, u64::MAX)
+                {
+                    return true;
                 }
             }
         }
-        false
     }
+    false
+}
 
-    /// GVT is set, where no other thread is at the exchange.
-    fn publish(&self) -> Result<(), RunFault<J>> {
-        let Some(mut exchange) = self.common.exchange.try_lock() else {
-            return Ok(());
-        };
-        let gvt = exchange.value.publish()?;
-        let is_new = self.common.moments.publish(gvt.ns());
-        drop(exchange);
-        if is_new {
-            self.common.moments.wake_due();
-        }
-        Ok(())
+/// GVT is set, where no other thread is at the exchange.
+fn publish<J: NetworkRun>(
+    exchange: &ExchangeLock<J>,
+    signals: &Signals,
+) -> Result<(), RunFault<J>> {
+    let Some(mut exchange) = exchange.try_lock() else {
+        return Ok(());
+    };
+    let gvt = exchange.value.publish()?;
+    let is_new = signals.moments.publish(gvt.ns());
+    drop(exchange);
+    if is_new {
+        signals.wake_due();
     }
+    Ok(())
 }
 
 /// Where a worker has the exchange, what the group did goes to the journal, its letters go to the other groups, and are listed; its own come to it; and
@@ -275,7 +281,7 @@ impl<'s, 'n, J: NetworkRun, G: Gate, T: Wait> Worker<'s, 'n, J, G, T> {
 fn meet_at<J: NetworkRun>(
     shared: &mut Shared<J>,
     moments: &Moments,
-    seat: &mut Seat<J>,
+    seat: &mut NetworkSeat<J>,
     waits: bool,
     letters_ns: &mut [u64],
 ) -> Result<(), RunFault<J>> {
@@ -292,9 +298,9 @@ fn meet_at<J: NetworkRun>(
     Ok(())
 }
 
-/// After so many looks in vain a worker looks again soon, and lets other threads run in between after `LOOKS_BEFORE_YIELD` looks.
-fn pause(looks: u64) {
-    if looks >= LOOKS_BEFORE_YIELD {
+/// A worker that looked in vain looks again soon, and after many looks lets other threads run in between.
+fn pause(looks: Looks) {
+    if looks.are_to_yield() {
         thread::yield_now();
     } else {
         for _ in 0..PAUSES {

@@ -1,7 +1,7 @@
 use Rattle.std.proofs.Common.{◌≡◌, ◌∙◌, [], sym, arith, eqb-true}
 use Rattle.std.proofs.lemmas.List.{nil_from_length}
-use Rattle.worker_pool.proofs.CountedRun.{batch-known}
-use Rattle.worker_pool.proofs.counted.Counted.take.Goals as goal
+use Rattle.run_rows.proofs.CountedRun.{batch-known}
+use Rattle.run_rows.proofs.counted.Counted.take.Goals as goal
 
 pub invariant_of-self-2 : goal.invariant_of-self-2
 invariant_of-self-2 g c =

@@ -1,20 +1,21 @@
 //! The tables of a run, as far as its rows are counted while it goes on.
-ghost use Rattle.std.specs.Prelude.{◌≡◌, ℕ, replicate, IfOk, IfSome};
-ghost use Rattle.worker_pool.specs.Counts.{moment_at, moment_of, AreCountedBefore};
+ghost use Rattle.std.specs.Prelude.{◌≡◌, ◌<◌, ◌≤◌, ℕ, length, replicate, IfOk, IfSome};
+ghost use Rattle.run_rows.specs.Counts.{moment_at, moment_of, AreCountedBefore, IsPartOfGroup};
 
+use crate::lawful_rows::rows_law;
 use crate::network_run::NetworkRun;
-use crate::rounds::seat::NetworkGroup;
+use crate::row_tables::RowTables;
+use crate::run_batch::RunBatch;
 use network::Network;
-use run_rows::{RowTables, RunBatch, rows_law};
 use std::alloc::{AllocError, Global};
 use std::marker::PhantomData;
 use trace_tables::batches_in_order_law;
-use vlink::Time;
+use vlink::{Row, Time};
 
 /// The tables of rows of a run that are for good, or none where a growth was refused: of each group those before a moment of its own, where one
 /// is listed, and else before the moment `end`. By its type they are those of the rows that the one-thread run of the network has there.
 #[derive(Drop)]
-pub(crate) struct Counted<J: NetworkRun> {
+pub struct Counted<J: NetworkRun> {
     pub tables: Option<RowTables<J>>,
     pub own: Vec<Time>,
     pub end: Time,
@@ -23,7 +24,7 @@ pub(crate) struct Counted<J: NetworkRun> {
 }
 
 /// The moment before which the rows of a group are counted.
-pub(crate) fn moment_of(own: &[Time], end: Time, group: usize) -> Time
+pub fn moment_of(own: &[Time], end: Time, group: usize) -> Time
     ensures { result ≡ moment_of own.now end group }
 {
     match own.get(group) {
@@ -41,14 +42,14 @@ fn first_moments(alloc: Global, groups: usize) -> Result<Vec<Time>, AllocError>
 
 impl<J: NetworkRun> Counted<J> {
     /// No row is counted yet, and no group has a moment of its own. It is refused for memory alone.
-    pub(crate) fn none(alloc: Global, network: &Network) -> Result<Self, AllocError>
+    pub fn none(alloc: Global, network: &Network) -> Result<Self, AllocError>
         requires { network.now ≡ J.plan }
     {
         Counted::with_moments(alloc, network, Vec::new(alloc))
     }
 
     /// No row is counted yet, and each of so many groups has a moment of its own. It is refused for memory alone.
-    pub(crate) fn each(alloc: Global, network: &Network, groups: u16) -> Result<Self, AllocError>
+    pub fn each(alloc: Global, network: &Network, groups: u16) -> Result<Self, AllocError>
         requires { network.now ≡ J.plan }
     {
         let own = first_moments(alloc, usize::from(groups))?;
@@ -70,7 +71,7 @@ impl<J: NetworkRun> Counted<J> {
 
     /// Counts the rows of the next batch of the run, where no group has a moment of its own. Where a growth is refused, there are no tables from
     /// then on. A batch that begins elsewhere than the last one ended is not counted, and changes nothing.
-    pub(crate) fn take(&mut self, network: &Network, batch: &RunBatch<J>)
+    pub fn take(&mut self, network: &Network, batch: &RunBatch<J>)
         requires { network.now ≡ J.plan }
     {
         rows_law(network);
@@ -89,33 +90,28 @@ impl<J: NetworkRun> Counted<J> {
         self.end = batch.to();
     }
 
-    /// Counts the rows of a group that are for good, as far as it saw, and lets them leave it, where it has a moment of its own. It fails only where
-    /// memory is refused, or was before; then there are no tables from then on.
-    pub(crate) fn take_rows(
+    /// Counts rows of a group, from its moment on up to this one, which is its moment from then on. It fails only where memory is refused, or was before;
+    /// then there are no tables from then on.
+    pub fn take_of_group(
         &mut self,
         network: &Network,
-        group: &mut NetworkGroup<J>,
+        group: usize,
+        to: Time,
+        rows: &[Row],
     ) -> Result<(), AllocError>
-        requires { network.now ≡ J.plan }
+        requires network { network.now ≡ J.plan }
+        requires listed { group < length self.old.own.items }
+        requires later { moment_of self.old.own.items self.old.end group ≤ to }
+        requires of_group { IsPartOfGroup J.plan J.owners group (moment_of self.old.own.items self.old.end group) to rows.now }
     {
         rows_law(network);
         batches_in_order_law();
-        let number = usize::from(group.number());
-        let to = group.gvt_seen();
-        if number >= self.own.len() || !group.is_committed_before(to) {
-            return Ok(());
-        }
-        let from = moment_of(self.own.as_slice(), self.end, number);
-        if from.ns() < group.gone_before().ns() || to.ns() < from.ns() {
-            return Ok(());
-        }
         let Some(tables) = self.tables.take() else {
             return Err(AllocError);
         };
-        let tables = tables.with(network, group.rows_between(from, to))?;
+        let tables = tables.with(network, rows)?;
         self.tables = Some(tables);
-        self.own[number] = to;
-        group.let_rows_go(to);
+        self.own[group] = to;
         Ok(())
     }
 }

@@ -1,8 +1,8 @@
 use Rattle.std.proofs.Common.{List, sym, subst}
 use Rattle.vlink.specs.Letters.{Row}
-use Rattle.worker_pool.specs.Counts.{moment_at, AreCountedBefore}
-use Rattle.worker_pool.proofs.CountedRun.{none-counted}
-use Rattle.worker_pool.proofs.counted.Counted.with_moments.Goals as goal
+use Rattle.run_rows.specs.Counts.{moment_at, AreCountedBefore}
+use Rattle.run_rows.proofs.CountedRun.{none-counted}
+use Rattle.run_rows.proofs.counted.Counted.with_moments.Goals as goal
 
 pub invariant_of-result : goal.invariant_of-result
 invariant_of-result g c =
