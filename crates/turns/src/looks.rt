@@ -3,14 +3,14 @@ use crate::{LOOKS_BEFORE_HELP, LOOKS_BEFORE_REST, LOOKS_BEFORE_YIELD, LOOKS_PER_
 
 /// How often a worker has looked in vain since a turn, and how often it looks in vain before it gives groups of others a turn.
 #[derive(Clone, Copy)]
-pub struct Looks {
+pub(crate) struct Looks {
     vain: u64,
     patience: u64,
 }
 
 impl Looks {
     /// Of a worker that has given no turn.
-    pub fn none() -> Self {
+    pub(crate) fn none() -> Self {
         Looks {
             vain: 0,
             patience: LOOKS_BEFORE_HELP,
@@ -18,44 +18,44 @@ impl Looks {
     }
 
     /// How often it has looked in vain.
-    pub fn vain(&self) -> u64 {
+    pub(crate) fn vain(&self) -> u64 {
         self.vain
     }
 
     /// A message was handled for a group of its own.
-    pub fn work(&mut self) {
+    pub(crate) fn work(&mut self) {
         self.vain = 0;
         self.patience = self.patience.saturating_add(8).min(LOOKS_BEFORE_HELP);
     }
 
     /// A message was handled for a group of another worker. The more often that serves, the sooner it is tried.
-    pub fn help(&mut self) {
+    pub(crate) fn help(&mut self) {
         self.patience /= 2;
         self.vain = self.patience;
     }
 
     /// Nothing was found to do.
-    pub fn look_in_vain(&mut self) {
+    pub(crate) fn look_in_vain(&mut self) {
         self.vain = self.vain.saturating_add(1);
     }
 
     /// Whether groups of others, whose workers may be off their cores, are to have a turn.
-    pub fn are_to_help(&self) -> bool {
+    pub(crate) fn are_to_help(&self) -> bool {
         self.vain >= self.patience
     }
 
     /// Whether GVT may be set, where the worker waits for it.
-    pub fn may_publish(&self) -> bool {
+    pub(crate) fn may_publish(&self) -> bool {
         self.vain % LOOKS_PER_GVT == 0
     }
 
     /// Whether other threads are to run in between.
-    pub fn are_to_yield(&self) -> bool {
+    pub(crate) fn are_to_yield(&self) -> bool {
         self.vain >= LOOKS_BEFORE_YIELD
     }
 
     /// Whether the worker is to rest.
-    pub fn are_to_rest(&self) -> bool {
+    pub(crate) fn are_to_rest(&self) -> bool {
         self.vain >= LOOKS_BEFORE_REST
     }
 }

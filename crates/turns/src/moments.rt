@@ -66,7 +66,7 @@ pub struct Moments {
 
 impl Moments {
     /// A letter of the moment 0 waits for each of so many groups, which belong to so many workers in turn. It is refused for memory alone.
-    pub fn new(
+    pub(crate) fn new(
         alloc: Global,
         groups: usize,
         workers: usize,
@@ -89,13 +89,13 @@ impl Moments {
     }
 
     /// How many groups there are.
-    pub fn groups(&self) -> usize {
+    pub(crate) fn groups(&self) -> usize {
         self.moments.len()
     }
 
     /// So many messages a group handles at most before it tells how far it has come, where it has handled so many in its turn. Nobody asks how far the
     /// only group is.
-    pub fn piece(&self, turn: u32, handled: u32) -> u32 {
+    pub(crate) fn piece(&self, turn: u32, handled: u32) -> u32 {
         let left = turn.saturating_sub(handled);
         if self.groups() == 1 {
             left
@@ -105,7 +105,7 @@ impl Moments {
     }
 
     /// The worker of a group, if there is a group of this number.
-    pub fn owner(&self, group: usize) -> Option<usize> {
+    pub(crate) fn owner(&self, group: usize) -> Option<usize> {
         match self.owners.get(group) {
             Some(owner) => Some(*owner),
             None => None,
@@ -113,12 +113,12 @@ impl Moments {
     }
 
     /// Whether the group is this worker's.
-    pub fn is_of(&self, group: usize, worker: usize) -> bool {
+    pub(crate) fn is_of(&self, group: usize, worker: usize) -> bool {
         self.owner(group) == Some(worker)
     }
 
     /// The GVT that was set last, in ns.
-    pub fn gvt_ns(&self) -> u64 {
+    pub(crate) fn gvt_ns(&self) -> u64 {
         self.gvt_ns.value.load(Ordering::SeqCst)
     }
 
@@ -132,17 +132,17 @@ impl Moments {
     }
 
     /// A refusal ends all workers at their next turn.
-    pub fn stop(&self) {
+    pub(crate) fn stop(&self) {
         self.stop.store(true, Ordering::SeqCst);
     }
 
     /// Whether GVT is beyond the end, or a refusal ends all workers.
-    pub fn is_over(&self) -> bool {
+    pub(crate) fn is_over(&self) -> bool {
         self.gvt_ns() > self.until_ns || self.stop.load(Ordering::SeqCst)
     }
 
     /// Before which moment events are due now, in ns: `LEAD_NS` behind the least moment of all groups. The only group has none to wait for.
-    pub fn limit_ns(&self) -> u64 {
+    pub(crate) fn limit_ns(&self) -> u64 {
         if self.moments.len() == 1 {
             return u64::MAX;
         }
@@ -156,7 +156,7 @@ impl Moments {
     }
 
     /// Whether the group has something to do before this moment, in ns.
-    pub fn is_due(&self, group: usize, limit_ns: u64) -> bool {
+    pub(crate) fn is_due(&self, group: usize, limit_ns: u64) -> bool {
         match self.moments.get(group) {
             Some(moment) => moment.value.is_due(limit_ns),
             None => false,
@@ -164,7 +164,7 @@ impl Moments {
     }
 
     /// Whether nothing but GVT is to come for this worker: no group has an event before the end, or one of its own would be due but for the window.
-    pub fn waits_for_gvt(&self, worker: usize) -> bool {
+    pub(crate) fn waits_for_gvt(&self, worker: usize) -> bool {
         let limit_ns = self.limit_ns();
         if limit_ns > self.until_ns {
             return true;
@@ -178,7 +178,7 @@ impl Moments {
     }
 
     /// The least moment of the letters that wait for this group, in ns.
-    pub fn letter_ns(&self, group: u16) -> u64 {
+    pub(crate) fn letter_ns(&self, group: u16) -> u64 {
         match self.moments.get(usize::from(group)) {
             Some(moment) => moment.value.letter_ns.load(Ordering::SeqCst),
             None => u64::MAX,
@@ -186,7 +186,7 @@ impl Moments {
     }
 
     /// The group has its next event at this moment, in ns.
-    pub fn tell(&self, group: u16, moment_ns: u64) {
+    pub(crate) fn tell(&self, group: u16, moment_ns: u64) {
         if let Some(moment) = self.moments.get(usize::from(group)) {
             moment.value.next_ns.store(moment_ns, Ordering::SeqCst);
         }
@@ -216,7 +216,7 @@ impl Moments {
     }
 
     /// The groups are told of the letters that are listed for them, the least moment of each, in ns; and none is listed from then on.
-    pub fn call_all(&self, letters_ns: &mut [u64]) {
+    pub(crate) fn call_all(&self, letters_ns: &mut [u64]) {
         for (group, letter_ns) in letters_ns.iter_mut().enumerate() {
             if *letter_ns != u64::MAX {
                 self.call(group, *letter_ns);

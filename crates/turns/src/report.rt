@@ -21,19 +21,25 @@ pub struct Report {
 
 impl Report {
     /// Whether its next event is due, where that is what is before the limit, in ns, and the window.
-    pub fn is_due(&self, limit_ns: u64, window_ns: u64) -> bool {
+    pub(crate) fn is_due(&self, limit_ns: u64, window_ns: u64) -> bool {
         self.next_ns < limit_ns && !self.waits_for_gvt(window_ns)
     }
 
     /// Whether its next event is beyond the window, in ns.
-    pub fn waits_for_gvt(&self, window_ns: u64) -> bool {
+    pub(crate) fn waits_for_gvt(&self, window_ns: u64) -> bool {
         self.next_ns >= self.seen_ns.saturating_add(window_ns)
     }
 
     /// Whether it is to post and to look for letters before it goes on: it has letters for others, or did not post for long; or a letter waits that
     /// comes before its next event; or its next event waits for GVT; or nothing is due, and GVT is much further on, or what it did was not posted for a
     /// while, after so many looks in vain of its worker.
-    pub fn is_to_meet(&self, moments: &Moments, limit_ns: u64, window_ns: u64, looks: u64) -> bool {
+    pub(crate) fn is_to_meet(
+        &self,
+        moments: &Moments,
+        limit_ns: u64,
+        window_ns: u64,
+        looks: u64,
+    ) -> bool {
         if self.unposted >= MOST_UNPOSTED || self.has_letters {
             return true;
         }
@@ -54,7 +60,7 @@ impl Report {
 
     /// Whether it is to meet the others once it has handled so many messages in its turn: it has letters for them, or a letter waits that comes before
     /// its next event.
-    pub fn ends_turn(&self, moments: &Moments, handled: u32) -> bool {
+    pub(crate) fn ends_turn(&self, moments: &Moments, handled: u32) -> bool {
         (handled >= MOST_WITH_LETTERS && self.has_letters)
             || moments.letter_ns(self.number) <= self.next_ns
     }

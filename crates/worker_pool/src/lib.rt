@@ -11,15 +11,14 @@ mod group_work;
 mod grouping;
 mod leaving;
 mod network_run;
-mod outcomes;
 mod pace;
 mod results;
-mod rounds;
 mod run_fault;
 mod running;
 mod shared;
 mod start;
 mod summary;
+mod tasks;
 mod tracing;
 mod workers;
 

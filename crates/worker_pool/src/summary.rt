@@ -1,5 +1,5 @@
 //! What is asked of a run beside its trace: its tables, and its steps where they are wanted. No row is listed for it.
-ghost use Rattle.std.specs.Prelude.{◌≡◌, ◌⊎◌, List, Err, IfOk, IfErr, IfSome, IfNone};
+ghost use Rattle.std.specs.Prelude.{◌≡◌, ◌⊎◌, List, Err, IfOk, IfErr, IfNone};
 ghost use Rattle.vlink.specs.Letters.{Row};
 ghost use Rattle.network.specs.Words.{process_count};
 ghost use Rattle.journal.specs.declared.fault.PoolFault.TheVariants.{OutOfMemory, Exhausted, Spawn, Torn};
@@ -24,7 +24,7 @@ use network::Network;
 use run_rows::Counted;
 use std::alloc::{AllocError, Global};
 use std::marker::Brand;
-use std::sync::Wait;
+use std::sync::{Mutex, Wait};
 use std::thread::Threads;
 use trace_tables::Tables;
 use vlink::Step;
@@ -39,21 +39,18 @@ pub struct Summary {
 impl<J: NetworkRun> Unlocked<'_, J> {
     /// The tables of an ended run, of which so much is counted, and its steps where they are asked for. `Torn`: rows have left that nobody counted.
     /// Where a growth was refused while rows were counted, that is told first.
-    pub(crate) fn summary(
+    fn summary(
         &self,
         alloc: Global,
-        counted: Option<Counted<J>>,
+        counted: Counted<J>,
         with_steps: bool,
     ) -> Result<Summary, RunFault<J>>
         requires ended { IsEnded J.plan J.owners self.now.exchange.steps self.now.groups.items }
         requires keeps { with_steps ≡ J.keeps }
         ensures found { IfOk result (λ s. IsSummaryOf J.plan J.keeps s.tables s.journal.items) }
-        ensures refused { IfSome counted (λ c. IfNone c.tables (result ≡ Err OutOfMemory)) }
+        ensures refused { IfNone counted.tables (result ≡ Err OutOfMemory) }
         ensures faults { IfErr result (λ fault. (fault ≡ OutOfMemory) ⊎ (fault ≡ Torn)) }
     {
-        let Some(counted) = counted else {
-            return Err(RunFault::other(PoolFault::Torn));
-        };
         if counted.tables.is_none() {
             drop(counted);
             return Err(RunFault::other(PoolFault::OutOfMemory));
@@ -86,6 +83,24 @@ impl<J: NetworkRun> Unlocked<'_, J> {
     }
 }
 
+/// What an ended run has found of which so much is counted.
+pub(crate) fn summary_of<J: NetworkRun>(
+    alloc: Global,
+    ended: Unlocked<'_, J>,
+    counted: Counted<J>,
+    with_steps: bool,
+) -> Result<Summary, RunFault<J>>
+    requires ended { IsEnded J.plan J.owners ended.exchange.steps ended.groups.items }
+    requires keeps { with_steps ≡ J.keeps }
+    ensures found { IfOk result (λ s. IsSummaryOf J.plan J.keeps s.tables s.journal.items) }
+    ensures faults { IfErr result (λ fault. (fault ≡ OutOfMemory) ⊎ (fault ≡ Torn)) }
+{
+    let found = ended.summary(alloc, counted, with_steps);
+    drop(ended);
+    found
+}
+
+/// The run of `run_summary`, by its type.
 fn summary_named<J: NetworkRun + Send + Sync, G: Gate + Sync, T: Threads + Wait + Sync, W: Watch>(
     rt: &T,
     alloc: Global,
@@ -101,13 +116,10 @@ fn summary_named<J: NetworkRun + Send + Sync, G: Gate + Sync, T: Threads + Wait 
 {
     let start: StartOf<J> = StartOf::of(start);
     let keeps = start.keeps;
-    let counted = Counted::each(alloc, start.network, start.grouping.groups)?;
-    let leaving = Leaving::to_tables(counted);
+    let counted = Mutex::new(Counted::each(alloc, start.network, start.grouping.groups)?);
+    let leaving = Leaving::Counted(&counted);
     let ended = run_to_end::<J, G, T, W>(rt, alloc, start, gate, &leaving, false, watch)?;
-    let (_none, counted) = leaving.close();
-    let found = ended.summary(alloc, counted, keeps);
-    drop(ended);
-    Ok(found?)
+    Ok(summary_of(alloc, ended, counted.into_inner(), keeps)?)
 }
 
 /// Simulates a network by workers, as `run` does, and lists no rows; the steps that were done are listed where they are asked for. Its refusals

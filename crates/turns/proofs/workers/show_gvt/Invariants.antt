@@ -1,4 +1,4 @@
-use Rattle.worker_pool.proofs.workers.show_gvt.Given as goal
+use Rattle.turns.proofs.workers.show_gvt.Given as goal
 
 abbrev pub invariant-loop : goal.invariant-loop
 invariant-loop g l =

@@ -1,8 +1,8 @@
 //! The groups of a run, each with a lock of its own.
-use super::seat::Seat;
+use crate::apart::Apart;
+use crate::seat::Seat;
 use std::alloc::{AllocError, Global};
 use std::sync::{Mutex, MutexGuard};
-use turns::Apart;
 
 /// The groups of a run, in order. Who gives a group a turn has its lock meanwhile, and nobody waits for it.
 #[derive(Drop)]

@@ -1,10 +1,11 @@
 //! What the workers of a run tell one another: moments, who of them rests, and whether the run has ended.
-use super::REST_US;
+use crate::REST_US;
+use crate::apart::Apart;
+use crate::moments::Moments;
 use std::alloc::{AllocError, Global};
 use std::sync::Wait;
 use std::sync::atomic::{AtomicU64, Ordering};
 use std::time::Duration;
-use turns::{Apart, Moments};
 use vlink::Time;
 
 /// None of so many workers rests. It is refused for memory alone.
@@ -20,7 +21,7 @@ fn awake(alloc: Global, workers: usize) -> Result<Vec<Apart<AtomicU64>>, AllocEr
 #[derive(Drop)]
 pub(crate) struct Signals {
     /// When each group has something to do next.
-    pub moments: Moments,
+    pub(crate) moments: Moments,
     /// Of each worker, 1 as long as it rests or is about to: who has something for it sets that to 0, and wakes it.
     rests: Vec<Apart<AtomicU64>>,
     /// How many workers rest, or are about to.

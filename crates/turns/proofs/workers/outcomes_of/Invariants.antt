@@ -1,5 +1,5 @@
 use Rattle.std.proofs.Common.{◌≡◌, ◌+◌, Some, length, slice_get}
-use Rattle.worker_pool.proofs.workers.outcomes_of.Given as goal
+use Rattle.turns.proofs.workers.outcomes_of.Given as goal
 
 abbrev pub invariant-loop-handle : goal.invariant-loop-handle
 invariant-loop-handle g l = record {
