@@ -5,3 +5,4 @@ pub mod TraceText
 pub mod WrittenRun
 pub mod FinishedRun
 pub mod Written
+pub mod CountedRun

@@ -2,6 +2,7 @@
 //! run of the network.
 #![tactic(auto)]
 
+mod counted;
 mod lawful_rows;
 mod network_run;
 mod row_tables;
@@ -9,6 +10,7 @@ mod run_batch;
 mod trace_run;
 mod writing;
 
+pub use counted::{Counted, moment_of};
 pub use lawful_rows::rows_law;
 pub use network_run::NetworkRun;
 pub use row_tables::RowTables;

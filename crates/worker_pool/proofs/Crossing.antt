@@ -3,7 +3,7 @@
 use denote.RattleType.{RattleType}
 use denote.Ref.{NamedLft}
 use denote.Param.Send.{IsSend, IsSync, view_send, sendable}
-use denote.Param.SendFields.{declared_send, declared_sync}
+use denote.Param.SendFields.{declared_send, declared_sync, variants_sync}
 use Rattle.std.proofs.Crossing.{crosses}
 use Rattle.std.proofs.option.Option.TheSendSync as option
 use Rattle.virtual_time.proofs.letter.Letter.TheSendSync as letter
@@ -42,23 +42,17 @@ use Rattle.group_exchange.proofs.steps.Kept.TheSendSync as kept
 use Rattle.halves.proofs.LeftHalf.TheSendSync as left
 use Rattle.halves.proofs.RightHalf.TheSendSync as right
 use Rattle.network.proofs.network.Network.TheSendSync as network
-use Rattle.nodes.proofs.node.Node.TheSendSync as node
-use Rattle.nodes.proofs.node.NodeRecord.TheSendSync as node_record
 use Rattle.run_rows.specs.declared.network_run.NetworkRun.{Ghosts as NetworkGhosts}
 use Rattle.trace_tables.proofs.so_far.TablesSoFar.TheSendSync as so_far
-use Rattle.worker_pool.specs.contracts.counted.Counted as Counted
+use Rattle.run_rows.specs.contracts.counted.Counted as Counted
 use Rattle.worker_pool.specs.contracts.leaving.Leaving as Leaving
-use Rattle.worker_pool.specs.contracts.rounds.common.Common as Common
-use Rattle.worker_pool.specs.contracts.rounds.seat.Seat as Seat
-use Rattle.worker_pool.specs.contracts.rounds.seats.Seats as Seats
 use Rattle.run_rows.specs.contracts.row_tables.RowTables as RowTables
 use Rattle.run_rows.specs.contracts.row_tables.RowTables.TheInside as RowTablesIn
+use Rattle.worker_pool.specs.contracts.tasks.NetworkTasks as Tasks
 use Rattle.worker_pool.specs.contracts.shared.Shared as Shared
 use Rattle.worker_pool.specs.contracts.shared.Shared.TheInside as SharedIn
 use Rattle.worker_pool.proofs.desk.TraceLock.TheSendSync as trace
-use Rattle.worker_pool.proofs.pace.Pace.TheSendSync as pace
-use Rattle.worker_pool.proofs.rounds.apart.Apart.TheSendSync as apart
-use Rattle.worker_pool.proofs.rounds.moments.Moments.TheSendSync as moments
+use Rattle.turns.proofs.apart.Apart.TheSendSync as apart
 
 -- ---- a hand
 words-send : IsSend Words.the_row
@@ -82,7 +76,7 @@ steps-send = view_send _ _ _ _ _ (declared_send StepsIn.the_type (search (kept.t
 standing-send : IsSend Standing.the_row
 standing-send = declared_send Standing.the_type (search (time.the_send, sendable, crosses) depth 20)
 
-group-send : (R J K : RattleType) (g : ActorGhosts R.Denot K.Denot) (h : ReversibleGhosts R.Denot Message Sends K.Denot) (k : RunGhosts J.Denot R.Denot K.Denot)
+pub group-send : (R J K : RattleType) (g : ActorGhosts R.Denot K.Denot) (h : ReversibleGhosts R.Denot Message Sends K.Denot) (k : RunGhosts J.Denot R.Denot K.Denot)
     → IsSend R → IsSend K → IsSend (Group.the_row R J K g h k)
 group-send R J K g h k s t = view_send _ _ _ _ _ (declared_send (GroupIn.the_type R J K g h k)
     (search (hand-send, standing-send, right.the_send, time.the_send, sendable, crosses) depth 20))
@@ -96,24 +90,18 @@ exchange-send R J K g h k = view_send _ _ _ _ _ (declared_send (ExchangeIn.the_t
 shared-send : (J : RattleType) (g : NetworkGhosts J.Denot) → IsSend (Shared.the_row J g)
 shared-send J g = view_send _ _ _ _ _ (declared_send (SharedIn.the_type J g) (search (exchange-send, sendable, crosses) depth 10))
 
-seat-send : (J : RattleType) (g : NetworkGhosts J.Denot) → IsSend (Seat.the_row J g)
-seat-send J g = declared_send (Seat.the_type J g) (search (group-send, node.the_send, node_record.the_send, sendable, crosses) depth 10)
-
-seats-sync : (J : RattleType) (g : NetworkGhosts J.Denot) → IsSync (Seats.the_row J g)
-seats-sync J g = declared_sync (Seats.the_type J g) (search (seat-send, apart.the_sync, sendable, crosses) depth 20)
-
 tables-send : (J : RattleType) (g : NetworkGhosts J.Denot) → IsSend (RowTables.the_row J g)
 tables-send J g = view_send _ _ _ _ _ (declared_send (RowTablesIn.the_type J g) (search (so_far.the_send, sendable, crosses) depth 20))
 
 pub counted-send : (J : RattleType) (g : NetworkGhosts J.Denot) → IsSend (Counted.the_row J g)
 counted-send J g = declared_send (Counted.the_type J g) (search (tables-send, option.the_send, time.the_send, sendable, crosses) depth 20)
 
-leaving-sync : (J : RattleType) (g : NetworkGhosts J.Denot) → IsSync (Leaving.the_row J g)
-leaving-sync J g = declared_sync (Leaving.the_type J g) (
-  search (counted-send, option.the_sync, sendable, crosses) depth 20,
-  (search (trace.the_sync, option.the_sync, sendable, crosses) depth 20, tt),
+leaving-sync : (κ : NamedLft) (J : RattleType) (g : NetworkGhosts J.Denot) → IsSync (Leaving.the_row κ J g)
+leaving-sync κ J g = variants_sync (Leaving.enum κ J g) (
+  tt,
+  ((search (counted-send, sendable, crosses) depth 20, tt), ((search (trace.the_sync, sendable, crosses) depth 20, tt), tt)),
 )
 
-pub common-sync : (κ : NamedLft) (J : RattleType) (g : NetworkGhosts J.Denot) → IsSync (Common.the_row κ J g)
-common-sync κ J g = declared_sync (Common.the_type κ J g)
-    (search (seats-sync, leaving-sync, shared-send, network.the_sync, apart.the_send, moments.the_sync, pace.the_sync, sendable, crosses) depth 20)
+pub tasks-sync : (κ ι : NamedLft) (J G T : RattleType) (g : NetworkGhosts J.Denot) → IsSync G → IsSync T → IsSync (Tasks.the_row κ ι J G T g)
+tasks-sync κ ι J G T g gate runtime = declared_sync (Tasks.the_type κ ι J G T g)
+    (search (leaving-sync, shared-send, network.the_sync, apart.the_send, sendable, crosses) depth 20)

@@ -20,7 +20,7 @@ use Rattle.group_exchange.proofs.Owners.{of-one, of-other, of-owner, of-within}
 use Rattle.seqsim.specs.Committed.{after, AreCommittedRows}
 use Rattle.seqsim.specs.Networks.{AreRowsOf}
 use Rattle.seqsim.proofs.CommittedRows.{rows-all}
-use Rattle.worker_pool.specs.Counts.{moment_of}
+use Rattle.run_rows.specs.Counts.{moment_of}
 use Rattle.worker_pool.specs.Runs.{IsOfWorld, IsEnded}
 use Rattle.worker_pool.proofs.GroupRows.{AreOfGroup}
 use Rattle.worker_pool.proofs.Places.{some-at}

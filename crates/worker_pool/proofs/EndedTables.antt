@@ -16,7 +16,7 @@ use Rattle.trace_segments.specs.Words.{rows_within, rows_before, rows_from}
 use Rattle.trace_segments.proofs.SortedLemmas.{filters-swap}
 use Rattle.trace_tables.specs.Tables.{tables_of}
 use Rattle.seqsim.specs.Networks.{AreRowsOf}
-use Rattle.worker_pool.specs.Counts.{moment_at, moment_in, moment_of, AreCountedBefore}
+use Rattle.run_rows.specs.Counts.{moment_at, moment_in, moment_of, AreCountedBefore}
 use Rattle.run_rows.specs.Traces.{AreLawfulRows, HasLawfulRows}
 use Rattle.worker_pool.proofs.Ended.{no-group, own-group}
 use Rattle.worker_pool.proofs.GroupRows.{AreOfGroup, group-rows, mine-at, other-at}

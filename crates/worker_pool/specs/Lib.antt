@@ -1,4 +1,3 @@
-pub mod Counts
 pub mod Outcomes
 pub mod Segments
 pub mod Runs

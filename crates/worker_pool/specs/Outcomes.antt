@@ -1,5 +1,5 @@
--- What a run by workers is told, of what each of them ended with.
-use Rattle.std.specs.Prelude.{◌≡◌, ◌⊎◌, ℕ, ◌+◌, ◌<◌, ◌≤◌, true, List, Result, Err, Some, ⊤, IsOk, IsSome, IfErr, OnOk, All, Contains, length, slice_get}
+-- When a run by workers is refused.
+use Rattle.std.specs.Prelude.{◌≡◌, ℕ, ◌+◌, ◌<◌, true, List, IsSome}
 use Rattle.vlink.specs.declared.message.Message.{Message}
 use Rattle.vlink.specs.Order.{message_order}
 use Rattle.vlink.specs.Numbering.{greatest_number}
@@ -8,29 +8,9 @@ use Rattle.virtual_time.specs.declared.step.Step.{Step}
 use Rattle.network.specs.Words.{Plan, process_count}
 use Rattle.nodes.specs.Words.{NodeState, simulation_of}
 use Rattle.nodes.specs.declared.node.NodeRecord.{NodeRecord}
-use Rattle.journal.specs.declared.fault.PoolFault.{PoolFault}
-use Rattle.journal.specs.declared.fault.PoolFault.TheVariants.{OutOfMemory}
-use Rattle.journal.specs.Faults.{fault_number}
 use Rattle.seqsim.specs.Committed.{after}
 use Rattle.group_exchange.specs.Views.{GroupState, in_group, is_of}
 use Rattle.reverse.specs.declared.sends.TheConstants.{MOST_SENT}
-
--- an outcome without a fault whose number is below that of this one
-abbrev pub HasNoLesser : PoolFault → Result ⊤ PoolFault → Type 0
-HasNoLesser told outcome = IfErr outcome (λ fault. fault_number told ≤ fault_number fault)
-
--- of these outcomes the fault with the least number is told; where each went well, that it went well
-pub record IsLeastOf (outcomes : List (Result ⊤ PoolFault)) (told : Result ⊤ PoolFault) : Type 0 where
-  pub one : IfErr told (λ fault. Contains outcomes (Err fault))
-  pub least : IfErr told (λ fault. All (HasNoLesser fault) outcomes)
-  pub well : OnOk told (All IsOk outcomes)
-
--- the start came to `start`, and so many threads ended somehow: of all these outcomes the least fault is told, or want of memory, where they
--- could not be listed
-abbrev pub IsToldOf : Result ⊤ PoolFault → ℕ → Result ⊤ PoolFault → Type 0
-IsToldOf start threads told =
-    (told ≡ Err OutOfMemory)
-    ⊎ ((outcomes : List (Result ⊤ PoolFault)) × (length outcomes ≡ threads + 1) × (slice_get outcomes 0 ≡ Some start) × IsLeastOf outcomes told)
 
 -- a process has a message to handle, and its actor not enough numbers left for all that one event can send
 abbrev pub LacksNumbers : Part Message NodeState → Type 0

@@ -11,7 +11,7 @@ use Rattle.group_exchange.specs.Keeps.{AreGrouped}
 use Rattle.trace_tables.specs.Tables.{TableLists, tables_of}
 use Rattle.seqsim.specs.Committed.{after}
 use Rattle.seqsim.specs.Networks.{AreRowsOf}
-use Rattle.worker_pool.specs.Counts.{moment_of}
+use Rattle.run_rows.specs.Counts.{moment_of}
 
 -- so many steps the journal of a run can have: 2 to the power of 26 where it is kept, and of 62 where it is not
 abbrev pub most_steps : Bool → ℕ

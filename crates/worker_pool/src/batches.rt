@@ -1,10 +1,9 @@
 //! What the writer's thread does.
 ghost use Rattle.std.specs.Prelude.{◌≡◌};
 
-use crate::counted::Counted;
 use crossbeam_channel::Receiver;
 use network::Network;
-use run_rows::{NetworkRun, RunBatch, TraceRun, Writing};
+use run_rows::{Counted, NetworkRun, RunBatch, TraceRun, Writing};
 use std::sync::Wait;
 use trace_tables::Sink;
 
@@ -21,9 +20,22 @@ pub(crate) fn write_batches<'a, J: NetworkRun, K: TraceRun, S: Sink, T: Wait>(
 {
     let mut writing = writing;
     let mut counted = counted;
+    take_batches(rt, network, &mut writing, &mut counted, batches);
+    (writing, counted)
+}
+
+/// Takes batches until no more can come.
+fn take_batches<J: NetworkRun, K: TraceRun, S: Sink, T: Wait>(
+    rt: &T,
+    network: &Network,
+    writing: &mut Writing<'_, J, K, S>,
+    counted: &mut Counted<J>,
+    batches: Receiver<RunBatch<J>>,
+)
+    requires { network.now ≡ J.plan }
+{
     for batch in batches.iter(rt) {
         counted.take(network, &batch);
         writing.take(batch);
     }
-    (writing, counted)
 }

@@ -13,8 +13,7 @@ ghost use Rattle.run_rows.specs.Written.{IsPlaceFault};
 ghost use Rattle.worker_pool.specs.Gatherings.{first_of, told_of};
 
 use crate::group_segments::next_group_segment;
-use crate::network_run::NetworkRun;
-use crate::rounds::seat::NetworkGroup;
+use crate::network_run::{NetworkGroup, NetworkRun};
 use crate::run_fault::RunFault;
 use crate::start::StartOf;
 use crossbeam_channel::{SendError, Sender};

@@ -8,29 +8,28 @@ ghost use Rattle.group_exchange.specs.Views.{GroupState, in_group, is_of};
 ghost use Rattle.group_exchange.specs.Keeps.{AreGrouped};
 ghost use Rattle.worker_pool.specs.Runs.{IsOfWorld, IsEnded, HaveGoneBy};
 
-use crate::counted::moment_of;
-use crate::group_work::work_ahead;
 use crate::leaving::Leaving;
-use crate::network_run::{NetworkRun, OfGroups};
-use crate::pace::Pace;
-use crate::rounds::seat::NetworkGroup;
+use crate::network_run::{NetworkGroup, NetworkRun, OfGroups};
 use crate::run_fault::RunFault;
 use crate::shared::Shared;
 use exchange::Gate;
 use group_exchange::GroupExchange;
 use network::Network;
 use nodes::Node;
+use run_rows::moment_of;
 use std::sync::Wait;
 use vlink::Time;
 
-/// The exchange and all groups of a run, which no worker has any more, and what becomes of its rows.
+/// The exchange and all groups of a run, which no worker has any more.
 #[derive(Drop)]
 pub(crate) struct Unlocked<'n, J: NetworkRun> {
     pub network: &'n Network,
-    pub pace: Pace,
+    /// How many messages a group handles in a turn at most.
+    pub turn: u32,
+    /// How far a group runs ahead of the GVT that it saw at most, in ns.
+    pub window_ns: u64,
     pub exchange: Shared<J>,
     pub groups: Vec<NetworkGroup<J>>,
-    pub leaving: Leaving<J>,
     pub ghost planned: { network.now ≡ J.plan },
 }
 
@@ -61,6 +60,7 @@ impl<J: NetworkRun> Unlocked<'_, J> {
     pub(crate) fn end<G: Gate, T: Wait>(
         &mut self,
         rt: &T,
+        leaving: &Leaving<'_, J>,
         keeps_rows: bool,
         gate: &G,
     ) -> Result<(), RunFault<J>>
@@ -70,7 +70,7 @@ impl<J: NetworkRun> Unlocked<'_, J> {
     {
         for _ in rt.forever() {
             let _gvt = self.exchange.publish()?;
-            self.take_turns(rt, gate)?;
+            self.take_turns(rt, leaving, gate)?;
             if self.is_ended() && (!keeps_rows || self.have_gone_by(&[], Time::default())) {
                 return Ok(());
             }
@@ -79,19 +79,18 @@ impl<J: NetworkRun> Unlocked<'_, J> {
     }
 
     /// Each group gets a turn, and its rows that are for good leave it where they do.
-    fn take_turns<G: Gate, T: Wait>(&mut self, rt: &T, gate: &G) -> Result<(), RunFault<J>>
+    fn take_turns<G: Gate, T: Wait>(
+        &mut self,
+        rt: &T,
+        leaving: &Leaving<'_, J>,
+        gate: &G,
+    ) -> Result<(), RunFault<J>>
         ensures no_spawn { IfErr result (λ fault. fault ≢ Spawn) }
     {
         for group in self.groups.iter_mut() {
-            // What a worker left is posted, so that the group sees GVT.
-            self.exchange.post(group)?;
-            self.exchange.collect(group)?;
-            let turn = u32::from(self.pace.turn);
-            if let Err(fault) = work_ahead(group, turn, self.pace.window_ns, gate) {
-                return Err(self.exchange.fault_of(group, fault));
-            }
-            self.exchange.post(group)?;
-            self.leaving.take_rows(rt, self.network, group)?;
+            self.exchange
+                .give_turn(group, self.turn, self.window_ns, gate)?;
+            leaving.take_rows(rt, self.network, group)?;
         }
         Ok(())
     }

@@ -4,8 +4,7 @@ ghost use Rattle.reverse.specs.Setting.{Opens};
 ghost use Rattle.seqsim.specs.Networks.{setting_of};
 
 use crate::grouping::Grouping;
-use crate::network_run::NetworkRun;
-use crate::rounds::seat::NetworkGroup;
+use crate::network_run::{NetworkGroup, NetworkRun};
 use crate::shared::{Shared, most_steps};
 use crate::start::StartOf;
 use group_exchange::GroupExchange;

@@ -4,8 +4,7 @@ ghost use Rattle.vlink.specs.declared.time.TheConstants.{GREATEST_NS};
 ghost use Rattle.trace_segments.specs.Words.{cut};
 ghost use Rattle.worker_pool.specs.Segments.{IsGroupIntervalSealed, IsGroupSegmentOfRun, IsNextGroupSegment};
 
-use crate::network_run::NetworkRun;
-use crate::rounds::seat::NetworkGroup;
+use crate::network_run::{NetworkGroup, NetworkRun};
 use network_exchange::interval_at;
 use std::alloc::{AllocError, Global};
 use trace_tables::{Segment, cut};

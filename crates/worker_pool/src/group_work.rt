@@ -3,8 +3,7 @@ ghost use Rattle.std.specs.Prelude.{◌≡◌, ◌≢◌, ◌≤◌, IfOk, IfErr
 ghost use Rattle.journal.specs.declared.fault.PoolFault.TheVariants.{Exhausted, Spawn};
 ghost use Rattle.worker_pool.specs.Outcomes.{LackNumbers};
 
-use crate::network_run::NetworkRun;
-use crate::rounds::seat::NetworkGroup;
+use crate::network_run::{NetworkGroup, NetworkRun};
 use exchange::Gate;
 use group_exchange::work;
 use journal::PoolFault;

@@ -3,12 +3,13 @@ ghost use Rattle.std.specs.Prelude.{◌≡◌, ◌<◌, ◌≤◌, All, IfOk, le
 ghost use Rattle.group_exchange.specs.Keeps.{AreGrouped};
 ghost use Rattle.worker_pool.specs.Runs.{IsGroupingOf};
 
-use crate::rounds::LEAD_NS;
+use group_exchange::Pairs;
 use network::Network;
 use partition::{group_count, groups_of};
 use std::alloc::{AllocError, Global};
 use std::thread;
 use std::thread::Threads;
+use turns::LEAD_NS;
 
 /// In a network of at most so many processes each process is a group: there meetings of processes are tried and looked at. A larger one has no more
 /// groups than workers, since a section of the exchange moves some four lines of memory between cores, 100 ns each beside 75 ns of work for an event.
@@ -24,9 +25,29 @@ pub(crate) struct Grouping {
     pub groups: u16,
 }
 
+/// The groups of a network for so many workers, and for each the pair of its marks. It is refused for memory alone.
+pub(crate) fn marked_groups<T: Threads>(
+    rt: &T,
+    alloc: Global,
+    network: &Network,
+    workers: u8,
+) -> Result<(Grouping, Pairs), AllocError>
+    ensures grouped { IfOk result (λ r. IsGroupingOf network.now r.0.groups r.0.owners.items) }
+    ensures each { IfOk result (λ r. length r.1 ≡ r.0.groups) }
+{
+    let grouping = groups_for(rt, alloc, network, workers)?;
+    match Pairs::new(alloc, usize::from(grouping.groups)) {
+        Ok(pairs) => Ok((grouping, pairs)),
+        Err(_) => {
+            drop(grouping);
+            Err(AllocError)
+        }
+    }
+}
+
 /// The groups of a network for so many workers: as many as there are workers and processors, and no more than are worth their letters; in a small
 /// network each process. It is refused for memory alone.
-pub(crate) fn groups_for<T: Threads>(
+fn groups_for<T: Threads>(
     rt: &T,
     alloc: Global,
     network: &Network,

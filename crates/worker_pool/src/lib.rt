@@ -3,7 +3,6 @@
 #![tactic(auto)]
 
 mod batches;
-mod counted;
 mod desk;
 mod ending;
 mod group_opening;
@@ -12,15 +11,14 @@ mod group_work;
 mod grouping;
 mod leaving;
 mod network_run;
-mod outcomes;
 mod pace;
 mod results;
-mod rounds;
 mod run_fault;
 mod running;
 mod shared;
 mod start;
 mod summary;
+mod tasks;
 mod tracing;
 mod workers;
 

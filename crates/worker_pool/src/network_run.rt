@@ -1,8 +1,11 @@
 //! Of which run of a network an exchange and its groups are.
-use group_exchange::GroupRun;
+use group_exchange::{Group, GroupRun};
 use nodes::Node;
 pub use run_rows::NetworkRun;
 use std::marker::PhantomData;
+
+/// A group of the run.
+pub(crate) type NetworkGroup<J> = Group<Node, OfGroups<J>>;
 
 /// The run of a network, as a run of its nodes and lines in groups.
 pub struct OfGroups<J: NetworkRun> {

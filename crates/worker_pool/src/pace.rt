@@ -6,7 +6,7 @@ ghost use Rattle.std.specs.Prelude.{◌≡◌};
 ///
 /// Any numbers serve, and what a run finds is the same for all of them. Without workers the caller's thread gives all turns, and a turn or a
 /// window of 0 counts as one of 1.
-#[derive(Clone, Copy, Debug, PartialEq, Eq)]
+#[derive(Clone, Copy)]
 pub struct Pace {
     pub workers: u8,
     pub turn: u16,

@@ -7,11 +7,10 @@ ghost use Rattle.seqsim.specs.Committed.{AreCommittedRows};
 ghost use Rattle.seqsim.specs.Networks.{AreRowsOf};
 ghost use Rattle.worker_pool.specs.Runs.{IsEnded, IsJournalOf, HaveGoneBy};
 
-use crate::counted::{Counted, moment_of};
 use crate::ending::Unlocked;
 use crate::network_run::NetworkRun;
 use nodes::{Node, NodeRecord};
-use run_rows::rows_law;
+use run_rows::{Counted, moment_of, rows_law};
 use seqsim::{network_law, rows_by_process_law};
 use std::alloc::{AllocError, Global};
 use trace_tables::{Tables, batches_in_order_law, put_in_message_order, tables_by_place_law};

@@ -1,13 +1,13 @@
 //! A fault of a run.
 ghost use Rattle.std.specs.Prelude.{◌≡◌, ◌≢◌};
 ghost use Rattle.journal.specs.declared.fault.PoolFault.TheVariants.{Exhausted};
-ghost use Rattle.journal.specs.Faults.{fault_number};
 ghost use Rattle.worker_pool.specs.Outcomes.{UsesUpNumbers};
 
 use crate::network_run::NetworkRun;
 use journal::PoolFault;
 use std::alloc::AllocError;
 use std::marker::{Model, PhantomData};
+use turns::Refusal;
 
 /// Why a run of a network is refused. By its type it is `Exhausted` only where some run of the network uses up numbers.
 ///
@@ -50,12 +50,26 @@ impl<J: NetworkRun> RunFault<J> {
     {
         RunFault::new(fault)
     }
+}
 
-    /// Its number, from 1 to 5.
-    pub(crate) fn number(&self) -> u8
-        ensures { result ≡ fault_number self.now }
-    {
+impl<J: NetworkRun> Refusal for RunFault<J> {
+    ghost use Rattle.journal.specs.declared.fault.PoolFault.TheVariants.{OutOfMemory};
+    ghost use Rattle.journal.specs.Faults.{fault_number};
+
+    ghost rank = { fault_number };
+
+    ghost is_memory = { λ fault. fault ≡ OutOfMemory };
+
+    fn number(&self) -> u8 {
         self.fault.number()
+    }
+
+    fn memory() -> Self {
+        RunFault::other(PoolFault::OutOfMemory)
+    }
+
+    fn unstarted() -> Self {
+        RunFault::other(PoolFault::Spawn)
     }
 }
 

@@ -1,5 +1,5 @@
 //! The run of a network by workers.
-ghost use Rattle.std.specs.Prelude.{◌≡◌, true, [], IsTrue, IfOk, IfErr};
+ghost use Rattle.std.specs.Prelude.{◌≡◌, ◌≢◌, ◌<◌, true, [], IsTrue, IfOk, IfErr};
 ghost use Rattle.network.specs.Words.{process_count};
 ghost use Rattle.journal.specs.declared.fault.PoolFault.TheVariants.{Exhausted, Spawn};
 ghost use Rattle.trace_tables.specs.Tables.{tables_of};
@@ -10,24 +10,24 @@ ghost use Rattle.worker_pool.specs.Starts.{BeginsRun};
 
 use crate::ending::Unlocked;
 use crate::group_opening::open_groups;
-use crate::grouping::groups_for;
+use crate::grouping::marked_groups;
 use crate::leaving::Leaving;
 use crate::network_run::NetworkRun;
 use crate::pace::Pace;
-use crate::rounds::common::Common;
 use crate::run_fault::RunFault;
 use crate::start::{Start, StartOf};
-use crate::workers::work_all;
+use crate::tasks::{CommonOf, NetworkTasks};
+use crate::workers::groups_worked;
 use actor_run::{Unwatched, Watch};
 use exchange::Gate;
-use group_exchange::Pairs;
 use journal::PoolFault;
 use network::Network;
 use std::alloc::{AllocError, Global};
 use std::marker::Brand;
-use std::sync::Wait;
+use std::sync::{Mutex, Wait};
 use std::thread::Threads;
 use trace_tables::Tables;
+use turns::{Apart, Common};
 use vlink::{Row, Step};
 
 /// What a run has found: a row for each frame that was delivered or dropped, in message order, and their tables; and the steps that were
@@ -52,7 +52,7 @@ pub(crate) fn run_to_end<
     alloc: Global,
     start: StartOf<'n, J>,
     gate: &G,
-    leaving: Leaving<J>,
+    leaving: &Leaving<'_, J>,
     keeps_rows: bool,
     watch: &mut W,
 ) -> Result<Unlocked<'n, J>, RunFault<J>>
@@ -61,19 +61,58 @@ pub(crate) fn run_to_end<
     ensures spawn { IfErr result (λ fault. fault ≡ Spawn → CanWantWorkers start.entry.pace.workers (process_count J.plan)) }
     ensures watched { W.becomes watch.old watch.new }
 {
+    let Ok(common) = opened(rt, alloc, start, gate, leaving) else {
+        return Err(RunFault::other(PoolFault::OutOfMemory));
+    };
+    let unlocked = groups_worked(rt, alloc, common, watch)?;
+    to_end(rt, unlocked, leaving, keeps_rows, gate)
+}
+
+/// What the workers of a run have in common at the start. It is refused for memory alone.
+fn opened<'s, 'n, J: NetworkRun, G: Gate, T: Wait>(
+    rt: &'s T,
+    alloc: Global,
+    start: StartOf<'n, J>,
+    gate: &'s G,
+    leaving: &'s Leaving<'s, J>,
+) -> Result<CommonOf<'s, 'n, J, G, T>, AllocError>
+    ensures { IfOk result (λ common. 0 < common.workers → CanWantWorkers start.entry.pace.workers (process_count J.plan)) }
+{
     let network = start.network;
     let pace = start.pace;
-    let (exchange, groups) = match open_groups(alloc, start) {
-        Ok(opened) => opened,
-        Err(fault) => {
-            drop(leaving);
-            return Err(RunFault::from(fault));
-        }
+    let (exchange, groups) = open_groups(alloc, start)?;
+    let tasks = NetworkTasks {
+        rt,
+        gate,
+        network,
+        exchange: Mutex::new(Apart::new(exchange)),
+        leaving,
     };
-    let common = Common::of(alloc, network, pace, exchange, groups, leaving)?;
-    let (worked, _watch) = work_all(rt, alloc, common, gate, watch);
-    let mut unlocked = worked?;
-    match unlocked.end(rt, keeps_rows, gate) {
+    Common::of(
+        alloc,
+        groups,
+        network.until(),
+        pace.workers,
+        pace.turn,
+        pace.window_ns,
+        tasks,
+    )
+}
+
+/// One thread has all in hand, and gives turns until the run is ended.
+fn to_end<'n, J: NetworkRun, G: Gate, T: Wait>(
+    rt: &T,
+    unlocked: Unlocked<'n, J>,
+    leaving: &Leaving<'_, J>,
+    keeps_rows: bool,
+    gate: &G,
+) -> Result<Unlocked<'n, J>, RunFault<J>>
+    ensures ended { IfOk result (λ r. IsEnded J.plan J.owners r.exchange.steps r.groups.items) }
+    ensures kept { IfOk result (λ r. IsTrue keeps_rows → HaveGoneBy [] 0 r.groups.items) }
+    ensures no_spawn { IfErr result (λ fault. fault ≢ Spawn) }
+{
+    let mut unlocked = unlocked;
+    match unlocked.end(rt, leaving, keeps_rows, gate) {
         Ok(()) => Ok(unlocked),
         Err(fault) => {
             drop(unlocked);
@@ -103,6 +142,21 @@ impl<J: NetworkRun> Unlocked<'_, J> {
     }
 }
 
+/// What an ended run has found whose rows have all stayed. It is refused for memory alone.
+fn outcome_of<J: NetworkRun>(alloc: Global, ended: Unlocked<'_, J>) -> Result<Outcome, AllocError>
+    requires keeps { J.keeps ≡ true }
+    requires ended { IsEnded J.plan J.owners ended.exchange.steps ended.groups.items }
+    requires kept { HaveGoneBy [] 0 ended.groups.items }
+    ensures rows { IfOk result (λ o. AreRowsOf J.plan o.rows.items) }
+    ensures tables { IfOk result (λ o. o.tables ≡ tables_of J.plan o.rows.items) }
+    ensures finished { IfOk result (λ o. IsJournalOf J.plan o.journal.items) }
+{
+    let found = ended.outcome(alloc);
+    drop(ended);
+    found
+}
+
+/// The run of `run`, by its type.
 fn run_named<J: NetworkRun + Send + Sync, G: Gate + Sync, T: Threads + Wait + Sync>(
     rt: &T,
     alloc: Global,
@@ -124,13 +178,11 @@ fn run_named<J: NetworkRun + Send + Sync, G: Gate + Sync, T: Threads + Wait + Sy
         alloc,
         start,
         gate,
-        Leaving::stay(),
+        &Leaving::Stay,
         true,
         watch,
     )?;
-    let found = ended.outcome(alloc);
-    drop(ended);
-    Ok(found?)
+    Ok(outcome_of(alloc, ended)?)
 }
 
 /// Simulates a network by workers that run ahead and roll back, as the pace says. The gate is told of each message that is handled.
@@ -155,8 +207,9 @@ pub fn run<G: Gate + Sync, T: Threads + Wait + Sync>(
     ensures exhausted { IfErr result (λ fault. fault ≡ Exhausted → UsesUpNumbers network.now) }
     ensures spawn { IfErr result (λ fault. fault ≡ Spawn → CanWantWorkers pace.workers (process_count network.now)) }
 {
-    let grouping = groups_for(rt, alloc, network, pace.workers)?;
-    let pairs = Pairs::new(alloc, usize::from(grouping.groups))?;
+    let Ok((grouping, pairs)) = marked_groups(rt, alloc, network, pace.workers) else {
+        return Err(PoolFault::OutOfMemory);
+    };
     let start = Start {
         network,
         pace: pace.that_goes(),

@@ -8,15 +8,18 @@ ghost use Rattle.group_exchange.specs.Effects.{AreWaiting};
 ghost use Rattle.worker_pool.specs.Outcomes.{LackNumbers};
 ghost use Rattle.worker_pool.specs.Runs.{most_steps};
 
-use crate::network_run::{NetworkRun, OfGroups};
-use crate::rounds::SECTIONS_PER_GVT;
-use crate::rounds::seat::NetworkGroup;
+use crate::group_work::work_ahead;
+use crate::network_run::{NetworkGroup, NetworkRun, OfGroups};
 use crate::run_fault::RunFault;
+use exchange::Gate;
 use group_exchange::{GroupExchange, collect, post, publish};
 use journal::PoolFault;
 use nodes::Node;
 use std::marker::Model;
 use vlink::Time;
+
+/// GVT is set in one of so many sections of the exchange: who sets it has the lock for longer.
+const SECTIONS_PER_GVT: u64 = 4;
 
 /// So many steps the journal of a run can have: 2^26 where it is kept, and 2^62 where it is not.
 /// It is a number, and not none, where the journal is not kept: no run comes there, and no clause changes its form.
@@ -111,6 +114,24 @@ impl<J: NetworkRun> Shared<J> {
         }
         let gvt = self.publish()?;
         Ok(Some(gvt))
+    }
+
+    /// A group gets a turn from who has all in hand: what it did is posted first, so that it sees GVT, and what it does then.
+    pub(crate) fn give_turn<G: Gate>(
+        &mut self,
+        group: &mut NetworkGroup<J>,
+        most: u32,
+        ahead_ns: u64,
+        gate: &G,
+    ) -> Result<(), RunFault<J>>
+        ensures no_spawn { IfErr result (λ fault. fault ≢ Spawn) }
+    {
+        self.post(group)?;
+        self.collect(group)?;
+        if let Err(fault) = work_ahead(group, most, ahead_ns, gate) {
+            return Err(self.fault_of(group, fault));
+        }
+        self.post(group)
     }
 
     /// The fault of a group at its work. Where a process of it lacks numbers, it does so in a run: after the steps of the journal and those of its block.

@@ -1,5 +1,5 @@
 //! What is asked of a run beside its trace: its tables, and its steps where they are wanted. No row is listed for it.
-ghost use Rattle.std.specs.Prelude.{◌≡◌, ◌⊎◌, List, Err, IfOk, IfErr, IfSome, IfNone};
+ghost use Rattle.std.specs.Prelude.{◌≡◌, ◌⊎◌, List, Err, IfOk, IfErr, IfNone};
 ghost use Rattle.vlink.specs.Letters.{Row};
 ghost use Rattle.network.specs.Words.{process_count};
 ghost use Rattle.journal.specs.declared.fault.PoolFault.TheVariants.{OutOfMemory, Exhausted, Spawn, Torn};
@@ -9,9 +9,8 @@ ghost use Rattle.worker_pool.specs.Outcomes.{CanWantWorkers, UsesUpNumbers};
 ghost use Rattle.worker_pool.specs.Runs.{IsEnded, IsJournalAsked, IsSummaryOf};
 ghost use Rattle.worker_pool.specs.Starts.{BeginsRun};
 
-use crate::counted::Counted;
 use crate::ending::Unlocked;
-use crate::grouping::groups_for;
+use crate::grouping::marked_groups;
 use crate::leaving::Leaving;
 use crate::network_run::NetworkRun;
 use crate::pace::Pace;
@@ -20,12 +19,12 @@ use crate::running::run_to_end;
 use crate::start::{Start, StartOf};
 use actor_run::Watch;
 use exchange::Gate;
-use group_exchange::Pairs;
 use journal::PoolFault;
 use network::Network;
+use run_rows::Counted;
 use std::alloc::{AllocError, Global};
 use std::marker::Brand;
-use std::sync::Wait;
+use std::sync::{Mutex, Wait};
 use std::thread::Threads;
 use trace_tables::Tables;
 use vlink::Step;
@@ -40,21 +39,18 @@ pub struct Summary {
 impl<J: NetworkRun> Unlocked<'_, J> {
     /// The tables of an ended run, of which so much is counted, and its steps where they are asked for. `Torn`: rows have left that nobody counted.
     /// Where a growth was refused while rows were counted, that is told first.
-    pub(crate) fn summary(
+    fn summary(
         &self,
         alloc: Global,
-        counted: Option<Counted<J>>,
+        counted: Counted<J>,
         with_steps: bool,
     ) -> Result<Summary, RunFault<J>>
         requires ended { IsEnded J.plan J.owners self.now.exchange.steps self.now.groups.items }
         requires keeps { with_steps ≡ J.keeps }
         ensures found { IfOk result (λ s. IsSummaryOf J.plan J.keeps s.tables s.journal.items) }
-        ensures refused { IfSome counted (λ c. IfNone c.tables (result ≡ Err OutOfMemory)) }
+        ensures refused { IfNone counted.tables (result ≡ Err OutOfMemory) }
         ensures faults { IfErr result (λ fault. (fault ≡ OutOfMemory) ⊎ (fault ≡ Torn)) }
     {
-        let Some(counted) = counted else {
-            return Err(RunFault::other(PoolFault::Torn));
-        };
         if counted.tables.is_none() {
             drop(counted);
             return Err(RunFault::other(PoolFault::OutOfMemory));
@@ -87,6 +83,24 @@ impl<J: NetworkRun> Unlocked<'_, J> {
     }
 }
 
+/// What an ended run has found of which so much is counted.
+pub(crate) fn summary_of<J: NetworkRun>(
+    alloc: Global,
+    ended: Unlocked<'_, J>,
+    counted: Counted<J>,
+    with_steps: bool,
+) -> Result<Summary, RunFault<J>>
+    requires ended { IsEnded J.plan J.owners ended.exchange.steps ended.groups.items }
+    requires keeps { with_steps ≡ J.keeps }
+    ensures found { IfOk result (λ s. IsSummaryOf J.plan J.keeps s.tables s.journal.items) }
+    ensures faults { IfErr result (λ fault. (fault ≡ OutOfMemory) ⊎ (fault ≡ Torn)) }
+{
+    let found = ended.summary(alloc, counted, with_steps);
+    drop(ended);
+    found
+}
+
+/// The run of `run_summary`, by its type.
 fn summary_named<J: NetworkRun + Send + Sync, G: Gate + Sync, T: Threads + Wait + Sync, W: Watch>(
     rt: &T,
     alloc: Global,
@@ -102,13 +116,10 @@ fn summary_named<J: NetworkRun + Send + Sync, G: Gate + Sync, T: Threads + Wait 
 {
     let start: StartOf<J> = StartOf::of(start);
     let keeps = start.keeps;
-    let counted = Counted::each(alloc, start.network, start.grouping.groups)?;
-    let leaving = Leaving::to_tables(counted);
-    let mut ended = run_to_end::<J, G, T, W>(rt, alloc, start, gate, leaving, false, watch)?;
-    let (_none, counted) = ended.leaving.close();
-    let found = ended.summary(alloc, counted, keeps);
-    drop(ended);
-    Ok(found?)
+    let counted = Mutex::new(Counted::each(alloc, start.network, start.grouping.groups)?);
+    let leaving = Leaving::Counted(&counted);
+    let ended = run_to_end::<J, G, T, W>(rt, alloc, start, gate, &leaving, false, watch)?;
+    Ok(summary_of(alloc, ended, counted.into_inner(), keeps)?)
 }
 
 /// Simulates a network by workers, as `run` does, and lists no rows; the steps that were done are listed where they are asked for. Its refusals
@@ -129,8 +140,9 @@ pub fn run_summary<G: Gate + Sync, T: Threads + Wait + Sync, W: Watch>(
     ensures spawn { IfErr result (λ fault. fault ≡ Spawn → CanWantWorkers pace.workers (process_count network.now)) }
     ensures watched { W.becomes watch.old watch.new }
 {
-    let grouping = groups_for(rt, alloc, network, pace.workers)?;
-    let pairs = Pairs::new(alloc, usize::from(grouping.groups))?;
+    let Ok((grouping, pairs)) = marked_groups(rt, alloc, network, pace.workers) else {
+        return Err(PoolFault::OutOfMemory);
+    };
     let start = Start {
         network,
         pace: pace.that_goes(),

@@ -14,29 +14,27 @@ ghost use Rattle.worker_pool.specs.Starts.{BeginsRun};
 ghost use Rattle.run_rows.specs.Written.{IsFaultOfTrace, IsPlaceFault, IsWritten};
 
 use crate::batches::write_batches;
-use crate::counted::Counted;
 use crate::desk::TraceLock;
 use crate::ending::Unlocked;
-use crate::grouping::groups_for;
+use crate::grouping::marked_groups;
 use crate::leaving::Leaving;
 use crate::network_run::NetworkRun;
 use crate::pace::Pace;
 use crate::run_fault::RunFault;
 use crate::running::run_to_end;
 use crate::start::{Start, StartOf};
-use crate::summary::Summary;
+use crate::summary::{Summary, summary_of};
 use actor_run::Watch;
 use crossbeam_channel::{Receiver, bounded};
 use exchange::Gate;
-use group_exchange::Pairs;
 use journal::PoolFault;
 use network::Network;
-use run_rows::{RunBatch, TraceRun, Writing};
+use run_rows::{Counted, RunBatch, TraceRun, Writing};
 use std::alloc::{AllocError, Global};
 use std::marker::Brand;
 use std::sync::Wait;
 use std::thread;
-use std::thread::Threads;
+use std::thread::{JoinHandle, Threads};
 use trace_tables::{SegmentFault, Sink, TraceFault};
 
 /// So many batches can wait for the writer's thread. Workers wait where one more is there.
@@ -63,64 +61,100 @@ fn run_to_trace<
     alloc: Global,
     start: StartOf<'n, J>,
     gate: &G,
-    leaving: Leaving<J>,
+    trace: TraceLock<J>,
     watch: &mut W,
-) -> Result<(Unlocked<'n, J>, Option<SegmentFault>), RunFault<J>>
-    ensures ended { IfOk result (λ r. IsEnded J.plan J.owners r.0.exchange.steps r.0.groups.items) }
-    ensures fault { IfOk result (λ r. IfSome r.1 IsPlaceFault) }
+) -> (Result<Unlocked<'n, J>, RunFault<J>>, Option<SegmentFault>)
+    ensures ended { IfOk result.0 (λ r. IsEnded J.plan J.owners r.exchange.steps r.groups.items) }
+    ensures fault { IfSome result.1 IsPlaceFault }
     ensures watched { W.becomes watch.old watch.new }
 {
-    let mut ended = run_to_end::<J, G, T, W>(rt, alloc, start, gate, leaving, false, watch)?;
-    let (fault, none) = ended.leaving.close();
-    drop(none);
-    Ok((ended, fault))
+    let leaving = Leaving::Trace(&trace);
+    let ended = run_to_end::<J, G, T, W>(rt, alloc, start, gate, &leaving, false, watch);
+    (ended, trace.into_fault())
 }
 
-/// What a run comes to whose trace was written by a thread that is joined: it gave these back.
-fn traced_of<'a, J: NetworkRun, K: TraceRun, S: Sink + Drop>(
+/// What a run has found of which so much is counted, if it was not refused.
+fn summary_told<J: NetworkRun>(
     alloc: Global,
-    ran: Result<(Unlocked<'_, J>, Option<SegmentFault>), RunFault<J>>,
-    writing: Writing<'a, J, K, S>,
+    ended: Result<Unlocked<'_, J>, RunFault<J>>,
     counted: Counted<J>,
     with_steps: bool,
-) -> Result<Traced<S>, RunFault<J>>
+) -> Result<Summary, RunFault<J>>
+    requires ended { IfOk ended (λ r. IsEnded J.plan J.owners r.exchange.steps r.groups.items) }
     requires keeps { with_steps ≡ J.keeps }
-    requires ended { IfOk ran (λ r. IsEnded J.plan J.owners r.0.exchange.steps r.0.groups.items) }
-    requires fault { IfOk ran (λ r. IfSome r.1 IsPlaceFault) }
+    ensures { IfOk result (λ s. IsSummaryOf J.plan J.keeps s.tables s.journal.items) }
+{
+    match ended {
+        Ok(ended) => summary_of(alloc, ended, counted, with_steps),
+        Err(fault) => {
+            drop(counted);
+            Err(fault)
+        }
+    }
+}
+
+/// What a run comes to, if it was not refused, whose trace was written so, with this first fault of a segment.
+fn traced_of<'a, J: NetworkRun, K: TraceRun, S: Sink + Drop>(
+    summary: Result<Summary, RunFault<J>>,
+    writing: Writing<'a, J, K, S>,
+    fault: Option<SegmentFault>,
+) -> Result<Traced<S>, RunFault<J>>
+    requires found { IfOk summary (λ s. IsSummaryOf J.plan J.keeps s.tables s.journal.items) }
+    requires fault { IfSome fault IsPlaceFault }
     ensures found { IfOk result (λ t. IsSummaryOf J.plan J.keeps t.outcome.tables t.outcome.journal.items) }
     ensures written { IfOk result (λ t. IsWritten J.plan K.taken K.failures t.written (S.taken t.sink) (S.failures t.sink)) }
 {
-    let (ended, fault) = match ran {
-        Ok(ran) => ran,
+    match summary {
+        Ok(outcome) => {
+            let (written, sink) = writing.finish(fault);
+            Ok(Traced {
+                outcome,
+                written,
+                sink,
+            })
+        }
         Err(fault) => {
             drop(writing);
-            drop(counted);
-            return Err(fault);
+            Err(fault)
         }
-    };
-    let found = ended.summary(alloc, Some(counted), with_steps);
-    drop(ended);
-    let outcome = match found {
-        Ok(outcome) => outcome,
-        Err(fault) => {
-            drop(writing);
-            return Err(fault);
-        }
-    };
-    let (written, sink) = writing.finish(fault);
-    Ok(Traced {
-        outcome,
-        written,
-        sink,
-    })
+    }
 }
 
-/// Where the rows of a run go whose trace is written, the end of the channel where their batches come, and what counts them. It is refused for memory
-/// alone.
+/// Runs a network whose trace a thread writes that was started, and joins that thread. The watch is given back.
+fn run_beside<
+    'a,
+    J: NetworkRun + Send + Sync,
+    K: TraceRun,
+    S: Sink + Drop,
+    G: Gate + Sync,
+    T: Threads + Wait + Sync,
+    W: Watch + Drop,
+>(
+    rt: &T,
+    alloc: Global,
+    start: StartOf<'_, J>,
+    gate: &G,
+    trace: TraceLock<J>,
+    watch: W,
+    writer: JoinHandle<(Writing<'a, J, K, S>, Counted<J>)>,
+) -> (Result<Traced<S>, RunFault<J>>, W)
+    ensures found { IfOk result.0 (λ t. IsSummaryOf J.plan J.keeps t.outcome.tables t.outcome.journal.items) }
+    ensures written { IfOk result.0 (λ t. IsWritten J.plan K.taken K.failures t.written (S.taken t.sink) (S.failures t.sink)) }
+    ensures watched { W.becomes watch result.1 }
+{
+    let mut watch = watch;
+    let keeps = start.keeps;
+    let (ended, fault) = run_to_trace(rt, alloc, start, gate, trace, &mut watch);
+    let (writing, counted) = writer.join(rt);
+    let summary = summary_told(alloc, ended, counted, keeps);
+    (traced_of(summary, writing, fault), watch)
+}
+
+/// The lock of a trace, the end of the channel where its batches come, and what counts their rows. It is refused for memory alone.
 fn open_trace<J: NetworkRun>(
     alloc: Global,
     start: &StartOf<'_, J>,
-) -> Result<(Leaving<J>, Receiver<RunBatch<J>>, Counted<J>), AllocError> {
+) -> Result<(TraceLock<J>, Receiver<RunBatch<J>>, Counted<J>), AllocError> {
     let (to, from) = bounded(alloc, MOST_BATCHES)?;
     let trace = match TraceLock::new(alloc, start, to) {
         Ok(trace) => trace,
@@ -130,7 +164,7 @@ fn open_trace<J: NetworkRun>(
         }
     };
     match Counted::none(alloc, start.network) {
-        Ok(counted) => Ok((Leaving::to_trace(trace), from, counted)),
+        Ok(counted) => Ok((trace, from, counted)),
         Err(fault) => {
             drop(from);
             drop(trace);
@@ -164,7 +198,7 @@ fn traced_named<
     ensures watched { W.becomes watch result.1 }
 {
     let start: StartOf<J> = StartOf::of(start);
-    let Ok((leaving, batches, counted)) = open_trace(alloc, &start) else {
+    let Ok((trace, batches, counted)) = open_trace(alloc, &start) else {
         drop(start);
         drop(sink);
         return (Err(PoolFault::OutOfMemory), watch);
@@ -180,16 +214,14 @@ fn traced_named<
             ensures written { IfOk result.0 (λ t. IsWritten J.plan K.taken K.failures t.written (S.taken t.sink) (S.failures t.sink)) }
             ensures watched { W.becomes watch result.1 }
         {
-            let mut watch = watch;
-            let Ok(writer) = scope.spawn(move || write_batches(
-                rt, network, writing, counted, batches,
-            )) else {
-                return (Err(RunFault::other(PoolFault::Spawn)), watch);
-            };
-            let keeps = start.keeps;
-            let ran = run_to_trace(rt, alloc, start, gate, leaving, &mut watch);
-            let (writing, counted) = writer.join(rt);
-            (traced_of(alloc, ran, writing, counted, keeps), watch)
+            match scope.spawn(move || write_batches(rt, network, writing, counted, batches)) {
+                Ok(writer) => run_beside(rt, alloc, start, gate, trace, watch, writer),
+                Err(_) => {
+                    drop(start);
+                    drop(trace);
+                    (Err(RunFault::other(PoolFault::Spawn)), watch)
+                }
+            }
         },
     );
     match traced {
@@ -238,8 +270,9 @@ pub fn run_traced<S: Sink + Drop + Send, G: Gate + Sync, T: Threads + Wait + Syn
     ensures exhausted { IfErr result (λ fault. fault ≡ Exhausted → UsesUpNumbers network.now) }
     ensures watched { W.becomes watch.old watch.new }
 {
-    let grouping = groups_for(rt, alloc, network, pace.workers)?;
-    let pairs = Pairs::new(alloc, usize::from(grouping.groups))?;
+    let Ok((grouping, pairs)) = marked_groups(rt, alloc, network, pace.workers) else {
+        return Err(PoolFault::OutOfMemory);
+    };
     let start = Start {
         network,
         pace: pace.that_goes(),

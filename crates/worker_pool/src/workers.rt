@@ -1,197 +1,76 @@
-//! Threads that give turns to processes.
-ghost use Rattle.std.specs.Prelude.{◌≡◌, ◌+◌, ◌<◌, IfErr, IfOk, Err, Some, length, slice_get};
-ghost use Rattle.network.specs.Words.{process_count};
+//! The end of what threads do: their groups come back.
+ghost use Rattle.std.specs.Prelude.{◌≡◌, ◌<◌, IfErr, IsErr};
 ghost use Rattle.journal.specs.declared.fault.PoolFault.TheVariants.{Spawn};
-ghost use Rattle.worker_pool.specs.Outcomes.{CanWantWorkers, IsToldOf};
 
 use crate::ending::Unlocked;
 use crate::network_run::NetworkRun;
-use crate::outcomes::{add_outcome, least_fault};
-use crate::rounds::LOOK_US;
-use crate::rounds::common::Common;
-use crate::rounds::moments::Moments;
-use crate::rounds::worker::Worker;
 use crate::run_fault::RunFault;
+use crate::tasks::{CommonOf, NetworkTasks};
 use actor_run::Watch;
 use exchange::Gate;
-use journal::PoolFault;
 use std::alloc::{AllocError, Global};
 use std::sync::Wait;
-use std::thread;
-use std::thread::{JoinHandle, Threads};
-use vlink::Time;
+use std::thread::Threads;
+use turns::work_all;
 
 /// Starts the workers, and joins all of them. Where there is no group, none is started. Then none of them has a group any more: the groups are there, in order.
 ///
 /// A refusal to one worker ends the others at their next turn. All of them are joined, and the answer is the least fault of what they ended
-/// with, and of the start. `Spawn`: a worker cannot be started. While they run, the calling thread shows the watch GVT; it is given back.
-pub(crate) fn work_all<
+/// with, and of the start. `Spawn`: a worker cannot be started. While they run, the calling thread shows the watch GVT.
+pub(crate) fn groups_worked<
     'n,
     J: NetworkRun + Send + Sync,
     G: Gate + Sync,
     T: Threads + Wait + Sync,
-    W: Watch + Drop,
+    W: Watch,
 >(
     rt: &T,
     alloc: Global,
-    common: Common<'n, J>,
-    gate: &G,
-    watch: W,
-) -> (Result<Unlocked<'n, J>, RunFault<J>>, W)
-    ensures spawn { IfErr result.0 (λ fault. fault ≡ Spawn → CanWantWorkers common.entry.pace.workers (process_count J.plan)) }
-    ensures watched { W.becomes watch result.1 }
+    common: CommonOf<'_, 'n, J, G, T>,
+    watch: &mut W,
+) -> Result<Unlocked<'n, J>, RunFault<J>>
+    ensures spawn { IfErr result (λ fault. fault ≡ Spawn → 0 < common.entry.workers) }
+    ensures watched { W.becomes watch.old watch.new }
 {
-    let (started, watch) = start_all(rt, alloc, &common, gate, watch);
-    (unlocked_of(alloc, started, common), watch)
+    let (worked, _watch) = work_all(rt, alloc, &common, watch);
+    unlocked_of(alloc, worked, common)
 }
 
 /// Where all went well, the exchange and all groups, which no worker has any more.
-fn unlocked_of<'n, J: NetworkRun>(
+fn unlocked_of<'n, J: NetworkRun, G: Gate, T: Wait>(
     alloc: Global,
-    started: Result<(), RunFault<J>>,
-    common: Common<'n, J>,
+    worked: Result<(), RunFault<J>>,
+    common: CommonOf<'_, 'n, J, G, T>,
 ) -> Result<Unlocked<'n, J>, RunFault<J>>
-    ensures { IfErr result (λ fault. fault ≡ Spawn → started ≡ Err Spawn) }
+    ensures { IfErr result (λ fault. fault ≡ Spawn → IsErr worked) }
 {
-    if let Err(fault) = started {
-        drop(common);
-        return Err(fault);
-    }
-    let Common {
-        network,
-        pace,
-        seats,
-        moments,
-        exchange,
-        leaving,
-        ..
-    } = common;
-    drop(moments);
-    match seats.into_groups(alloc) {
-        Ok(groups) => Ok(Unlocked {
-            network,
-            pace,
-            exchange: exchange.into_inner().into_inner(),
-            groups,
-            leaving,
-        }),
+    match worked {
+        Ok(()) => Ok(taken_back(alloc, common)?),
         Err(fault) => {
-            drop(exchange);
-            drop(leaving);
-            Err(RunFault::from(fault))
+            drop(common);
+            Err(fault)
         }
     }
 }
 
-/// Starts the workers, and joins all of them.
-fn start_all<
-    J: NetworkRun + Send + Sync,
-    G: Gate + Sync,
-    T: Threads + Wait + Sync,
-    W: Watch + Drop,
->(rt: &T, alloc: Global, common: &Common<'_, J>, gate: &G, watch: W) -> (Result<(), RunFault<J>>, W)
-    ensures spawn { IfErr result.0 (λ fault. fault ≡ Spawn → 0 < common.now.workers) }
-    ensures watched { W.becomes watch result.1 }
-{
-    if common.workers == 0 {
-        return (Ok(()), watch);
-    }
-    thread::scope(
-        thread::scope_env(),
-        rt,
-        |scope| -> (Result<(), RunFault<J>>, W)
-            ensures watched { W.becomes watch result.1 }
-        {
-            let mut handles = Vec::new(alloc);
-            let mut start = Ok(());
-            for worker in 0..common.workers {
-                if handles.reserve(1).is_err() {
-                    start = Err(RunFault::other(PoolFault::OutOfMemory));
-                    break;
-                }
-                let Ok(handle) = scope.spawn(move || give_turns(rt, alloc, common, gate, worker))
-                else {
-                    start = Err(RunFault::other(PoolFault::Spawn));
-                    break;
-                };
-                handles.push_reserved(handle);
-            }
-            let mut watch = watch;
-            if start.is_ok() {
-                show_gvt(rt, &common.moments, &mut watch);
-            } else {
-                common.moments.stop();
-            }
-            (join_all(rt, alloc, start, handles), watch)
-        },
-    )
-}
-
-/// The watch is shown GVT once in `LOOK_US`, until the run ends.
-fn show_gvt<T: Wait, W: Watch>(rt: &T, moments: &Moments, watch: &mut W)
-    ensures watched { W.becomes watch.old watch.new }
-{
-    for _ in rt.forever() {
-        moments.watch(rt, LOOK_US);
-        if moments.is_ended() {
-            return;
-        }
-        if let Some(moment) = Time::new(moments.gvt_ns()) {
-            watch.look(moment, 0);
-        }
-    }
-}
-
-/// What the start came to, and behind it what each thread ended with, in their order: they are joined. It is refused for memory alone.
-#[tactic(auto, using(crate::proofs::LeastFault::first_stays))]
-fn outcomes_of<J: NetworkRun, T: Threads + Wait>(
-    rt: &T,
+/// The exchange and all groups, which no worker has any more. It is refused for memory alone.
+fn taken_back<'n, J: NetworkRun, G: Gate, T: Wait>(
     alloc: Global,
-    start: Result<(), RunFault<J>>,
-    handles: Vec<JoinHandle<Result<(), RunFault<J>>>>,
-) -> Result<Vec<Result<(), RunFault<J>>>, AllocError>
-    ensures count { IfOk result (λ outcomes. length outcomes.items ≡ length handles.items + 1) }
-    ensures first { IfOk result (λ outcomes. slice_get outcomes.items 0 ≡ Some start) }
-{
-    let mut outcomes = Vec::with_capacity(alloc, handles.len().saturating_add(1))?;
-    add_outcome(&mut outcomes, start)?;
-    for handle in handles {
-        add_outcome(&mut outcomes, handle.join(rt))?;
-    }
-    Ok(outcomes)
-}
-
-/// The threads are joined. The answer is the least fault of what they ended with, and of the start.
-fn join_all<J: NetworkRun, T: Threads + Wait>(
-    rt: &T,
-    alloc: Global,
-    start: Result<(), RunFault<J>>,
-    handles: Vec<JoinHandle<Result<(), RunFault<J>>>>,
-) -> Result<(), RunFault<J>>
-    ensures { IsToldOf start (length handles.items) result }
-{
-    least_fault(outcomes_of(rt, alloc, start, handles)?)
-}
-
-/// The worker of this number gives turns until the run is over or a refusal ends it. One of its own ends the others at their next turn.
-fn give_turns<J: NetworkRun, G: Gate, T: Wait>(
-    rt: &T,
-    alloc: Global,
-    common: &Common<'_, J>,
-    gate: &G,
-    number: usize,
-) -> Result<(), RunFault<J>> {
-    let outcome = match Worker::new(rt, alloc, common, gate, number) {
-        Ok(mut worker) => {
-            let outcome = worker.turns_until_over();
-            drop(worker);
-            outcome
-        }
-        Err(fault) => Err(RunFault::from(fault)),
-    };
-    if outcome.is_err() {
-        common.moments.stop();
-    }
-    common.moments.end();
-    outcome
+    common: CommonOf<'_, 'n, J, G, T>,
+) -> Result<Unlocked<'n, J>, AllocError> {
+    let turn = common.turn;
+    let window_ns = common.window_ns;
+    let (groups, tasks) = common.into_groups(alloc)?;
+    let NetworkTasks {
+        network,
+        exchange,
+        ..
+    } = tasks;
+    Ok(Unlocked {
+        network,
+        turn,
+        window_ns,
+        exchange: exchange.into_inner().into_inner(),
+        groups,
+    })
 }

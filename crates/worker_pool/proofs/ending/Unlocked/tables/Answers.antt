@@ -7,7 +7,7 @@ use Rattle.actor_run.proofs.Errors.{ok-weaker}
 use Rattle.trace_tables.specs.Tables.{TableLists, tables_of}
 use Rattle.seqsim.specs.Networks.{AreRowsOf}
 use Rattle.nodes.specs.Words.{simulation_of}
-use Rattle.worker_pool.specs.Counts.{moment_at, moment_of, AreCountedBefore}
+use Rattle.run_rows.specs.Counts.{moment_at, moment_of, AreCountedBefore}
 use Rattle.run_rows.specs.Traces.{HasLawfulRows}
 use Rattle.worker_pool.proofs.Ended.{in-run, some-rows}
 use Rattle.worker_pool.proofs.EndedTables.{AreCountedOf, none-of-groups, one-of-groups, all-of-groups}

@@ -28,3 +28,7 @@ spawn-requires-send-F g c κs within =
 
 pub spawn-requires-send-T : goal.spawn-requires-send-T
 spawn-requires-send-T g c κs within = param_send 2 _ (given-send g κs (search (rules, c.requires-raw) parts 20))
+
+-- where no thread could be started, the watch was shown nothing
+pub returns : goal.returns
+returns g c = record { found = tt; written = tt; watched = g.met.W.Watch.stays c.captures.watch }

@@ -1,0 +1,91 @@
+//! What all workers of a run have in common.
+ghost use Rattle.std.specs.Prelude.{◌≡◌, IfOk, length, min};
+
+use crate::seats::Seats;
+use crate::signals::Signals;
+use std::alloc::{AllocError, Global};
+use vlink::Time;
+
+/// What all workers of a run have in common.
+#[derive(Drop)]
+pub struct Common<G, K> {
+    /// How many workers there are.
+    pub workers: usize,
+    /// How many messages a group handles in a turn at most.
+    pub turn: u32,
+    /// How far a group runs ahead of the GVT that it saw at most, in ns.
+    pub window_ns: u64,
+    pub(crate) seats: Seats<G>,
+    pub(crate) signals: Signals,
+    /// What they do with a group.
+    pub tasks: K,
+}
+
+impl<G: Drop, K: Drop> Common<G, K> {
+    /// No group has had a turn. There are as many workers as are asked for, but no more than groups. It is refused for memory alone.
+    pub fn of(
+        alloc: Global,
+        groups: Vec<G>,
+        until: Time,
+        workers: u8,
+        turn: u16,
+        window_ns: u64,
+        tasks: K,
+    ) -> Result<Self, AllocError>
+        ensures { IfOk result (λ common. common.workers ≡ min (length groups.items) workers) }
+    {
+        let workers = groups.len().min(usize::from(workers));
+        match seated(alloc, until, groups, workers) {
+            Ok((signals, seats)) => Ok(Common {
+                workers,
+                turn: u32::from(turn),
+                window_ns,
+                seats,
+                signals,
+                tasks,
+            }),
+            Err(fault) => {
+                drop(tasks);
+                Err(fault)
+            }
+        }
+    }
+
+    /// The groups, in order, and what was done with them. It is refused for memory alone.
+    pub fn into_groups(self, alloc: Global) -> Result<(Vec<G>, K), AllocError>
+        ensures { IfOk result (λ r. r.1 ≡ self.tasks) }
+    {
+        let Common {
+            seats,
+            signals,
+            tasks,
+            ..
+        } = self;
+        drop(signals);
+        match seats.into_groups(alloc) {
+            Ok(groups) => Ok((groups, tasks)),
+            Err(fault) => {
+                drop(tasks);
+                Err(fault)
+            }
+        }
+    }
+}
+
+/// What the workers tell one another of these groups, of which none has had a turn, and their seats. It is refused for memory alone.
+fn seated<G: Drop>(
+    alloc: Global,
+    until: Time,
+    groups: Vec<G>,
+    workers: usize,
+) -> Result<(Signals, Seats<G>), AllocError> {
+    let count = groups.len();
+    let seats = Seats::of(alloc, groups)?;
+    match Signals::new(alloc, count, workers, until) {
+        Ok(signals) => Ok((signals, seats)),
+        Err(fault) => {
+            drop(seats);
+            Err(fault)
+        }
+    }
+}

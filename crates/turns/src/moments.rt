@@ -1,0 +1,227 @@
+//! When each group has something to do next, and how far the workers have come.
+use crate::apart::Apart;
+use crate::{LEAD_NS, PIECE};
+use std::alloc::{AllocError, Global};
+use std::sync::atomic::{AtomicBool, AtomicU64, Ordering};
+use vlink::Time;
+
+/// What is told of a group.
+#[derive(Drop)]
+struct Moment {
+    /// The moment of its next event, in ns, as who gave it a turn told it last.
+    next_ns: AtomicU64,
+    /// The least moment of the letters that wait for it, in ns. Who posted one lowers it after that, and who takes them raises it in the same section.
+    /// So no letter is missed.
+    letter_ns: AtomicU64,
+}
+
+impl Moment {
+    /// Whether it has something to do before this moment, in ns.
+    fn is_due(&self, limit_ns: u64) -> bool {
+        self.next_ns.load(Ordering::SeqCst) < limit_ns
+            || self.letter_ns.load(Ordering::SeqCst) < limit_ns
+    }
+}
+
+/// For each of so many groups a letter of the moment 0 waits. It is refused for memory alone.
+fn first_moments(alloc: Global, groups: usize) -> Result<Vec<Apart<Moment>>, AllocError> {
+    let mut moments = Vec::with_capacity(alloc, groups)?;
+    for _ in 0..groups {
+        moments.push(Apart::new(Moment {
+            next_ns: AtomicU64::new(u64::MAX),
+            letter_ns: AtomicU64::new(0),
+        }))?;
+    }
+    Ok(moments)
+}
+
+/// The worker of each of so many groups: they belong to so many workers in turn. It is refused for memory alone.
+fn owners_of(alloc: Global, groups: usize, workers: usize) -> Result<Vec<usize>, AllocError> {
+    let mut owners = Vec::with_capacity(alloc, groups)?;
+    let mut owner: usize = 0;
+    for _ in 0..groups {
+        owners.push(owner)?;
+        owner = if owner.saturating_add(1) < workers {
+            owner.saturating_add(1)
+        } else {
+            0
+        };
+    }
+    Ok(owners)
+}
+
+/// What the workers tell one another.
+#[derive(Drop)]
+pub struct Moments {
+    moments: Vec<Apart<Moment>>,
+    /// The worker of each group.
+    owners: Vec<usize>,
+    /// The end time of the network, in ns.
+    until_ns: u64,
+    /// Is set where a refusal ends all workers.
+    stop: AtomicBool,
+    /// The GVT that was set last, in ns.
+    gvt_ns: Apart<AtomicU64>,
+}
+
+impl Moments {
+    /// A letter of the moment 0 waits for each of so many groups, which belong to so many workers in turn. It is refused for memory alone.
+    pub(crate) fn new(
+        alloc: Global,
+        groups: usize,
+        workers: usize,
+        until: Time,
+    ) -> Result<Self, AllocError> {
+        let owners = owners_of(alloc, groups, workers)?;
+        match first_moments(alloc, groups) {
+            Ok(moments) => Ok(Moments {
+                moments,
+                owners,
+                until_ns: until.ns(),
+                stop: AtomicBool::new(false),
+                gvt_ns: Apart::new(AtomicU64::new(0)),
+            }),
+            Err(fault) => {
+                drop(owners);
+                Err(fault)
+            }
+        }
+    }
+
+    /// How many groups there are.
+    pub(crate) fn groups(&self) -> usize {
+        self.moments.len()
+    }
+
+    /// So many messages a group handles at most before it tells how far it has come, where it has handled so many in its turn. Nobody asks how far the
+    /// only group is.
+    pub(crate) fn piece(&self, turn: u32, handled: u32) -> u32 {
+        let left = turn.saturating_sub(handled);
+        if self.groups() == 1 {
+            left
+        } else {
+            left.min(PIECE)
+        }
+    }
+
+    /// The worker of a group, if there is a group of this number.
+    pub(crate) fn owner(&self, group: usize) -> Option<usize> {
+        match self.owners.get(group) {
+            Some(owner) => Some(*owner),
+            None => None,
+        }
+    }
+
+    /// Whether the group is this worker's.
+    pub(crate) fn is_of(&self, group: usize, worker: usize) -> bool {
+        self.owner(group) == Some(worker)
+    }
+
+    /// The GVT that was set last, in ns.
+    pub(crate) fn gvt_ns(&self) -> u64 {
+        self.gvt_ns.value.load(Ordering::SeqCst)
+    }
+
+    /// GVT is this moment, in ns. The answer is whether it is another one. Its caller has the lock of the exchange.
+    pub fn publish(&self, gvt_ns: u64) -> bool {
+        if self.gvt_ns() == gvt_ns {
+            return false;
+        }
+        self.gvt_ns.value.store(gvt_ns, Ordering::SeqCst);
+        true
+    }
+
+    /// A refusal ends all workers at their next turn.
+    pub(crate) fn stop(&self) {
+        self.stop.store(true, Ordering::SeqCst);
+    }
+
+    /// Whether GVT is beyond the end, or a refusal ends all workers.
+    pub(crate) fn is_over(&self) -> bool {
+        self.gvt_ns() > self.until_ns || self.stop.load(Ordering::SeqCst)
+    }
+
+    /// Before which moment events are due now, in ns: `LEAD_NS` behind the least moment of all groups. The only group has none to wait for.
+    pub(crate) fn limit_ns(&self) -> u64 {
+        if self.moments.len() == 1 {
+            return u64::MAX;
+        }
+        let mut least_ns = u64::MAX;
+        for moment in &self.moments {
+            let moment = &moment.value;
+            least_ns = least_ns.min(moment.next_ns.load(Ordering::SeqCst));
+            least_ns = least_ns.min(moment.letter_ns.load(Ordering::SeqCst));
+        }
+        least_ns.saturating_add(LEAD_NS)
+    }
+
+    /// Whether the group has something to do before this moment, in ns.
+    pub(crate) fn is_due(&self, group: usize, limit_ns: u64) -> bool {
+        match self.moments.get(group) {
+            Some(moment) => moment.value.is_due(limit_ns),
+            None => false,
+        }
+    }
+
+    /// Whether nothing but GVT is to come for this worker: no group has an event before the end, or one of its own would be due but for the window.
+    pub(crate) fn waits_for_gvt(&self, worker: usize) -> bool {
+        let limit_ns = self.limit_ns();
+        if limit_ns > self.until_ns {
+            return true;
+        }
+        for group in 0..self.groups() {
+            if self.is_of(group, worker) && self.is_due(group, limit_ns) {
+                return true;
+            }
+        }
+        false
+    }
+
+    /// The least moment of the letters that wait for this group, in ns.
+    pub(crate) fn letter_ns(&self, group: u16) -> u64 {
+        match self.moments.get(usize::from(group)) {
+            Some(moment) => moment.value.letter_ns.load(Ordering::SeqCst),
+            None => u64::MAX,
+        }
+    }
+
+    /// The group has its next event at this moment, in ns.
+    pub(crate) fn tell(&self, group: u16, moment_ns: u64) {
+        if let Some(moment) = self.moments.get(usize::from(group)) {
+            moment.value.next_ns.store(moment_ns, Ordering::SeqCst);
+        }
+    }
+
+    /// The letters that waited for the group are collected. The answer is the least moment of those that were told of, in ns. Its caller has the lock of the
+    /// exchange.
+    pub fn collect(&self, group: u16) -> u64 {
+        let Some(moment) = self.moments.get(usize::from(group)) else {
+            return u64::MAX;
+        };
+        let letter_ns = moment.value.letter_ns.swap(u64::MAX, Ordering::SeqCst);
+        if letter_ns < moment.value.next_ns.load(Ordering::SeqCst) {
+            moment.value.next_ns.store(letter_ns, Ordering::SeqCst);
+        }
+        letter_ns
+    }
+
+    /// A letter of this moment, in ns, waits for the group.
+    fn call(&self, group: usize, moment_ns: u64) {
+        if let Some(moment) = self.moments.get(group) {
+            moment
+                .value
+                .letter_ns
+                .fetch_min(moment_ns, Ordering::SeqCst);
+        }
+    }
+
+    /// The groups are told of the letters that are listed for them, the least moment of each, in ns; and none is listed from then on.
+    pub(crate) fn call_all(&self, letters_ns: &mut [u64]) {
+        for (group, letter_ns) in letters_ns.iter_mut().enumerate() {
+            if *letter_ns != u64::MAX {
+                self.call(group, *letter_ns);
+                *letter_ns = u64::MAX;
+            }
+        }
+    }
+}

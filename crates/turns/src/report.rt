@@ -1,0 +1,67 @@
+//! When a group is to have a turn, and when it is to meet the others.
+use crate::moments::Moments;
+use crate::{BEHIND_NS, LEAD_NS, LOOKS_BEFORE_POST, MOST_UNPOSTED, MOST_WITH_LETTERS};
+
+/// How far a group has come.
+#[derive(Clone, Copy)]
+pub struct Report {
+    /// Its number.
+    pub number: u16,
+    /// The moment of its next event, in ns.
+    pub next_ns: u64,
+    /// The GVT that it saw, in ns.
+    pub seen_ns: u64,
+    /// How many messages it handled since its block was posted.
+    pub unposted: u32,
+    /// Whether it has letters for others.
+    pub has_letters: bool,
+    /// Whether it did something that is not posted.
+    pub has_block: bool,
+}
+
+impl Report {
+    /// Whether its next event is due, where that is what is before the limit, in ns, and the window.
+    pub(crate) fn is_due(&self, limit_ns: u64, window_ns: u64) -> bool {
+        self.next_ns < limit_ns && !self.waits_for_gvt(window_ns)
+    }
+
+    /// Whether its next event is beyond the window, in ns.
+    pub(crate) fn waits_for_gvt(&self, window_ns: u64) -> bool {
+        self.next_ns >= self.seen_ns.saturating_add(window_ns)
+    }
+
+    /// Whether it is to post and to look for letters before it goes on: it has letters for others, or did not post for long; or a letter waits that
+    /// comes before its next event; or its next event waits for GVT; or nothing is due, and GVT is much further on, or what it did was not posted for a
+    /// while, after so many looks in vain of its worker.
+    pub(crate) fn is_to_meet(
+        &self,
+        moments: &Moments,
+        limit_ns: u64,
+        window_ns: u64,
+        looks: u64,
+    ) -> bool {
+        if self.unposted >= MOST_UNPOSTED || self.has_letters {
+            return true;
+        }
+        let letter_ns = moments.letter_ns(self.number);
+        if letter_ns <= self.next_ns && letter_ns < limit_ns {
+            return true;
+        }
+        if self.is_due(limit_ns, window_ns) {
+            return false;
+        }
+        let gvt_ns = moments.gvt_ns();
+        if self.next_ns < limit_ns {
+            return self.has_block || gvt_ns > self.seen_ns;
+        }
+        let is_late = looks >= LOOKS_BEFORE_POST || window_ns < LEAD_NS;
+        gvt_ns >= self.seen_ns.saturating_add(BEHIND_NS) || (is_late && self.has_block)
+    }
+
+    /// Whether it is to meet the others once it has handled so many messages in its turn: it has letters for them, or a letter waits that comes before
+    /// its next event.
+    pub(crate) fn ends_turn(&self, moments: &Moments, handled: u32) -> bool {
+        (handled >= MOST_WITH_LETTERS && self.has_letters)
+            || moments.letter_ns(self.number) <= self.next_ns
+    }
+}

@@ -1,0 +1,41 @@
+//! The groups of a run, each with a lock of its own.
+use crate::apart::Apart;
+use crate::seat::Seat;
+use std::alloc::{AllocError, Global};
+use std::sync::{Mutex, MutexGuard};
+
+/// The groups of a run, in order. Who gives a group a turn has its lock meanwhile, and nobody waits for it.
+#[derive(Drop)]
+pub(crate) struct Seats<G> {
+    seats: Vec<Apart<Mutex<Seat<G>>>>,
+}
+
+impl<G: Drop> Seats<G> {
+    /// These groups. It is refused for memory alone.
+    pub(crate) fn of(alloc: Global, groups: Vec<G>) -> Result<Self, AllocError> {
+        let mut seats = Vec::with_capacity(alloc, groups.len())?;
+        for group in groups {
+            seats.push(Apart::new(Mutex::new(Seat::new(group))))?;
+        }
+        Ok(Seats { seats })
+    }
+
+    /// A group, if there is one of this number that no other thread has.
+    pub(crate) fn try_take(&self, group: usize) -> Option<MutexGuard<'_, Seat<G>>> {
+        match self.seats.get(group) {
+            Some(seat) => seat.value.try_lock(),
+            None => None,
+        }
+    }
+
+    /// The groups, in order. It is refused for memory alone.
+    pub(crate) fn into_groups(self, alloc: Global) -> Result<Vec<G>, AllocError> {
+        let Seats { seats } = self;
+        let mut groups = Vec::with_capacity(alloc, seats.len())?;
+        for seat in seats {
+            let Seat { group, .. } = seat.into_inner().into_inner();
+            groups.push(group)?;
+        }
+        Ok(groups)
+    }
+}

@@ -1,0 +1,126 @@
+//! What the workers of a run tell one another: moments, who of them rests, and whether the run has ended.
+use crate::REST_US;
+use crate::apart::Apart;
+use crate::moments::Moments;
+use std::alloc::{AllocError, Global};
+use std::sync::Wait;
+use std::sync::atomic::{AtomicU64, Ordering};
+use std::time::Duration;
+use vlink::Time;
+
+/// None of so many workers rests. It is refused for memory alone.
+fn awake(alloc: Global, workers: usize) -> Result<Vec<Apart<AtomicU64>>, AllocError> {
+    let mut rests = Vec::with_capacity(alloc, workers)?;
+    for _ in 0..workers {
+        rests.push(Apart::new(AtomicU64::new(0)))?;
+    }
+    Ok(rests)
+}
+
+/// What the workers tell one another.
+#[derive(Drop)]
+pub(crate) struct Signals {
+    /// When each group has something to do next.
+    pub(crate) moments: Moments,
+    /// Of each worker, 1 as long as it rests or is about to: who has something for it sets that to 0, and wakes it.
+    rests: Vec<Apart<AtomicU64>>,
+    /// How many workers rest, or are about to.
+    resting: Apart<AtomicU64>,
+    /// 0 as long as the run goes on: a thread that watches waits for it to change.
+    ended: Apart<AtomicU64>,
+}
+
+impl Signals {
+    /// None of so many groups has had a turn, none of so many workers rests, and the run goes on. It is refused for memory alone.
+    pub(crate) fn new(
+        alloc: Global,
+        groups: usize,
+        workers: usize,
+        until: Time,
+    ) -> Result<Self, AllocError> {
+        let rests = awake(alloc, workers)?;
+        match Moments::new(alloc, groups, workers, until) {
+            Ok(moments) => Ok(Signals {
+                moments,
+                rests,
+                resting: Apart::new(AtomicU64::new(0)),
+                ended: Apart::new(AtomicU64::new(0)),
+            }),
+            Err(fault) => {
+                drop(rests);
+                Err(fault)
+            }
+        }
+    }
+
+    /// A turn was given, or GVT was set: workers that rest are woken where a group of theirs is due.
+    pub(crate) fn wake_due(&self) {
+        if self.resting.value.load(Ordering::SeqCst) == 0 {
+            return;
+        }
+        let limit_ns = self.moments.limit_ns();
+        for group in 0..self.moments.groups() {
+            if self.moments.is_due(group, limit_ns) {
+                if let Some(worker) = self.moments.owner(group) {
+                    self.wake(worker);
+                }
+            }
+        }
+    }
+
+    /// The worker goes on, if it rests.
+    fn wake(&self, worker: usize) {
+        if let Some(rests) = self.rests.get(worker) {
+            if rests.value.load(Ordering::SeqCst) != 0 {
+                rests.value.store(0, Ordering::SeqCst);
+                rests.value.wake_all();
+            }
+        }
+    }
+
+    /// The worker is about to rest, and will be woken from here on: before it rests it looks once more whether it is to.
+    pub(crate) fn begin_rest(&self, worker: usize) {
+        self.resting.value.fetch_add(1, Ordering::SeqCst);
+        if let Some(rests) = self.rests.get(worker) {
+            rests.value.store(1, Ordering::SeqCst);
+        }
+    }
+
+    /// The worker, which the calling thread is, rests until it is woken, or `REST_US` have passed.
+    pub(crate) fn rest<T: Wait>(&self, rt: &T, worker: usize) {
+        if let Some(rests) = self.rests.get(worker) {
+            rests
+                .value
+                .park_timeout(rt, 1, Duration::from_micros(REST_US));
+        }
+    }
+
+    /// The worker does not rest any more.
+    pub(crate) fn end_rest(&self, worker: usize) {
+        if let Some(rests) = self.rests.get(worker) {
+            rests.value.store(0, Ordering::SeqCst);
+        }
+        self.resting.value.fetch_sub(1, Ordering::SeqCst);
+    }
+
+    /// The calling thread waits for so many microseconds, unless the run ends.
+    pub(crate) fn watch<T: Wait>(&self, rt: &T, most_us: u64) {
+        self.ended
+            .value
+            .park_timeout(rt, 0, Duration::from_micros(most_us));
+    }
+
+    /// Whether the run has ended.
+    pub(crate) fn is_ended(&self) -> bool {
+        self.ended.value.load(Ordering::SeqCst) != 0
+    }
+
+    /// The run ends: no worker rests from here on.
+    pub(crate) fn end(&self) {
+        self.ended.value.store(1, Ordering::SeqCst);
+        self.ended.value.wake_all();
+        for worker in 0..self.rests.len() {
+            self.wake(worker);
+        }
+    }
+}

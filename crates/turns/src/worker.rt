@@ -1,0 +1,274 @@
+//! A worker: it gives groups their turns.
+use crate::PAUSES;
+use crate::common::Common;
+use crate::looks::Looks;
+use crate::moments::Moments;
+use crate::refusal::Refusal;
+use crate::seat::Seat;
+use crate::signals::Signals;
+use crate::tasks::Tasks;
+use std::alloc::{AllocError, Global};
+use std::sync::Wait;
+use std::{hint, thread};
+
+/// The worker of this number gives turns until the run is over or a refusal ends it. One of its own ends the others at their next turn.
+pub(crate) fn give_turns<G: Drop, K: Tasks<G>, T: Wait>(
+    rt: &T,
+    alloc: Global,
+    common: &Common<G, K>,
+    number: usize,
+) -> Result<(), K::Fault> {
+    let outcome = match Worker::new(rt, alloc, common, number) {
+        Ok(mut worker) => {
+            let outcome = worker.turns_until_over();
+            drop(worker);
+            outcome
+        }
+        Err(_) => Err(K::Fault::memory()),
+    };
+    if outcome.is_err() {
+        common.signals.moments.stop();
+    }
+    common.signals.end();
+    outcome
+}
+
+/// What a worker has for itself, and what it shares with the others.
+#[derive(Drop)]
+struct Worker<'s, G, K, T> {
+    rt: &'s T,
+    common: &'s Common<G, K>,
+    number: usize,
+    /// For each group the least moment of the letters that were posted to it last, in ns.
+    letters_ns: Vec<u64>,
+    looks: Looks,
+}
+
+impl<'s, G: Drop, K: Tasks<G>, T: Wait> Worker<'s, G, K, T> {
+    /// The worker of this number, which has given no turn. It is refused for memory alone.
+    fn new(
+        rt: &'s T,
+        alloc: Global,
+        common: &'s Common<G, K>,
+        number: usize,
+    ) -> Result<Self, AllocError> {
+        let letters_ns = vec![in alloc; u64::MAX; common.signals.moments.groups()]?;
+        Ok(Worker {
+            rt,
+            common,
+            number,
+            letters_ns,
+            looks: Looks::none(),
+        })
+    }
+
+    /// Gives turns until the run is over.
+    fn turns_until_over(&mut self) -> Result<(), K::Fault> {
+        let rt = self.rt;
+        for _ in rt.forever() {
+            if self.common.signals.moments.is_over() {
+                return Ok(());
+            }
+            if !self.own_turns()? && !self.turn_of_others()? {
+                self.found_nothing()?;
+            }
+        }
+        Ok(())
+    }
+
+    /// A turn for each group of its own that no other worker has. The answer is whether a message was handled.
+    fn own_turns(&mut self) -> Result<bool, K::Fault> {
+        let common = self.common;
+        let moments = &common.signals.moments;
+        let mut has_worked = false;
+        for group in 0..moments.groups() {
+            if moments.is_of(group, self.number) && self.turn_of(group, true)? {
+                has_worked = true;
+            }
+        }
+        if has_worked {
+            self.looks.work();
+        }
+        Ok(has_worked)
+    }
+
+    /// A turn for a group of another worker, which may be off its core, where nothing was to do for its own for a while. The more often that served, the
+    /// sooner it does so. The answer is whether a message was handled.
+    fn turn_of_others(&mut self) -> Result<bool, K::Fault> {
+        if !self.looks.are_to_help() {
+            return Ok(false);
+        }
+        let common = self.common;
+        let moments = &common.signals.moments;
+        let limit_ns = moments.limit_ns();
+        for group in 0..moments.groups() {
+            let is_other = !moments.is_of(group, self.number) && moments.is_due(group, limit_ns);
+            if is_other && self.turn_of(group, false)? {
+                self.looks.help();
+                return Ok(true);
+            }
+        }
+        Ok(false)
+    }
+
+    /// A turn for a group, unless another thread has it. What a group of another worker did is told to all at once, since its worker may rest. The
+    /// answer is whether a message was handled.
+    fn turn_of(&mut self, group: usize, is_own: bool) -> Result<bool, K::Fault> {
+        let common = self.common;
+        let Some(mut seat) = common.seats.try_take(group) else {
+            return Ok(false);
+        };
+        let worked = self.turn(&mut seat);
+        let posted = if !is_own && worked.is_ok() && common.tasks.report(&seat).has_block {
+            self.meet(&mut seat)
+        } else {
+            Ok(())
+        };
+        drop(seat);
+        posted?;
+        worked
+    }
+
+    /// A turn for a group. The answer is whether a message was handled.
+    fn turn(&mut self, seat: &mut Seat<G>) -> Result<bool, K::Fault> {
+        let common = self.common;
+        let moments = &common.signals.moments;
+        let limit_ns = moments.limit_ns();
+        let report = common.tasks.report(seat);
+        if report.is_to_meet(moments, limit_ns, common.window_ns, self.looks.vain()) {
+            self.meet(seat)?;
+        } else if !report.is_due(limit_ns, common.window_ns) {
+            return Ok(false);
+        }
+        let has_worked = self.handle_due(seat)?;
+        common.signals.wake_due();
+        common.tasks.let_go(&mut seat.group)?;
+        Ok(has_worked)
+    }
+
+    /// The group meets the others. Then they are told of its letters.
+    fn meet(&mut self, seat: &mut Seat<G>) -> Result<(), K::Fault> {
+        let common = self.common;
+        let tasks = &common.tasks;
+        let moments = &common.signals.moments;
+        let waits = tasks.report(seat).waits_for_gvt(common.window_ns);
+        let letters_ns = &mut self.letters_ns;
+        let letter_ns = tasks.meet(&mut seat.group, waits, moments, letters_ns)?;
+        // A letter in the tray is to be worked on no later than an event of its moment.
+        seat.next_ns = seat.next_ns.min(letter_ns);
+        seat.unposted = 0;
+        moments.call_all(letters_ns);
+        Ok(())
+    }
+
+    /// The group handles messages as long as they are due, as many as a turn has, and tells now and then how far it is. It ends where it is to meet the
+    /// others. The answer is whether a message was handled.
+    fn handle_due(&self, seat: &mut Seat<G>) -> Result<bool, K::Fault> {
+        let common = self.common;
+        let moments = &common.signals.moments;
+        let turn = common.turn;
+        let mut handled = 0;
+        for _ in 0..turn {
+            let most = moments.piece(turn, handled);
+            let count = handle_piece(common, seat, most)?;
+            handled = handled.saturating_add(count);
+            let is_done = count < most || handled >= turn;
+            if is_done || common.tasks.report(seat).ends_turn(moments, handled) {
+                break;
+            }
+        }
+        seat.unposted = seat.unposted.saturating_add(handled);
+        Ok(handled != 0)
+    }
+
+    /// Nothing was due: it looks again soon, and rests after many looks. Where it waits for GVT, or has waited for long, that is set now and then.
+    fn found_nothing(&mut self) -> Result<(), K::Fault> {
+        let common = self.common;
+        self.looks.look_in_vain();
+        if self.looks.may_publish()
+            && (self.looks.are_to_rest() || common.signals.moments.waits_for_gvt(self.number))
+        {
+            publish(&common.tasks, &common.signals)?;
+        }
+        if self.looks.are_to_rest() {
+            rest(self.rt, common, self.number);
+        } else {
+            pause(self.looks);
+        }
+        Ok(())
+    }
+}
+
+/// The group handles messages that are due, so many at most, no further ahead of the GVT that it saw than the window, and tells how far it is. The
+/// answer is how many.
+fn handle_piece<G: Drop, K: Tasks<G>>(
+    common: &Common<G, K>,
+    seat: &mut Seat<G>,
+    most: u32,
+) -> Result<u32, K::Fault> {
+    let tasks = &common.tasks;
+    let moments = &common.signals.moments;
+    let report = tasks.report(seat);
+    let due_ns = moments.limit_ns().saturating_sub(report.seen_ns);
+    let count = tasks.handle(&mut seat.group, most, due_ns.min(common.window_ns))?;
+    seat.next_ns = tasks.next_ns(&mut seat.group);
+    moments.tell(report.number, seat.next_ns);
+    Ok(count)
+}
+
+/// A worker that has looked in vain for long rests until a group of its own is due, unless one is.
+fn rest<G: Drop, K: Tasks<G>, T: Wait>(rt: &T, common: &Common<G, K>, number: usize) {
+    let signals = &common.signals;
+    signals.begin_rest(number);
+    if !signals.moments.is_over() && !is_any_due(common, number) {
+        signals.rest(rt, number);
+    }
+    signals.end_rest(number);
+}
+
+/// Whether there is something to do for a group of a worker, which looked in vain for long, that no other thread has.
+fn is_any_due<G: Drop, K: Tasks<G>>(common: &Common<G, K>, number: usize) -> bool {
+    let moments = &common.signals.moments;
+    let limit_ns = moments.limit_ns();
+    for group in 0..moments.groups() {
+        if moments.is_of(group, number) {
+            if let Some(seat) = common.seats.try_take(group) {
+                if is_to_go_on(common, &seat, moments, limit_ns) {
+                    return true;
+                }
+            }
+        }
+    }
+    false
+}
+
+/// Whether there is something to do for a group whose worker looked in vain for long.
+fn is_to_go_on<G: Drop, K: Tasks<G>>(
+    common: &Common<G, K>,
+    seat: &Seat<G>,
+    moments: &Moments,
+    limit_ns: u64,
+) -> bool {
+    let report = common.tasks.report(seat);
+    report.is_due(limit_ns, common.window_ns)
+        || report.is_to_meet(moments, limit_ns, common.window_ns, u64::MAX)
+}
+
+/// GVT is set, where no other thread is at the exchange; workers that rest are woken where there is something to do for them now.
+fn publish<G: Drop, K: Tasks<G>>(tasks: &K, signals: &Signals) -> Result<(), K::Fault> {
+    if tasks.publish(&signals.moments)? {
+        signals.wake_due();
+    }
+    Ok(())
+}
+
+/// A worker that looked in vain looks again soon, and after many looks lets other threads run in between.
+fn pause(looks: Looks) {
+    if looks.are_to_yield() {
+        thread::yield_now();
+    } else {
+        for _ in 0..PAUSES {
+            hint::spin_loop();
+        }
+    }
+}

@@ -1,0 +1,129 @@
+//! Threads that give turns to groups.
+ghost use Rattle.std.specs.Prelude.{◌≡◌, ◌+◌, ◌<◌, IfErr, IfOk, Some, length, slice_get};
+ghost use Rattle.turns.specs.Outcomes.{IsToldOf};
+
+use crate::LOOK_US;
+use crate::common::Common;
+use crate::outcomes::{add_outcome, least_fault};
+use crate::refusal::Refusal;
+use crate::signals::Signals;
+use crate::tasks::Tasks;
+use crate::worker::give_turns;
+use actor_run::Watch;
+use std::alloc::{AllocError, Global};
+use std::sync::Wait;
+use std::thread;
+use std::thread::{JoinHandle, Threads};
+use vlink::Time;
+
+/// Starts the workers, and joins all of them. Where there is no group, or no worker is asked for, none is started, and no fault told.
+///
+/// A refusal to one worker ends the others at their next turn. All of them are joined, and the answer is the least fault of what they ended
+/// with, and of the start. While they run, the calling thread shows the watch GVT; it is given back.
+pub fn work_all<
+    G: Drop + Send,
+    F: Refusal + Send,
+    K: Tasks<G, Fault = F> + Sync,
+    T: Threads + Wait + Sync,
+    W: Watch + Drop,
+>(rt: &T, alloc: Global, common: &Common<G, K>, watch: W) -> (Result<(), F>, W)
+    ensures some { IfErr result.0 (λ fault. 0 < common.now.workers) }
+    ensures watched { W.becomes watch result.1 }
+{
+    if common.workers == 0 {
+        return (Ok(()), watch);
+    }
+    thread::scope(
+        thread::scope_env(),
+        rt,
+        |scope| -> (Result<(), F>, W)
+            ensures watched { W.becomes watch result.1 }
+        {
+            let mut handles = Vec::new(alloc);
+            let mut start = Ok(());
+            for worker in 0..common.workers {
+                if handles.reserve(1).is_err() {
+                    start = Err(F::memory());
+                    break;
+                }
+                let Ok(handle) = scope.spawn(move || give_turns(rt, alloc, common, worker)) else {
+                    start = Err(F::unstarted());
+                    break;
+                };
+                handles.push_reserved(handle);
+            }
+            watch_all(rt, alloc, &common.signals, start, handles, watch)
+        },
+    )
+}
+
+/// The watch is shown GVT until the run ends; where the start was refused, the workers are to end. They are joined. The answer is the least fault of
+/// what they ended with, and of the start.
+fn watch_all<F: Refusal, T: Threads + Wait, W: Watch + Drop>(
+    rt: &T,
+    alloc: Global,
+    signals: &Signals,
+    start: Result<(), F>,
+    handles: Vec<JoinHandle<Result<(), F>>>,
+    watch: W,
+) -> (Result<(), F>, W)
+    ensures told { IsToldOf F.rank F.is_memory start (length handles.items) result.0 }
+    ensures watched { W.becomes watch result.1 }
+{
+    let mut watch = watch;
+    if start.is_ok() {
+        show_gvt(rt, signals, &mut watch);
+    } else {
+        signals.moments.stop();
+    }
+    (join_all(rt, alloc, start, handles), watch)
+}
+
+/// The watch is shown GVT once in `LOOK_US`, until the run ends.
+fn show_gvt<T: Wait, W: Watch>(rt: &T, signals: &Signals, watch: &mut W)
+    ensures watched { W.becomes watch.old watch.new }
+{
+    for _ in rt.forever() {
+        signals.watch(rt, LOOK_US);
+        if signals.is_ended() {
+            return;
+        }
+        if let Some(moment) = Time::new(signals.moments.gvt_ns()) {
+            watch.look(moment, 0);
+        }
+    }
+}
+
+/// What the start came to, and behind it what each thread ended with, in their order: they are joined. It is refused for memory alone.
+#[tactic(auto, using(crate::proofs::LeastFault::first_stays))]
+fn outcomes_of<F: Refusal, T: Threads + Wait>(
+    rt: &T,
+    alloc: Global,
+    start: Result<(), F>,
+    handles: Vec<JoinHandle<Result<(), F>>>,
+) -> Result<Vec<Result<(), F>>, AllocError>
+    ensures count { IfOk result (λ outcomes. length outcomes.items ≡ length handles.items + 1) }
+    ensures first { IfOk result (λ outcomes. slice_get outcomes.items 0 ≡ Some start) }
+{
+    let mut outcomes = Vec::with_capacity(alloc, handles.len().saturating_add(1))?;
+    add_outcome(&mut outcomes, start)?;
+    for handle in handles {
+        add_outcome(&mut outcomes, handle.join(rt))?;
+    }
+    Ok(outcomes)
+}
+
+/// The threads are joined. The answer is the least fault of what they ended with, and of the start.
+fn join_all<F: Refusal, T: Threads + Wait>(
+    rt: &T,
+    alloc: Global,
+    start: Result<(), F>,
+    handles: Vec<JoinHandle<Result<(), F>>>,
+) -> Result<(), F>
+    ensures { IsToldOf F.rank F.is_memory start (length handles.items) result }
+{
+    match outcomes_of(rt, alloc, start, handles) {
+        Ok(outcomes) => least_fault(outcomes),
+        Err(_) => Err(F::memory()),
+    }
+}

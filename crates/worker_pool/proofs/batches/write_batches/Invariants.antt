@@ -1,4 +1,0 @@
-use Rattle.worker_pool.proofs.batches.write_batches.Given as goal
-
-abbrev pub invariant-loop-batch : goal.invariant-loop-batch
-invariant-loop-batch g l = (goal.iterator-loop-batch g).can_next l.batch-iterator

@@ -1,0 +1,20 @@
+use Rattle.std.proofs.Common.{◌≡◌, ◌<◌, ◌≤◌, min, length, subst, arith}
+use Rattle.std.proofs.Math.Nat.{min-le_left, min-le_right}
+use Rattle.network.specs.Words.{process_count}
+use Rattle.actor_run.proofs.Errors.{ok-weaker}
+use Rattle.worker_pool.specs.Outcomes.{CanWantWorkers}
+use Rattle.worker_pool.proofs.running.opened.Goals as goal
+
+-- workers are no more than groups, and a group has a process
+pub returns : goal.returns
+returns g c =
+    let start = c.args.start in
+    let groups = length c.in_ok-exchange.groups.items in
+    let asked = start.pace.workers in
+    ok-weaker _ (λ common. 0 < common.workers → CanWantWorkers asked (process_count g.J.NetworkRun.plan))
+    (λ common is some.
+    let few : min groups asked ≤ groups = min-le_left groups asked in
+    let most : min groups asked ≤ asked = min-le_right groups asked in
+    let count : groups ≡ start.grouping.groups = c.in_ok-exchange.ensures.count in
+    (omega arith, subst (λ plan. 0 < process_count plan) start.planned (start.grouped.some (omega arith))))
+    c.of.result c.of.ensures

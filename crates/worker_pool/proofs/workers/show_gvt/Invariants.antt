@@ -1,5 +1,0 @@
-use Rattle.worker_pool.proofs.workers.show_gvt.Given as goal
-
-abbrev pub invariant-loop : goal.invariant-loop
-invariant-loop g l =
-    (goal.iterator-loop g).can_next l.iterator' × (goal.iterator-loop g).is_finite l.iterator' × g.W.Watch.becomes l.initial.watch l.watch
