@@ -3,7 +3,7 @@ ghost use Rattle.std.specs.Prelude.{◌≡◌};
 ghost use Rattle.network_rows.specs.Keys.{key_text, section_text, word_text};
 
 /// A section of a description: its top table, or one of its lists of tables.
-#[derive(Clone, Copy, PartialEq, Eq)]
+#[derive(Clone, Copy, Debug, PartialEq, Eq)]
 pub enum Section {
     Top,
     Node,
@@ -13,7 +13,7 @@ pub enum Section {
 }
 
 /// A key of a description.
-#[derive(Clone, Copy)]
+#[derive(Clone, Copy, Debug)]
 pub enum Key {
     UntilNs,
     Seed,
