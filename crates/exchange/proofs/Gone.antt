@@ -9,7 +9,7 @@ use Rattle.virtual_time.specs.Law.{Rules, rowed, reached, Part, next_of, handled
 use Rattle.virtual_time.proofs.Handling.{rowed-append}
 use Rattle.virtual_time.specs.declared.moved.Move.TheVariants.{Arrived, Ran, Committed}
 use Rattle.process_queues.specs.Queues.{Queues, StandsFor}
-use Rattle.fossil.specs.Within.{AreFirstBefore}
+use Rattle.row_times.specs.Within.{AreFirstBefore}
 
 module _ {S K : Type 0} (r : Rules Message S K Note) where
   -- where no row has left, all that left are early

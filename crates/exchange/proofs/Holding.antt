@@ -13,7 +13,7 @@ use Rattle.reverse.specs.Setting.{Setting, simulation_of}
 use Rattle.antimessages.specs.Letters.{Store}
 use Rattle.gvt.specs.Horizon.{Floors}
 use Rattle.process_queues.specs.Queues.{Queues, StandsFor, Does}
-use Rattle.fossil.specs.Within.{AreFirstBefore}
+use Rattle.row_times.specs.Within.{AreFirstBefore}
 use Rattle.exchange.specs.declared.mark.Standing.{Standing}
 use Rattle.exchange.specs.Keeps.{IsRecorded, Holds}
 use Rattle.exchange.proofs.Gone.{gone-stays}

@@ -1,4 +1,3 @@
-pub mod Halves
 mod Marks
 mod Collected
 mod Entered
@@ -15,6 +14,5 @@ mod Opened
 mod Outcomes
 mod Posted
 mod Published
-pub mod Refused
 mod Taken
 mod Worked

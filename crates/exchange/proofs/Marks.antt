@@ -5,7 +5,7 @@ use Rattle.halves.specs.declared.LeftHalf.{LeftHalf}
 use Rattle.halves.specs.declared.RightHalf.{RightHalf}
 use Rattle.exchange.specs.declared.mark.Standing.{Standing}
 use Rattle.exchange.specs.Views.{blank, unplaced, marks_in, standing_of}
-use Rattle.exchange.proofs.Halves.{some-left}
+use Rattle.halves.proofs.InLists.{some-left}
 
 -- the first of the marks that are left
 pub first-blank : (names : List ℕ) (marks : List (RightHalf Standing)) (i : ℕ) → map (λ s. s.name) marks ≡ drop i names → i < length names →

@@ -9,7 +9,7 @@ use Rattle.antimessages.specs.Letters.{Store}
 use Rattle.antimessages.specs.Mailing.{letters_for}
 use Rattle.gvt.specs.Horizon.{Floors}
 use Rattle.process_queues.specs.Queues.{Queues, StandsFor}
-use Rattle.fossil.specs.Within.{AreFirstBefore}
+use Rattle.row_times.specs.Within.{AreFirstBefore}
 use Rattle.halves.specs.declared.RightHalf.{RightHalf}
 use Rattle.exchange.specs.declared.mark.Standing.{Standing}
 use Rattle.exchange.specs.Views.{standing_of, place_of, own_of}

@@ -6,7 +6,6 @@ mod collecting;
 mod entering;
 mod exchange;
 mod fits;
-mod gate;
 mod held;
 mod mark;
 mod opening;
@@ -20,7 +19,6 @@ mod working;
 
 pub use collecting::collect;
 pub use exchange::Exchange;
-pub use gate::Gate;
 pub use held::Held;
 pub use mark::Mark;
 pub use pairs::Pairs;

@@ -4,7 +4,7 @@ ghost use Rattle.vlink.specs.Order.{message_order};
 ghost use Rattle.virtual_time.specs.Law.{rowed, rows_at, earlier, one};
 ghost use Rattle.reverse.specs.Rules.{rules_of};
 ghost use Rattle.reverse.specs.Setting.{simulation_of};
-ghost use Rattle.fossil.specs.Within.{rows_within};
+ghost use Rattle.row_times.specs.Within.{rows_within};
 
 use crate::held::Held;
 use crate::run_of::ActorRun;

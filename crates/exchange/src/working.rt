@@ -11,10 +11,9 @@ ghost use Rattle.journal.specs.declared.fault.PoolFault.TheVariants.{OutOfMemory
 ghost use Rattle.exchange.specs.Effects.{Works, WorksSome, Runs, StopsAtArrival, StopsAtRun, StopsAtCommit, IsDueBefore, IsIdleBefore, WantsNumbers, moved_by};
 ghost use Rattle.reverse.specs.declared.sends.TheConstants.{MOST_SENT};
 
-use crate::gate::Gate;
 use crate::held::Held;
 use crate::run_of::ActorRun;
-use journal::PoolFault;
+use journal::{Gate, PoolFault};
 use reverse::{Actor, actor_law};
 use virtual_time::Move;
 use vlink::Time;

@@ -1,4 +1,2 @@
 mod Counts
-pub mod EarlyRows
 pub mod RowTimes
-mod Between

@@ -8,7 +8,7 @@ use Rattle.virtual_time.proofs.Order.{less-time}
 use Rattle.virtual_time.proofs.Lists.{in-head}
 use Rattle.virtual_time.proofs.Ascending.{ascending-filter, ascending-left}
 use Rattle.virtual_time.proofs.OneThread.{right}
-use Rattle.fossil.specs.Within.{AreFrom, AreInTime}
+use Rattle.row_times.specs.Within.{AreFrom, AreInTime}
 
 -- one in front of such as are not less
 rises-cons : {X : Type 0} (n : X → ℕ) (x : X) (xs : List X) → All (λ y. n x ≤ n y) xs → IsNonDecreasingBy n xs → IsNonDecreasingBy n (x ∷ xs)

@@ -6,4 +6,4 @@ mod collection;
 mod rows;
 
 pub use collection::{commit, is_early};
-pub use rows::{let_rows_go, rows_between, rows_in_time};
+pub use rows::{let_rows_go, rows_between};

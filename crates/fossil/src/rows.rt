@@ -1,13 +1,13 @@
 //! The rows of the committed events: those between two moments, and those that leave.
 ghost use Rattle.std.specs.Prelude.{◌≡◌, ◌+◌, ◌<◌, ◌≤◌, ◌^◌, ◌&&◌, ℕ, filter, length, map, nat_le, nat_lt, true, false};
-ghost use Rattle.std.specs.List.Sorted.{IsNonDecreasingBy, IsPartitionPoint};
 ghost use Rattle.vlink.specs.declared.message.Message.{Message};
 ghost use Rattle.virtual_time.specs.Law.{rowed, Part};
 ghost use Rattle.reverse.specs.Rules.{rules_of};
 ghost use Rattle.process_queues.specs.Queues.{AtEachPart, StandsFor, Does, rows_there};
-ghost use Rattle.fossil.specs.Within.{rows_within, AreInTime, AreFirstBefore, AreFrom};
+ghost use Rattle.row_times.specs.Within.{rows_within, AreInTime, AreFirstBefore, AreFrom};
 
 use process_queues::Process;
+use row_times::{count_before, rows_in_time};
 use reverse::Actor;
 use vlink::{Row, Time};
 
@@ -26,17 +26,6 @@ pub fn rows_between<R: Actor>(process: &Process<R>, from: Time, to: Time) -> &[R
         result.now ≡ rows_within (rules_of R.plain) from to (rowed (rules_of R.plain) opening part.committed)) }
 {
     rows_in_time(process.sealed(), from, to)
-}
-
-/// Of rows whose moments do not fall those of the moments from `from` on and before `to`, in ns, in their order. It takes no memory, and its time goes
-/// by the logarithm of their number.
-pub fn rows_in_time(rows: &[Row], from: Time, to: Time) -> &[Row]
-    requires { IsNonDecreasingBy (λ row. row.message.time) rows.now }
-    ensures { result.now ≡ filter (λ row. nat_le from row.message.time && nat_lt row.message.time to) rows.now }
-{
-    let begin = count_before(rows, from);
-    let end = count_before(rows, to).max(begin);
-    &rows[begin..end]
 }
 
 /// The rows of committed events that are earlier than a moment, in ns, leave. It takes no memory.
@@ -61,13 +50,4 @@ pub fn let_rows_go<R: Actor>(process: &mut Process<R>, moment: Time)
 {
     let count = count_before(process.sealed(), moment);
     let _gone = process.let_rows_go(count);
-}
-
-/// How many of these rows, whose moments do not fall, are earlier than a moment.
-fn count_before(rows: &[Row], moment: Time) -> usize
-    requires { IsNonDecreasingBy (λ row. row.message.time) rows.now }
-    ensures within { result ≤ length rows.now }
-    ensures point { IsPartitionPoint (λ row. nat_lt row.message.time moment ≡ true) (λ row. nat_lt row.message.time moment ≡ false) rows.now result }
-{
-    rows.partition_point(|row| row.message.time < moment)
 }

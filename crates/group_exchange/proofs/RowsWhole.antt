@@ -10,8 +10,8 @@ use Rattle.vlink.specs.Letters.{Row}
 use Rattle.virtual_time.specs.Law.{Rules, Order, IsOrder, Laws, World, IsSafeGroup, earlier, one, rows_at}
 use Rattle.virtual_time.proofs.Order.{not_less-time}
 use Rattle.reverse.specs.Setting.{Setting, simulation_of}
-use Rattle.fossil.specs.Within.{is_within, rows_within}
-use Rattle.fossil.proofs.EarlyRows.{early-rows}
+use Rattle.row_times.specs.Within.{is_within, rows_within}
+use Rattle.row_times.proofs.EarlyRows.{early-rows}
 use Rattle.hand.specs.Hands.{Held, StandsForGroup, is_ours}
 use Rattle.hand.proofs.Going.{held-is}
 use Rattle.group_exchange.specs.Rows.{AreInOrder, rows_of_group}

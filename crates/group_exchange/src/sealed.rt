@@ -4,14 +4,14 @@ ghost use Rattle.vlink.specs.Order.{message_order};
 ghost use Rattle.virtual_time.specs.Law.{earlier, one, rowed, rows_at};
 ghost use Rattle.reverse.specs.Rules.{rules_of};
 ghost use Rattle.reverse.specs.Setting.{simulation_of};
-ghost use Rattle.fossil.specs.Within.{rows_within};
+ghost use Rattle.row_times.specs.Within.{rows_within};
 ghost use Rattle.hand.specs.DoneEvents.{messages_of};
 ghost use Rattle.group_exchange.specs.Rows.{rows_of_group};
 ghost use Rattle.group_exchange.specs.Views.{in_group, is_of};
 
 use crate::group::Group;
 use crate::run_of::GroupRun;
-use fossil::rows_in_time;
+use row_times::rows_in_time;
 use reverse::{Actor, actor_law};
 use vlink::{Row, Time};
 

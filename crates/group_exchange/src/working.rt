@@ -10,9 +10,8 @@ ghost use Rattle.group_exchange.specs.Effects.{Goes, IsGroupAsBefore, IsIdleBefo
 use crate::group::Group;
 use crate::run_of::GroupRun;
 use between_groups::Reach;
-use exchange::Gate;
 use hand::{Early, HandFault, hand_law};
-use journal::PoolFault;
+use journal::{Gate, PoolFault};
 use reverse::{Actor, actor_law};
 use vlink::{Message, Time};
 

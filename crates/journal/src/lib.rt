@@ -4,6 +4,7 @@
 mod block;
 mod entry;
 mod fault;
+mod gate;
 mod list;
 mod table;
 mod turn;
@@ -11,5 +12,6 @@ mod turn;
 pub use block::Block;
 pub use entry::Entry;
 pub use fault::PoolFault;
+pub use gate::Gate;
 pub use list::Entries;
 pub use table::Table;

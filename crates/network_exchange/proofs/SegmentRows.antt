@@ -8,6 +8,7 @@ use Rattle.exchange.specs.Views.{HeldState}
 use Rattle.trace_segments.specs.Words.{interval_width, cut, HasInterval, rows_within, SegmentRows, segment_of}
 use Rattle.trace_segments.proofs.IntervalLemmas.{cut-inside, cut-rises}
 use Rattle.seqsim.specs.Networks.{AreRowsOf}
+use Rattle.run_rows.proofs.Beginnings.{begins-one}
 use Rattle.network_exchange.specs.Segments.{IsIntervalSealed, IsSegmentOfRun}
 
 -- what passed two tests passes them again
@@ -44,11 +45,6 @@ segment-of-run plan p k rows here segment is run r =
     is ∙ ap (λ (found : List Row). record { run = 0; process = p; from = from; to = to; rows = found })
     (ap (λ (z : List Row). rows_within from to (rows_at p z)) (same-rows plan p from to rows run here r)
     ∙ pass-again (λ (row : Row). row.place == p) (λ (row : Row). nat_le from row.message.time && nat_lt row.message.time to) run)
-
--- an interval is known by its beginning
-pub begins-one : (until moment k : ℕ) → HasInterval until k → moment ≡ cut until k → moment / interval_width until ≡ k
-begins-one until moment k inside at =
-    ap (λ m. m / interval_width until) (at ∙ cut-inside until k inside) ∙ mul-div_cancel k (omega arith)
 
 module _ (plan : Plan) (held : HeldState NodeState) where
   -- so where the next one is not for good, none is

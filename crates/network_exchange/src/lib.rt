@@ -8,4 +8,4 @@ mod segments;
 
 pub use network_run::Of;
 pub use opening::open_network;
-pub use segments::{interval_at, next_segment};
+pub use segments::next_segment;

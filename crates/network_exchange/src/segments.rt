@@ -1,19 +1,19 @@
 //! The segments of the trace that a process gives while the run goes on.
 //! The moment before which rows have left says where the next segment begins; a number beside it could say something else.
-ghost use Rattle.std.specs.Prelude.{◌≡◌, ◌+◌, ◌<◌, ◌↔◌, ℕ, IsSome, MatchOption, IfSome, IfNone, IfOk, IfErr, OnErr};
+ghost use Rattle.std.specs.Prelude.{◌≡◌, ◌+◌, ◌<◌, ◌↔◌, ℕ, IsSome, MatchOption, IfSome, IfOk, IfErr, OnErr};
 ghost use Rattle.vlink.specs.declared.time.TheConstants.{GREATEST_NS};
 ghost use Rattle.journal.specs.declared.fault.PoolFault.TheVariants.{OutOfMemory};
-ghost use Rattle.trace_segments.specs.Words.{cut, HasInterval};
+ghost use Rattle.trace_segments.specs.Words.{cut};
 ghost use Rattle.network_exchange.specs.Segments.{IsIntervalSealed, IsNextSegment, IsSegmentOfRun};
 
 use crate::network_run::Of;
 use exchange::Held;
 use journal::PoolFault;
 use nodes::Node;
-use run_rows::NetworkRun;
+use run_rows::{NetworkRun, interval_at};
 use std::alloc::{AllocError, Global};
-use trace_tables::{Segment, cut, width};
-use vlink::{GREATEST_NS, Time};
+use trace_tables::{Segment, cut};
+use vlink::Time;
 
 /// The next segment of the trace that a process gives, as a segment of run 0: that of the interval which begins where its last segment ended. Its rows
 /// leave the process. `until` is the end time of the network, in ns. None: events of the interval can still come or be undone, as far as the
@@ -47,23 +47,6 @@ pub fn next_segment<J: NetworkRun>(
     };
     held.let_rows_go(segment.to());
     Ok(Some(segment))
-}
-
-/// The number of the interval that begins at this moment, in ns, if one does.
-pub fn interval_at(until: Time, moment: Time) -> Option<u64>
-    requires { until < GREATEST_NS }
-    ensures some { IfSome result (λ k. HasInterval until k × (moment ≡ cut until k)) }
-    ensures none { IfNone result ((k : ℕ) → HasInterval until k → moment ≡ cut until k → ⊥) }
-    ensures few { IfSome result (λ k. k < 1024) }
-{
-    let k = moment.ns() / width(until).ns();
-    if until.ns() < moment.ns() {
-        return None;
-    }
-    if cut(until, k).ns() != moment.ns() {
-        return None;
-    }
-    Some(k)
 }
 
 /// The segment of interval `k`, as a segment of run 0, if the interval is for good at the process, whose rows are there from its beginning on.

@@ -6,3 +6,4 @@ pub mod WrittenRun
 pub mod FinishedRun
 pub mod Written
 pub mod CountedRun
+pub mod Beginnings

@@ -12,7 +12,7 @@ use crate::leaving::Leaving;
 use crate::network_run::{NetworkGroup, NetworkRun, OfGroups};
 use crate::run_fault::RunFault;
 use crate::shared::Shared;
-use exchange::Gate;
+use journal::Gate;
 use group_exchange::GroupExchange;
 use network::Network;
 use nodes::Node;

@@ -4,9 +4,8 @@ ghost use Rattle.journal.specs.declared.fault.PoolFault.TheVariants.{Exhausted, 
 ghost use Rattle.worker_pool.specs.Outcomes.{LackNumbers};
 
 use crate::network_run::{NetworkGroup, NetworkRun};
-use exchange::Gate;
 use group_exchange::work;
-use journal::PoolFault;
+use journal::{Gate, PoolFault};
 
 /// The group handles messages that are earlier than the GVT that it saw and so many ns, `most` at most. The answer is how many. Where it is refused for
 /// numbers, one of its processes lacks them.

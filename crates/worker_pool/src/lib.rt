@@ -1,5 +1,4 @@
-//! A run of a network by workers: threads that give turns to groups of processes, which share one locked exchange. And the names of the exchange of
-//! single processes, so that a user has one door.
+//! A run of a network by workers: threads that give turns to groups of processes, which share one locked exchange.
 #![tactic(auto)]
 
 mod batches;
@@ -16,17 +15,17 @@ mod results;
 mod run_fault;
 mod running;
 mod shared;
+mod single_processes;
 mod start;
 mod summary;
 mod tasks;
 mod tracing;
 mod workers;
 
-pub use exchange::{ActorRun, Exchange, Gate, Held, Mark, Pairs, collect, post, publish, work};
-pub use journal::{PoolFault, Table};
-pub use network_exchange::{Of, next_segment, open_network};
+pub use journal::{Gate, PoolFault, Table};
 pub use pace::Pace;
 pub use run_rows::{NetworkRun, TraceRun};
 pub use running::{Outcome, run};
+pub use single_processes::{ActorRun, Exchange, Held, Mark, Of, Pairs, collect, next_segment, open_network, post, publish, work};
 pub use summary::{Summary, run_summary};
 pub use tracing::{Traced, run_traced};

@@ -7,7 +7,7 @@ use crate::network_run::NetworkRun;
 use crate::run_fault::RunFault;
 use crate::tasks::{CommonOf, NetworkTasks};
 use actor_run::Watch;
-use exchange::Gate;
+use journal::Gate;
 use std::alloc::{AllocError, Global};
 use std::sync::Wait;
 use std::thread::Threads;

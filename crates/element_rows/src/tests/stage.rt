@@ -10,8 +10,8 @@
 ghost use Rattle.std.specs.Prelude.{◌≡◌, true};
 
 use crate::tests::words::{long_at, number_at, short_at, tell, tell_number, tell_numbers};
-use exchange::{Exchange, Gate, Held, collect, post, publish, work};
-use journal::PoolFault;
+use exchange::{Exchange, Held, collect, post, publish, work};
+use journal::{Gate, PoolFault};
 use network_exchange::Of;
 use nodes::Node;
 use run_rows::NetworkRun;

@@ -12,8 +12,8 @@ use Rattle.exchange.proofs.Collected.{collects-none, kept-refused}
 use Rattle.exchange.proofs.Entered.{Entered, entered-behind}
 use Rattle.exchange.proofs.Holding.{holds-still}
 use Rattle.exchange.proofs.Limits.{a-place-for-all, fits, no-place-for-all, none-fits, to-take}
-use Rattle.exchange.proofs.Halves.{half-within}
-use Rattle.exchange.proofs.Refused.{faults-told, not-full, not-ok}
+use Rattle.halves.proofs.InLists.{half-within}
+use Rattle.journal.proofs.Refused.{faults-told, not-full, not-ok}
 use Rattle.exchange.proofs.Taken.{all-taken, at-most, kept-taken, holds-taken, collects-taken}
 use Rattle.exchange.proofs.collecting.collect.Given.{Over}
 use Rattle.exchange.proofs.collecting.collect.Goals.{After-min-count, After-collect-taken, After-enter}

@@ -14,7 +14,7 @@ use Rattle.exchange.proofs.Gone.{gone-stays}
 use Rattle.exchange.proofs.Holding.{holds-seen}
 use Rattle.exchange.proofs.Joining.{place-is}
 use Rattle.exchange.proofs.Collected.{marks-seen, kept-as}
-use Rattle.exchange.proofs.Halves.{half-within}
+use Rattle.halves.proofs.InLists.{half-within}
 use Rattle.exchange.proofs.Moves.{in_hand}
 use Rattle.exchange.proofs.collecting.see.Goals as goal
 

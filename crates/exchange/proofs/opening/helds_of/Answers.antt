@@ -3,11 +3,11 @@ use Rattle.std.proofs.lemmas.Iterator.Adapters.{YieldsList-from_vec}
 use Rattle.std.proofs.lemmas.Iterator.Consumers.{YieldsList-turn, YieldsList-end}
 use Rattle.std.proofs.lemmas.List.{length_push}
 use Rattle.exchange.specs.Views.{opened_held}
-use Rattle.exchange.proofs.Halves.{some-left, first-name, names-left}
+use Rattle.halves.proofs.InLists.{some-left, first-name, names-left}
 use Rattle.exchange.proofs.Marks.{first-blank, blanks-left}
 use Rattle.journal.specs.declared.fault.PoolFault.TheVariants.{OutOfMemory}
 use Rattle.exchange.proofs.Outcomes.{if-err}
-use Rattle.exchange.proofs.Refused.{err-if-ok}
+use Rattle.journal.proofs.Refused.{err-if-ok}
 use Rattle.exchange.proofs.Opened.{fits-few, actor-opens, as-many, helds-more}
 use Rattle.exchange.proofs.opening.helds_of.Given.{Over}
 use Rattle.exchange.proofs.opening.helds_of.Goals.{In-Some}

@@ -12,10 +12,10 @@ use Rattle.exchange.proofs.Holding.{Joined}
 use Rattle.exchange.proofs.Joining.{seen-low}
 use Rattle.exchange.proofs.Entered.{Entered, entered-behind}
 use Rattle.exchange.proofs.Limits.{fits-all, more-than-fit, too-many}
-use Rattle.exchange.proofs.Halves.{half-within}
+use Rattle.halves.proofs.InLists.{half-within}
 use Rattle.exchange.proofs.Outcomes.{when-ok}
 use Rattle.exchange.proofs.Posted.{outbox-goes, kept-posted, holds-posted, block-posted, posts-none}
-use Rattle.exchange.proofs.Refused.{faults-told, not-full, not-ok}
+use Rattle.journal.proofs.Refused.{faults-told, not-full, not-ok}
 use Rattle.exchange.proofs.posting.post.Given.{Over}
 use Rattle.exchange.proofs.posting.post.Goals.{After-join_law, After-post-posted, After-enter}
 use Rattle.exchange.proofs.posting.post.Goals as goal

@@ -9,7 +9,7 @@ use Rattle.exchange.specs.declared.mark.Standing.{Standing}
 use Rattle.exchange.specs.Views.{marks_in}
 use Rattle.exchange.proofs.Collected.{kept-refused}
 use Rattle.exchange.proofs.Published.{gvt-told, kept-published, publishes-more, publishes-none}
-use Rattle.exchange.proofs.Refused.{faults-told, not-full, not-ok}
+use Rattle.journal.proofs.Refused.{faults-told, not-full, not-ok}
 use Rattle.exchange.proofs.publishing.publish.Given.{Over}
 use Rattle.exchange.proofs.publishing.publish.Goals.{After-push_reserved}
 use Rattle.exchange.proofs.publishing.publish.Goals as goal

@@ -3,7 +3,7 @@ use Rattle.reverse.specs.Rules.{rules_of}
 use Rattle.reverse.specs.Setting.{simulation_of}
 use Rattle.exchange.specs.Effects.{WorksSome}
 use Rattle.exchange.proofs.Outcomes.{if-err}
-use Rattle.exchange.proofs.Refused.{err-if-ok}
+use Rattle.journal.proofs.Refused.{err-if-ok}
 use Rattle.exchange.proofs.Worked.{ran-after, works}
 use Rattle.exchange.proofs.working.work.Goals as goal
 

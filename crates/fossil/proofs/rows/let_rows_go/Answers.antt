@@ -1,8 +1,8 @@
 use Rattle.std.proofs.Common.{◌≡◌, ◌+◌, drop, length, sym, ap, ◌∙◌, subst, arith, length-drop}
 use Rattle.virtual_time.specs.Law.{rowed}
 use Rattle.reverse.specs.Rules.{rules_of}
-use Rattle.fossil.specs.Within.{AreFirstBefore, AreFrom}
-use Rattle.fossil.proofs.Between.{rest-in-time, next-early, first-early, rest-late}
+use Rattle.row_times.specs.Within.{AreFirstBefore, AreFrom}
+use Rattle.row_times.proofs.Between.{rest-in-time, next-early, first-early, rest-late}
 use Rattle.fossil.proofs.rows.let_rows_go.Goals as goal
 
 pub count_before-count-requires : goal.count_before-count-requires

@@ -1,8 +1,8 @@
 use Rattle.std.proofs.Common.{ap, ◌∙◌}
 use Rattle.virtual_time.specs.Law.{rowed}
 use Rattle.reverse.specs.Rules.{rules_of}
-use Rattle.fossil.specs.Within.{rows_within}
-use Rattle.fossil.proofs.Between.{rest-in-time, rows-kept}
+use Rattle.row_times.specs.Within.{rows_within}
+use Rattle.row_times.proofs.Between.{rest-in-time, rows-kept}
 use Rattle.fossil.proofs.rows.rows_between.Goals as goal
 
 pub rows_in_time-requires : goal.rows_in_time-requires

@@ -9,8 +9,8 @@ use Rattle.reverse.specs.Rules.{rules_of}
 use Rattle.reverse.specs.Setting.{simulation_of}
 use Rattle.hand.specs.Hands.{IsAsBefore, StandsForGroup, is_ours}
 use Rattle.halves.specs.declared.LeftHalf.{LeftHalf}
-use Rattle.exchange.proofs.Halves.{half-within}
-use Rattle.exchange.proofs.Refused.{faults-told, not-full, not-ok}
+use Rattle.halves.proofs.InLists.{half-within}
+use Rattle.journal.proofs.Refused.{faults-told, not-full, not-ok}
 use Rattle.group_exchange.specs.declared.mark.Standing.{Standing}
 use Rattle.group_exchange.specs.Views.{box_of, is_of, last_in, marks_in, with_letters}
 use Rattle.group_exchange.specs.Keeps.{Holds, IsMarked}

@@ -1,5 +1,5 @@
 use Rattle.std.proofs.Common.{refl}
-use Rattle.exchange.proofs.Halves.{names-set, values-set}
+use Rattle.halves.proofs.InLists.{names-set, values-set}
 use Rattle.group_exchange.proofs.mark.tell_both.Goals as goal
 
 pub returns-clause-marks : goal.returns-clause-marks

@@ -2,7 +2,7 @@ use Rattle.std.proofs.Common.{Some, length, slice_get, ap, ◌∙◌}
 use Rattle.std.specs.Option.{option_map}
 use Rattle.std.proofs.lemmas.List.{length-map}
 use Rattle.std.proofs.lemmas.Option.{slice_get-map}
-use Rattle.exchange.proofs.Refused.{err-if-ok}
+use Rattle.journal.proofs.Refused.{err-if-ok}
 use Rattle.group_exchange.proofs.opening.groups_of.Goals as goal
 
 pub open_all-groups-requires-clause-each : goal.open_all-groups-requires-clause-each

@@ -2,8 +2,8 @@ use Rattle.std.proofs.Common.{◌<◌, All, length, map, slice_index, sym, ap, �
 use Rattle.std.proofs.lemmas.List.{length-map}
 use Rattle.halves.specs.declared.LeftHalf.{LeftHalf}
 use Rattle.halves.specs.declared.RightHalf.{RightHalf}
-use Rattle.exchange.proofs.Halves.{first-name, names-left, some-left}
-use Rattle.exchange.proofs.Refused.{err-if-ok}
+use Rattle.halves.proofs.InLists.{first-name, names-left, some-left}
+use Rattle.journal.proofs.Refused.{err-if-ok}
 use Rattle.group_exchange.specs.declared.mark.Standing.{Standing}
 use Rattle.group_exchange.specs.Opening.{HasOpened}
 use Rattle.group_exchange.specs.Views.{IsUnplaced}

@@ -8,8 +8,8 @@ use Rattle.hand.specs.Block.{steps_told}
 use Rattle.hand.specs.Flow.{Flow}
 use Rattle.between_groups.specs.Boxing.{waiting_for}
 use Rattle.halves.specs.declared.LeftHalf.{LeftHalf}
-use Rattle.exchange.proofs.Halves.{half-within}
-use Rattle.exchange.proofs.Refused.{faults-told, not-full, not-ok}
+use Rattle.halves.proofs.InLists.{half-within}
+use Rattle.journal.proofs.Refused.{faults-told, not-full, not-ok}
 use Rattle.group_exchange.specs.declared.mark.Standing.{Standing}
 use Rattle.group_exchange.specs.Effects.{IsGroupAsBefore}
 use Rattle.group_exchange.specs.Views.{block_of, box_of, for_group, is_of, last_in, marks_in, world_after}

@@ -1,5 +1,5 @@
 use Rattle.std.proofs.Common.{inl, refl}
-use Rattle.exchange.proofs.Refused.{err-on-ok}
+use Rattle.journal.proofs.Refused.{err-on-ok}
 use Rattle.group_exchange.proofs.posting.reserve_post.Goals as goal
 
 pub returns-then-is_err-clause-waits : goal.returns-then-is_err-clause-waits

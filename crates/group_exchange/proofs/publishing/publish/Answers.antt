@@ -7,7 +7,7 @@ use Rattle.virtual_time.specs.declared.step.Step.TheVariants.{Gvt}
 use Rattle.reverse.specs.Rules.{rules_of}
 use Rattle.reverse.specs.Setting.{simulation_of}
 use Rattle.halves.specs.declared.LeftHalf.{LeftHalf}
-use Rattle.exchange.proofs.Refused.{faults-told, not-full, not-ok}
+use Rattle.journal.proofs.Refused.{faults-told, not-full, not-ok}
 use Rattle.group_exchange.specs.declared.mark.Standing.{Standing}
 use Rattle.group_exchange.specs.Views.{marks_in, world_after}
 use Rattle.group_exchange.proofs.Halves.{recorded-as}

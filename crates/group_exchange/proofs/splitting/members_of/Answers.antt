@@ -1,6 +1,6 @@
 use Rattle.std.proofs.Common.{◌≡◌, ◌<◌, inl, inr, refl, sym, ap, ◌∙◌, arith, length, Some, slice_get, length-set}
 use Rattle.std.proofs.lemmas.Bool.{cases_eq, cases_lt}
-use Rattle.exchange.proofs.Refused.{err-if-ok}
+use Rattle.journal.proofs.Refused.{err-if-ok}
 use Rattle.group_exchange.specs.Views.{is_of}
 use Rattle.group_exchange.proofs.Parting.{pushed-before, pushed-last, slot-other, slot-same, slot-at, of-at}
 use Rattle.group_exchange.proofs.splitting.members_of.Goals as goal

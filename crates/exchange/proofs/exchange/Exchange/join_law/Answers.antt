@@ -2,7 +2,7 @@ use Rattle.std.proofs.Common.{◌≡◌, map, sym, ◌∙◌, arith}
 use Rattle.halves.specs.declared.LeftHalf.{LeftHalf}
 use Rattle.exchange.specs.declared.mark.Standing.{Standing}
 use Rattle.exchange.specs.Views.{standing_of}
-use Rattle.exchange.proofs.Halves.{half-within}
+use Rattle.halves.proofs.InLists.{half-within}
 use Rattle.exchange.proofs.Marks.{half-told}
 use Rattle.exchange.proofs.Joining.{marks-agree, all-joined}
 use Rattle.exchange.proofs.exchange.Exchange.join_law.Given.{Over}

@@ -5,7 +5,7 @@ use Rattle.exchange.specs.declared.mark.Standing.{Standing}
 use Rattle.journal.specs.declared.fault.PoolFault.TheVariants.{OutOfMemory}
 use Rattle.exchange.specs.Views.{unplaced}
 use Rattle.exchange.proofs.Outcomes.{if-err}
-use Rattle.exchange.proofs.Refused.{err-if-ok}
+use Rattle.journal.proofs.Refused.{err-if-ok}
 use Rattle.exchange.proofs.exchange.Exchange.open.Goals as goal
 
 pub at_start-requires-clause-processes : goal.at_start-requires-clause-processes

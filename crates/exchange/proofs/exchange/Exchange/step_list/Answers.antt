@@ -1,7 +1,7 @@
 use Rattle.std.proofs.Common.{◌≤◌, ◌∙◌, length, ap, arith, take_all}
 use Rattle.virtual_time.specs.Law.{steps}
 use Rattle.exchange.proofs.Listed.{steps-more}
-use Rattle.exchange.proofs.Refused.{err-if-ok}
+use Rattle.journal.proofs.Refused.{err-if-ok}
 use Rattle.exchange.proofs.exchange.Exchange.step_list.Goals as goal
 
 pub loop-at-preserved : goal.loop-at-preserved

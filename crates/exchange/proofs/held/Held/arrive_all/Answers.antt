@@ -3,7 +3,7 @@ use Rattle.virtual_time.specs.declared.moved.Move.TheVariants.{Arrived}
 use Rattle.reverse.specs.Rules.{rules_of}
 use Rattle.reverse.specs.Setting.{simulation_of}
 use Rattle.exchange.proofs.Moves.{moved-more}
-use Rattle.exchange.proofs.Refused.{err-on-ok}
+use Rattle.journal.proofs.Refused.{err-on-ok}
 use Rattle.exchange.proofs.held.Held.arrive_all.Goals as goal
 
 pub loop-arrived-preserved : goal.loop-arrived-preserved

@@ -7,7 +7,7 @@ use Rattle.exchange.specs.Views.{HeldState}
 use Rattle.exchange.specs.Effects.{StopsAtCommit}
 use Rattle.exchange.proofs.Moves.{moved-more}
 use Rattle.exchange.proofs.Outcomes.{if-err}
-use Rattle.exchange.proofs.Refused.{err-on-ok}
+use Rattle.journal.proofs.Refused.{err-on-ok}
 use Rattle.exchange.proofs.Worked.{not-committed, stops-commit}
 use Rattle.exchange.proofs.held.Held.commit_all.Goals as goal
 

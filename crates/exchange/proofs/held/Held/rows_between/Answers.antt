@@ -1,7 +1,7 @@
 use Rattle.std.proofs.Common.{sym, ◌∙◌}
 use Rattle.reverse.specs.Rules.{rules_of}
 use Rattle.reverse.specs.Setting.{simulation_of}
-use Rattle.fossil.proofs.EarlyRows.{early-rows}
+use Rattle.row_times.proofs.EarlyRows.{early-rows}
 use Rattle.fossil.proofs.RowTimes.{committed-in-time}
 use Rattle.exchange.proofs.Gone.{gone-later}
 use Rattle.exchange.proofs.held.Held.rows_between.Goals as goal

@@ -7,7 +7,7 @@ use Rattle.exchange.specs.Views.{HeldState}
 use Rattle.exchange.specs.Effects.{StopsAtRun}
 use Rattle.exchange.proofs.Moves.{moved-more, early-more}
 use Rattle.exchange.proofs.Outcomes.{if-err}
-use Rattle.exchange.proofs.Refused.{err-on-ok}
+use Rattle.journal.proofs.Refused.{err-on-ok}
 use Rattle.exchange.proofs.Worked.{stops-run}
 use Rattle.exchange.proofs.held.Held.run_early.Goals as goal
 

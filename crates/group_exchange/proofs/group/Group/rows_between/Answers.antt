@@ -4,7 +4,7 @@ use Rattle.std.proofs.lemmas.List.Sorted.{IsNonDecreasingBy-drop}
 use Rattle.vlink.specs.Letters.{Row}
 use Rattle.vlink.specs.Order.{message_order}
 use Rattle.reverse.specs.Rules.{rules_of}
-use Rattle.fossil.specs.Within.{rows_within}
+use Rattle.row_times.specs.Within.{rows_within}
 use Rattle.group_exchange.proofs.Collected.{of-process}
 use Rattle.group_exchange.proofs.RowsWhole.{ordered-times, rows-left, whole}
 use Rattle.group_exchange.proofs.group.Group.rows_between.Goals as goal

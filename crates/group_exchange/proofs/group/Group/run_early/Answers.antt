@@ -1,5 +1,5 @@
 use Rattle.std.proofs.Common.{inl, refl, rules}
-use Rattle.exchange.proofs.Refused.{err-if-ok, err-on-ok, not-ok, passed-short}
+use Rattle.journal.proofs.Refused.{err-if-ok, err-on-ok, not-ok, passed-short}
 use Rattle.group_exchange.proofs.Going.{goes-both}
 use Rattle.group_exchange.proofs.group.Group.run_early.Goals as goal
 

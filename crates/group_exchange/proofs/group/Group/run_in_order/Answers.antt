@@ -4,7 +4,7 @@ use Rattle.vlink.specs.declared.message.Message.{Message}
 use Rattle.hand.specs.Flow.{Flow}
 use Rattle.hand.specs.Hands.{IsAsBefore}
 use Rattle.hand.specs.declared.early.Early.TheVariants.{Idle, Late}
-use Rattle.exchange.proofs.Refused.{not-ok, not-short}
+use Rattle.journal.proofs.Refused.{not-ok, not-short}
 use Rattle.group_exchange.proofs.Below.{is-short}
 use Rattle.group_exchange.proofs.Going.{ok-same}
 use Rattle.group_exchange.proofs.RowsKept.{rows-does}

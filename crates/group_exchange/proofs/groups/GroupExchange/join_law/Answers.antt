@@ -1,6 +1,6 @@
 use Rattle.std.proofs.Common.{◌≡◌, Some, map, slice_get, sym, ◌∙◌, arith}
 use Rattle.halves.specs.declared.LeftHalf.{LeftHalf}
-use Rattle.exchange.proofs.Halves.{half-within}
+use Rattle.halves.proofs.InLists.{half-within}
 use Rattle.group_exchange.specs.declared.mark.Standing.{Standing}
 use Rattle.group_exchange.proofs.Halves.{half-told, mark-told, it-stands, seen-low, enabled-now, parts-now}
 use Rattle.group_exchange.proofs.groups.GroupExchange.join_law.Given.{Over}

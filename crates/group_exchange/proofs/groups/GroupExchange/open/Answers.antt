@@ -4,7 +4,7 @@ use Rattle.vlink.specs.Order.{message_order}
 use Rattle.virtual_time.specs.Law.{plus_of}
 use Rattle.halves.specs.declared.LeftHalf.{LeftHalf}
 use Rattle.group_exchange.specs.declared.mark.Standing.{Standing}
-use Rattle.exchange.proofs.Refused.{err-if-ok}
+use Rattle.journal.proofs.Refused.{err-if-ok}
 use Rattle.group_exchange.specs.Views.{for_group}
 use Rattle.group_exchange.proofs.Halves.{each-blank, marks-blank}
 use Rattle.group_exchange.proofs.Opened.{kept-opened, offers-home}

@@ -10,7 +10,7 @@ use Rattle.vlink.specs.declared.message.Message.{Message}
 use Rattle.vlink.specs.declared.note.Note.{Note}
 use Rattle.virtual_time.specs.declared.row.Row.{Row}
 use Rattle.virtual_time.specs.Law.{Rules}
-use Rattle.fossil.specs.Within.{is_within, rows_within, AreFirstBefore}
+use Rattle.row_times.specs.Within.{is_within, rows_within, AreFirstBefore}
 
 module _ {X : Type 0} (p : X → Bool) where
   -- what passes stands in n places, from place b on

@@ -1,6 +1,6 @@
 use Rattle.std.proofs.Common.{sym}
-use Rattle.fossil.proofs.Between.{window}
-use Rattle.fossil.proofs.rows.rows_in_time.Goals as goal
+use Rattle.row_times.proofs.Between.{window}
+use Rattle.row_times.proofs.rows.rows_in_time.Goals as goal
 
 pub returns : goal.returns
 returns c =

@@ -9,7 +9,7 @@ use Rattle.virtual_time.specs.Law.{Rules, reached, rows_of, rowed, rows_at, IsIn
 use Rattle.virtual_time.specs.declared.row.Row.{Row}
 use Rattle.virtual_time.proofs.Handling.{rowed-append}
 use Rattle.virtual_time.proofs.Safety.{rows}
-use Rattle.fossil.specs.Within.{is_within, rows_within}
+use Rattle.row_times.specs.Within.{is_within, rows_within}
 
 -- a test that implies another: what passes both passes the first one
 filter-twice : {X : Type 0} (q a : X → Bool) → ((x : X) → q x ≡ true → a x ≡ true) → (xs : List X) → filter q (filter a xs) ≡ filter q xs

@@ -1,6 +1,6 @@
 use Rattle.std.proofs.Common.{ltb, rules}
 use Rattle.std.proofs.lemmas.List.Sorted.{IsPartitionPoint-from_clause, IsPartitionedBy-ltb}
-use Rattle.fossil.proofs.rows.count_before.Goals as goal
+use Rattle.row_times.proofs.rows.count_before.Goals as goal
 
 pub returns-clause-point : goal.returns-clause-point
 returns-clause-point c =

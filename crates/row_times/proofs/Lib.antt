@@ -1,0 +1,2 @@
+pub mod EarlyRows
+pub mod Between
