@@ -7,8 +7,8 @@ ghost use Rattle.process_queues.specs.Queues.{AtEachPart, StandsFor, Does, rows_
 ghost use Rattle.row_times.specs.Within.{rows_within, AreInTime, AreFirstBefore, AreFrom};
 
 use process_queues::Process;
-use row_times::{count_before, rows_in_time};
 use reverse::Actor;
+use row_times::{count_before, rows_in_time};
 use vlink::{Row, Time};
 
 /// The rows of committed events of the moments from `from` on and before `to`, in their order, where the moments of all rows of committed events

@@ -1,7 +1,7 @@
 -- A group that is as before, or whose block left.
 use Rattle.std.proofs.Common.{◌≡◌, [], refl, sym, ap, ◌∙◌}
-use Rattle.hand.specs.Flow.{Flow}
-use Rattle.hand.specs.Hands.{Held, IsAsBefore}
+use Rattle.group_hand.specs.Flow.{Flow}
+use Rattle.group_hand.specs.Hands.{Held, IsAsBefore}
 use Rattle.group_exchange.specs.Views.{GroupState}
 use Rattle.group_exchange.specs.Effects.{IsGroupAsBefore, LeftBlock}
 

@@ -12,7 +12,7 @@ use Rattle.virtual_time.proofs.Kept.{put_elim₂}
 use Rattle.virtual_time.proofs.Groups.{step-does, effect-gvt}
 use Rattle.virtual_time.proofs.GroupJournal.{done-alike}
 use Rattle.reverse.specs.Setting.{Setting}
-use Rattle.hand.specs.Hands.{Held, IsMember, StandsForGroup, is_held, is_ours}
+use Rattle.group_hand.specs.Hands.{Held, IsMember, StandsForGroup, is_held, is_ours}
 use Rattle.group_exchange.specs.Keeps.{AreAsIn}
 
 -- both have the same of these processes, of their floors, of the letters on their way, and GVT

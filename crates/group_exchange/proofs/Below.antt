@@ -18,14 +18,14 @@ use Rattle.reverse.specs.Setting.{Setting, simulation_of}
 use Rattle.reverse.specs.declared.sends.Sends.{Sends}
 use Rattle.reverse.proofs.Members.{in-all}
 use Rattle.antimessages.specs.Counting.{signed_count}
-use Rattle.hand.specs.Block.{steps_told}
-use Rattle.hand.specs.DoneEvents.{done_events_at, done_events_of, messages_of}
-use Rattle.hand.specs.Flow.{Flow}
-use Rattle.hand.specs.Hands.{Held, IsAsBefore, IsMember, StandsForGroup, StaysDone, counted, is_ours}
-use Rattle.hand.specs.Sealing.{Stays}
-use Rattle.hand.proofs.Among.{contains-in, none-among}
-use Rattle.hand.proofs.Going.{held-is}
-use Rattle.hand.proofs.Member.{all-minuses, all-pluses, done-times, messages-of, next-here, present-here}
+use Rattle.group_hand.specs.Block.{steps_told}
+use Rattle.group_hand.specs.DoneEvents.{done_events_at, done_events_of, messages_of}
+use Rattle.group_hand.specs.Flow.{Flow}
+use Rattle.group_hand.specs.Hands.{Held, IsAsBefore, IsMember, StandsForGroup, StaysDone, counted, is_ours}
+use Rattle.group_hand.specs.Sealing.{Stays}
+use Rattle.group_hand.proofs.Among.{contains-in, none-among}
+use Rattle.group_hand.proofs.Going.{held-is}
+use Rattle.group_hand.proofs.Member.{all-minuses, all-pluses, done-times, messages-of, next-here, present-here}
 use Rattle.group_exchange.specs.Views.{world_after}
 use Rattle.group_exchange.specs.Keeps.{Holds}
 use Rattle.group_exchange.specs.Effects.{IsShort, WantsNumbers}

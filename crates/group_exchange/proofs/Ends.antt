@@ -5,10 +5,10 @@ use Rattle.vlink.specs.Letters.{Letter}
 use Rattle.vlink.specs.declared.note.Note.{Note}
 use Rattle.virtual_time.specs.Law.{Order, Simulation}
 use Rattle.virtual_time.specs.declared.step.Step.{Step}
-use Rattle.hand.specs.declared.block.Did.{Did}
-use Rattle.hand.specs.declared.block.Did.TheVariants.{Ran, Home, Taken, Arrived, Committed}
-use Rattle.hand.specs.Block.{steps_told}
-use Rattle.hand.specs.Hands.{Held}
+use Rattle.group_hand.specs.declared.block.Did.{Did}
+use Rattle.group_hand.specs.declared.block.Did.TheVariants.{Ran, Home, Taken, Arrived, Committed}
+use Rattle.group_hand.specs.Block.{steps_told}
+use Rattle.group_hand.specs.Hands.{Held}
 use Rattle.group_exchange.specs.declared.mark.Standing.{Standing}
 use Rattle.group_exchange.specs.Views.{GroupState, Ledger, last_in, marks_in}
 use Rattle.group_exchange.specs.Effects.{PostsBlock, posts, takes_of}

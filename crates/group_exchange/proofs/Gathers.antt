@@ -7,15 +7,15 @@ use Rattle.virtual_time.specs.Law.{Laws, Rules, behind, waiting_in}
 use Rattle.virtual_time.specs.declared.step.Step.{Step}
 use Rattle.reverse.specs.Setting.{Setting, simulation_of}
 use Rattle.gvt.specs.Horizon.{Floors}
-use Rattle.hand.specs.Block.{steps_told}
-use Rattle.hand.specs.Hands.{Held, StandsForGroup}
+use Rattle.group_hand.specs.Block.{steps_told}
+use Rattle.group_hand.specs.Hands.{Held, StandsForGroup}
 use Rattle.group_exchange.specs.declared.mark.Standing.{Standing}
 use Rattle.group_exchange.specs.Views.{Boxes, box_of, last_in, with_letters, world_after}
 use Rattle.group_exchange.specs.Keeps.{Holds, IsMarked, IsRecorded}
 use Rattle.group_exchange.specs.Effects.{AreWaiting, Collects, LeftBlock, PostsBlock, TookLetters, takes_of}
 use Rattle.group_exchange.proofs.Collected.{kept-collected, holds-collected}
 use Rattle.group_exchange.proofs.Ends.{group_at, group-told, ledger-told, shown, takes-none}
-use Rattle.between_groups.proofs.Lists.{none-falls}
+use Rattle.group_boxes.proofs.Lists.{none-falls}
 use Rattle.group_exchange.proofs.Trays.{took-none}
 
 module _ {S K : Type 0} {r : Rules Message S K Note} {number end : S → ℕ} {is_placed : S → Type 0} {x : Setting S} {owners : List ℕ} {groups : ℕ} {steps : List Step} {mail : Boxes} {floors : Floors}

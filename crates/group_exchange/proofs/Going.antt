@@ -11,7 +11,7 @@ use Rattle.virtual_time.proofs.Order.{not_less-time}
 use Rattle.reverse.specs.Rules.{is_before}
 use Rattle.journal.specs.declared.fault.PoolFault.{PoolFault}
 use Rattle.journal.specs.declared.fault.PoolFault.TheVariants.{OutOfMemory}
-use Rattle.hand.specs.Flow.{Flow}
+use Rattle.group_hand.specs.Flow.{Flow}
 use Rattle.group_exchange.specs.Views.{GroupState}
 use Rattle.group_exchange.specs.Effects.{Goes, IsGroupAsBefore, WorksSome}
 use Rattle.group_exchange.proofs.Worked.{went-both, went-nowhere}

@@ -12,7 +12,7 @@ use Rattle.virtual_time.specs.declared.step.Step.{Step}
 use Rattle.virtual_time.proofs.Lists.{in-head}
 use Rattle.reverse.specs.Setting.{Setting, simulation_of, IsLaidOut}
 use Rattle.gvt.specs.Horizon.{Floors}
-use Rattle.hand.specs.Hands.{HasDoneNothing, Held, IsOpened, StandsForGroup, is_ours}
+use Rattle.group_hand.specs.Hands.{HasDoneNothing, Held, IsOpened, StandsForGroup, is_ours}
 use Rattle.group_exchange.specs.declared.mark.Standing.{Standing}
 use Rattle.group_exchange.specs.Views.{Boxes, IsUnplaced, box_of, for_group, is_of, world_after}
 use Rattle.group_exchange.specs.Keeps.{AreAsIn, AreGrouped, Holds, IsRecorded}

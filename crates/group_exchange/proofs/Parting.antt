@@ -3,7 +3,7 @@ use Rattle.std.proofs.Common.{◌≡◌, ◌≢◌, ℕ, zero, suc, ◌+◌, ◌
 use Rattle.std.proofs.lemmas.Bool.{cases_lt}
 use Rattle.std.proofs.lemmas.Option.{slice_get-get_or, slice_get_past, slice_get_within}
 use Rattle.reverse.specs.Setting.{Setting}
-use Rattle.hand.specs.Hands.{is_held, is_ours}
+use Rattle.group_hand.specs.Hands.{is_held, is_ours}
 use Rattle.group_exchange.specs.Opening.{AreMembersOf}
 use Rattle.group_exchange.specs.Views.{is_of, is_number}
 use Rattle.group_exchange.proofs.Owners.{of-other}

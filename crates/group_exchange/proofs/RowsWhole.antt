@@ -12,8 +12,8 @@ use Rattle.virtual_time.proofs.Order.{not_less-time}
 use Rattle.reverse.specs.Setting.{Setting, simulation_of}
 use Rattle.row_times.specs.Within.{is_within, rows_within}
 use Rattle.row_times.proofs.EarlyRows.{early-rows}
-use Rattle.hand.specs.Hands.{Held, StandsForGroup, is_ours}
-use Rattle.hand.proofs.Going.{held-is}
+use Rattle.group_hand.specs.Hands.{Held, StandsForGroup, is_ours}
+use Rattle.group_hand.proofs.Going.{held-is}
 use Rattle.group_exchange.specs.Rows.{AreInOrder, rows_of_group}
 use Rattle.group_exchange.specs.Views.{is_of}
 use Rattle.group_exchange.specs.Keeps.{KeepsRows}

@@ -8,8 +8,8 @@ use Rattle.vlink.specs.Letters.{Letter}
 use Rattle.virtual_time.specs.Law.{Order, Simulation, World, put, delivered, fetched, lowest, received_by, run, times_of}
 use Rattle.virtual_time.proofs.Journal.{takes}
 use Rattle.virtual_time.proofs.Kept.{put_elim, put_elim₂}
-use Rattle.hand.specs.Hands.{with_letter}
-use Rattle.hand.proofs.Going.{received-first, received-skip}
+use Rattle.group_hand.specs.Hands.{with_letter}
+use Rattle.group_hand.proofs.Going.{received-first, received-skip}
 use Rattle.group_exchange.specs.Views.{with_letters}
 use Rattle.group_exchange.specs.Keeps.{AreAsIn, IsLeastFloor}
 use Rattle.group_exchange.specs.Effects.{takes_of}

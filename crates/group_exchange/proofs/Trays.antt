@@ -1,8 +1,8 @@
 -- A group whose tray grew.
 use Rattle.std.proofs.Common.{◌≡◌, ◌++◌, List, [], ◌∷◌, IsPermutation, refl, sym, ap, ◌∙◌, subst, append_assoc, append-nil}
 use Rattle.vlink.specs.Letters.{Letter}
-use Rattle.hand.specs.Flow.{Flow}
-use Rattle.hand.specs.Hands.{Held, IsAsBefore}
+use Rattle.group_hand.specs.Flow.{Flow}
+use Rattle.group_hand.specs.Hands.{Held, IsAsBefore}
 use Rattle.group_exchange.specs.Effects.{TookLetters}
 
 module _ {S K : Type 0} where

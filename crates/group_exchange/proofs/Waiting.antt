@@ -9,7 +9,7 @@ use Rattle.reverse.specs.Setting.{Setting, simulation_of}
 use Rattle.gvt.specs.Horizon.{Floors}
 use Rattle.group_exchange.specs.declared.mark.Standing.{Standing}
 use Rattle.group_exchange.specs.Views.{Boxes, box_of, is_of, world_after}
-use Rattle.between_groups.specs.Boxing.{box_at, waiting_for}
+use Rattle.group_boxes.specs.Boxing.{box_at, waiting_for}
 use Rattle.group_exchange.specs.Keeps.{IsRecorded}
 use Rattle.group_exchange.proofs.Owners.{owner-is}
 use Rattle.group_exchange.proofs.Posted.{behind-same}

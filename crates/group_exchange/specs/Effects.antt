@@ -9,10 +9,10 @@ use Rattle.virtual_time.specs.declared.step.Step.{Step}
 use Rattle.virtual_time.specs.declared.step.Step.TheVariants.{Take, Gvt}
 use Rattle.journal.specs.declared.fault.PoolFault.{PoolFault}
 use Rattle.journal.specs.declared.fault.PoolFault.TheVariants.{OutOfMemory, Exhausted}
-use Rattle.hand.specs.declared.block.Did.{Did}
-use Rattle.hand.specs.Block.{steps_told}
-use Rattle.hand.specs.DoneEvents.{messages_of}
-use Rattle.hand.specs.Hands.{Held}
+use Rattle.group_hand.specs.declared.block.Did.{Did}
+use Rattle.group_hand.specs.Block.{steps_told}
+use Rattle.group_hand.specs.DoneEvents.{messages_of}
+use Rattle.group_hand.specs.Hands.{Held}
 use Rattle.group_exchange.specs.Views.{Ledger, GroupState, is_of, mark_at, block_of, world_after, in_group}
 use Rattle.reverse.specs.declared.sends.TheConstants.{MOST_SENT}
 

@@ -7,9 +7,9 @@ use Rattle.virtual_time.specs.declared.step.Step.{Step}
 use Rattle.reverse.specs.Setting.{Setting, simulation_of, IsLaidOut}
 use Rattle.gvt.specs.Horizon.{Floors}
 use Rattle.halves.specs.declared.RightHalf.{RightHalf}
-use Rattle.hand.specs.Block.{steps_told}
-use Rattle.hand.specs.DoneEvents.{messages_of}
-use Rattle.hand.specs.Hands.{Held, StandsForGroup, is_ours}
+use Rattle.group_hand.specs.Block.{steps_told}
+use Rattle.group_hand.specs.DoneEvents.{messages_of}
+use Rattle.group_hand.specs.Hands.{Held, StandsForGroup, is_ours}
 use Rattle.group_exchange.specs.declared.mark.Standing.{Standing}
 use Rattle.group_exchange.specs.Rows.{AreInOrder}
 use Rattle.group_exchange.specs.Views.{Boxes, box_of, is_of, last_in, world_after}

@@ -1,7 +1,7 @@
 -- A group at the start.
 use Rattle.std.specs.Prelude.{◌≡◌, ℕ, ◌<◌, true, false, List, [], length, slice_get, Option, Some, None}
 use Rattle.reverse.specs.Setting.{Setting}
-use Rattle.hand.specs.Hands.{HasDoneNothing}
+use Rattle.group_hand.specs.Hands.{HasDoneNothing}
 use Rattle.group_exchange.specs.Views.{GroupState, is_of}
 
 -- these are the processes of a group in their opening states, at their places, and none at all others

@@ -3,7 +3,7 @@ use Rattle.std.specs.Prelude.{◌≡◌, ℕ, false, List, [], ◌∷◌, All, f
 use Rattle.vlink.specs.declared.message.Message.{Message}
 use Rattle.vlink.specs.Letters.{Row}
 use Rattle.virtual_time.specs.Law.{Order}
-use Rattle.between_groups.specs.Boxing.{is_of}
+use Rattle.group_boxes.specs.Boxing.{is_of}
 
 -- no row's message comes before that of a row in front of it
 abbrev pub AreInOrder : Order Message → List Row → Type 0

@@ -1,6 +1,6 @@
 //! What is added to a journal of groups at one go.
-use between_groups::Boxes;
-use hand::Words;
+use group_boxes::Boxes;
+use group_hand::Words;
 use std::snapshot::Snapshot;
 
 /// What is added to a journal of groups at one go. It stands for steps of the law of virtual time.

@@ -8,7 +8,7 @@ ghost use Rattle.virtual_time.specs.Law.{World, lowest, times_of};
 ghost use Rattle.reverse.specs.Rules.{rules_of};
 ghost use Rattle.reverse.specs.Setting.{Setting, simulation_of};
 ghost use Rattle.journal.specs.declared.fault.PoolFault.TheVariants.{OutOfMemory, JournalFull, Torn};
-ghost use Rattle.hand.specs.Hands.{IsAsBefore, StandsForGroup, is_ours};
+ghost use Rattle.group_hand.specs.Hands.{IsAsBefore, StandsForGroup, is_ours};
 ghost use Rattle.group_exchange.specs.Views.{mark_at, with_letters, world_after};
 ghost use Rattle.group_exchange.specs.Effects.{AreWaiting, Collects, IsGroupAsBefore, TookLetters};
 
@@ -17,8 +17,8 @@ use crate::groups::GroupExchange;
 use crate::mark::stand_here;
 use crate::run_of::GroupRun;
 use crate::steps::Steps;
+use group_hand::{Hand, hand_law};
 use gvt::Floors;
-use hand::{Hand, hand_law};
 use journal::PoolFault;
 use reverse::{Actor, actor_law};
 use vlink::Letter;

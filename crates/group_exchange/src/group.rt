@@ -3,8 +3,8 @@ ghost use Rattle.std.specs.Prelude.{◌≡◌, ◌<◌, ◌↔◌, [], length, I
 
 use crate::mark::{Mark, Standing};
 use crate::run_of::GroupRun;
+use group_hand::Hand;
 use halves::RightHalf;
-use hand::Hand;
 use reverse::Actor;
 use std::alloc::Global;
 use std::marker::{Model, PhantomData};

@@ -8,7 +8,7 @@ ghost use Rattle.group_exchange.specs.Keeps.{AreGrouped};
 use crate::mark::Standing;
 use crate::run_of::GroupRun;
 use crate::steps::Steps;
-use between_groups::Boxes;
+use group_boxes::Boxes;
 use gvt::Floors;
 use halves::LeftHalf;
 use reverse::Actor;

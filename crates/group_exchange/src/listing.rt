@@ -2,11 +2,11 @@
 ghost use Rattle.std.specs.Prelude.{true, ◌≡◌, ◌+◌, ◌<◌, ◌≤◌, ◌^◌, ◌∷◌, [], ◌++◌, ℕ, map, length, vec_len, vec_capacity};
 ghost use Rattle.virtual_time.specs.Law.{behind};
 ghost use Rattle.virtual_time.specs.declared.step.Step.TheVariants.{Take};
-ghost use Rattle.hand.specs.Block.{steps_of_word, steps_told};
-ghost use Rattle.between_groups.specs.Boxing.{waiting_for};
+ghost use Rattle.group_hand.specs.Block.{steps_of_word, steps_told};
+ghost use Rattle.group_boxes.specs.Boxing.{waiting_for};
 
-use between_groups::Boxes;
-use hand::{Did, Words};
+use group_boxes::Boxes;
+use group_hand::{Did, Words};
 use vlink::{Letter, Step};
 
 /// Each letter was taken, the first of the mail of its receiver. There is room for these steps.

@@ -7,7 +7,7 @@ ghost use Rattle.group_exchange.specs.Effects.{Publishes, IsHeldBack};
 
 use crate::groups::GroupExchange;
 use crate::run_of::GroupRun;
-use between_groups::horizon;
+use group_boxes::horizon;
 use journal::PoolFault;
 use reverse::{Actor, actor_law};
 use vlink::Time;

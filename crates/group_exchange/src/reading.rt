@@ -1,12 +1,12 @@
 //! What is asked of a group in hand, and of the exchange.
 ghost use Rattle.std.specs.Prelude.{◌≡◌, ◌≢◌, ◌<◌, ◌≤◌, true, false, [], length, slice_get, All, Contains, IfSome, IfNone};
 ghost use Rattle.vlink.specs.declared.message.Message.{Message};
-ghost use Rattle.hand.specs.Hands.{IsAsBefore};
+ghost use Rattle.group_hand.specs.Hands.{IsAsBefore};
 
 use crate::group::Group;
 use crate::groups::GroupExchange;
 use crate::run_of::GroupRun;
-use hand::hand_law;
+use group_hand::hand_law;
 use reverse::Actor;
 use vlink::{Letter, Step, Time};
 

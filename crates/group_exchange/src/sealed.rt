@@ -5,14 +5,14 @@ ghost use Rattle.virtual_time.specs.Law.{earlier, one, rowed, rows_at};
 ghost use Rattle.reverse.specs.Rules.{rules_of};
 ghost use Rattle.reverse.specs.Setting.{simulation_of};
 ghost use Rattle.row_times.specs.Within.{rows_within};
-ghost use Rattle.hand.specs.DoneEvents.{messages_of};
+ghost use Rattle.group_hand.specs.DoneEvents.{messages_of};
 ghost use Rattle.group_exchange.specs.Rows.{rows_of_group};
 ghost use Rattle.group_exchange.specs.Views.{in_group, is_of};
 
 use crate::group::Group;
 use crate::run_of::GroupRun;
-use row_times::rows_in_time;
 use reverse::{Actor, actor_law};
+use row_times::rows_in_time;
 use vlink::{Row, Time};
 
 impl<R: Actor, J: GroupRun<R>> Group<R, J> {

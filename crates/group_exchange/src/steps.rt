@@ -3,13 +3,13 @@ ghost use Rattle.std.specs.Prelude.{◌≡◌, ◌+◌, ◌<◌, ◌≤◌, ◌�
 ghost use Rattle.virtual_time.specs.Law.{behind};
 ghost use Rattle.virtual_time.specs.declared.step.Step.TheVariants.{Take, Gvt};
 ghost use Rattle.journal.specs.declared.fault.PoolFault.TheVariants.{OutOfMemory, Torn};
-ghost use Rattle.hand.specs.Block.{steps_told};
-ghost use Rattle.between_groups.specs.Boxing.{box_of, waiting_for};
+ghost use Rattle.group_hand.specs.Block.{steps_told};
+ghost use Rattle.group_boxes.specs.Boxing.{box_of, waiting_for};
 
 use crate::addition::Addition;
 use crate::listing::{list_block, list_takes};
-use between_groups::Boxes;
-use hand::Words;
+use group_boxes::Boxes;
+use group_hand::Words;
 use journal::{PoolFault, Table};
 use std::alloc::Global;
 use std::marker::Model;

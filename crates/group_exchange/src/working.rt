@@ -3,14 +3,14 @@ ghost use Rattle.std.specs.Prelude.{◌≡◌, ◌≤◌, ◌⊎◌, false, [], 
 ghost use Rattle.reverse.specs.Rules.{rules_of};
 ghost use Rattle.reverse.specs.Setting.{simulation_of};
 ghost use Rattle.journal.specs.declared.fault.PoolFault.TheVariants.{OutOfMemory, Exhausted};
-ghost use Rattle.hand.specs.DoneEvents.{messages_of};
-ghost use Rattle.hand.specs.declared.early.Early.TheVariants.{Idle, Late};
+ghost use Rattle.group_hand.specs.DoneEvents.{messages_of};
+ghost use Rattle.group_hand.specs.declared.early.Early.TheVariants.{Idle, Late};
 ghost use Rattle.group_exchange.specs.Effects.{Goes, IsGroupAsBefore, IsIdleBefore, IsShort, Works, WorksSome};
 
 use crate::group::Group;
 use crate::run_of::GroupRun;
-use between_groups::Reach;
-use hand::{Early, HandFault, hand_law};
+use group_boxes::Reach;
+use group_hand::{Early, HandFault, hand_law};
 use journal::{Gate, PoolFault};
 use reverse::{Actor, actor_law};
 use vlink::{Message, Time};

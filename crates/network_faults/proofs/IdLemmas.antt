@@ -2,7 +2,7 @@
 use Rattle.std.proofs.Common.{◌≡◌, ℕ, true, cond, ◌==◌, ◌||◌, ap, ◌∙◌, arith, nat_cmp, is_eq, BTreeSet}
 use Rattle.std.specs.BTreeSet.{contains, Updates}
 use Rattle.std.proofs.lemmas.Bool.Decides.{nat_tests}
-use Rattle.path_trees.proofs.DoubleLemmas.{or-of}
+use Rattle.network_paths.proofs.DoubleLemmas.{or-of}
 
 is_eq-nat_cmp : (a b : ℕ) → is_eq (nat_cmp a b) ≡ (a == b)
 is_eq-nat_cmp a b = grind (arith, nat_tests)

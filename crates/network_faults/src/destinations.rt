@@ -3,7 +3,7 @@ ghost use Rattle.std.specs.Prelude.{◌≡◌, IfOk};
 ghost use Rattle.network.specs.Trees.{rising, destinations_of};
 
 use network::Routed;
-use path_trees::push_ends;
+use network_paths::push_ends;
 use std::alloc::{AllocError, Global};
 
 /// The numbers, each once, rising.

@@ -6,7 +6,7 @@ ghost use Rattle.std.specs.BTreeSet.{contains};
 ghost use Rattle.network.specs.Rows.{each};
 ghost use Rattle.network.specs.Plan.{node_plan};
 ghost use Rattle.network.specs.Faults.{double_at_node, double_at_link, double_at_vl};
-ghost use Rattle.path_trees.specs.Findings.{Finds};
+ghost use Rattle.network_paths.specs.Findings.{Finds};
 
 use crate::each::{Review, check_each, key_at};
 use crate::links::Joined;

@@ -10,15 +10,15 @@ ghost use Rattle.network.specs.Plan.{node_plan};
 ghost use Rattle.network.specs.Wiring.{leads, is_second, is_no_link, is_linked};
 ghost use Rattle.network.specs.Trees.{hops_of, hops_after};
 ghost use Rattle.network.specs.Faults.{has_gap, is_gap, no_link_at_link, no_link_at_outage, no_link_at_vl};
-ghost use Rattle.path_trees.specs.Findings.{Finds};
+ghost use Rattle.network_paths.specs.Findings.{Finds};
 ghost use Rattle.network_faults.specs.Lookups.{AreAttached};
 ghost use Rattle.network.specs.Code.Views.{items_of};
 
 use crate::each::{Review, check_each, key_at};
 use crate::links::Joined;
 use network::{Link, Numbered, Outage, Routed};
+use network_paths::{is_end_system, is_switch_of};
 use network_rows::{DescFault, Key, NodeRow, Section};
-use path_trees::{is_end_system, is_switch_of};
 use std::alloc::{AllocError, Global};
 use std::collections::BTreeSet;
 use vlink::Net;

@@ -3,12 +3,12 @@ ghost use Rattle.std.specs.Prelude.{⊤, map};
 ghost use Rattle.network.specs.Rows.{each};
 ghost use Rattle.network.specs.Plan.{node_plan};
 ghost use Rattle.network.specs.Faults.{no_tree_at_vl};
-ghost use Rattle.path_trees.specs.Findings.{Finds};
+ghost use Rattle.network_paths.specs.Findings.{Finds};
 
 use crate::each::{Review, check_each, key_at};
 use network::Routed;
+use network_paths::{Room, check_trees};
 use network_rows::{DescFault, Key, NodeRow, Section};
-use path_trees::{Room, check_trees};
 use std::alloc::Global;
 
 /// The paths of each virtual link are trees from one source.

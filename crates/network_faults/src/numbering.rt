@@ -3,7 +3,7 @@ ghost use Rattle.std.specs.Prelude.{◌++◌, map};
 ghost use Rattle.network.specs.Rows.{each};
 ghost use Rattle.network.specs.Plan.{node_plan};
 ghost use Rattle.network.specs.Faults.{faults_of, double_names, not_links, not_trees, too_many, double_at_node, double_at_link, double_at_vl};
-ghost use Rattle.path_trees.specs.Findings.{Finds};
+ghost use Rattle.network_paths.specs.Findings.{Finds};
 ghost use Rattle.network_faults.specs.RowLists.{row_lists_of, row_lists_in, plan_in, Gives};
 
 use crate::double;

@@ -7,7 +7,7 @@ ghost use Rattle.network.specs.Wiring.{is_end_system};
 ghost use Rattle.network.specs.Rows.{each, when, top};
 ghost use Rattle.network.specs.Plan.{node_plan};
 ghost use Rattle.network.specs.Faults.{too_many_at_node, too_many_at_vl};
-ghost use Rattle.path_trees.specs.Findings.{Finds};
+ghost use Rattle.network_paths.specs.Findings.{Finds};
 
 use crate::destinations::destinations_of;
 use crate::each::{Review, check_each, row_at};
@@ -15,8 +15,8 @@ use crate::links::link_counts;
 use network::{
     GREATEST_DESTINATIONS, GREATEST_OUTAGES, GREATEST_PORTS, GREATEST_PROCESSES, Link, Routed,
 };
+use network_paths::is_end_system;
 use network_rows::{DescFault, NodeRow, Place, Section};
-use path_trees::is_end_system;
 use std::alloc::Global;
 
 /// There are more processes than a network may have: so many nodes, and two for each link.

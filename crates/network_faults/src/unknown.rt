@@ -9,7 +9,7 @@ ghost use Rattle.network.specs.Rows.{when};
 ghost use Rattle.network.specs.Names.{names_of, number_of};
 ghost use Rattle.network.specs.Plan.{byte_ns_of, path_numbers, paths_numbers, link_plan, outage_plan, vl_plan};
 ghost use Rattle.network.specs.Faults.{is_unknown, has_unknown, unknown_at_node, unknown_at_link, unknown_at_outage, unknown_at_vl, unknown_names};
-ghost use Rattle.path_trees.specs.Findings.{Finds};
+ghost use Rattle.network_paths.specs.Findings.{Finds};
 ghost use Rattle.network.specs.Code.Views.{items_of, lists_of};
 ghost use Rattle.network_faults.specs.RowLists.{row_lists_of, row_lists_in, Gives};
 

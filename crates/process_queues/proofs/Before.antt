@@ -7,7 +7,7 @@ use Rattle.vlink.specs.Order.{message_order}
 use Rattle.virtual_time.specs.Law.{IsOrder, IsIn, IsAscending, before}
 use Rattle.virtual_time.proofs.Lists.{in-push, in-head, filter-all}
 use Rattle.virtual_time.proofs.Ascending.{ascending-left, ascending-across}
-use Rattle.queue_steps.specs.declared.event.Event.{Event}
+use Rattle.process_steps.specs.declared.event.Event.{Event}
 use Rattle.process_queues.proofs.Since.{take-more}
 
 -- the messages of the first ones

@@ -13,10 +13,10 @@ use Rattle.vlink.specs.Letters.{Letter}
 use Rattle.antimessages.specs.Counting.{signed_count, is_after, present_after, HaveSameCounts}
 use Rattle.antimessages.proofs.Agreeing.{present-same_count}
 use Rattle.antimessages.proofs.Following.{after-same}
-use Rattle.queue_steps.specs.declared.event.Event.{Event}
+use Rattle.process_steps.specs.declared.event.Event.{Event}
 use Rattle.process_queues.specs.Queues.{with_done}
 use Rattle.process_queues.proofs.Counting.{OfMessages}
-use Rattle.queue_steps.proofs.Tallied.{pluses-done, minuses-done, inside-at}
+use Rattle.process_steps.proofs.Tallied.{pluses-done, minuses-done, inside-at}
 
 module _ (O : IsOrder message_order) {K : Type 0} where
   -- how often a message is done

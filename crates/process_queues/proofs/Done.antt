@@ -10,7 +10,7 @@ use Rattle.virtual_time.proofs.Lists.{times-append, times-none, times-filter_out
 use Rattle.virtual_time.proofs.Order.{less-asym}
 use Rattle.virtual_time.proofs.Ascending.{ascending-once, ascending-filter}
 use Rattle.virtual_time.proofs.Rolling.{roll-split, roll-undone}
-use Rattle.queue_steps.specs.declared.event.Event.{Event}
+use Rattle.process_steps.specs.declared.event.Event.{Event}
 use Rattle.process_queues.proofs.Pasts.{back-of}
 
 module _ {M S K N : Type 0} (r : Rules M S K N) (O : IsOrder r.order) (ds : List M) (up : IsAscending r.order ds) (m : M) where

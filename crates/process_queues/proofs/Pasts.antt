@@ -7,7 +7,7 @@ use Rattle.vlink.specs.declared.note.Note.{Note}
 use Rattle.vlink.specs.Order.{message_order}
 use Rattle.virtual_time.specs.Law.{Rules, reached, sent, rowed, rows_of}
 use Rattle.virtual_time.proofs.Handling.{reached-append, sent-append, rowed-append}
-use Rattle.queue_steps.specs.declared.event.Event.{Event}
+use Rattle.process_steps.specs.declared.event.Event.{Event}
 use Rattle.process_queues.specs.Past.{Past, Rows, event_of, events_of, handled_past, IsPastOf}
 use Rattle.reverse.specs.Rules.{AreValues}
 use Rattle.process_queues.proofs.Taking.{snoc-equal, split-last}

@@ -6,7 +6,7 @@ use Rattle.virtual_time.specs.Law.{Rules, IsOrder, reached, rowed, lowest, Part,
 use Rattle.virtual_time.proofs.Least.{least-some, least-none}
 use Rattle.virtual_time.proofs.Lowest.{lowest-top, lowest-message, lowest-messages}
 use Rattle.virtual_time.proofs.Order.{not_less-time}
-use Rattle.queue_steps.specs.declared.event.Event.{Event}
+use Rattle.process_steps.specs.declared.event.Event.{Event}
 use Rattle.process_queues.specs.Past.{event_of, events_of, IsPastOf}
 use Rattle.process_queues.specs.Queues.{Queues, StandsFor, rows_there}
 use Rattle.process_queues.proofs.Pasts.{front-of}

@@ -10,7 +10,7 @@ use Rattle.virtual_time.proofs.Ascending.{ascending-once}
 use Rattle.vlink.specs.Order.{message_order}
 use Rattle.vlink.specs.Letters.{Letter}
 use Rattle.antimessages.specs.Counting.{signed_count}
-use Rattle.queue_steps.specs.declared.event.Event.{Event}
+use Rattle.process_steps.specs.declared.event.Event.{Event}
 use Rattle.process_queues.specs.Past.{events_of, IsPastOf}
 use Rattle.process_queues.specs.Queues.{Queues, StandsFor, rows_there, with_done}
 use Rattle.process_queues.proofs.Beside.{times, with_done-count}

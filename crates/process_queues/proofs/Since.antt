@@ -7,7 +7,7 @@ use Rattle.vlink.specs.declared.note.Note.{Note}
 use Rattle.virtual_time.specs.Law.{Rules, sent}
 use Rattle.reverse.specs.Rules.{is_before}
 use Rattle.antimessages.specs.Counting.{is_after, newest_of}
-use Rattle.queue_steps.specs.declared.event.Event.{Event}
+use Rattle.process_steps.specs.declared.event.Event.{Event}
 use Rattle.process_queues.specs.Past.{Past, Rows, IsPastOf, events_of, sent_since}
 use Rattle.antimessages.proofs.Newest.{newest-more}
 

@@ -6,7 +6,7 @@ use Rattle.vlink.specs.Order.{message_order}
 use Rattle.vlink.specs.Letters.{Row}
 use Rattle.reverse.specs.Rules.{AreValues, is_before}
 use Rattle.virtual_time.specs.Law.{Rules, reached, sent, rowed, rows_of, IsAscending, Part}
-use Rattle.queue_steps.specs.declared.event.Event.{Event}
+use Rattle.process_steps.specs.declared.event.Event.{Event}
 
 -- notes with their messages and places, as the law of virtual time sees them
 abbrev pub Rows : Type 0

@@ -6,7 +6,7 @@ use Rattle.virtual_time.specs.Law.{Rules, rowed, plus_of, Part, delivered, IsWel
 use Rattle.vlink.specs.Order.{message_order}
 use Rattle.vlink.specs.Letters.{Letter}
 use Rattle.antimessages.specs.Counting.{HaveSameCounts, present_after, newest_of}
-use Rattle.queue_steps.specs.declared.event.Event.{Event}
+use Rattle.process_steps.specs.declared.event.Event.{Event}
 use Rattle.process_queues.specs.Past.{Past, Rows, BelongsTo}
 
 -- the letters that count: those that are tallied beside the done events, and for each of these the letter that brought its message

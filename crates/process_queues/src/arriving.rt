@@ -15,7 +15,7 @@ use crate::fault::ProcFault;
 use crate::past::Past;
 use crate::process::Process;
 use antimessages::{Outbox, Tally};
-use queue_steps::{is_change, pop_front, tally_front};
+use process_steps::{is_change, pop_front, tally_front};
 use reverse::{Actor, actor_rules_law};
 use std::collections::VecDeque;
 use vlink::Letter;

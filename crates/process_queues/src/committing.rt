@@ -10,7 +10,7 @@ ghost use Rattle.process_queues.specs.Queues.{AtEachPart, Does, with_done};
 use crate::fault::ProcFault;
 use crate::process::Process;
 use antimessages::Tally;
-use queue_steps::{Event, counts_once, is_committable};
+use process_steps::{Event, counts_once, is_committable};
 use reverse::{Actor, actor_rules_law};
 use std::collections::VecDeque;
 use vlink::{Time, order_law};

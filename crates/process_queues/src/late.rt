@@ -9,7 +9,7 @@ ghost use Rattle.reverse.specs.Rules.{rules_of};
 
 use crate::past::Past;
 use antimessages::{OutOfMemory, Tally};
-use queue_steps::{Event, is_before, tally_again};
+use process_steps::{Event, is_before, tally_again};
 use reverse::{Actor, actor_rules_law};
 use std::collections::VecDeque;
 use vlink::{Letter, Message, order_law};

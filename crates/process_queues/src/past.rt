@@ -14,7 +14,7 @@ ghost use Rattle.process_queues.specs.Past.{Past, Rows, IsPastOf, handled_past, 
 ghost use Rattle.reverse.specs.declared.sends.TheConstants.{MOST_SENT};
 
 use antimessages::{OutOfMemory, Outbox, rewind};
-use queue_steps::{Event, is_before};
+use process_steps::{Event, is_before};
 use reverse::{Actor, MOST_SENT, Outbound, actor_rules_law};
 use std::alloc::Global;
 use std::collections::VecDeque;

@@ -5,12 +5,12 @@ ghost use Rattle.virtual_time.specs.Law.{reached, minus_of, Part, rolled_back, u
 ghost use Rattle.reverse.specs.Rules.{rules_of};
 ghost use Rattle.process_queues.specs.Past.{Rows, IsPastOf, LastDone, BelongsTo, sent_since};
 ghost use Rattle.process_queues.specs.Queues.{AtEachPart};
-ghost use Rattle.queue_steps.specs.declared.event.Event.{Event};
+ghost use Rattle.process_steps.specs.declared.event.Event.{Event};
 
 use crate::past::Past;
 use crate::process::Process;
 use antimessages::Outbox;
-use queue_steps::{is_before, take_back, take_newest};
+use process_steps::{is_before, take_back, take_newest};
 use reverse::{Actor, actor_rules_law};
 use vlink::Message;
 

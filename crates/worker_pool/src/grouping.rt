@@ -3,9 +3,9 @@ ghost use Rattle.std.specs.Prelude.{◌≡◌, ◌<◌, ◌≤◌, All, IfOk, le
 ghost use Rattle.group_exchange.specs.Keeps.{AreGrouped};
 ghost use Rattle.worker_pool.specs.Runs.{IsGroupingOf};
 
+use group_choice::{group_count, groups_of};
 use group_exchange::Pairs;
 use network::Network;
-use partition::{group_count, groups_of};
 use std::alloc::{AllocError, Global};
 use std::thread;
 use std::thread::Threads;

@@ -26,6 +26,9 @@ pub use journal::{Gate, PoolFault, Table};
 pub use pace::Pace;
 pub use run_rows::{NetworkRun, TraceRun};
 pub use running::{Outcome, run};
-pub use single_processes::{ActorRun, Exchange, Held, Mark, Of, Pairs, collect, next_segment, open_network, post, publish, work};
+pub use single_processes::{
+    ActorRun, Exchange, Held, Mark, Of, Pairs, collect, next_segment, open_network, post, publish,
+    work,
+};
 pub use summary::{Summary, run_summary};
 pub use tracing::{Traced, run_traced};

@@ -4,10 +4,10 @@ ghost use Rattle.network.specs.Words.{process_count};
 
 use crate::tests::stage::{play_words, tell_journal};
 use crate::tests::words::tell;
-use exchange::Pairs;
 use journal::{PoolFault, Table};
 use network::Network;
-use network_exchange::open_network;
+use process_exchange::Pairs;
+use process_segments::open_network;
 use run_rows::NetworkRun;
 use std::alloc::Global;
 use std::marker::Brand;

@@ -9,7 +9,7 @@
 //! `C`: an event was committed.
 use super::player::{moment, number, split_at_colon, tell, tell_number, tell_refused};
 use crate::Passing;
-use hand::{Did, Hand, HandFault};
+use group_hand::{Did, Hand, HandFault};
 use std::alloc::Global;
 use std::fmt::Write;
 use std::mem::forget;

@@ -7,7 +7,7 @@ use Rattle.virtual_time.specs.declared.step.Step.{Step}
 use Rattle.virtual_time.specs.declared.step.Step.TheVariants.{Take}
 use Rattle.reverse.specs.Rules.{rules_of}
 use Rattle.reverse.specs.Setting.{simulation_of}
-use Rattle.hand.specs.Hands.{IsAsBefore, StandsForGroup, is_ours}
+use Rattle.group_hand.specs.Hands.{IsAsBefore, StandsForGroup, is_ours}
 use Rattle.halves.specs.declared.LeftHalf.{LeftHalf}
 use Rattle.halves.proofs.InLists.{half-within}
 use Rattle.journal.proofs.Refused.{faults-told, not-full, not-ok}

@@ -3,9 +3,9 @@ use Rattle.std.proofs.lemmas.List.{take_more}
 use Rattle.vlink.specs.Order.{message_order}
 use Rattle.vlink.specs.Letters.{Letter}
 use Rattle.reverse.specs.Rules.{rules_of}
-use Rattle.hand.specs.Hands.{StandsForGroup, is_ours}
+use Rattle.group_hand.specs.Hands.{StandsForGroup, is_ours}
 use Rattle.group_exchange.specs.Views.{with_letters}
-use Rattle.between_groups.proofs.Lists.{one-of}
+use Rattle.group_boxes.proofs.Lists.{one-of}
 use Rattle.group_exchange.proofs.Taken.{with-more}
 use Rattle.group_exchange.proofs.Trays.{tray-more, tray-members, tray-none, tray-all}
 use Rattle.group_exchange.proofs.collecting.deliver_all.Goals as goal

@@ -4,7 +4,7 @@ use Rattle.vlink.specs.Order.{message_order}
 use Rattle.virtual_time.specs.Law.{World}
 use Rattle.reverse.specs.Rules.{rules_of}
 use Rattle.reverse.specs.Setting.{Setting}
-use Rattle.hand.specs.Hands.{StandsForGroup}
+use Rattle.group_hand.specs.Hands.{StandsForGroup}
 use Rattle.group_exchange.specs.Views.{with_letters}
 use Rattle.group_exchange.proofs.collecting.deliver_all.Given as goal
 

@@ -1,7 +1,7 @@
 use Rattle.std.proofs.Common.{slice_get, option_map, [], refl, ap, ◌∙◌, take_all}
 use Rattle.virtual_time.specs.Law.{lowest, times_of}
 use Rattle.vlink.specs.Order.{message_order}
-use Rattle.between_groups.proofs.Lists.{floor-more, none-falls}
+use Rattle.group_boxes.proofs.Lists.{floor-more, none-falls}
 use Rattle.group_exchange.proofs.collecting.lower_floor.Goals as goal
 
 pub loop-letter-init : goal.loop-letter-init

@@ -1,6 +1,6 @@
 use Rattle.std.proofs.Common.{rules, ◌≤◌, ◌+◌, inl, inr, min, All, sym, ap, ◌∙◌, subst}
 use Rattle.vlink.specs.declared.message.Message.{Message}
-use Rattle.hand.specs.DoneEvents.{messages_of}
+use Rattle.group_hand.specs.DoneEvents.{messages_of}
 use Rattle.group_exchange.proofs.Going.{goes-both, goes-seen, idle-late, works-some}
 use Rattle.group_exchange.proofs.working.work.Goals as goal
 

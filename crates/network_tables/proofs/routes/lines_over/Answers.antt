@@ -1,7 +1,7 @@
 use Rattle.std.proofs.Common.{◌<◌, length, arith}
 use Rattle.network.specs.Words.{lines_over}
-use Rattle.path_trees.proofs.PushLemmas.{pushed-at}
-use Rattle.path_trees.proofs.WayLemmas.{no_hop}
+use Rattle.network_paths.proofs.PushLemmas.{pushed-at}
+use Rattle.network_paths.proofs.WayLemmas.{no_hop}
 use Rattle.network_tables.proofs.routes.lines_over.Goals as goal
 
 pub loop-hop-preserved : goal.loop-hop-preserved

@@ -1,6 +1,6 @@
 use Rattle.std.proofs.Common.{◌<◌, length, ◌∙◌, arith}
 use Rattle.network.specs.Words.{leaves, comes_in}
-use Rattle.path_trees.proofs.PushLemmas.{pushed-more}
+use Rattle.network_paths.proofs.PushLemmas.{pushed-more}
 use Rattle.network_tables.proofs.routes.meetings_of.Goals as goal
 
 pub loop-vl-preserved : goal.loop-vl-preserved

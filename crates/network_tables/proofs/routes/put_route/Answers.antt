@@ -1,6 +1,6 @@
 use Rattle.std.proofs.Common.{◌<◌, length, ◌∙◌, arith, slice_get, option_to_list, option_and_then}
 use Rattle.network_tables.specs.Meeting.{way_at}
-use Rattle.path_trees.proofs.PushLemmas.{pushed-at}
+use Rattle.network_paths.proofs.PushLemmas.{pushed-at}
 use Rattle.network_tables.proofs.routes.put_route.Goals as goal
 
 pub loop-k-preserved : goal.loop-k-preserved

@@ -2,7 +2,7 @@ use Rattle.std.proofs.Common.{◌≤◌, All, IfNone, ap, sym, ◌∙◌, subst,
 use Rattle.std.proofs.lemmas.List.Elements.{All-nil}
 use Rattle.std.proofs.lemmas.List.Sorted.{All-permutation}
 use Rattle.vlink.specs.declared.message.Message.{Message}
-use Rattle.hand.specs.Flow.{Flow}
+use Rattle.group_hand.specs.Flow.{Flow}
 use Rattle.group_exchange.proofs.Again.{group-as-before}
 use Rattle.group_exchange.proofs.Going.{none-early, when-none}
 use Rattle.group_exchange.proofs.Holding.{holds-again}

@@ -1,5 +1,5 @@
 use Rattle.std.proofs.Common.{ap, ◌∙◌, arith}
-use Rattle.hand.specs.Flow.{Flow}
+use Rattle.group_hand.specs.Flow.{Flow}
 use Rattle.group_exchange.proofs.Holding.{holds-again}
 use Rattle.group_exchange.proofs.RowsKept.{rows-again}
 use Rattle.group_exchange.proofs.group.Group.next_time.Goals as goal

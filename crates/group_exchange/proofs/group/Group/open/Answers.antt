@@ -1,6 +1,6 @@
 use Rattle.std.proofs.Common.{length, IsPermutation, refl, sym, ap, ◌∙◌, subst}
 use Rattle.reverse.specs.Rules.{rules_of}
-use Rattle.hand.specs.Hands.{HasDoneNothing}
+use Rattle.group_hand.specs.Hands.{HasDoneNothing}
 use Rattle.group_exchange.specs.Opening.{AreMembersOf}
 use Rattle.group_exchange.proofs.Opened.{holds-opened, nothing-done}
 use Rattle.group_exchange.proofs.Parting.{members-ours, members-state}

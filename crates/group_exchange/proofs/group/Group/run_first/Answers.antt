@@ -1,6 +1,6 @@
 use Rattle.std.proofs.Common.{true, false, inl, inr, Ok, refl, ◌∙◌}
 use Rattle.journal.proofs.Refused.{not-ok}
-use Rattle.hand.proofs.Answering.{not-both}
+use Rattle.group_hand.proofs.Answering.{not-both}
 use Rattle.group_exchange.proofs.Going.{goes-both}
 use Rattle.group_exchange.proofs.group.Group.run_first.Goals as goal
 

@@ -1,9 +1,9 @@
 use Rattle.std.proofs.Common.{◌≡◌, ◌≤◌, ◌⊎◌, inl, inr, Ok, Err, sym, ap, ◌∙◌}
 use Rattle.std.proofs.lemmas.List.Sorted.{All-permutation}
 use Rattle.vlink.specs.declared.message.Message.{Message}
-use Rattle.hand.specs.Flow.{Flow}
-use Rattle.hand.specs.Hands.{IsAsBefore}
-use Rattle.hand.specs.declared.early.Early.TheVariants.{Idle, Late}
+use Rattle.group_hand.specs.Flow.{Flow}
+use Rattle.group_hand.specs.Hands.{IsAsBefore}
+use Rattle.group_hand.specs.declared.early.Early.TheVariants.{Idle, Late}
 use Rattle.journal.proofs.Refused.{not-ok, not-short}
 use Rattle.group_exchange.proofs.Below.{is-short}
 use Rattle.group_exchange.proofs.Going.{ok-same}

@@ -1,5 +1,5 @@
 use Rattle.std.proofs.Common.{false, refl, ap, ◌∙◌}
-use Rattle.hand.specs.Flow.{Flow}
+use Rattle.group_hand.specs.Flow.{Flow}
 use Rattle.journal.proofs.Refused.{not-ok, passed-short}
 use Rattle.group_exchange.proofs.Going.{goes-both, goes-same}
 use Rattle.group_exchange.proofs.group.Group.run_told.Goals as goal

@@ -1,7 +1,7 @@
 use Rattle.std.proofs.Common.{◌≡◌, true, slice_get, sym, ap, ◌∙◌}
 use Rattle.std.proofs.lemmas.List.Elements.{All-drop}
 use Rattle.virtual_time.specs.Law.{rows_at}
-use Rattle.hand.proofs.Going.{held-is}
+use Rattle.group_hand.proofs.Going.{held-is}
 use Rattle.group_exchange.specs.Views.{is_of}
 use Rattle.group_exchange.proofs.RowsWhole.{rows-none, rows-there}
 use Rattle.group_exchange.proofs.group.Group.sealed.Goals as goal

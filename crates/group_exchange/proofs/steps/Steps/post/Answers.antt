@@ -1,8 +1,8 @@
 use Rattle.std.proofs.Common.{◌≡◌, ◌+◌, ◌++◌, map, flat_map, length, IfSome, sym, ap, ◌∙◌, subst, arith, length-append}
 use Rattle.virtual_time.specs.Law.{behind}
-use Rattle.hand.specs.Block.{steps_told}
+use Rattle.group_hand.specs.Block.{steps_told}
 use Rattle.group_exchange.specs.declared.steps.Steps.TheInside.{Inside}
-use Rattle.between_groups.specs.Boxing.{waiting_for}
+use Rattle.group_boxes.specs.Boxing.{waiting_for}
 use Rattle.group_exchange.specs.Telling.{steps_by}
 use Rattle.group_exchange.proofs.Words.{length_behind, told-longer}
 use Rattle.group_exchange.proofs.steps.Steps.post.Goals.{in-Some, in_default}

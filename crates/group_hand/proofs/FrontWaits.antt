@@ -1,0 +1,80 @@
+-- Messages at the front of the queue that are done already count beside, until the first one waits.
+use Rattle.std.proofs.Common.{◌≡◌, ◌≢◌, false, Option, Some, IfSome, List, [], length, All, Contains, IsPermutation, refl, sym, ap, ◌∙◌, subst}
+use Rattle.std.proofs.lemmas.List.{nil_from_length}
+use Rattle.std.proofs.lemmas.List.Sorted.{Contains-permutation, All-permutation, length_permutation}
+use Rattle.vlink.specs.declared.message.Message.{Message}
+use Rattle.vlink.specs.declared.note.Note.{Note}
+use Rattle.vlink.specs.Order.{message_order}
+use Rattle.virtual_time.specs.Law.{Rules, IsOrder, World, least, times_in}
+use Rattle.virtual_time.proofs.Least.{least-from}
+use Rattle.reverse.specs.Plain.{Plain}
+use Rattle.reverse.specs.Rules.{is_before, rules_of}
+use Rattle.reverse.specs.Setting.{Setting}
+use Rattle.reverse.specs.declared.sends.Sends.{Sends}
+use Rattle.reverse.proofs.Members.{in-all}
+use Rattle.group_hand.specs.DoneEvents.{DoneEvent, messages_of}
+use Rattle.group_hand.specs.Flow.{Flow}
+use Rattle.group_hand.specs.Handling.{CountsAgain}
+use Rattle.group_hand.specs.Hands.{Held, FirstWaits, IsAsBefore, StandsForGroup}
+use Rattle.group_hand.specs.Passing.{held}
+use Rattle.group_hand.specs.Rows.{Sealed}
+use Rattle.group_hand.proofs.Among.{contains-in, none-among}
+use Rattle.group_hand.proofs.CountsAgain.{stands-again}
+use Rattle.group_hand.proofs.Still.{stands-still}
+
+-- the first message as code finds it, in whatever order the queue is
+pub first-least : IsOrder message_order → (m : Message) (old new : List Message) → IsPermutation old new → Contains old m → All (λ x. is_before x m ≡ false) old →
+    least message_order new ≡ Some m
+first-least O m old new p c a =
+    least-from message_order O new m (record {
+      inside = contains-in O new m (Contains-permutation old new m p c);
+      lowest = λ y i. in-all message_order O (λ x. is_before x m ≡ false) y new (All-permutation (λ (x : Message). is_before x m ≡ false) old new p a) i;
+    })
+
+-- it is none of the done events
+pub front-waits : {S K : Type 0} → IsOrder message_order → (h : Held S K) (m : Message) → least message_order h.flow.queue ≡ Some m → All (λ x. x ≢ m) (messages_of h.done) → FirstWaits message_order h
+front-waits O h m e a = subst (λ o. IfSome o (λ y. times_in message_order y (messages_of h.done) ≡ 0)) (sym e) (none-among O (messages_of h.done) m a)
+
+-- there is none
+pub nothing-waits : {S K : Type 0} (h : Held S K) → h.flow.queue ≡ [] → FirstWaits message_order h
+nothing-waits h e = subst (λ q. IfSome (least message_order q) (λ y. times_in message_order y (messages_of h.done) ≡ 0)) (sym e) tt
+
+-- there was none
+pub nothing-left : (old new : List Message) → IsPermutation old new → old ≡ [] → new ≡ []
+nothing-left old new p e = nil_from_length new (length_permutation old new p ∙ ap length e)
+
+-- messages of the queue count beside, and nothing else changed but for how much more there is room
+pub record CountedBeside {S K : Type 0} (r : Rules Message S K Note) (V : S → Message → Type 0) (old new : Held S K) : Type 0 where
+  pub stands : (x : Setting S) (v : World Message S) → StandsForGroup r V x v old → StandsForGroup r V x v new
+  pub others : new ≡ record old { flow = record old.flow { queue = new.flow.queue; extra = new.flow.extra; room = new.flow.room } }
+
+module _ {S K : Type 0} (r : Rules Message S K Note) (V : S → Message → Type 0) where
+  pub counted-none : (h : Held S K) → CountedBeside r V h h
+  counted-none h = record { stands = λ x v g. g; others = refl }
+
+  pub counted-both : (h mid new : Held S K) → CountedBeside r V h mid → CountedBeside r V mid new → CountedBeside r V h new
+  counted-both h mid new a b = record {
+    stands = λ x v g. b.stands x v (a.stands x v g);
+    others = b.others ∙ (λ j. record (a.others j) { flow = record (a.others j).flow { queue = new.flow.queue; extra = new.flow.extra; room = new.flow.room } });
+  }
+
+  -- one message, which is done already
+  pub counted-again : IsOrder r.order → (members : List (Option S)) (done : List (DoneEvent K)) (rows : Sealed) (m : Message) (old new : Flow) → CountsAgain r.order m done old new →
+      new ≡ record old { queue = new.queue; extra = new.extra; room = new.room } → CountedBeside r V (held members done rows old) (held members done rows new)
+  counted-again O members done rows m old new a e = record {
+    stands = λ x v g. stands-again r O V members done rows m old new a x v [] g;
+    others = λ j. held members done rows (e j);
+  }
+
+-- nothing changed but the order of the queue
+pub counted-as : {S K : Type 0} (plain : Plain S Message Sends K) (V : S → Message → Type 0) → IsOrder message_order →
+    ((s : S) (e : Message) → plain.before (plain.after s e) e (plain.saves s e) ≡ s) → (old new : Held S K) → IsAsBefore old new → CountedBeside (rules_of plain) V old new
+counted-as plain V O law old new a = record {
+  stands = stands-still plain V O law old new a;
+  others = λ j. record {
+    members = a.members j;
+    done = a.done j;
+    rows = a.rows j;
+    flow = (a.flow ∙ (λ i. record old.flow { queue = new.flow.queue; extra = (ap (λ z. z.extra) (sym a.flow)) i; room = new.flow.room })) j;
+  };
+}

@@ -1,0 +1,129 @@
+//! What a group did, as steps of the law of virtual time.
+ghost use Rattle.std.specs.Prelude.{◌≡◌, ◌+◌, ◌<◌, ◌≤◌, [], ◌∷◌, ◌++◌, true, Some, OnOk, length};
+ghost use Rattle.group_hand.specs.Block.{steps_of_word, steps_told};
+
+use std::alloc::{AllocError, Global};
+use std::marker::Model;
+use std::snapshot::Snapshot;
+
+/// Steps of one member, in order.
+#[derive(Clone, Copy)]
+pub enum Did {
+    /// Run and Post.
+    Ran { process: u16 },
+    /// Take of the first letter that the group sent it, and Arrive.
+    Home { process: u16 },
+    /// Take of the first letter that the group sent it.
+    Taken { process: u16 },
+    /// Arrive, and Post.
+    Arrived { process: u16 },
+    /// Commit.
+    Committed { process: u16 },
+}
+
+/// What a group did, in order. Each word is there as a snapshot, which has no bytes and is read in proofs alone; and, where the journal is kept,
+/// once more as it is.
+#[derive(Drop)]
+pub struct Words {
+    told: Vec<Snapshot<Did>>,
+    /// How many of them stand for two steps; the others stand for one.
+    long: usize,
+    kept: Option<Vec<Did>>,
+}
+
+impl Model for Words {
+    ghost use Rattle.std.specs.Prelude.{◌≡◌, ◌+◌, ◌-◌, length, map, is_some, option_map, vec_len, vec_capacity, IfSome};
+    ghost use Rattle.group_hand.specs.Block.{Block, room_of, steps_told};
+
+    ghost Value = { Block };
+
+    ghost view = { λ b. record {
+      words = map (λ s. s.value) b.told.items;
+      keeps = is_some b.kept;
+      room = room_of (vec_capacity b.told - vec_len b.told) (option_map (λ k. vec_capacity k - vec_len k) b.kept);
+    } };
+
+    ghost invariant = { λ b. (IfSome b.kept (λ k. k.items ≡ map (λ s. s.value) b.told.items))
+        × (length (steps_told (map (λ s. s.value) b.told.items)) ≡ length b.told.items + b.long) };
+}
+
+impl Words {
+    /// No word, and whether those that come are kept.
+    pub fn new(alloc: Global, keeps: bool) -> Self
+        ensures words { result.words ≡ [] }
+        ensures keeps { result.keeps ≡ keeps }
+    {
+        Words {
+            told: Vec::new(alloc),
+            long: 0,
+            kept: if keeps { Some(Vec::new(alloc)) } else { None },
+        }
+    }
+
+    /// Makes room for so many more: as long as no other call comes between, so many calls of `push_reserved` have it. Where they are not kept it
+    /// takes no memory.
+    #[inline(always)]
+    pub(crate) fn reserve(&mut self, more: usize) -> Result<(), AllocError>
+        ensures room { OnOk result (more ≤ self.new.room) }
+        ensures words { self.new.words ≡ self.old.words }
+        ensures keeps { self.new.keeps ≡ self.old.keeps }
+    {
+        self.told.reserve(more)?;
+        if let Some(kept) = &mut self.kept {
+            kept.reserve(more)?;
+        }
+        Ok(())
+    }
+
+    /// One more, for which there is room.
+    #[inline(always)]
+    pub(crate) fn push_reserved(&mut self, did: Did)
+        requires { 0 < self.old.room }
+        ensures words { self.new.words ≡ self.old.words ++ did ∷ [] }
+        ensures keeps { self.new.keeps ≡ self.old.keeps }
+        ensures room { self.old.room ≤ self.new.room + 1 }
+    {
+        self.long += more_steps(&did);
+        self.told.push_reserved(Snapshot::of(&did));
+        if let Some(kept) = &mut self.kept {
+            kept.push_reserved(did);
+        }
+    }
+
+    /// How many steps they stand for.
+    pub fn steps(&self) -> u64
+        ensures { result ≡ length (steps_told self.now.words) }
+    {
+        (self.told.len() + self.long) as u64
+    }
+
+    /// Whether they are kept to be read.
+    pub fn keeps(&self) -> bool
+        ensures { result ≡ self.now.keeps }
+    {
+        self.kept.is_some()
+    }
+
+    /// The words, where they are kept.
+    pub fn list(&self) -> &[Did]
+        requires { self.now.keeps ≡ true }
+        ensures { result.now ≡ self.now.words }
+    {
+        match &self.kept {
+            Some(kept) => kept.as_slice(),
+            None => unreachable!(),
+        }
+    }
+}
+
+/// How many steps a word stands for beside the first: one or none.
+#[inline(always)]
+fn more_steps(did: &Did) -> usize
+    ensures few { result ≤ 1 }
+    ensures steps { length (steps_of_word did.now) ≡ 1 + result }
+{
+    match did {
+        Did::Ran { .. } | Did::Home { .. } | Did::Arrived { .. } => 1,
+        Did::Taken { .. } | Did::Committed { .. } => 0,
+    }
+}

@@ -1,0 +1,143 @@
+//! A group of processes in one hand.
+ghost use Rattle.std.specs.Prelude.{◌≡◌, ◌≤◌, ◌<◌, ◌+◌, ℕ, List, [], ◌++◌, false, All, Contains, OnOk, OnErr, IfOk, IfErr, IfSome, IfNone, IsPermutation, drop, length, slice_get, take};
+ghost use Rattle.vlink.specs.declared.message.Message.{Message};
+ghost use Rattle.virtual_time.specs.Law.{World};
+ghost use Rattle.reverse.specs.Rules.{rules_of, is_before};
+ghost use Rattle.reverse.specs.Setting.{Setting};
+ghost use Rattle.group_hand.specs.DoneEvents.{DoneEvent, messages_of};
+ghost use Rattle.group_hand.specs.Hands.{DoesTold, StandsForGroup, CommitsTold, StaysDone, IsAsBefore};
+ghost use Rattle.group_hand.specs.Sealing.{rows_in};
+ghost use Rattle.group_hand.specs.declared.fault.HandFault.TheVariants.{OutOfMemory};
+
+use crate::done_events::DoneEvents;
+use crate::fault::HandFault;
+use crate::letters::Letters;
+use crate::rows::Rows;
+use crate::undoing::Undoing;
+use reverse::{Actor, Outbound, actor_rules_law};
+use std::alloc::Global;
+use std::marker::Model;
+use vlink::{Message, Row, Time};
+
+/// The processes of a group: their actors, one queue of all messages that they have to handle, and one list of their done events.
+///
+/// Between calls no letter of the group is on its way home, and no letter waits in an outbox.
+#[derive(Drop)]
+pub struct Hand<R: Actor> {
+    /// The actors by their numbers; none where the process is elsewhere.
+    pub(crate) members: Vec<Option<R>>,
+    /// The done events in the order of their messages.
+    pub(crate) done: DoneEvents<R::Record>,
+    /// What a rollback needs; empty between calls.
+    pub(crate) undoing: Undoing<R::Record>,
+    /// The rows of committed events.
+    pub(crate) rows: Rows,
+    pub(crate) letters: Letters,
+    pub(crate) out: Outbound,
+}
+
+impl<R: Actor> Model for Hand<R> {
+    ghost use Rattle.std.specs.Prelude.{◌≡◌, ℕ, []};
+    ghost use Rattle.reverse.specs.Rules.{rules_of};
+    ghost use Rattle.group_hand.specs.Hands.{Held};
+    ghost use Rattle.group_hand.specs.Undoing.{CameTo};
+
+    ghost Value = { Held R R.Record };
+
+    ghost view = { λ h. record { members = h.members.items; done = h.done.events; rows = h.rows; flow = h.letters } };
+
+    // the state of each member came from what it has done
+    ghost invariant = { λ h. ((p : ℕ) → CameTo (rules_of R.plain) R.is_value h.members.items h.done.events p) × (h.undoing.aside.events ≡ []) × (h.undoing.back.items ≡ []) };
+}
+
+impl<R: Actor + Drop> Hand<R> {
+    /// A group that has done nothing, of these members, by their numbers, where these offers are in the queue; and whether the words of its block are
+    /// kept to be read.
+    pub fn new(
+        alloc: Global,
+        members: Vec<Option<R>>,
+        offers: Vec<Message>,
+        keeps: bool,
+    ) -> Result<Self, HandFault>
+        ensures members { IfOk result (λ hand. hand.members ≡ members.items) }
+        ensures queue { IfOk result (λ hand. IsPermutation offers.items hand.flow.queue) }
+        ensures done { IfOk result (λ hand. hand.done ≡ []) }
+        ensures rows { IfOk result (λ hand. hand.rows ≡ record { all = []; left = 0 }) }
+        ensures extra { IfOk result (λ hand. hand.flow.extra ≡ []) }
+        ensures tray { IfOk result (λ hand. hand.flow.tray ≡ []) }
+        ensures abroad { IfOk result (λ hand. hand.flow.abroad ≡ []) }
+        ensures words { IfOk result (λ hand. hand.flow.words ≡ []) }
+        ensures keeps { IfOk result (λ hand. hand.flow.keeps ≡ keeps) }
+        ensures memory { IfErr result (λ fault. fault ≡ OutOfMemory) }
+    {
+        match Letters::of_offers(alloc, offers, keeps) {
+            Ok(letters) => Ok(Hand {
+                members,
+                done: DoneEvents::new(alloc),
+                undoing: Undoing::new(alloc),
+                rows: Rows::new(alloc),
+                letters,
+                out: Outbound::new(0, Time::default(), 0),
+            }),
+            Err(_fault) => Err(HandFault::OutOfMemory),
+        }
+    }
+}
+
+impl<R: Actor> Hand<R> {
+    /// The first message of the queue, if there is one: the least of all that the members have to handle, where none of them rolled back.
+    pub fn next(&mut self) -> Option<Message>
+        ensures same { IsAsBefore self.old self.new }
+        ensures among { IfSome result (Contains self.old.flow.queue) }
+        ensures first { IfSome result (λ m. All (λ x. is_before x m ≡ false) self.old.flow.queue) }
+        ensures none { IfNone result (self.old.flow.queue ≡ []) }
+    {
+        self.letters.first()
+    }
+
+    /// The done events that are earlier than the moment, in ns, are committed, the oldest first, up to one that counts other than once, or after which
+    /// the first message of the queue does not come. Their rows are sealed. A refusal leaves all as it was.
+    /// The list is in message order, so each look is at its front.
+    pub fn commit(&mut self, moment: Time) -> Result<(), HandFault>
+        ensures did { CommitsTold (rules_of R.plain) R.is_value moment self.old self.new }
+        ensures sealed { OnOk result ((ds : List (DoneEvent R.Record)) × (self.old.done ≡ ds ++ self.new.done)
+            × (self.new.rows ≡ record self.old.rows { all = self.old.rows.all ++ rows_in ds }) × All (λ m. m.time < moment) (messages_of ds)) }
+        ensures left { OnOk result (StaysDone moment self.new) }
+        ensures queue { IsPermutation self.old.flow.queue self.new.flow.queue }
+        ensures flow { self.new.flow ≡ record self.old.flow { queue = self.new.flow.queue; words = self.new.flow.words; room = self.new.flow.room } }
+        ensures memory { IfErr result (λ fault. fault ≡ OutOfMemory) }
+        ensures unchanged { OnErr result (IsAsBefore self.old self.new) }
+    {
+        actor_rules_law::<R>();
+        let first = self.letters.first();
+        let count = self.letters.count_early(&self.done, moment, &first);
+        match self.letters.commit(&mut self.done, &mut self.rows, count) {
+            Ok(()) => Ok(()),
+            Err(_fault) => Err(HandFault::OutOfMemory),
+        }
+    }
+
+    /// The rows of committed events but those that have left, in the order of their events.
+    pub fn rows(&self) -> &[Row]
+        ensures { result.now ≡ drop self.now.rows.left self.now.rows.all }
+    {
+        self.rows.as_slice()
+    }
+
+    /// The oldest rows that have not left do so, while they are earlier than the moment, in ns. A refusal leaves all as it was.
+    pub fn let_rows_go(&mut self, moment: Time) -> Result<(), HandFault>
+        ensures rows { self.new ≡ record self.old { rows = record self.old.rows { left = self.new.rows.left } } }
+        ensures gone { (count : ℕ) × (self.new.rows.left ≡ self.old.rows.left + count)
+            × (count ≤ length (drop self.old.rows.left self.old.rows.all))
+            × All (λ row. row.message.time < moment) (take count (drop self.old.rows.left self.old.rows.all)) }
+        ensures late { OnOk result (IfSome (slice_get (drop self.new.rows.left self.new.rows.all) 0) (λ row. moment ≤ row.message.time)) }
+        ensures stands { (x : Setting R) (v : World Message R) → StandsForGroup (rules_of R.plain) R.is_value x v self.old → StandsForGroup (rules_of R.plain) R.is_value x v self.new }
+        ensures memory { IfErr result (λ fault. fault ≡ OutOfMemory) }
+    {
+        actor_rules_law::<R>();
+        match self.rows.let_go(moment) {
+            Ok(()) => Ok(()),
+            Err(_fault) => Err(HandFault::OutOfMemory),
+        }
+    }
+}

@@ -1,0 +1,236 @@
+//! What waits for a group, and what it sent to others.
+ghost use Rattle.std.specs.Prelude.{◌≡◌, ◌+◌, ◌<◌, ◌≤◌, ◌⊎◌, [], ◌∷◌, ◌++◌, true, false, All, Contains, OnOk, OnErr, IfOk, IfSome, IfNone, IsPermutation};
+ghost use Rattle.vlink.specs.declared.message.Message.{Message};
+ghost use Rattle.vlink.specs.Letters.{Letter};
+ghost use Rattle.reverse.specs.Rules.{is_before};
+ghost use Rattle.group_hand.specs.declared.block.Did.TheVariants.{Home, Taken};
+ghost use Rattle.group_hand.specs.Flow.{WentAbroad, CameHome, WasTaken, TookFirst};
+
+use crate::block::{Did, Words};
+use crate::queue::Queue;
+use antimessages::Tally;
+use std::alloc::{AllocError, Global};
+use std::collections::VecDeque;
+use std::marker::Model;
+use vlink::{Letter, Message, Sign, compare, message_order_law, order_law};
+
+/// For so many letters and words more than are asked for there is made room at one go.
+const AHEAD: usize = 256;
+
+/// What waits for the members of a group, what they sent to others, and what was done.
+#[derive(Drop)]
+pub(crate) struct Letters {
+    /// What is present and not done. A message can be there several times.
+    pub(crate) queue: Queue,
+    /// The signed counts, less 1 for each message of the queue and each done event: nearly always none.
+    pub(crate) extra: Tally,
+    /// Letters to members that were taken, from the mail of the run or of the group, and have not arrived.
+    pub(crate) tray: VecDeque<Letter>,
+    /// Letters to others that were posted.
+    pub(crate) abroad: Vec<Letter>,
+    /// What was done since the last entry.
+    pub(crate) block: Words,
+    /// For how many letters and words more there is room in each of these, at the least: so one look tells it.
+    pub(crate) room: usize,
+}
+
+impl Model for Letters {
+    ghost use Rattle.std.specs.Prelude.{◌+◌, ◌≤◌, vec_len, vec_capacity};
+    ghost use Rattle.std.specs.VecDeque.{deque_len, deque_capacity};
+    ghost use Rattle.reverse.specs.Rules.{is_before};
+    ghost use Rattle.group_hand.specs.Flow.{Flow};
+
+    ghost Value = { Flow };
+
+    ghost view = { λ l. record {
+      queue = l.queue.messages;
+      extra = l.extra;
+      tray = l.tray.items;
+      abroad = l.abroad.items;
+      words = l.block.words;
+      keeps = l.block.keeps;
+      room = l.room;
+    } };
+
+    ghost invariant = { λ l. (l.room ≤ l.queue.room) × (l.room + deque_len l.tray ≤ deque_capacity l.tray) × (l.room + vec_len l.abroad ≤ vec_capacity l.abroad) × (l.room ≤ l.block.room) };
+}
+
+impl Letters {
+    /// Nothing but these offers.
+    pub(crate) fn of_offers(
+        alloc: Global,
+        offers: Vec<Message>,
+        keeps: bool,
+    ) -> Result<Self, AllocError>
+        ensures queue { IfOk result (λ letters. IsPermutation offers.items letters.queue) }
+        ensures extra { IfOk result (λ letters. letters.extra ≡ []) }
+        ensures tray { IfOk result (λ letters. letters.tray ≡ []) }
+        ensures abroad { IfOk result (λ letters. letters.abroad ≡ []) }
+        ensures words { IfOk result (λ letters. letters.words ≡ []) }
+        ensures keeps { IfOk result (λ letters. letters.keeps ≡ keeps) }
+    {
+        Ok(Letters {
+            queue: Queue::of_offers(alloc, offers)?,
+            extra: Tally::new(alloc),
+            tray: VecDeque::new(alloc),
+            abroad: Vec::new(alloc),
+            block: Words::new(alloc, keeps),
+            room: 0,
+        })
+    }
+
+    /// Makes room for so many letters and words more, wherever they go. Mostly there is.
+    #[inline(always)]
+    pub(crate) fn reserve(&mut self, more: usize) -> Result<(), AllocError>
+        ensures room { OnOk result (more ≤ self.new.room) }
+        ensures same { self.new ≡ record self.old { room = self.new.room } }
+    {
+        if more <= self.room {
+            return Ok(());
+        }
+        self.grow(more.saturating_add(AHEAD))
+    }
+
+    /// Makes room for so many letters and words more in each of the lists.
+    #[inline(never)]
+    fn grow(&mut self, more: usize) -> Result<(), AllocError>
+        ensures room { OnOk result (more ≤ self.new.room) }
+        ensures same { self.new ≡ record self.old { room = self.new.room } }
+    {
+        self.room = 0;
+        self.queue.reserve(more)?;
+        self.tray.reserve(more)?;
+        self.abroad.reserve(more)?;
+        self.block.reserve(more)?;
+        self.room = more;
+        Ok(())
+    }
+
+    /// The first message, if there is one.
+    #[inline(always)]
+    pub(crate) fn first(&mut self) -> Option<Message>
+        ensures same { IsPermutation self.old.queue self.new.queue }
+        ensures room { self.old.room ≤ self.new.room }
+        ensures others { self.new ≡ record self.old { queue = self.new.queue; room = self.new.room } }
+        ensures among { IfSome result (Contains self.old.queue) }
+        ensures first { IfSome result (λ m. All (λ x. is_before x m ≡ false) self.old.queue) }
+        ensures none { IfNone result (self.old.queue ≡ []) }
+    {
+        self.queue.first()
+    }
+
+    /// Takes the first message out of the queue, if there is one.
+    #[inline(always)]
+    pub(crate) fn pop(&mut self) -> Option<Message>
+        ensures taken { IfSome result (λ m. TookFirst m self.old self.new) }
+        ensures none { IfNone result (self.old.queue ≡ []) }
+        ensures empty { IfNone result (self.new.queue ≡ []) }
+        ensures others { self.new ≡ record self.old { queue = self.new.queue; room = self.new.room } }
+        ensures room { self.old.room ≤ self.new.room }
+    {
+        self.queue.pop()
+    }
+
+    /// The first message, which is this one, is handled: it leaves the queue. There is room to tell of it.
+    #[inline(always)]
+    pub(crate) fn take_first(&mut self, message: &Message)
+        requires among { Contains self.old.queue message.now }
+        requires first { All (λ x. is_before x message.now ≡ false) self.old.queue }
+        ensures taken { IsPermutation self.old.queue (message.now ∷ self.new.queue) }
+        ensures room { self.old.room ≤ self.new.room }
+        ensures others { self.new ≡ record self.old { queue = self.new.queue; room = self.new.room } }
+    {
+        self.queue.take_first(message);
+    }
+
+    /// A message of the group waits again: it joins the queue, which has room for it.
+    pub(crate) fn wait_again(&mut self, message: &Message)
+        requires { 0 < self.old.room }
+        ensures waits { IsPermutation (message.now ∷ self.old.queue) self.new.queue }
+        ensures others { self.new ≡ record self.old { queue = self.new.queue; room = self.new.room } }
+        ensures room { self.old.room ≤ self.new.room + 1 }
+    {
+        self.queue.push_reserved(message);
+        self.room -= 1;
+    }
+
+    /// One word more, for which there is room.
+    #[inline(always)]
+    pub(crate) fn tell(&mut self, did: Did)
+        requires { 0 < self.old.room }
+        ensures told { self.new ≡ record self.old { words = self.old.words ++ did ∷ []; room = self.new.room } }
+        ensures room { self.old.room ≤ self.new.room + 1 }
+    {
+        self.block.push_reserved(did);
+        self.room -= 1;
+    }
+
+    /// A message that was just sent goes on: to others; or to a member, whose letter is taken and joins the queue at once, where no letter is to
+    /// arrive before it and nothing of it counts beside, and else goes to the tray.
+    #[inline(always)]
+    pub(crate) fn pass(&mut self, message: &Message, is_home: bool)
+        requires { 0 < self.old.room }
+        ensures abroad { is_home ≡ false → WentAbroad message.now self.old self.new }
+        ensures home { is_home ≡ true → CameHome message.now self.old self.new ⊎ WasTaken message.now self.old self.new }
+        ensures room { self.old.room ≤ self.new.room + 1 }
+    {
+        if !is_home {
+            self.post(message, Sign::Plus);
+        } else if self.tray.is_empty() && self.extra.is_zero(message) {
+            self.join(message);
+        } else {
+            self.hold(message, Sign::Plus);
+        }
+    }
+
+    /// A letter of this message joins those for others, for which there is room.
+    #[inline(always)]
+    pub(crate) fn post(&mut self, message: &Message, sign: Sign)
+        requires { 0 < self.old.room }
+        ensures posted { self.new ≡ record self.old { abroad = self.old.abroad ++ record { message = message.now; sign = sign } ∷ []; room = self.new.room } }
+        ensures room { self.old.room ≤ self.new.room + 1 }
+    {
+        let letter = Letter {
+            message: *message,
+            sign,
+        };
+        self.abroad.push_reserved(letter);
+        self.room -= 1;
+    }
+
+    /// A letter of this message to a member is taken, and waits in the tray, for which there is room.
+    pub(crate) fn hold(&mut self, message: &Message, sign: Sign)
+        requires { 0 < self.old.room }
+        ensures held { self.new ≡ record self.old { tray = self.old.tray ++ record { message = message.now; sign = sign } ∷ []; words = self.old.words ++ Taken message.now.receiver ∷ []; room = self.new.room } }
+        ensures room { self.old.room ≤ self.new.room + 1 }
+    {
+        let letter = Letter {
+            message: *message,
+            sign,
+        };
+        self.tray.push_back_reserved(letter);
+        self.block.push_reserved(Did::Taken {
+            process: message.receiver,
+        });
+        self.room -= 1;
+    }
+
+    /// A letter of this message to a member is taken, and arrives at once: the message joins the queue, for which there is room.
+    #[inline(always)]
+    fn join(&mut self, message: &Message)
+        requires { 0 < self.old.room }
+        ensures queue { IsPermutation (message.now ∷ self.old.queue) self.new.queue }
+        ensures words { self.new.words ≡ self.old.words ++ Home message.now.receiver ∷ [] }
+        ensures extra { self.new.extra ≡ self.old.extra }
+        ensures tray { self.new.tray ≡ self.old.tray }
+        ensures abroad { self.new.abroad ≡ self.old.abroad }
+        ensures keeps { self.new.keeps ≡ self.old.keeps }
+        ensures room { self.old.room ≤ self.new.room + 1 }
+    {
+        self.queue.push_reserved(message);
+        self.block.push_reserved(Did::Home {
+            process: message.receiver,
+        });
+        self.room -= 1;
+    }
+}

@@ -1,0 +1,183 @@
+//! The first message of a group is handled.
+ghost use Rattle.std.specs.Prelude.{◌≡◌, ◌≢◌, ◌≤◌, ◌<◌, ◌+◌, ◌++◌, ◌∷◌, [], false, true, Some, All, Contains, Ok, Err, OnOk, OnErr, slice_get};
+ghost use Rattle.vlink.specs.declared.message.Message.{Message};
+ghost use Rattle.vlink.specs.Order.{message_order};
+ghost use Rattle.vlink.specs.Numbering.{greatest_number};
+ghost use Rattle.virtual_time.specs.Law.{World, IsAscending};
+ghost use Rattle.reverse.specs.Rules.{rules_of, is_before};
+ghost use Rattle.reverse.specs.Setting.{Setting};
+ghost use Rattle.antimessages.specs.Counting.{is_after, newest_of};
+ghost use Rattle.group_hand.specs.DoneEvents.{DoneEvent, messages_of};
+ghost use Rattle.group_hand.specs.Handling.{IsHandled};
+ghost use Rattle.group_hand.specs.Hands.{DoesTold, IsAsBefore, StandsForGroup};
+ghost use Rattle.group_hand.specs.Undoing.{HasRoomFor};
+ghost use Rattle.group_hand.specs.declared.fault.HandFault.TheVariants.{Exhausted};
+ghost use Rattle.group_hand.specs.declared.early.Early.TheVariants.{Ran, Idle, Late};
+ghost use Rattle.reverse.specs.declared.sends.TheConstants.{MOST_SENT};
+
+use crate::done_events::DoneEvents;
+use crate::early::{Early, early_of, handle_first};
+use crate::fault::HandFault;
+use crate::hand::Hand;
+use crate::late::handle_late;
+use crate::letters::Letters;
+use crate::members::has_numbers;
+use reverse::{Actor, MOST_SENT, actor_rules_law};
+use std::alloc::AllocError;
+use vlink::Time;
+
+/// The most letters, and words beside the first, that one event gives.
+const MOST_LETTERS: usize = MOST_SENT + 1;
+
+impl<R: Actor> Hand<R> {
+    /// The first message of all members is handled, where it is earlier than the limit and comes after all that the group has done. What it sends to
+    /// members is taken: it joins the queue, or waits in the tray where a letter is to arrive before it or its message counts beside. What it sends to
+    /// others joins the letters abroad.
+    ///
+    /// `Exhausted`: its receiver, if it is a member, has not enough numbers left for what one event can send. `OutOfMemory`: a growth was refused.
+    /// Either leaves all as it was.
+    pub fn run_early(&mut self, limit: Time) -> Result<Early, HandFault>
+        ensures did { DoesTold (rules_of R.plain) R.is_value self.old self.new }
+        ensures idle { result ≡ Ok Idle → All (λ m. limit ≤ m.time) self.old.flow.queue }
+        ensures late { result ≡ Ok Late → (m : Message) × (is_after message_order (newest_of (messages_of self.old.done)) m ≡ false)
+            × Contains self.old.flow.queue m × All (λ x. is_before x m ≡ false) self.old.flow.queue }
+        ensures still { result ≡ Ok Late → IsAsBefore self.old self.new }
+        ensures idle_still { result ≡ Ok Idle → IsAsBefore self.old self.new }
+        ensures ran { result ≡ Ok Ran → (d : DoneEvent R.Record) × (self.new.done ≡ self.old.done ++ d ∷ [])
+            × Contains self.old.flow.queue d.message × All (λ x. is_before x d.message ≡ false) self.old.flow.queue × (d.message.time < limit) }
+        ensures soon { result ≡ Ok Late → (m : Message) × Contains self.old.flow.queue m × (m.time < limit) }
+        ensures exhausted { result ≡ Err Exhausted → (m : Message) × Contains self.old.flow.queue m × All (λ x. is_before x m ≡ false) self.old.flow.queue
+            × (IsAscending message_order (messages_of self.old.done) → All (λ x. x ≢ m) (messages_of self.old.done))
+            × ((s : R) → slice_get self.old.members m.receiver ≡ Some (Some s) → greatest_number < R.plain.counter s + MOST_SENT) }
+        ensures unchanged { OnErr result (IsAsBefore self.old self.new) }
+    {
+        actor_rules_law::<R>();
+        let Ok(()) = make_room(&mut self.done, &mut self.letters) else {
+            return Err(HandFault::OutOfMemory);
+        };
+        let Some(message) = self.letters.pop() else {
+            return Ok(Early::Idle);
+        };
+        let early = early_of(&self.members, &self.done, &message, limit);
+        match early {
+            Ok(Early::Ran) => {
+                handle_first(
+                    &mut self.members,
+                    &mut self.done,
+                    &mut self.letters,
+                    &mut self.out,
+                    &message,
+                );
+                Ok(Early::Ran)
+            }
+            _ => {
+                self.letters.wait_again(&message);
+                early
+            }
+        }
+    }
+
+    /// The first message of all members is handled, where it is earlier than the limit, whether other members have done later events or not; or, where it
+    /// is done already, it counts beside. What it sends to members is taken: it joins the queue, or waits in the tray. The answer is whether there was
+    /// one. Letters that wait in the tray are to arrive before.
+    ///
+    /// `Exhausted`: it is not done, and its receiver, if it is a member, has not enough numbers left for what one event can send. `OutOfMemory`: a
+    /// growth was refused. Either leaves all as it was.
+    pub fn run_next(&mut self, limit: Time) -> Result<bool, HandFault>
+        ensures did { DoesTold (rules_of R.plain) R.is_value self.old self.new }
+        ensures idle { result ≡ Ok false → All (λ m. limit ≤ m.time) self.old.flow.queue }
+        ensures still { result ≡ Ok false → IsAsBefore self.old self.new }
+        ensures ran { result ≡ Ok true → (x : Setting R) (v : World Message R) → StandsForGroup (rules_of R.plain) R.is_value x v self.old →
+            (m : Message) × Contains self.old.flow.queue m × (m.time < limit) × IsHandled m self.old self.new }
+        ensures exhausted { result ≡ Err Exhausted → (m : Message) × Contains self.old.flow.queue m × All (λ x. is_before x m ≡ false) self.old.flow.queue
+            × (IsAscending message_order (messages_of self.old.done) → All (λ x. x ≢ m) (messages_of self.old.done))
+            × ((s : R) → slice_get self.old.members m.receiver ≡ Some (Some s) → greatest_number < R.plain.counter s + MOST_SENT) }
+        ensures unchanged { OnErr result (IsAsBefore self.old self.new) }
+    {
+        actor_rules_law::<R>();
+        match self.run_early(limit)? {
+            Early::Ran => Ok(true),
+            Early::Idle => Ok(false),
+            Early::Late => {
+                self.run_late()?;
+                Ok(true)
+            }
+        }
+    }
+
+    /// The first message of the queue, which has one, is handled by its receiver, where other members have done later events; or, where it is done
+    /// already, it counts beside. What it sends to members waits in the tray.
+    ///
+    /// `Exhausted`: it is not done, and its receiver, if it is a member, has not enough numbers left for what one event can send. `OutOfMemory`: a
+    /// growth was refused. Either leaves all as it was.
+    pub(crate) fn run_late(&mut self) -> Result<(), HandFault>
+        requires { (m : Message) × Contains self.old.flow.queue m }
+        ensures did { DoesTold (rules_of R.plain) R.is_value self.old self.new }
+        ensures ran { OnOk result ((x : Setting R) (v : World Message R) → StandsForGroup (rules_of R.plain) R.is_value x v self.old →
+            (m : Message) × Contains self.old.flow.queue m × All (λ y. is_before y m ≡ false) self.old.flow.queue × IsHandled m self.old self.new) }
+        ensures exhausted { result ≡ Err Exhausted → (m : Message) × Contains self.old.flow.queue m × All (λ x. is_before x m ≡ false) self.old.flow.queue
+            × (IsAscending message_order (messages_of self.old.done) → All (λ x. x ≢ m) (messages_of self.old.done))
+            × ((s : R) → slice_get self.old.members m.receiver ≡ Some (Some s) → greatest_number < R.plain.counter s + MOST_SENT) }
+        ensures unchanged { OnErr result (IsAsBefore self.old self.new) }
+    {
+        actor_rules_law::<R>();
+        let Some(message) = self.letters.first() else {
+            unreachable!()
+        };
+        if self.done.has(&message) {
+            return match self.letters.count_again(&message) {
+                Ok(()) => Ok(()),
+                Err(_fault) => Err(HandFault::OutOfMemory),
+            };
+        }
+        if !has_numbers(&self.members, message.receiver) {
+            return Err(HandFault::Exhausted);
+        }
+        let Ok(()) = make_late_room(&mut self.done, &mut self.undoing.aside, &mut self.letters)
+        else {
+            return Err(HandFault::OutOfMemory);
+        };
+        handle_late(
+            &mut self.members,
+            &mut self.done,
+            &mut self.undoing.aside,
+            &mut self.letters,
+            &mut self.out,
+            &message,
+        );
+        Ok(())
+    }
+}
+
+/// Makes room for all that one event gives.
+#[inline(always)]
+fn make_room<K: Copy>(done: &mut DoneEvents<K>, letters: &mut Letters) -> Result<(), AllocError>
+    ensures room { OnOk result (MOST_SENT + 1 ≤ letters.new.room) }
+    ensures events { OnOk result (1 ≤ done.new.events_room) }
+    ensures sends { OnOk result (MOST_SENT ≤ done.new.sends_room) }
+    ensures rows { OnOk result (2 ≤ done.new.rows_room) }
+    ensures done { done.new.events ≡ done.old.events }
+    ensures letters { letters.new ≡ record letters.old { room = letters.new.room } }
+{
+    letters.reserve(MOST_LETTERS)?;
+    done.reserve()
+}
+
+/// Makes room for all that one event gives, and to set all done events aside.
+fn make_late_room<K: Copy>(
+    done: &mut DoneEvents<K>,
+    aside: &mut DoneEvents<K>,
+    letters: &mut Letters,
+) -> Result<(), AllocError>
+    ensures room { OnOk result (MOST_SENT + 1 ≤ letters.new.room) }
+    ensures events { OnOk result (1 ≤ done.new.events_room) }
+    ensures sends { OnOk result (MOST_SENT ≤ done.new.sends_room) }
+    ensures rows { OnOk result (2 ≤ done.new.rows_room) }
+    ensures space { OnOk result (HasRoomFor done.new.events aside.new) }
+    ensures done { done.new.events ≡ done.old.events }
+    ensures aside { aside.new.events ≡ aside.old.events }
+    ensures letters { letters.new ≡ record letters.old { room = letters.new.room } }
+{
+    make_room(done, letters)?;
+    aside.reserve_for(done)
+}

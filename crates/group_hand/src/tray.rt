@@ -1,0 +1,150 @@
+//! The front of the tray: how it counts, and what was sent in vain.
+ghost use Rattle.std.specs.Prelude.{◌≡◌, ◌≢◌, ◌+◌, ◌<◌, ◌≤◌, ◌⊎◌, [], ◌∷◌, ◌++◌, true, false, List, Ok, All, Contains, OnOk, OnErr, IfOk, IfSome, IfNone, IsPermutation, length, map, pos, ◌<ℤ◌, ◌≤ℤ◌};
+ghost use Rattle.vlink.specs.declared.message.Message.{Message};
+ghost use Rattle.vlink.specs.Letters.{Letter};
+ghost use Rattle.vlink.specs.Order.{message_order};
+ghost use Rattle.virtual_time.specs.Law.{minus_of};
+ghost use Rattle.virtual_time.specs.declared.letter.Sign.TheVariants.{Plus, Minus};
+ghost use Rattle.antimessages.specs.Counting.{HaveSameCounts, signed_count};
+ghost use Rattle.group_hand.specs.Arriving.{WentOn};
+ghost use Rattle.group_hand.specs.Counted.{FrontCounts};
+ghost use Rattle.group_hand.specs.declared.block.Did.TheVariants.{Arrived, Taken};
+ghost use Rattle.group_hand.specs.declared.tray.Way.{Way};
+ghost use Rattle.group_hand.specs.declared.tray.Way.TheVariants.{Beside};
+
+use crate::block::Did;
+use crate::letters::Letters;
+use crate::members::is_ours;
+use antimessages::OutOfMemory;
+use vlink::{Letter, Message, Sign, order_law};
+
+/// What becomes of the message of a letter that arrives.
+#[derive(Clone, Copy)]
+pub(crate) enum Way {
+    /// The letter counts beside.
+    Beside,
+    /// It joins the queue.
+    Joins,
+    /// It left the queue.
+    Leaves,
+    /// It was done, and is undone.
+    Undoes,
+}
+
+impl Letters {
+    /// The front of the tray, if there is one.
+    pub(crate) fn front(&self) -> Option<Letter>
+        ensures front { IfSome result (λ l. (rest : List Letter) × (self.now.tray ≡ l ∷ rest)) }
+        ensures none { IfNone result (self.now.tray ≡ []) }
+    {
+        match self.tray.front() {
+            Some(letter) => Some(*letter),
+            None => None,
+        }
+    }
+
+    /// What becomes of the letter's message, where `is_done` tells whether it is that of a done event. A letter that counts beside is tallied, and a
+    /// message that leaves the queue has left it. A refusal changes nothing.
+    pub(crate) fn count(&mut self, letter: &Letter, is_done: bool) -> Result<Way, OutOfMemory>
+        ensures counted { (way : Way) → result ≡ Ok way → FrontCounts letter.now is_done self.old self.new way }
+        ensures others { self.new ≡ record self.old { queue = self.new.queue; extra = self.new.extra; room = self.new.room } }
+        ensures room { self.old.room ≤ self.new.room }
+        ensures queue { OnErr result (self.new.queue ≡ self.old.queue) }
+        ensures extra { OnErr result (self.new.extra ≡ self.old.extra) }
+    {
+        match letter.sign {
+            Sign::Plus => self.count_plus(letter, is_done),
+            Sign::Minus => self.count_minus(letter, is_done),
+        }
+    }
+
+    /// Does what `count` does of a plus letter.
+    fn count_plus(&mut self, letter: &Letter, is_done: bool) -> Result<Way, OutOfMemory>
+        requires { letter.now.sign ≡ Plus }
+        ensures counted { (way : Way) → result ≡ Ok way → FrontCounts letter.now is_done self.old self.new way }
+        ensures others { self.new ≡ record self.old { queue = self.new.queue; extra = self.new.extra; room = self.new.room } }
+        ensures room { self.old.room ≤ self.new.room }
+        ensures queue { self.new.queue ≡ self.old.queue }
+        ensures extra { OnErr result (self.new.extra ≡ self.old.extra) }
+    {
+        if is_done {
+            return self.tally(letter);
+        }
+        if self.extra.count(&letter.message) < 0 {
+            return self.tally(letter);
+        }
+        Ok(Way::Joins)
+    }
+
+    /// Does what `count` does of a minus letter.
+    fn count_minus(&mut self, letter: &Letter, is_done: bool) -> Result<Way, OutOfMemory>
+        requires { letter.now.sign ≡ Minus }
+        ensures counted { (way : Way) → result ≡ Ok way → FrontCounts letter.now is_done self.old self.new way }
+        ensures others { self.new ≡ record self.old { queue = self.new.queue; extra = self.new.extra; room = self.new.room } }
+        ensures room { self.old.room ≤ self.new.room }
+        ensures queue { OnErr result (self.new.queue ≡ self.old.queue) }
+        ensures extra { OnErr result (self.new.extra ≡ self.old.extra) }
+    {
+        if self.extra.count(&letter.message) > 0 {
+            return self.tally(letter);
+        }
+        if self.queue.remove(&letter.message) {
+            return Ok(Way::Leaves);
+        }
+        if is_done {
+            return Ok(Way::Undoes);
+        }
+        self.tally(letter)
+    }
+
+    /// The letter counts beside.
+    fn tally(&mut self, letter: &Letter) -> Result<Way, OutOfMemory>
+        ensures beside { IfOk result (λ way. way ≡ Beside) }
+        ensures counts { OnOk result (HaveSameCounts message_order self.new.extra (letter.now ∷ self.old.extra)) }
+        ensures others { self.new ≡ record self.old { extra = self.new.extra; room = self.new.room } }
+        ensures room { self.new.room ≡ self.old.room }
+        ensures unchanged { OnErr result (self.new.extra ≡ self.old.extra) }
+    {
+        order_law();
+        self.extra.add(*letter)?;
+        Ok(Way::Beside)
+    }
+
+    /// The front of the tray, which is this letter, leaves it, and that it arrived is told, for which there is room.
+    pub(crate) fn take_front(&mut self, letter: &Letter)
+        requires { 0 < self.old.room }
+        ensures tray { (rest : List Letter) → self.old.tray ≡ letter.now ∷ rest → self.new.tray ≡ rest }
+        ensures words { self.new.words ≡ self.old.words ++ Arrived letter.now.message.receiver ∷ [] }
+        ensures others { self.new ≡ record self.old { tray = self.new.tray; words = self.new.words; room = self.new.room } }
+        ensures room { self.old.room ≤ self.new.room + 1 }
+    {
+        let _front = self.tray.pop_front();
+        self.block.push_reserved(Did::Arrived {
+            process: letter.message.receiver,
+        });
+        self.room -= 1;
+    }
+
+    /// The message leaves the queue, if it is there.
+    pub(crate) fn take_out(&mut self, message: &Message)
+        ensures taken { Contains self.old.queue message.now → IsPermutation self.old.queue (message.now ∷ self.new.queue) }
+        ensures others { self.new ≡ record self.old { queue = self.new.queue; room = self.new.room } }
+        ensures room { self.old.room ≤ self.new.room }
+    {
+        let _gone = self.queue.remove(message);
+    }
+
+    /// A message that an undone event sent is taken back: its antimessage goes where the message went.
+    pub(crate) fn take_back(&mut self, message: &Message, is_home: bool)
+        requires { 0 < self.old.room }
+        ensures home { is_home ≡ true → self.new ≡ record self.old { tray = self.old.tray ++ minus_of message.now ∷ []; words = self.old.words ++ Taken message.now.receiver ∷ []; room = self.new.room } }
+        ensures abroad { is_home ≡ false → self.new ≡ record self.old { abroad = self.old.abroad ++ minus_of message.now ∷ []; room = self.new.room } }
+        ensures room { self.old.room ≤ self.new.room + 1 }
+    {
+        if is_home {
+            self.hold(message, Sign::Minus);
+        } else {
+            self.post(message, Sign::Minus);
+        }
+    }
+}

@@ -1,8 +1,0 @@
-use Rattle.std.proofs.Common.{◌≡◌, ◌<◌, ◌+◌, All, length}
-use Rattle.partition.proofs.groups.places_of.Given as goal
-
-abbrev pub invariant-loop-node : goal.invariant-loop-node
-invariant-loop-node l = (length l.places.items ≡ l.node) × All (λ group. group < l.groups) l.places.items
-
-abbrev pub invariant-loop-line : goal.invariant-loop-line
-invariant-loop-line l = (length l.places.items ≡ length l.network.nodes + l.line) × All (λ group. group < l.groups) l.places.items

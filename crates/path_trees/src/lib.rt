@@ -1,9 +1,0 @@
-//! The paths of a virtual link: what nodes they pass, their hops and ends, and which are no tree.
-#![tactic(auto)]
-
-mod paths;
-mod trees;
-
-pub use node_kinds::{is_end_system, is_switch_of};
-pub use paths::{push_all, push_ends};
-pub use trees::{Room, check_trees};

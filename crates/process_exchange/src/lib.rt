@@ -1,0 +1,28 @@
+//! The exchange of letters between processes that run each for itself, and the journal of what they did, over lent values: no thread and
+//! no lock. A process in hand (`Held`) collects letters, works alone and posts; the `Exchange` has mail, floors, GVT and the journal.
+#![tactic(auto)]
+
+mod collecting;
+mod entering;
+mod exchange;
+mod fits;
+mod held;
+mod mark;
+mod opening;
+mod pairs;
+mod posting;
+mod publishing;
+mod reading;
+mod run_of;
+mod sealed;
+mod working;
+
+pub use collecting::collect;
+pub use held::Held;
+pub use mark::Mark;
+pub use pairs::Pairs;
+pub use posting::post;
+pub use process_exchange::Exchange;
+pub use publishing::publish;
+pub use run_of::ActorRun;
+pub use working::work;

@@ -1,0 +1,20 @@
+//! Of which run of a network an exchange and its processes are.
+use nodes::Node;
+use process_exchange::ActorRun;
+use run_rows::NetworkRun;
+use std::marker::PhantomData;
+
+/// The run of a network, as a run of its nodes and lines.
+pub struct Of<J: NetworkRun> {
+    of: PhantomData<J>,
+}
+
+impl<J: NetworkRun> ActorRun<Node> for Of<J> {
+    ghost use Rattle.seqsim.specs.Networks.{setting_of};
+
+    ghost setting = { setting_of J.plan };
+
+    ghost keeps = { J.keeps };
+
+    ghost names = { J.names };
+}
