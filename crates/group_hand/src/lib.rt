@@ -33,5 +33,5 @@ mod undoing;
 pub use block::{Did, Words};
 pub use early::Early;
 pub use fault::HandFault;
-pub use group_hand::Hand;
+pub use hand::Hand;
 pub use laws::hand_law;

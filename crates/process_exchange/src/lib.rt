@@ -18,11 +18,11 @@ mod sealed;
 mod working;
 
 pub use collecting::collect;
+pub use exchange::Exchange;
 pub use held::Held;
 pub use mark::Mark;
 pub use pairs::Pairs;
 pub use posting::post;
-pub use process_exchange::Exchange;
 pub use publishing::publish;
 pub use run_of::ActorRun;
 pub use working::work;
