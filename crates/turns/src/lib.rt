@@ -3,13 +3,16 @@
 //! it; then it works on events, as far as it may be ahead of the others.
 //!
 //! Who gives a turn has the lock of the group meanwhile (`Seats`). For each group the workers tell one another the moment of what it has to do next
-//! (`Moments`). A worker that finds nothing to do for its own groups looks again; soon it lets other threads run in between, and gives groups of others
-//! their turns, whose workers may be off their cores; and at last it rests until one of its own is due. Nothing here is part of a proof: a wrong estimate
-//! costs a turn or a rollback.
+//! (`Moments`). A worker lists its groups that are due in a deque (`Agenda`), and gives them their turns in that order. A worker that finds nothing to do
+//! for its own groups looks again; soon it lets other threads run in between, and gives groups of others their turns, whose workers may be off their
+//! cores: what it steals from the deque of the worker that is furthest behind, or any that is due; and at last it rests until one of its own is due.
+//! Nothing here is part of a proof: a wrong estimate costs a turn or a rollback.
 #![tactic(auto)]
 
+mod agenda;
 mod apart;
 mod common;
+mod hint;
 mod locking;
 mod looks;
 mod moments;
@@ -19,12 +22,14 @@ mod report;
 mod seat;
 mod seats;
 mod signals;
+mod standstill;
 mod tasks;
 mod worker;
 mod workers;
 
 pub use apart::Apart;
 pub use common::Common;
+pub use hint::TurnRun;
 pub use locking::locked_soon;
 pub use moments::Moments;
 pub use refusal::Refusal;
@@ -40,12 +45,18 @@ pub const LEAD_NS: u64 = 8_000;
 /// So many messages a group handles at most before it tells how far it has come.
 const PIECE: u32 = 8;
 
-/// A group that has letters for others ends its turn after so many messages: the others go on meanwhile, and undo more the longer the letters wait.
+/// A group that has letters for others ends its turn after so many messages: the others wait for them meanwhile.
 const MOST_WITH_LETTERS: u32 = 32;
 
-/// What a group did goes to the journal after so many messages, at the latest; as soon as there are letters for others; and behind each turn that it
-/// has of another worker than its own, which may rest, and would keep letters and GVT from all others.
+/// What a group did goes to the journal after so many messages, at the latest; at the end of each turn that leaves letters for others; and at the end of
+/// each turn that it has of another worker than its own, which may rest, and would keep GVT from all others.
 const MOST_UNPOSTED: u32 = 256;
+
+/// How many groups a deque has room for at first.
+const SLOTS: usize = 64;
+
+/// A deque that has grown past so many slots takes no more groups: thieves that were stopped made it grow, and it never shrinks. A slot takes 32 bytes.
+const MOST_SLOTS: usize = 1024;
 
 /// A group that has nothing to do sees GVT where that is further on than this, in ns.
 const BEHIND_NS: u64 = 1_000_000;
@@ -82,3 +93,6 @@ const PAUSES_OF_TRY: u32 = 8;
 
 /// A watch is shown GVT once in so many microseconds.
 const LOOK_US: u64 = 250_000;
+
+/// A run whose GVT is the same after so many looks at it, which is 10 s, stands still: its workers end, and one thread finishes it.
+const LOOKS_OF_STANDSTILL: u32 = 40;

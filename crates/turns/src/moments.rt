@@ -8,7 +8,7 @@ use vlink::Time;
 /// What is told of a group.
 #[derive(Drop)]
 struct Moment {
-    /// The moment of its next event, in ns, as who gave it a turn told it last.
+    /// The moment of its next event, in ns, or of its earliest letter that is not posted, as who gave it a turn told it last.
     next_ns: AtomicU64,
     /// The least moment of the letters that wait for it, in ns. Who posted one lowers it after that, and who takes them raises it in the same section.
     /// So no letter is missed.
@@ -16,10 +16,18 @@ struct Moment {
 }
 
 impl Moment {
-    /// Whether it has something to do before this moment, in ns.
-    fn is_due(&self, limit_ns: u64) -> bool {
-        self.next_ns.load(Ordering::SeqCst) < limit_ns
-            || self.letter_ns.load(Ordering::SeqCst) < limit_ns
+    /// The moment at which it has something to do, in ns.
+    fn first_ns(&self) -> u64 {
+        self.next_ns
+            .load(Ordering::SeqCst)
+            .min(self.letter_ns.load(Ordering::SeqCst))
+    }
+
+    /// It has something to do at this moment, in ns, or sooner. Its caller gives the group a turn.
+    fn lower_next(&self, moment_ns: u64) {
+        if moment_ns < self.next_ns.load(Ordering::SeqCst) {
+            self.next_ns.store(moment_ns, Ordering::SeqCst);
+        }
     }
 }
 
@@ -148,19 +156,36 @@ impl Moments {
         }
         let mut least_ns = u64::MAX;
         for moment in &self.moments {
-            let moment = &moment.value;
-            least_ns = least_ns.min(moment.next_ns.load(Ordering::SeqCst));
-            least_ns = least_ns.min(moment.letter_ns.load(Ordering::SeqCst));
+            least_ns = least_ns.min(moment.value.first_ns());
         }
         least_ns.saturating_add(LEAD_NS)
     }
 
+    /// The moment at which the group has something to do, in ns.
+    pub(crate) fn first_ns(&self, group: usize) -> u64 {
+        match self.moments.get(group) {
+            Some(moment) => moment.value.first_ns(),
+            None => u64::MAX,
+        }
+    }
+
     /// Whether the group has something to do before this moment, in ns.
     pub(crate) fn is_due(&self, group: usize, limit_ns: u64) -> bool {
-        match self.moments.get(group) {
-            Some(moment) => moment.value.is_due(limit_ns),
-            None => false,
+        self.first_ns(group) < limit_ns
+    }
+
+    /// Of the other workers the one whose groups are furthest behind, if there is one.
+    pub(crate) fn furthest_behind(&self, worker: usize) -> Option<usize> {
+        let mut least_ns = u64::MAX;
+        let mut behind = None;
+        for group in 0..self.groups() {
+            let first_ns = self.first_ns(group);
+            if first_ns < least_ns && !self.is_of(group, worker) {
+                least_ns = first_ns;
+                behind = self.owner(group);
+            }
         }
+        behind
     }
 
     /// Whether nothing but GVT is to come for this worker: no group has an event before the end, or one of its own would be due but for the window.
@@ -185,7 +210,7 @@ impl Moments {
         }
     }
 
-    /// The group has its next event at this moment, in ns.
+    /// The group has its next event, or its earliest letter that is not posted, at this moment, in ns.
     pub(crate) fn tell(&self, group: u16, moment_ns: u64) {
         if let Some(moment) = self.moments.get(usize::from(group)) {
             moment.value.next_ns.store(moment_ns, Ordering::SeqCst);
@@ -198,10 +223,11 @@ impl Moments {
         let Some(moment) = self.moments.get(usize::from(group)) else {
             return u64::MAX;
         };
-        let letter_ns = moment.value.letter_ns.swap(u64::MAX, Ordering::SeqCst);
-        if letter_ns < moment.value.next_ns.load(Ordering::SeqCst) {
-            moment.value.next_ns.store(letter_ns, Ordering::SeqCst);
-        }
+        let moment = &moment.value;
+        // In between the others are to believe in no later moment.
+        moment.lower_next(moment.letter_ns.load(Ordering::SeqCst));
+        let letter_ns = moment.letter_ns.swap(u64::MAX, Ordering::SeqCst);
+        moment.lower_next(letter_ns);
         letter_ns
     }
 

@@ -1,4 +1,7 @@
 //! What a worker does with a group.
+ghost use Rattle.std.specs.Prelude.{◌<◌};
+
+use crate::hint::TurnRun;
 use crate::moments::Moments;
 use crate::refusal::Refusal;
 use crate::report::Report;
@@ -9,8 +12,12 @@ pub trait Tasks<G> {
     /// Why a run is refused.
     type Fault: Refusal;
 
+    /// Which run the groups are of.
+    type Run: TurnRun;
+
     /// How far a group has come.
-    fn report(&self, seat: &Seat<G>) -> Report;
+    fn report(&self, seat: &Seat<G>) -> Report
+        ensures within { result.number < Self.Run.groups };
 
     /// The moment of its next event, in ns, or the greatest number where there is none.
     fn next_ns(&self, group: &mut G) -> u64;

@@ -1,5 +1,6 @@
 //! A worker: it gives groups their turns.
 use crate::PAUSES;
+use crate::agenda::{Agenda, Stealers};
 use crate::common::Common;
 use crate::looks::Looks;
 use crate::moments::Moments;
@@ -11,14 +12,15 @@ use std::alloc::{AllocError, Global};
 use std::sync::Wait;
 use std::{hint, thread};
 
-/// The worker of this number gives turns until the run is over or a refusal ends it. One of its own ends the others at their next turn.
+/// A worker with these groups gives turns until the run is over or a refusal ends it. One of its own ends the others at their next turn.
 pub(crate) fn give_turns<G: Drop, K: Tasks<G>, T: Wait>(
     rt: &T,
     alloc: Global,
     common: &Common<G, K>,
-    number: usize,
+    stealers: &Stealers<K::Run>,
+    agenda: Agenda<K::Run>,
 ) -> Result<(), K::Fault> {
-    let outcome = match Worker::new(rt, alloc, common, number) {
+    let outcome = match Worker::new(rt, alloc, common, stealers, agenda) {
         Ok(mut worker) => {
             let outcome = worker.turns_until_over();
             drop(worker);
@@ -35,28 +37,31 @@ pub(crate) fn give_turns<G: Drop, K: Tasks<G>, T: Wait>(
 
 /// What a worker has for itself, and what it shares with the others.
 #[derive(Drop)]
-struct Worker<'s, G, K, T> {
+struct Worker<'s, G, K: Tasks<G>, T> {
     rt: &'s T,
     common: &'s Common<G, K>,
-    number: usize,
+    stealers: &'s Stealers<K::Run>,
+    agenda: Agenda<K::Run>,
     /// For each group the least moment of the letters that were posted to it last, in ns.
     letters_ns: Vec<u64>,
     looks: Looks,
 }
 
 impl<'s, G: Drop, K: Tasks<G>, T: Wait> Worker<'s, G, K, T> {
-    /// The worker of this number, which has given no turn. It is refused for memory alone.
+    /// A worker with these groups, which has given no turn. It is refused for memory alone.
     fn new(
         rt: &'s T,
         alloc: Global,
         common: &'s Common<G, K>,
-        number: usize,
+        stealers: &'s Stealers<K::Run>,
+        agenda: Agenda<K::Run>,
     ) -> Result<Self, AllocError> {
         let letters_ns = vec![in alloc; u64::MAX; common.signals.moments.groups()]?;
         Ok(Worker {
             rt,
             common,
-            number,
+            stealers,
+            agenda,
             letters_ns,
             looks: Looks::none(),
         })
@@ -76,14 +81,17 @@ impl<'s, G: Drop, K: Tasks<G>, T: Wait> Worker<'s, G, K, T> {
         Ok(())
     }
 
-    /// A turn for each group of its own that no other worker has. The answer is whether a message was handled.
+    /// A turn for each group of its own that no other worker has, or stole: those that are due come first, the one that is furthest behind before the
+    /// others. The answer is whether a message was handled.
     fn own_turns(&mut self) -> Result<bool, K::Fault> {
         let common = self.common;
-        let moments = &common.signals.moments;
+        self.agenda.begin_round(&common.signals.moments);
         let mut has_worked = false;
-        for group in 0..moments.groups() {
-            if moments.is_of(group, self.number) && self.turn_of(group, true)? {
-                has_worked = true;
+        for place in 0..self.agenda.groups() {
+            if let Some(group) = self.agenda.next(place) {
+                if self.turn_of(group, true)? {
+                    has_worked = true;
+                }
             }
         }
         if has_worked {
@@ -93,7 +101,8 @@ impl<'s, G: Drop, K: Tasks<G>, T: Wait> Worker<'s, G, K, T> {
     }
 
     /// A turn for a group of another worker, which may be off its core, where nothing was to do for its own for a while. The more often that served, the
-    /// sooner it does so. The answer is whether a message was handled.
+    /// sooner it does so. What the worker that is furthest behind has listed comes first; one that is off its core lists nothing, so then comes any group
+    /// that is due. The answer is whether a message was handled.
     fn turn_of_others(&mut self) -> Result<bool, K::Fault> {
         if !self.looks.are_to_help() {
             return Ok(false);
@@ -101,36 +110,48 @@ impl<'s, G: Drop, K: Tasks<G>, T: Wait> Worker<'s, G, K, T> {
         let common = self.common;
         let moments = &common.signals.moments;
         let limit_ns = moments.limit_ns();
+        if let Some(worker) = moments.furthest_behind(self.agenda.worker) {
+            if let Some(group) = self.stealers.steal(worker) {
+                if self.help(group, limit_ns)? {
+                    return Ok(true);
+                }
+            }
+        }
         for group in 0..moments.groups() {
-            let is_other = !moments.is_of(group, self.number) && moments.is_due(group, limit_ns);
-            if is_other && self.turn_of(group, false)? {
-                self.looks.help();
+            if !moments.is_of(group, self.agenda.worker) && self.help(group, limit_ns)? {
                 return Ok(true);
             }
         }
         Ok(false)
     }
 
-    /// A turn for a group, unless another thread has it. What a group of another worker did is told to all at once, since its worker may rest. The
-    /// answer is whether a message was handled.
+    /// A turn for a group of another worker, if it has something to do before the limit, in ns. The answer is whether a message was handled.
+    fn help(&mut self, group: usize, limit_ns: u64) -> Result<bool, K::Fault> {
+        let common = self.common;
+        if !common.signals.moments.is_due(group, limit_ns) || !self.turn_of(group, false)? {
+            return Ok(false);
+        }
+        self.looks.help();
+        Ok(true)
+    }
+
+    /// A turn for a group, unless another thread has it. The answer is whether a message was handled.
     fn turn_of(&mut self, group: usize, is_own: bool) -> Result<bool, K::Fault> {
         let common = self.common;
         let Some(mut seat) = common.seats.try_take(group) else {
             return Ok(false);
         };
-        let worked = self.turn(&mut seat);
-        let posted = if !is_own && worked.is_ok() && common.tasks.report(&seat).has_block {
-            self.meet(&mut seat)
-        } else {
-            Ok(())
-        };
+        let worked = self.turn(&mut seat, is_own);
         drop(seat);
-        posted?;
+        if !is_own {
+            // Its worker may have gone to rest while the group was not to be had.
+            common.signals.wake_due();
+        }
         worked
     }
 
-    /// A turn for a group. The answer is whether a message was handled.
-    fn turn(&mut self, seat: &mut Seat<G>) -> Result<bool, K::Fault> {
+    /// A turn for a group. It meets the others first, if it has to, and at the end, if it has letters for them. The answer is whether a message was handled.
+    fn turn(&mut self, seat: &mut Seat<G>, is_own: bool) -> Result<bool, K::Fault> {
         let common = self.common;
         let moments = &common.signals.moments;
         let limit_ns = moments.limit_ns();
@@ -141,23 +162,28 @@ impl<'s, G: Drop, K: Tasks<G>, T: Wait> Worker<'s, G, K, T> {
             return Ok(false);
         }
         let has_worked = self.handle_due(seat)?;
+        if common.tasks.report(seat).is_to_post(is_own) {
+            self.meet(seat)?;
+        }
         common.signals.wake_due();
         common.tasks.let_go(&mut seat.group)?;
         Ok(has_worked)
     }
 
-    /// The group meets the others. Then they are told of its letters.
+    /// The group meets the others. Then they are told of its letters, and only then of its next event, which may be later.
     fn meet(&mut self, seat: &mut Seat<G>) -> Result<(), K::Fault> {
         let common = self.common;
         let tasks = &common.tasks;
         let moments = &common.signals.moments;
-        let waits = tasks.report(seat).waits_for_gvt(common.window_ns);
+        let report = tasks.report(seat);
+        let waits = report.waits_for_gvt(common.window_ns);
         let letters_ns = &mut self.letters_ns;
         let letter_ns = tasks.meet(&mut seat.group, waits, moments, letters_ns)?;
         // A letter in the tray is to be worked on no later than an event of its moment.
         seat.next_ns = seat.next_ns.min(letter_ns);
         seat.unposted = 0;
         moments.call_all(letters_ns);
+        moments.tell(report.number, seat.next_ns);
         Ok(())
     }
 
@@ -186,12 +212,13 @@ impl<'s, G: Drop, K: Tasks<G>, T: Wait> Worker<'s, G, K, T> {
         let common = self.common;
         self.looks.look_in_vain();
         if self.looks.may_publish()
-            && (self.looks.are_to_rest() || common.signals.moments.waits_for_gvt(self.number))
+            && (self.looks.are_to_rest()
+                || common.signals.moments.waits_for_gvt(self.agenda.worker))
         {
             publish(&common.tasks, &common.signals)?;
         }
         if self.looks.are_to_rest() {
-            rest(self.rt, common, self.number);
+            rest(self.rt, common, self.agenda.worker);
         } else {
             pause(self.looks);
         }
@@ -199,8 +226,8 @@ impl<'s, G: Drop, K: Tasks<G>, T: Wait> Worker<'s, G, K, T> {
     }
 }
 
-/// The group handles messages that are due, so many at most, no further ahead of the GVT that it saw than the window, and tells how far it is. The
-/// answer is how many.
+/// The group handles messages that are due, so many at most, no further ahead of the GVT that it saw than the window, and tells how far it is: no further
+/// than its earliest letter that is not posted. The answer is how many.
 fn handle_piece<G: Drop, K: Tasks<G>>(
     common: &Common<G, K>,
     seat: &mut Seat<G>,
@@ -212,7 +239,7 @@ fn handle_piece<G: Drop, K: Tasks<G>>(
     let due_ns = moments.limit_ns().saturating_sub(report.seen_ns);
     let count = tasks.handle(&mut seat.group, most, due_ns.min(common.window_ns))?;
     seat.next_ns = tasks.next_ns(&mut seat.group);
-    moments.tell(report.number, seat.next_ns);
+    moments.tell(report.number, tasks.report(seat).first_ns());
     Ok(count)
 }
 

@@ -3,10 +3,13 @@ ghost use Rattle.std.specs.Prelude.{◌≡◌, ◌+◌, ◌<◌, IfErr, IfOk, So
 ghost use Rattle.turns.specs.Outcomes.{IsToldOf};
 
 use crate::LOOK_US;
+use crate::agenda::{Agenda, Stealers, agendas_of};
 use crate::common::Common;
+use crate::hint::TurnRun;
 use crate::outcomes::{add_outcome, least_fault};
 use crate::refusal::Refusal;
 use crate::signals::Signals;
+use crate::standstill::Standstill;
 use crate::tasks::Tasks;
 use crate::worker::give_turns;
 use actor_run::Watch;
@@ -23,7 +26,8 @@ use vlink::Time;
 pub fn work_all<
     G: Drop + Send,
     F: Refusal + Send,
-    K: Tasks<G, Fault = F> + Sync,
+    R: TurnRun + Send + Sync,
+    K: Tasks<G, Fault = F, Run = R> + Sync,
     T: Threads + Wait + Sync,
     W: Watch + Drop,
 >(rt: &T, alloc: Global, common: &Common<G, K>, watch: W) -> (Result<(), F>, W)
@@ -33,6 +37,31 @@ pub fn work_all<
     if common.workers == 0 {
         return (Ok(()), watch);
     }
+    let Ok((agendas, stealers)) = agendas_of(alloc, common) else {
+        return (Err(F::memory()), watch);
+    };
+    start_all(rt, alloc, common, &stealers, agendas, watch)
+}
+
+/// Starts a worker for each of these agendas, and joins all of them.
+fn start_all<
+    's,
+    G: Drop + Send,
+    F: Refusal + Send,
+    R: TurnRun + Send + Sync,
+    K: Tasks<G, Fault = F, Run = R> + Sync,
+    T: Threads + Wait + Sync,
+    W: Watch + Drop,
+>(
+    rt: &'s T,
+    alloc: Global,
+    common: &'s Common<G, K>,
+    stealers: &'s Stealers<R>,
+    agendas: Vec<Agenda<R>>,
+    watch: W,
+) -> (Result<(), F>, W)
+    ensures watched { W.becomes watch result.1 }
+{
     thread::scope(
         thread::scope_env(),
         rt,
@@ -41,12 +70,14 @@ pub fn work_all<
         {
             let mut handles = Vec::new(alloc);
             let mut start = Ok(());
-            for worker in 0..common.workers {
+            for agenda in agendas {
                 if handles.reserve(1).is_err() {
                     start = Err(F::memory());
                     break;
                 }
-                let Ok(handle) = scope.spawn(move || give_turns(rt, alloc, common, worker)) else {
+                let Ok(handle) = scope.spawn(move || give_turns(
+                    rt, alloc, common, stealers, agenda,
+                )) else {
                     start = Err(F::unstarted());
                     break;
                 };
@@ -79,17 +110,28 @@ fn watch_all<F: Refusal, T: Threads + Wait, W: Watch + Drop>(
     (join_all(rt, alloc, start, handles), watch)
 }
 
-/// The watch is shown GVT once in `LOOK_US`, until the run ends.
+/// The watch is shown GVT once in `LOOK_US`, until the run ends. Where it stands still, the workers end at their next turn, and no fault is told: one thread
+/// finishes the run then.
+///
+/// A thread that the system has stopped may have the lock of the exchange, and then the other workers wait for it too. The calling thread cannot take the
+/// lock from it, and joins all of them: it waits until that thread goes on.
 fn show_gvt<T: Wait, W: Watch>(rt: &T, signals: &Signals, watch: &mut W)
     ensures watched { W.becomes watch.old watch.new }
 {
+    let mut standstill = Standstill::none();
     for _ in rt.forever() {
         signals.watch(rt, LOOK_US);
         if signals.is_ended() {
             return;
         }
-        if let Some(moment) = Time::new(signals.moments.gvt_ns()) {
+        let gvt_ns = signals.moments.gvt_ns();
+        if let Some(moment) = Time::new(gvt_ns) {
             watch.look(moment, 0);
+        }
+        if standstill.look(gvt_ns) {
+            signals.moments.stop();
+            signals.end();
+            return;
         }
     }
 }

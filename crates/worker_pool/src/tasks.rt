@@ -11,7 +11,8 @@ use journal::Gate;
 use network::Network;
 use nodes::Node;
 use std::sync::{Mutex, Wait};
-use turns::{Apart, Common, Moments, Report, Seat, Tasks, locked_soon};
+use turns::{Apart, Common, Moments, Report, Seat, Tasks, TurnRun, locked_soon};
+use vlink::Letter;
 
 /// What workers use for the groups of a run that they have in hand: the lock of the exchange, and what becomes of rows.
 #[derive(Drop)]
@@ -27,8 +28,16 @@ pub(crate) struct NetworkTasks<'s, 'n, J: NetworkRun, G, T> {
 /// What all workers of a run have in common.
 pub(crate) type CommonOf<'s, 'n, J, G, T> = Common<NetworkGroup<J>, NetworkTasks<'s, 'n, J, G, T>>;
 
+impl<J: NetworkRun> TurnRun for OfGroups<J> {
+    ghost use Rattle.std.specs.Prelude.{length};
+
+    ghost groups = { length J.names };
+}
+
 impl<J: NetworkRun, G: Gate, T: Wait> Tasks<NetworkGroup<J>> for NetworkTasks<'_, '_, J, G, T> {
     type Fault = RunFault<J>;
+
+    type Run = OfGroups<J>;
 
     fn report(&self, seat: &Seat<NetworkGroup<J>>) -> Report {
         let group = &seat.group;
@@ -37,7 +46,7 @@ impl<J: NetworkRun, G: Gate, T: Wait> Tasks<NetworkGroup<J>> for NetworkTasks<'_
             next_ns: seat.next_ns,
             seen_ns: group.gvt_seen().ns(),
             unposted: seat.unposted,
-            has_letters: !group.letters_abroad().is_empty(),
+            letters_ns: least_ns(group.letters_abroad()),
             has_block: group.has_block(),
         }
     }
@@ -104,6 +113,15 @@ fn meet_at<J: NetworkRun>(
     }
     shared.collect(group)?;
     Ok(moments.collect(group.number()))
+}
+
+/// The least moment of these letters, in ns, or the greatest number where there is none.
+fn least_ns(letters: &[Letter]) -> u64 {
+    let mut least_ns = u64::MAX;
+    for letter in letters {
+        least_ns = least_ns.min(letter.message.time.ns());
+    }
+    least_ns
 }
 
 /// Lowers for each group the moment, in ns, to the least of the letters that this group has for it.

@@ -1,0 +1,140 @@
+//! The order of a worker's turns: a deque of its groups that are due, from which other workers steal.
+use crate::common::Common;
+use crate::hint::{Hint, TurnRun};
+use crate::moments::Moments;
+use crate::tasks::Tasks;
+use crate::{MOST_SLOTS, SLOTS};
+use crossbeam_deque::{Steal, Stealer, Worker as Deque};
+use std::alloc::{AllocError, Global};
+
+/// A group of a worker, and the moment at which it has something to do, in ns, as the worker saw it last.
+#[derive(Drop)]
+struct Own<R: TurnRun> {
+    hint: Hint<R>,
+    first_ns: u64,
+}
+
+/// The groups of a worker. In each round those that are due are listed in a deque, the one that is furthest behind first. Others steal at the front, where
+/// the worker pops.
+#[derive(Drop)]
+pub(crate) struct Agenda<R: TurnRun> {
+    /// The number of the worker.
+    pub worker: usize,
+    own: Vec<Own<R>>,
+    /// How many of them the deque took in this round.
+    listed: usize,
+    deque: Deque<Hint<R>>,
+}
+
+impl<R: TurnRun> Agenda<R> {
+    /// The groups of the worker of this number, which no thread has yet. It is refused for memory alone.
+    fn of<G: Drop, K: Tasks<G, Run = R>>(
+        alloc: Global,
+        common: &Common<G, K>,
+        worker: usize,
+    ) -> Result<Self, AllocError> {
+        let moments = &common.signals.moments;
+        let mut own = Vec::new(alloc);
+        for group in 0..moments.groups() {
+            if moments.is_of(group, worker) {
+                if let Some(seat) = common.seats.try_take(group) {
+                    let hint = Hint::new(common.tasks.report(&seat).number);
+                    own.push(Own { hint, first_ns: 0 })?;
+                }
+            }
+        }
+        Ok(Agenda {
+            worker,
+            own,
+            listed: 0,
+            deque: Deque::new_fifo(alloc, SLOTS)?,
+        })
+    }
+
+    /// How many groups the worker has.
+    pub(crate) fn groups(&self) -> usize {
+        self.own.len()
+    }
+
+    /// A round begins: the groups that are due are listed, the one that is furthest behind first. What the deque does not take stands behind them.
+    pub(crate) fn begin_round(&mut self, moments: &Moments) {
+        let due = self.put_in_order(moments);
+        self.listed = 0;
+        for place in 0..due {
+            if !self.list(place) {
+                return;
+            }
+            self.listed = self.listed.saturating_add(1);
+        }
+    }
+
+    /// Puts the groups in the order of their moments. The answer is how many of them are due.
+    fn put_in_order(&mut self, moments: &Moments) -> usize {
+        let limit_ns = moments.limit_ns();
+        let mut due: usize = 0;
+        for own in self.own.iter_mut() {
+            own.first_ns = moments.first_ns(usize::from(own.hint.group));
+            if own.first_ns < limit_ns {
+                due = due.saturating_add(1);
+            }
+        }
+        self.own.sort_unstable_by_key(|own| own.first_ns);
+        due
+    }
+
+    /// Lists the group of this place. The answer is whether the deque took it: it does not where memory is refused, or where it has grown so large, since
+    /// a thread that is stopped while it steals keeps its slot, and the deque then grows without being full.
+    fn list(&mut self, place: usize) -> bool {
+        match self.own.get(place) {
+            Some(own) => {
+                self.deque.capacity() <= MOST_SLOTS && self.deque.push(own.hint.again()).is_ok()
+            }
+            None => false,
+        }
+    }
+
+    /// The group whose turn is number `place` of the round: first what is listed, as far as nobody stole it, then the others in their order.
+    pub(crate) fn next(&mut self, place: usize) -> Option<usize> {
+        if place < self.listed {
+            return match self.deque.pop() {
+                Some(hint) => Some(usize::from(hint.group)),
+                None => None,
+            };
+        }
+        match self.own.get(place) {
+            Some(own) => Some(usize::from(own.hint.group)),
+            None => None,
+        }
+    }
+}
+
+/// The fronts of all deques, by the numbers of their workers.
+#[derive(Drop)]
+pub(crate) struct Stealers<R: TurnRun> {
+    stealers: Vec<Stealer<Hint<R>>>,
+}
+
+impl<R: TurnRun> Stealers<R> {
+    /// Steals the group that the worker of this number lists first, and has not come to, if there is one.
+    pub(crate) fn steal(&self, worker: usize) -> Option<usize> {
+        match self.stealers.get(worker)?.steal() {
+            Steal::Success(hint) => Some(usize::from(hint.group)),
+            Steal::Empty | Steal::Retry => None,
+        }
+    }
+}
+
+/// The groups of each worker, and the fronts of their deques. No thread has a group yet. It is refused for memory alone.
+pub(crate) fn agendas_of<G: Drop, K: Tasks<G>>(
+    alloc: Global,
+    common: &Common<G, K>,
+) -> Result<(Vec<Agenda<K::Run>>, Stealers<K::Run>), AllocError> {
+    let mut agendas = Vec::new(alloc);
+    let mut stealers = Vec::new(alloc);
+    for worker in 0..common.workers {
+        let agenda = Agenda::of(alloc, common, worker)?;
+        stealers.push(agenda.deque.stealer()?)?;
+        agendas.push(agenda)?;
+    }
+    Ok((agendas, Stealers { stealers }))
+}
