@@ -96,3 +96,6 @@ const LOOK_US: u64 = 250_000;
 
 /// A run whose GVT is the same after so many looks at it, which is 10 s, stands still: its workers end, and one thread finishes it.
 const LOOKS_OF_STANDSTILL: u32 = 40;
+
+#[cfg(test)]
+mod tests;
