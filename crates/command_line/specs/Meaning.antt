@@ -65,7 +65,7 @@ Names rows (order.Replay o) = NamesReplay rows o
 
 pub record RunDefaults (rows : List Row) (o : Run) : Type 0 where
   pub workers : one_of (codes "workers") rows ≡ None → o.workers ≡ 4
-  pub turn : one_of (codes "turn") rows ≡ None → o.turn ≡ 256
+  pub turn : one_of (codes "turn") rows ≡ None → o.turn ≡ 16
   pub window : one_of (codes "window") rows ≡ None → o.window_ns ≡ 1000000
 
 -- each number of the order that the words do not name is the usual one

@@ -17,7 +17,7 @@ pub(crate) const USUAL_WORKERS: u64 = 4;
 /// The greatest number of events in a turn.
 pub(crate) const MOST_TURN: u64 = 256;
 /// The number of events in a turn where the words name none.
-pub(crate) const USUAL_TURN: u64 = 256;
+pub(crate) const USUAL_TURN: u64 = 16;
 /// The window, in ns, where the words name none.
 pub(crate) const USUAL_WINDOW_NS: u64 = 1_000_000;
 
@@ -45,7 +45,7 @@ pub(crate) fn turn<'a>(alloc: Global) -> Arg<'a>
         "turn",
         "N",
         value_parser!(u64).range(1..=MOST_TURN as i64),
-        "How many events a group of processes handles at most in one turn: 1 to 256 [default: 256]. Between turns letters go out and come in",
+        "How many events a group of processes handles at most in one turn: 1 to 256 [default: 16]. Between turns letters go out and come in",
     )
 }
 
