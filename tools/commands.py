@@ -21,7 +21,7 @@ OF_PROGRAM = {
     "check": OfProgram(1, "NET", "judge a description, and count what it has"),
     "seq": OfProgram(1, "NET [--trace FILE] [--progress]", "simulate it on one thread; tables as CSV"),
     "run": OfProgram(
-        1, "NET [--workers N] [--turn N] [--window NS] [--journal FILE] [--trace FILE] [--progress]",
+        1, "NET [--workers N] [--groups N] [--turn N] [--window NS] [--journal FILE] [--trace FILE] [--progress]",
         "the tables of seq, by Time Warp on several threads",
     ),
     "replay": OfProgram(2, "NET STEPS", "do the steps of a journal"),
@@ -47,7 +47,7 @@ OWN = {
     "completion": ("bash", "print what completes words in a shell"),
 }
 # The options of the program that have a value, and those that name a file which it writes.
-VALUED = ("--trace", "--journal", "--workers", "--turn", "--window")
+VALUED = ("--trace", "--journal", "--workers", "--groups", "--turn", "--window")
 WRITES = ("--trace", "--journal")
 
 # What is said of `run` alone.

@@ -13,7 +13,7 @@ use Rattle.commands.specs.Outside.{Outside}
 use Rattle.commands.specs.Reading.{GivesNetwork}
 use Rattle.commands.specs.Streams.{IsHeard, IsTold}
 use Rattle.commands.specs.Telling.{TellsOne}
-use Rattle.afdxsim.specs.Orders.{Done, DoneOn, HasEnded, IsFaultOf, IsFaultOn, asks_progress}
+use Rattle.afdxsim.specs.Orders.{Done, DoneOn, HasEnded, IsFaultOf, IsFaultOn, IsLineOf, asks_progress}
 use Rattle.afdxsim.specs.Performing.{found_in}
 use Rattle.commands.proofs.Outcomes.{ok_then}
 
@@ -31,13 +31,13 @@ module _ {S F O E : Type 0} (outside : Outside S F O E) (r : Result (Unit {0}) F
     pub done_there : OnOk r (DoneOn outside begun new plan order) → OnOk r (Done outside old new order)
     done_there did = ok_then r did (λ is. (plan, gives, subst (λ host. DoneOn outside host new plan order) same is))
 
-    pub fault_there : IfErr r (IsFaultOn outside begun new plan order) → OnErr r (IsHeard outside begun (asks_progress order) plan (outside.errors new)) →
+    pub fault_there : IfErr r (IsFaultOn outside begun new plan order) → OnErr r (IsHeard outside begun (asks_progress order) (IsLineOf order plan) (outside.errors new)) →
         IfErr r (IsFaultOf outside old new order)
     fault_there met hears = err_both r met hears (λ fault is h. inr (
       plan,
       gives,
       subst (λ host. IsFaultOn outside host new plan order fault) same is,
-      subst (λ host. IsHeard outside host (asks_progress order) plan (outside.errors new)) same h,
+      subst (λ host. IsHeard outside host (asks_progress order) (IsLineOf order plan) (outside.errors new)) same h,
     ))
 
   -- the host was `old` before and `after` once the order was done or met a fault; then that was told, and it is `new`

@@ -1,4 +1,5 @@
 pub mod Running
+pub mod Heard
 pub mod Statuses
 pub mod Ended
 pub mod Journals

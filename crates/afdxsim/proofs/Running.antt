@@ -5,6 +5,7 @@ use Rattle.journal.specs.declared.fault.PoolFault.{PoolFault}
 use Rattle.journal.specs.declared.fault.PoolFault.TheVariants as pool
 use Rattle.worker_pool.specs.Outcomes.{UsesUpNumbers}
 use Rattle.commands.specs.declared.fault.Fault.{Fault}
+use Rattle.commands.specs.declared.fault.Fault.TheVariants.{Description, JournalLine, JournalFull, CannotRead, CannotWriteFile, CannotWrite, Layout, OutOfMemory, Exhausted, Spawn, Torn}
 use Rattle.commands.specs.Sequencing.{fault_of_pool}
 use Rattle.afdxsim.specs.Workers.{IsFaultOfPool}
 
@@ -23,6 +24,20 @@ workers_gave_up plan CanSpawn r why fault is exhausted spawn named =
     of pool.JournalFull exhausted spawn = tt
     of pool.Spawn exhausted spawn = spawn refl
     of pool.Torn exhausted spawn = tt
+
+-- what can be wanted of fewer workers can be of more
+pub for_more : (plan : Plan) (Few Many : Type 0) (fault : Fault) → (Few → Many) → IsFaultOfPool plan Few fault → IsFaultOfPool plan Many fault
+for_more plan Few Many (Description fault) f is = is
+for_more plan Few Many (JournalLine n) f is = is
+for_more plan Few Many JournalFull f is = is
+for_more plan Few Many (CannotRead path) f is = is
+for_more plan Few Many (CannotWriteFile path) f is = is
+for_more plan Few Many CannotWrite f is = is
+for_more plan Few Many Layout f is = is
+for_more plan Few Many OutOfMemory f is = is
+for_more plan Few Many Exhausted f is = is
+for_more plan Few Many Spawn f is = f is
+for_more plan Few Many Torn f is = is
 
 -- of a run that writes its trace nothing tells why a worker does not start
 pub tracers_gave_up : {X : Type 0} (plan : Plan) (r : Result X PoolFault) (why : PoolFault) (fault : Fault) → r ≡ Err why →

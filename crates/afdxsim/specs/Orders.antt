@@ -9,6 +9,7 @@ use Rattle.commands.specs.Checking.{check_text}
 use Rattle.commands.specs.Files.{LacksOutput, LacksSeq, LeavesSeq, ShowsAlone, TellsAlone}
 use Rattle.commands.specs.Naming.{NamesApart, NamesTwice, TellsTwice, net_of}
 use Rattle.commands.specs.Outside.{Outside}
+use Rattle.commands.specs.Progress.{IsProgressLine, IsWorkersLine}
 use Rattle.commands.specs.Reading.{GivesNetwork, IsFaultOfNet}
 use Rattle.commands.specs.Replaying.{LacksReplay, ShowsReplay}
 use Rattle.commands.specs.Streams.{IsHeard, IsQuiet, IsTold, Shows, ShowsTables, heard_host}
@@ -22,6 +23,13 @@ asks_progress (ordered.Seq o) = o.progress
 asks_progress (ordered.Run o) = o.progress
 asks_progress (ordered.Replay o) = false
 
+-- a line of progress of the order on this network
+abbrev pub IsLineOf : Order → Plan → List ℕ → Type 0
+IsLineOf (ordered.Check o) plan line = IsProgressLine plan.until line
+IsLineOf (ordered.Seq o) plan line = IsProgressLine plan.until line
+IsLineOf (ordered.Run o) plan line = IsWorkersLine plan line
+IsLineOf (ordered.Replay o) plan line = IsProgressLine plan.until line
+
 -- the host was `old` before, and is `new` after
 module _ {S F O E : Type 0} (outside : Outside S F O E) (old new : S) where
   -- the order was done on this network: this was shown, and this is left behind
@@ -29,11 +37,11 @@ module _ {S F O E : Type 0} (outside : Outside S F O E) (old new : S) where
   DoneOn plan (ordered.Check o) = Shows outside old new (check_text plan) × ShowsAlone outside old new × IsQuiet outside old new
   DoneOn plan (ordered.Seq o) =
       ShowsTables outside old new plan × LeavesSeq outside (option_map string_bytes o.trace) (heard_host outside old o.progress (outside.errors new)) new plan ×
-      IsHeard outside old o.progress plan (outside.errors new)
+      IsHeard outside old o.progress (IsProgressLine plan.until) (outside.errors new)
   DoneOn plan (ordered.Run o) =
       ShowsTables outside old new plan ×
       LeavesRun outside (option_map string_bytes o.journal) (option_map string_bytes o.trace) (heard_host outside old o.progress (outside.errors new)) new plan ×
-      IsHeard outside old o.progress plan (outside.errors new)
+      IsHeard outside old o.progress (IsWorkersLine plan) (outside.errors new)
   DoneOn plan (ordered.Replay o) = ShowsReplay outside old new plan (string_bytes o.steps)
 
   -- why the order was not done on this network, and what is left: the host is `new` once the fault was met
@@ -55,7 +63,7 @@ module _ {S F O E : Type 0} (outside : Outside S F O E) (old new : S) where
   IsFaultOf order fault =
       IsFaultOfNet outside (net_of order) old new fault
       ⊎ ((plan : Plan) × GivesNetwork (outside.gives old (net_of order)) plan × IsFaultOn plan order fault ×
-      IsHeard outside old (asks_progress order) plan (outside.errors new))
+      IsHeard outside old (asks_progress order) (IsLineOf order plan) (outside.errors new))
 
 -- the host was `old` before, and is `new` at the end
 module _ {S F O E : Type 0} (outside : Outside S F O E) (old new : S) where

@@ -3,7 +3,7 @@ ghost use Rattle.std.specs.Prelude.{◌≡◌, ◌≢◌, ◌⊎◌, ℕ, List, 
 ghost use Rattle.commands.specs.declared.fault.Fault.TheVariants.{CannotWrite};
 ghost use Rattle.commands.specs.Naming.{NamesTwice};
 ghost use Rattle.commands.specs.Streams.{IsHeard};
-ghost use Rattle.afdxsim.specs.Orders.{Done, DoneOn, Ends, IsFaultOf, IsFaultOn, asks_progress};
+ghost use Rattle.afdxsim.specs.Orders.{Done, DoneOn, Ends, IsFaultOf, IsFaultOn, IsLineOf, asks_progress};
 
 use crate::run::run;
 use command_line::Order;
@@ -27,7 +27,7 @@ fn done_on<'a, H: Host, T: Threads + Wait + Clock + Sync>(
     ensures done { OnOk result (DoneOn H.outside host.old host.new network order.entry.now) }
     ensures fault { IfErr result (IsFaultOn H.outside host.old host.new network order.entry.now) }
     ensures kept { IfErr result (λ fault. fault ≢ CannotWrite → H.outside.output host.new ≡ H.outside.output host.old) }
-    ensures heard { OnErr result (IsHeard H.outside host.old (asks_progress order.entry.now) network (H.outside.errors host.new)) }
+    ensures heard { OnErr result (IsHeard H.outside host.old (asks_progress order.entry.now) (IsLineOf order.entry.now network) (H.outside.errors host.new)) }
 {
     match order {
         Order::Check(_) => {

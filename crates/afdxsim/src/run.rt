@@ -1,4 +1,4 @@
-//! `run NET [--workers N] [--turn N] [--window NS] [--journal FILE] [--trace FILE] [--progress]`: the run of a network by workers.
+//! `run NET [--workers N] [--groups N] [--turn N] [--window NS] [--journal FILE] [--trace FILE] [--progress]`: the run of a network by workers.
 ghost use Rattle.std.specs.Prelude.{◌≡◌, ◌≢◌, ◌⊎◌, ℕ, false, List, Some, IfErr, IfOk, OnOk, option_map, is_some, string_bytes};
 ghost use Rattle.command_line.specs.declared.orders.Order.TheVariants as ordered;
 ghost use Rattle.journal_text.specs.Text.{steps_text};
@@ -8,13 +8,14 @@ ghost use Rattle.worker_pool.specs.Outcomes.{CanWantWorkers};
 ghost use Rattle.worker_pool.specs.Runs.{IsJournalAsked};
 ghost use Rattle.commands.specs.declared.fault.Fault.TheVariants.{CannotWrite};
 ghost use Rattle.commands.specs.Files.{LacksFile, MakesAsked, WritesAsked, WritesFile};
+ghost use Rattle.commands.specs.Progress.{IsWorkersLine};
 ghost use Rattle.commands.specs.Sequencing.{IsTablesText, IsTraceText};
 ghost use Rattle.commands.specs.Streams.{IsHeard, IsQuiet, ShowsTables, heard_host};
 ghost use Rattle.afdxsim.specs.Files.{LacksTrace, LeavesRun};
 ghost use Rattle.afdxsim.specs.Orders.{IsFaultOn};
 ghost use Rattle.afdxsim.specs.Workers.{CanWantThreads, IsFaultOfPool};
 
-use crate::workers::{found_by_workers, pace_of, traced_by_workers};
+use crate::workers::{found_by_workers, traced_by_workers};
 use command_line::Run;
 use commands::{Fault, Host, Kept, asked_of, fault_of_trace, keep, make_file, show_tables};
 use network::Network;
@@ -23,7 +24,7 @@ use std::sync::Wait;
 use std::thread::Threads;
 use std::time::Clock;
 use vlink::Step;
-use worker_pool::{Pace, Summary, Traced};
+use worker_pool::{Summary, Traced};
 
 /// Makes the file with this path, and simulates the network by workers, which write the trace into it. Error output is told how far the run is,
 /// where that is asked for. At the end of the run the file is given back with what it took, and then a fault of the trace is told.
@@ -31,7 +32,7 @@ fn simulate_with_trace<'a, H: Host, T: Threads + Wait + Clock + Sync>(
     rt: &T,
     alloc: Global,
     network: &Network,
-    pace: Pace,
+    order: &Run,
     with_steps: bool,
     path: &'a str,
     is_asked: bool,
@@ -46,7 +47,7 @@ fn simulate_with_trace<'a, H: Host, T: Threads + Wait + Clock + Sync>(
         MakesAsked H.outside (Some path.entry.now) (heard_host H.outside host.old is_asked (H.outside.errors host.new)) host.new) ⊎
         LacksTrace H.outside path.entry.now network.now (heard_host H.outside host.old is_asked (H.outside.errors host.new)) host.new fault) }
     ensures output { H.outside.output host.new ≡ H.outside.output host.old }
-    ensures heard { IsHeard H.outside host.old is_asked network.now (H.outside.errors host.new) }
+    ensures heard { IsHeard H.outside host.old is_asked (IsWorkersLine network.now) (H.outside.errors host.new) }
 {
     let asked = asked_of(is_asked, host);
     let file = make_file(path, host)?;
@@ -55,7 +56,7 @@ fn simulate_with_trace<'a, H: Host, T: Threads + Wait + Clock + Sync>(
         outcome,
         written,
         sink,
-    } = traced_by_workers(rt, alloc, network, pace, with_steps, file, asked, errors)?;
+    } = traced_by_workers(rt, alloc, network, order, with_steps, file, asked, errors)?;
     host.close(path, sink);
     match written {
         Ok(()) => Ok(outcome),
@@ -68,20 +69,20 @@ fn heard_by_workers<H: Host, T: Threads + Wait + Clock + Sync>(
     rt: &T,
     alloc: Global,
     network: &Network,
-    pace: Pace,
+    order: &Run,
     with_steps: bool,
     is_asked: bool,
     host: &mut H,
 ) -> Result<Summary, Fault<'static>>
     ensures text { IfOk result (λ found. IsTablesText network.now (tables_text network.now found.tables)) }
     ensures journal { IfOk result (λ found. IsJournalAsked network.now with_steps found.journal.items) }
-    ensures fault { IfErr result (IsFaultOfPool network.now (CanWantWorkers pace.workers (process_count network.now))) }
-    ensures heard { IsHeard H.outside host.old is_asked network.now (H.outside.errors host.new) }
+    ensures fault { IfErr result (IsFaultOfPool network.now (CanWantWorkers order.now.workers (process_count network.now))) }
+    ensures heard { IsHeard H.outside host.old is_asked (IsWorkersLine network.now) (H.outside.errors host.new) }
     ensures host { host.new ≡ heard_host H.outside host.old is_asked (H.outside.errors host.new) }
     ensures output { H.outside.output host.new ≡ H.outside.output host.old }
 {
     let asked = asked_of(is_asked, host);
-    found_by_workers(rt, alloc, network, pace, with_steps, asked, host.errors())
+    found_by_workers(rt, alloc, network, order, with_steps, asked, host.errors())
 }
 
 /// Simulates the network by workers. Where a trace is asked for, its file is made first, and the run writes it. Error output is told how far the
@@ -104,22 +105,21 @@ fn simulate<'a, H: Host, T: Threads + Wait + Clock + Sync>(
         ((path : List ℕ) × (option_map string_bytes order.entry.now.trace ≡ Some path) ×
         LacksTrace H.outside path network.now (heard_host H.outside host.old order.entry.now.progress (H.outside.errors host.new)) host.new fault)) }
     ensures output { H.outside.output host.new ≡ H.outside.output host.old }
-    ensures heard { IsHeard H.outside host.old order.entry.now.progress network.now (H.outside.errors host.new) }
+    ensures heard { IsHeard H.outside host.old order.entry.now.progress (IsWorkersLine network.now) (H.outside.errors host.new) }
 {
-    let pace = pace_of(order);
     let with_steps = order.journal.is_some();
     match &order.trace {
         Some(path) => simulate_with_trace(
             rt,
             alloc,
             network,
-            pace,
+            order,
             with_steps,
             path.as_str(),
             order.progress,
             host,
         ),
-        None => heard_by_workers(rt, alloc, network, pace, with_steps, order.progress, host),
+        None => heard_by_workers(rt, alloc, network, order, with_steps, order.progress, host),
     }
 }
 
@@ -157,7 +157,7 @@ pub fn run<'a, H: Host, T: Threads + Wait + Clock + Sync>(
         (heard_host H.outside host.old order.entry.now.progress (H.outside.errors host.new)) host.new network.now) }
     ensures fault { IfErr result (IsFaultOn H.outside host.old host.new network.now (ordered.Run order.entry.now)) }
     ensures kept { IfErr result (λ fault. fault ≢ CannotWrite → H.outside.output host.new ≡ H.outside.output host.old) }
-    ensures heard { IsHeard H.outside host.old order.entry.now.progress network.now (H.outside.errors host.new) }
+    ensures heard { IsHeard H.outside host.old order.entry.now.progress (IsWorkersLine network.now) (H.outside.errors host.new) }
 {
     let found = simulate(rt, alloc, network, order, host)?;
     keep_journal(alloc, found.journal.as_slice(), order, host)?;

@@ -1,5 +1,5 @@
 //! A run by workers: its tables, and what else is asked for.
-ghost use Rattle.std.specs.Prelude.{◌≡◌, ◌≢◌, ◌+◌, List, IfErr, IfOk, OnOk};
+ghost use Rattle.std.specs.Prelude.{◌≡◌, ◌≢◌, ◌+◌, ◌≤◌, List, IfErr, IfOk, OnOk};
 ghost use Rattle.vlink.specs.Letters.{Row};
 ghost use Rattle.network.specs.Words.{process_count};
 ghost use Rattle.trace_segments.specs.declared.fault.OutFault.TheVariants.{Device};
@@ -10,19 +10,19 @@ ghost use Rattle.seqsim.specs.Networks.{AreRowsOf};
 ghost use Rattle.worker_pool.specs.Outcomes.{CanWantWorkers};
 ghost use Rattle.worker_pool.specs.Runs.{IsJournalAsked};
 ghost use Rattle.commands.specs.Ending.{Took};
-ghost use Rattle.commands.specs.Progress.{HearsAsked};
+ghost use Rattle.commands.specs.Progress.{HearsAsked, IsProgressLine, IsWorkersLine};
 ghost use Rattle.commands.specs.Sequencing.{IsTablesText};
 ghost use Rattle.afdxsim.specs.Workers.{IsFaultOfPool};
 
 use command_line::Run;
-use commands::{Asked, Fault, Progress};
+use commands::{Asked, Fault, Progress, tell_groups};
 use network::Network;
-use std::alloc::Global;
+use std::alloc::{AllocError, Global};
 use std::sync::Wait;
 use std::thread::Threads;
 use std::time::Clock;
 use trace_tables::Sink;
-use worker_pool::{Gate, Pace, Summary, Traced, run_summary, run_traced};
+use worker_pool::{Gate, Pace, Summary, Traced, group_number, run_summary, run_traced};
 
 /// A gate that is told of each message and does nothing.
 pub struct Open;
@@ -37,21 +37,34 @@ impl Gate for Open {
     fn after(&self, _process: u16, _run: u64) {}
 }
 
-/// The pace that is ordered.
-pub fn pace_of(order: &Run) -> Pace
-    ensures { result ≡ record { workers = order.now.workers; turn = order.now.turn; window_ns = order.now.window_ns } }
+/// The pace that is ordered: with as many groups as are ordered, or else as the network has, and no more workers than groups. It is refused for memory
+/// alone.
+fn pace_of<T: Threads>(
+    rt: &T,
+    alloc: Global,
+    network: &Network,
+    order: &Run,
+) -> Result<Pace, AllocError>
+    ensures few { IfOk result (λ pace. pace.groups ≤ process_count network.now) }
+    ensures served { IfOk result (λ pace. pace.workers ≤ pace.groups) }
+    ensures workers { IfOk result (λ pace. pace.workers ≤ order.now.workers) }
+    ensures turn { IfOk result (λ pace. pace.turn ≡ order.now.turn) }
+    ensures window { IfOk result (λ pace. pace.window_ns ≡ order.now.window_ns) }
 {
-    Pace {
-        workers: order.workers,
+    let groups = group_number(rt, alloc, network, order.workers, order.groups)?;
+    let workers = u16::from(order.workers).min(groups);
+    Ok(Pace {
+        workers: workers as u8,
+        groups,
         turn: order.turn,
         window_ns: order.window_ns,
-    }
+    })
 }
 
-/// What a run of the network by workers finds: its tables, and its steps where they are asked for. No rows are listed. Error output is told how
-/// far it is, where that is asked for.
+/// What a run of the network by workers finds at this pace: its tables, and its steps where they are asked for. No rows are listed. Error output is told
+/// how far it is, where that is asked for.
 #[tactic(auto, using(commands::proofs::Running::tables_made, crate::proofs::Running::workers_gave_up))]
-pub fn found_by_workers<E: Sink, T: Threads + Wait + Clock + Sync>(
+fn found_at<E: Sink, T: Threads + Wait + Clock + Sync>(
     rt: &T,
     alloc: Global,
     network: &Network,
@@ -63,7 +76,7 @@ pub fn found_by_workers<E: Sink, T: Threads + Wait + Clock + Sync>(
     ensures text { IfOk result (λ found. IsTablesText network.now (tables_text network.now found.tables)) }
     ensures journal { IfOk result (λ found. IsJournalAsked network.now with_steps found.journal.items) }
     ensures fault { IfErr result (IsFaultOfPool network.now (CanWantWorkers pace.workers (process_count network.now))) }
-    ensures heard { HearsAsked E.taken E.failures asked.is_asked network.now.until errors.old errors.new }
+    ensures heard { HearsAsked E.taken E.failures asked.is_asked (IsProgressLine network.now.until) errors.old errors.new }
 {
     let mut progress = Progress::new(rt, alloc, network.until(), asked, errors);
     let found = run_summary(rt, alloc, network, pace, with_steps, &Open, &mut progress)?;
@@ -71,10 +84,31 @@ pub fn found_by_workers<E: Sink, T: Threads + Wait + Clock + Sync>(
     Ok(found)
 }
 
-/// That run, where it writes its trace into this file, which is given back at the end of the run. What it has taken is then a beginning of the trace
+/// What the run that is ordered finds: its tables, and its steps where they are asked for. Error output is told of its groups and workers, and how far it is,
+/// where that is asked for.
+pub fn found_by_workers<E: Sink, T: Threads + Wait + Clock + Sync>(
+    rt: &T,
+    alloc: Global,
+    network: &Network,
+    order: &Run,
+    with_steps: bool,
+    asked: Asked,
+    errors: &mut E,
+) -> Result<Summary, Fault<'static>>
+    ensures text { IfOk result (λ found. IsTablesText network.now (tables_text network.now found.tables)) }
+    ensures journal { IfOk result (λ found. IsJournalAsked network.now with_steps found.journal.items) }
+    ensures fault { IfErr result (IsFaultOfPool network.now (CanWantWorkers order.now.workers (process_count network.now))) }
+    ensures heard { HearsAsked E.taken E.failures asked.is_asked (IsWorkersLine network.now) errors.old errors.new }
+{
+    let pace = pace_of(rt, alloc, network, order)?;
+    tell_groups(alloc, pace.groups, pace.workers, asked, errors);
+    found_at(rt, alloc, network, pace, with_steps, asked, errors)
+}
+
+/// A run at this pace that writes its trace into this file, which is given back at the end of the run. What it has taken is then a beginning of the trace
 /// of the one-thread run, whatever became of its writing. Where the run itself is given up, the file is dropped.
 #[tactic(auto, using(commands::proofs::Running::tables_made, crate::proofs::Running::tracers_gave_up))]
-pub fn traced_by_workers<F: Sink + Drop + Send, E: Sink, T: Threads + Wait + Clock + Sync>(
+fn traced_at<F: Sink + Drop + Send, E: Sink, T: Threads + Wait + Clock + Sync>(
     rt: &T,
     alloc: Global,
     network: &Network,
@@ -93,7 +127,7 @@ pub fn traced_by_workers<F: Sink + Drop + Send, E: Sink, T: Threads + Wait + Clo
     ensures device { IfOk result (λ found. IfErr found.written (λ why. why ≡ Out Device → F.failures found.sink ≡ F.failures file + 1)) }
     ensures kept { IfOk result (λ found. IfErr found.written (λ why. why ≢ Out Device → F.failures found.sink ≡ F.failures file)) }
     ensures fault { IfErr result (IsFaultOfPool network.now Unit) }
-    ensures heard { HearsAsked E.taken E.failures asked.is_asked network.now.until errors.old errors.new }
+    ensures heard { HearsAsked E.taken E.failures asked.is_asked (IsProgressLine network.now.until) errors.old errors.new }
 {
     let mut progress = Progress::new(rt, alloc, network.until(), asked, errors);
     let found = run_traced(
@@ -108,4 +142,32 @@ pub fn traced_by_workers<F: Sink + Drop + Send, E: Sink, T: Threads + Wait + Clo
     )?;
     progress.end();
     Ok(found)
+}
+
+/// The run that is ordered, where it writes its trace into this file. Error output is told of its groups and workers, and how far it is, where that is asked
+/// for.
+pub fn traced_by_workers<F: Sink + Drop + Send, E: Sink, T: Threads + Wait + Clock + Sync>(
+    rt: &T,
+    alloc: Global,
+    network: &Network,
+    order: &Run,
+    with_steps: bool,
+    file: F,
+    asked: Asked,
+    errors: &mut E,
+) -> Result<Traced<F>, Fault<'static>>
+    ensures text { IfOk result (λ found. IsTablesText network.now (tables_text network.now found.outcome.tables)) }
+    ensures journal { IfOk result (λ found. IsJournalAsked network.now with_steps found.outcome.journal.items) }
+    ensures trace { IfOk result (λ found. OnOk found.written ((rows : List Row) → AreRowsOf network.now rows →
+        Took F.taken file found.sink (trace_text network.now rows))) }
+    ensures beginning { IfOk result (λ found. (rows : List Row) → AreRowsOf network.now rows →
+        IsBeginning (F.taken file) (F.taken found.sink) (trace_text network.now rows)) }
+    ensures device { IfOk result (λ found. IfErr found.written (λ why. why ≡ Out Device → F.failures found.sink ≡ F.failures file + 1)) }
+    ensures kept { IfOk result (λ found. IfErr found.written (λ why. why ≢ Out Device → F.failures found.sink ≡ F.failures file)) }
+    ensures fault { IfErr result (IsFaultOfPool network.now Unit) }
+    ensures heard { HearsAsked E.taken E.failures asked.is_asked (IsWorkersLine network.now) errors.old errors.new }
+{
+    let pace = pace_of(rt, alloc, network, order)?;
+    tell_groups(alloc, pace.groups, pace.workers, asked, errors);
+    traced_at(rt, alloc, network, pace, with_steps, file, asked, errors)
 }

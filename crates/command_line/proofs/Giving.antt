@@ -18,7 +18,8 @@ use Rattle.command_line.proofs.Walking.{Each, IsNoHelp, Keeps, KeepsByDefault, S
 abbrev limits_of : Text → Option (ℕ × ℕ)
 limits_of id =
     cond (bytes_eq id (codes "workers")) (Some (1, 64))
-    (cond (bytes_eq id (codes "turn")) (Some (1, 256)) (cond (bytes_eq id (codes "window")) (Some (1, LATEST_NS)) None))
+    (cond (bytes_eq id (codes "groups")) (Some (1, 64))
+    (cond (bytes_eq id (codes "turn")) (Some (1, 256)) (cond (bytes_eq id (codes "window")) (Some (1, LATEST_NS)) None)))
 
 -- the checks of a command that requires one argument, or two, have no fault
 requires_one : (g x : Bool) → check_kinds false false ((true && not g) || x) ≡ [] → g ≡ true
@@ -45,6 +46,7 @@ gives s each defaults known net steps words none =
       net = has_first limits_of (codes "NET") rows here.0 (net rows here.1);
       steps = λ is. has_first limits_of (codes "STEPS") rows here.0 (steps rows here.1 is);
       workers = is_within limits_of (codes "workers") 1 64 rows refl here.0;
+      groups = is_within limits_of (codes "groups") 1 64 rows refl here.0;
       turn = is_within limits_of (codes "turn") 1 256 rows refl here.0;
       window = is_within limits_of (codes "window") 1 LATEST_NS rows refl here.0;
     }
@@ -82,8 +84,8 @@ each_gives word = (
         (λ rows none. requires_one (is_given (codes "NET") rows) _ none)
         (λ rows none is. cc),
     (
-      λ no_help_called answers. gives _ (is_set limits_of _ _ refl refl refl, (set_keeps limits_of _ _ refl refl (λ t passes. passes), (set_keeps limits_of _ _ refl refl (λ t passes. passes), (set_keeps limits_of _ _ refl refl (λ t passes. passes), (is_set limits_of _ _ refl refl refl, (is_set limits_of _ _ refl refl refl, (flag_keeps limits_of _ _ _ refl refl refl refl refl, (help_keeps _ _ _ refl, tt))))))))
-          (plain _ refl, (plain _ refl, (plain _ refl, (plain _ refl, (plain _ refl, (plain _ refl, (flag_default limits_of _ _ refl refl, (plain _ refl, tt)))))))) (inr (inr (inl refl)))
+      λ no_help_called answers. gives _ (is_set limits_of _ _ refl refl refl, (set_keeps limits_of _ _ refl refl (λ t passes. passes), (set_keeps limits_of _ _ refl refl (λ t passes. passes), (set_keeps limits_of _ _ refl refl (λ t passes. passes), (set_keeps limits_of _ _ refl refl (λ t passes. passes), (is_set limits_of _ _ refl refl refl, (is_set limits_of _ _ refl refl refl, (flag_keeps limits_of _ _ _ refl refl refl refl refl, (help_keeps _ _ _ refl, tt)))))))))
+          (plain _ refl, (plain _ refl, (plain _ refl, (plain _ refl, (plain _ refl, (plain _ refl, (plain _ refl, (flag_default limits_of _ _ refl refl, (plain _ refl, tt))))))))) (inr (inr (inl refl)))
           (λ rows none. requires_one (is_given (codes "NET") rows) _ none)
           (λ rows none is. cc),
       (

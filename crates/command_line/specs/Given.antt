@@ -12,5 +12,6 @@ pub record IsGiven (name : Text) (rows : List Row) : Type 0 where
   pub net : is_some (first_of (codes "NET") rows) ≡ true
   pub steps : name ≡ codes "replay" → is_some (first_of (codes "STEPS") rows) ≡ true
   pub workers : IsUpTo 64 (one_of (codes "workers") rows)
+  pub groups : IsUpTo 64 (one_of (codes "groups") rows)
   pub turn : IsUpTo 256 (one_of (codes "turn") rows)
   pub window : IsUpTo LATEST_NS (one_of (codes "window") rows)

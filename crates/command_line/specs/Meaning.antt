@@ -27,9 +27,13 @@ command_of (order.Seq o) = codes "seq"
 command_of (order.Run o) = codes "run"
 command_of (order.Replay o) = codes "replay"
 
+-- the number that these digits tell
+abbrev pub number_in : Text → ℕ
+number_in digits = digits_value 10 (without_leading_plus digits)
+
 -- the number is that of the digits, where there are some
 abbrev pub IsNumberOf : Option Text → ℕ → Type 0
-IsNumberOf word n = IfSome word (λ digits. n ≡ digits_value 10 (without_leading_plus digits))
+IsNumberOf word n = IfSome word (λ digits. n ≡ number_in digits)
 
 -- the flag with this id is set where the words name it
 abbrev pub IsNamed : List Row → Text → Bool → Type 0
@@ -46,6 +50,7 @@ pub record NamesSeq (rows : List Row) (o : Seq) : Type 0 where
 pub record NamesRun (rows : List Row) (o : Run) : Type 0 where
   pub net : first_of (codes "NET") rows ≡ Some (string_bytes o.net)
   pub workers : IsNumberOf (one_of (codes "workers") rows) o.workers
+  pub groups : o.groups ≡ option_map number_in (one_of (codes "groups") rows)
   pub turn : IsNumberOf (one_of (codes "turn") rows) o.turn
   pub window : IsNumberOf (one_of (codes "window") rows) o.window_ns
   pub journal : first_of (codes "journal") rows ≡ option_map string_bytes o.journal
@@ -65,7 +70,7 @@ Names rows (order.Replay o) = NamesReplay rows o
 
 pub record RunDefaults (rows : List Row) (o : Run) : Type 0 where
   pub workers : one_of (codes "workers") rows ≡ None → o.workers ≡ 4
-  pub turn : one_of (codes "turn") rows ≡ None → o.turn ≡ 256
+  pub turn : one_of (codes "turn") rows ≡ None → o.turn ≡ 16
   pub window : one_of (codes "window") rows ≡ None → o.window_ns ≡ 1000000
 
 -- each number of the order that the words do not name is the usual one
@@ -75,6 +80,7 @@ HasDefaults rows o = Unit {0}
 
 pub record RunLimits (o : Run) : Type 0 where
   pub workers : (1 ≤ o.workers) × (o.workers ≤ 64)
+  pub groups : IfSome o.groups (λ n. (1 ≤ n) × (n ≤ 64))
   pub turn : (1 ≤ o.turn) × (o.turn ≤ 256)
   pub window : (1 ≤ o.window_ns) × (o.window_ns ≤ LATEST_NS)
 

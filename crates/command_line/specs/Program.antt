@@ -28,11 +28,11 @@ number_rule id most = record (file_rule id) { parser = Some (Unsigned 1 most) }
 abbrev pub network_app : Text → App
 network_app name = with_rule (new_app name) (path_rule (codes "NET"))
 
--- `[--workers N] [--turn N] [--window NS]` more
+-- `[--workers N] [--groups N] [--turn N] [--window NS]` more
 abbrev pub with_paces : App → App
 with_paces a =
     with_rule
-    (with_rule (with_rule a (number_rule (codes "workers") 64)) (number_rule (codes "turn") 256))
+    (with_rule (with_rule (with_rule a (number_rule (codes "workers") 64)) (number_rule (codes "groups") 64)) (number_rule (codes "turn") 256))
     (number_rule (codes "window") LATEST_NS)
 
 -- `[--trace FILE] [--progress]` more
@@ -47,7 +47,7 @@ check_app = network_app (codes "check")
 abbrev pub seq_app : App
 seq_app = with_outputs (network_app (codes "seq"))
 
--- `run NET [--workers N] [--turn N] [--window NS] [--journal FILE] [--trace FILE] [--progress]`
+-- `run NET [--workers N] [--groups N] [--turn N] [--window NS] [--journal FILE] [--trace FILE] [--progress]`
 abbrev pub run_app : App
 run_app = with_outputs (with_rule (with_paces (network_app (codes "run"))) (file_rule (codes "journal")))
 

@@ -1,13 +1,15 @@
 //! The order that a command's values make.
-ghost use Rattle.std.specs.Prelude.{◌≡◌, IfOk, true, codes, is_some};
+ghost use Rattle.std.specs.Prelude.{◌≡◌, ◌≤◌, IfOk, IfSome, true, codes, is_some, option_map};
 ghost use Rattle.clap.specs.Words.{first_of, found_of, one_of, rows_of};
 ghost use Rattle.vlink.specs.declared.time.TheConstants.{LATEST_NS};
 ghost use Rattle.command_line.specs.Given.{IsGiven, IsUpTo};
-ghost use Rattle.command_line.specs.Meaning.{HasDefaults, IsWithinLimits, Names, NamesCheck, NamesReplay, NamesRun, NamesSeq, RunDefaults, RunLimits, command_of};
+ghost use Rattle.command_line.specs.Meaning.{HasDefaults, IsWithinLimits, Names, NamesCheck, NamesReplay, NamesRun, NamesSeq, RunDefaults, RunLimits, command_of, number_in};
 
 use crate::orders::{Check, Order, Replay, Run, Seq};
-use crate::paces::{MOST_TURN, MOST_WORKERS, USUAL_TURN, USUAL_WINDOW_NS, USUAL_WORKERS};
-use crate::values::{given_text_of, is_named, number_of, text_of};
+use crate::paces::{
+    MOST_GROUPS, MOST_TURN, MOST_WORKERS, USUAL_TURN, USUAL_WINDOW_NS, USUAL_WORKERS,
+};
+use crate::values::{given_text_of, is_named, named_number, number_of, text_of};
 use clap::ArgMatches;
 use std::alloc::{AllocError, Global};
 use vlink::LATEST_NS;
@@ -57,6 +59,7 @@ fn seq_of(alloc: Global, values: &ArgMatches<'_>) -> Result<Seq, AllocError>
 fn run_of(alloc: Global, values: &ArgMatches<'_>) -> Result<Run, AllocError>
     requires net { is_some (first_of (codes "NET") (rows_of (found_of values.now))) ≡ true }
     requires workers { IsUpTo 64 (one_of (codes "workers") (rows_of (found_of values.now))) }
+    requires groups { IsUpTo 64 (one_of (codes "groups") (rows_of (found_of values.now))) }
     requires turn { IsUpTo 256 (one_of (codes "turn") (rows_of (found_of values.now))) }
     requires window { IsUpTo LATEST_NS (one_of (codes "window") (rows_of (found_of values.now))) }
     ensures names { IfOk result (NamesRun (rows_of (found_of values.now))) }
@@ -64,6 +67,7 @@ fn run_of(alloc: Global, values: &ArgMatches<'_>) -> Result<Run, AllocError>
     ensures limits { IfOk result RunLimits }
 {
     let workers = number_of(values, "workers", USUAL_WORKERS, MOST_WORKERS);
+    let groups = groups_of(values);
     let turn = number_of(values, "turn", USUAL_TURN, MOST_TURN);
     let window_ns = number_of(values, "window", USUAL_WINDOW_NS, LATEST_NS);
     let net = given_text_of(alloc, values, "NET")?;
@@ -72,12 +76,25 @@ fn run_of(alloc: Global, values: &ArgMatches<'_>) -> Result<Run, AllocError>
     Ok(Run {
         net,
         workers: workers as u8,
+        groups,
         turn: turn as u16,
         window_ns,
         journal,
         trace,
         progress: is_named(values, "progress"),
     })
+}
+
+/// The number of groups, if one is named.
+fn groups_of(values: &ArgMatches<'_>) -> Option<u8>
+    requires { IsUpTo 64 (one_of (codes "groups") (rows_of (found_of values.now))) }
+    ensures value { result ≡ option_map number_in (one_of (codes "groups") (rows_of (found_of values.now))) }
+    ensures limits { IfSome result (λ n. (1 ≤ n) × (n ≤ 64)) }
+{
+    match named_number(values, "groups", MOST_GROUPS) {
+        Some(groups) => Some(groups as u8),
+        None => None,
+    }
 }
 
 fn replay_of(alloc: Global, values: &ArgMatches<'_>) -> Result<Replay, AllocError>

@@ -7,7 +7,7 @@ pub enum Order {
     Check(Check),
     /// `seq NET [--trace FILE] [--progress]`.
     Seq(Seq),
-    /// `run NET [--workers N] [--turn N] [--window NS] [--journal FILE] [--trace FILE] [--progress]`.
+    /// `run NET [--workers N] [--groups N] [--turn N] [--window NS] [--journal FILE] [--trace FILE] [--progress]`.
     Run(Run),
     /// `replay NET STEPS`.
     Replay(Replay),
@@ -38,6 +38,8 @@ pub struct Run {
     pub net: String,
     /// The number of threads, 1 to 64.
     pub workers: u8,
+    /// The number of groups of processes, 1 to 64, if one is named.
+    pub groups: Option<u8>,
     /// The most events that a group of processes handles in one turn, 1 to 256.
     pub turn: u16,
     /// How far beyond the GVT that it saw a group of processes may handle events, in ns: 1 to `vlink::LATEST_NS`.

@@ -14,10 +14,12 @@ use vlink::LATEST_NS;
 pub(crate) const MOST_WORKERS: u64 = 64;
 /// The number of threads where the words name none.
 pub(crate) const USUAL_WORKERS: u64 = 4;
+/// The greatest number of groups of processes.
+pub(crate) const MOST_GROUPS: u64 = 64;
 /// The greatest number of events in a turn.
 pub(crate) const MOST_TURN: u64 = 256;
 /// The number of events in a turn where the words name none.
-pub(crate) const USUAL_TURN: u64 = 256;
+pub(crate) const USUAL_TURN: u64 = 16;
 /// The window, in ns, where the words name none.
 pub(crate) const USUAL_WINDOW_NS: u64 = 1_000_000;
 
@@ -31,7 +33,21 @@ pub(crate) fn workers<'a>(alloc: Global) -> Arg<'a>
         "workers",
         "N",
         value_parser!(u64).range(1..=MOST_WORKERS as i64),
-        "How many threads simulate: 1 to 64 [default: 4]. There are never more than groups of processes: in a network of more than 16 processes, no more than cores, and one where more are not worth the letters between them. More than one pays where many events fall within some 8 us of simulated time and few frames go between the groups",
+        "How many threads simulate: 1 to 64 [default: 4]. There are never more than groups of processes. More than one pays where many events fall within some 8 us of simulated time and few frames go between the groups",
+    )
+}
+
+/// `--groups N`.
+pub(crate) fn groups<'a>(alloc: Global) -> Arg<'a>
+    ensures rule { rule_of result ≡ number_rule (codes "groups") 64 }
+    ensures local { result.global ≡ false }
+{
+    number(
+        alloc,
+        "groups",
+        "N",
+        value_parser!(u64).range(1..=MOST_GROUPS as i64),
+        "How many groups of processes there are: 1 to 64, and never more than processes [default: as many as workers, but no more than cores, and one where more are not worth the letters between them; each process, where there are at most 16]. The tables do not depend on it",
     )
 }
 
@@ -45,7 +61,7 @@ pub(crate) fn turn<'a>(alloc: Global) -> Arg<'a>
         "turn",
         "N",
         value_parser!(u64).range(1..=MOST_TURN as i64),
-        "How many events a group of processes handles at most in one turn: 1 to 256 [default: 256]. Between turns letters go out and come in",
+        "How many events a group of processes handles at most in one turn: 1 to 256 [default: 16]. Between turns letters go out and come in",
     )
 }
 

@@ -4,7 +4,7 @@ ghost use Rattle.clap.specs.Words.{App, Rule, app_of, new_app, rule_of, with_rul
 ghost use Rattle.command_line.specs.Program.{Knows, bare_program, check_app, network_app, program, replay_app, run_app, seq_app, with_outputs, with_paces};
 
 use crate::arguments::{file, flag, path};
-use crate::paces::{turn, window, workers};
+use crate::paces::{groups, turn, window, workers};
 use clap::{Arg, Command};
 use std::alloc::{AllocError, Global};
 
@@ -148,7 +148,8 @@ fn with_paces<'a>(
     ensures { (known : App) → IfOk command.entry (λ one. Knows one known) → IfOk result (λ new. Knows new (with_paces known)) }
 {
     let workers = with_arg(command, workers(alloc));
-    let turns = with_arg(workers, turn(alloc));
+    let groupings = with_arg(workers, groups(alloc));
+    let turns = with_arg(groupings, turn(alloc));
     with_arg(turns, window(alloc))
 }
 

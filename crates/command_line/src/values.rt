@@ -1,9 +1,9 @@
 //! The values that clap has for an argument.
-ghost use Rattle.std.specs.Prelude.{◌≡◌, ◌≤◌, None, Some, true, IfOk, is_some, option_map};
+ghost use Rattle.std.specs.Prelude.{◌≡◌, ◌≤◌, None, Some, true, IfOk, IfSome, is_some, option_map};
 ghost use Rattle.std.specs.String.{string_bytes};
 ghost use Rattle.clap.specs.Words.{found_of, first_of, one_of, rows_of};
 ghost use Rattle.command_line.specs.Given.{IsUpTo};
-ghost use Rattle.command_line.specs.Meaning.{IsNamed, IsNumberOf};
+ghost use Rattle.command_line.specs.Meaning.{IsNamed, IsNumberOf, number_in};
 
 use clap::ArgMatches;
 use std::alloc::{AllocError, Global};
@@ -45,6 +45,15 @@ pub(crate) fn is_named(values: &ArgMatches<'_>, id: &str) -> bool
     }
 }
 
+/// The number of an argument, which is at most the greatest, if it has one.
+pub(crate) fn named_number(values: &ArgMatches<'_>, id: &str, most: u64) -> Option<u64>
+    requires { IsUpTo most (one_of id.now (rows_of (found_of values.now))) }
+    ensures value { result ≡ option_map number_in (one_of id.now (rows_of (found_of values.now))) }
+    ensures limits { IfSome result (λ n. (1 ≤ n) × (n ≤ most)) }
+{
+    values.try_get_one::<u64>(id).unwrap()
+}
+
 /// The number of an argument, which is at most the greatest, or the usual one where it has none.
 pub(crate) fn number_of(values: &ArgMatches<'_>, id: &str, usual: u64, most: u64) -> u64
     requires given { IsUpTo most (one_of id.now (rows_of (found_of values.now))) }
@@ -53,5 +62,5 @@ pub(crate) fn number_of(values: &ArgMatches<'_>, id: &str, usual: u64, most: u64
     ensures usual { one_of id.now (rows_of (found_of values.now)) ≡ None → result ≡ usual }
     ensures limits { (1 ≤ result) × (result ≤ most) }
 {
-    values.try_get_one::<u64>(id).unwrap().unwrap_or(usual)
+    named_number(values, id, most).unwrap_or(usual)
 }

@@ -1,5 +1,6 @@
--- What error output is told of how far a run is.
+-- What error output is told of a run: how far it is, and of a run by workers which groups and workers it has.
 use Rattle.std.specs.Prelude.{◌≡◌, ◌⊎◌, ◌≤◌, ◌/◌, ◌++◌, ◌∷◌, ℕ, Bool, true, false, List, [], Option, ⊤, codes, decimal, flat_map}
+use Rattle.network.specs.Words.{Plan, process_count}
 use Rattle.commands.specs.Ending.{Took}
 
 -- on a terminal a line goes into the place of the one before it: the cursor goes up, and that line is wiped
@@ -19,16 +20,33 @@ pub record IsProgressLine (until : ℕ) (line : List ℕ) : Type 0 where
   pub within : moment ≤ until / 1000000
   pub text : line ≡ front ++ progress_text moment (until / 1000000) rest
 
-abbrev pub AreProgressLines : ℕ → List (List ℕ) → Type 0
-AreProgressLines until [] = ⊤
-AreProgressLines until (line ∷ lines) = IsProgressLine until line × AreProgressLines until lines
+-- so many groups of processes, and so many workers
+abbrev pub groups_text : ℕ → ℕ → List ℕ
+groups_text groups workers = codes "afdxsim: " ++ decimal groups ++ codes " groups, " ++ decimal workers ++ codes " workers" ++ 10 ∷ []
 
--- a stream took such lines and nothing else, unless a write to it failed
-pub record HearsProgress {E : Type 0} (taken : E → Option (List ℕ)) (failures : E → ℕ) (until : ℕ) (old new : E) : Type 0 where
+-- a line that tells of groups and workers of a run of so many processes: there are no more groups than processes, and no more workers than groups
+pub record IsGroupsLine (processes : ℕ) (line : List ℕ) : Type 0 where
+  pub groups : ℕ
+  pub workers : ℕ
+  pub few : groups ≤ processes
+  pub served : workers ≤ groups
+  pub text : line ≡ groups_text groups workers
+
+-- a line that tells of a run by workers
+abbrev pub IsWorkersLine : Plan → List ℕ → Type 0
+IsWorkersLine plan line = IsGroupsLine (process_count plan) line ⊎ IsProgressLine plan.until line
+
+-- lines of one kind
+abbrev pub AreLines : (List ℕ → Type 0) → List (List ℕ) → Type 0
+AreLines IsLine [] = ⊤
+AreLines IsLine (line ∷ lines) = IsLine line × AreLines IsLine lines
+
+-- a stream took lines of this kind and nothing else, unless a write to it failed
+pub record HearsLines {E : Type 0} (taken : E → Option (List ℕ)) (failures : E → ℕ) (IsLine : List ℕ → Type 0) (old new : E) : Type 0 where
   pub failed : failures old ≤ failures new
-  pub lines : failures new ≡ failures old → (lines : List (List ℕ)) × AreProgressLines until lines × Took taken old new (flat_map (λ line. line) lines)
+  pub lines : failures new ≡ failures old → (lines : List (List ℕ)) × AreLines IsLine lines × Took taken old new (flat_map (λ line. line) lines)
 
 -- that, where it is asked for; else it took nothing
-abbrev pub HearsAsked : {E : Type 0} → (E → Option (List ℕ)) → (E → ℕ) → Bool → ℕ → E → E → Type 0
-HearsAsked taken failures false until old new = new ≡ old
-HearsAsked taken failures true until old new = HearsProgress taken failures until old new
+abbrev pub HearsAsked : {E : Type 0} → (E → Option (List ℕ)) → (E → ℕ) → Bool → (List ℕ → Type 0) → E → E → Type 0
+HearsAsked taken failures false IsLine old new = new ≡ old
+HearsAsked taken failures true IsLine old new = HearsLines taken failures IsLine old new

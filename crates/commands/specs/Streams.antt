@@ -9,10 +9,9 @@ use Rattle.commands.specs.Telling.{Telling}
 
 -- the host was `old` before
 module _ {S F O E : Type 0} (outside : Outside S F O E) (old : S) where
-  -- once the run of the network was over, error output was `heard`: it took lines that tell how far the run was, where progress is asked for;
-  -- else it took nothing
-  abbrev pub IsHeard : Bool → Plan → E → Type 0
-  IsHeard asked plan heard = HearsAsked outside.said outside.errors_failures asked plan.until (outside.errors old) heard
+  -- once the run of a network was over, error output was `heard`: it took lines of this kind, where progress is asked for; else it took nothing
+  abbrev pub IsHeard : Bool → (List ℕ → Type 0) → E → Type 0
+  IsHeard asked IsLine heard = HearsAsked outside.said outside.errors_failures asked IsLine (outside.errors old) heard
 
   -- the host with that error output
   abbrev pub heard_host : Bool → E → S

@@ -6,6 +6,7 @@ use journal::PoolFault;
 use netdesc::DescFault;
 use seqsim::SimFault;
 use std::alloc::AllocError;
+use thiserror::Error;
 
 /// The status where all was done.
 pub const DONE: u8 = 0;
@@ -14,29 +15,40 @@ pub const DONE: u8 = 0;
 pub const BAD_WORDS: u8 = 2;
 
 /// Why the program ends before it has done what it was told to do.
-#[derive(Clone, Copy)]
+#[derive(Clone, Copy, Debug, Error)]
 pub enum Fault<'a> {
     /// The description of the network has this fault.
+    #[error("description: {0}")]
     Description(DescFault),
     /// The line with this number, from 1, is the first of a journal that is the text of no step.
+    #[error("journal line {0}")]
     JournalLine(u64),
     /// A journal has more lines than are allowed, or a run by workers more steps.
+    #[error("journal full")]
     JournalFull,
     /// The file with this path cannot be read.
+    #[error("cannot read {0}")]
     CannotRead(&'a str),
     /// The file with this path cannot be made or written.
+    #[error("cannot write {0}")]
     CannotWriteFile(&'a str),
     /// Standard output takes no more.
+    #[error("cannot write")]
     CannotWrite,
     /// The library that lays out rows failed, though no growth was refused.
+    #[error("cannot lay out rows")]
     Layout,
     /// A growth was refused.
+    #[error("out of memory")]
     OutOfMemory,
     /// A process has not enough numbers left for what one event can send.
+    #[error("numbers used up")]
     Exhausted,
     /// A worker cannot be started.
+    #[error("cannot start a worker")]
     Spawn,
     /// Rows of the trace of a run by workers are missing or come twice, or left a process and were not counted.
+    #[error("torn")]
     Torn,
 }
 

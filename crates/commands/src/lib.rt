@@ -26,7 +26,7 @@ pub use fault::Fault;
 pub use host::{FileFault, Host};
 pub use keeping::{Kept, fault_of_trace, keep, make_file};
 pub use naming::{named_twice, net_of};
-pub use progress::{Asked, Progress, asked_of};
+pub use progress::{Asked, Progress, asked_of, tell_groups};
 pub use reading::network_of;
 pub use replaying::replay;
 pub use sequencing::{seq, show_tables};

@@ -1,7 +1,7 @@
-//! Progress: error output is told how far a run is.
+//! Progress: error output is told how far a run is, and which groups and workers it has.
 //! On a terminal a line ends like any other, and the next one goes up into its place: so a fault behind it has a line of its own.
 ghost use Rattle.std.specs.Prelude.{◌≡◌, ◌⊎◌, ◌++◌, [], IfOk, OnOk, string_bytes};
-ghost use Rattle.commands.specs.Progress.{HearsAsked, IsProgressLine, progress_text, upwards};
+ghost use Rattle.commands.specs.Progress.{HearsAsked, IsProgressLine, groups_text, progress_text, upwards};
 
 use crate::host::Host;
 use crate::pace_text::{pace_at_end, pace_so_far};
@@ -32,6 +32,30 @@ pub fn asked_of<H: Host>(is_asked: bool, host: &H) -> Asked
         is_asked,
         is_terminal: host.is_terminal(),
     }
+}
+
+/// Tells error output how many groups of processes and how many workers a run has, where progress is asked for. Where memory for the line is refused, it is
+/// not told.
+pub fn tell_groups<E: Sink>(alloc: Global, groups: u16, workers: u8, asked: Asked, errors: &mut E)
+    ensures { HearsAsked E.taken E.failures asked.is_asked (λ line. line ≡ groups_text groups workers) errors.old errors.new }
+{
+    if !asked.is_asked {
+        return;
+    }
+    if let Ok(line) = groups_line(alloc, groups, workers) {
+        say(line.as_str(), errors);
+    }
+}
+
+/// The line that tells of so many groups and workers.
+fn groups_line(alloc: Global, groups: u16, workers: u8) -> Result<String, AllocError>
+    ensures { IfOk result (λ line. string_bytes line ≡ groups_text groups workers) }
+{
+    let mut line = String::from_str(alloc, "afdxsim: ")?;
+    write!(line, "{groups} groups, ")?;
+    write!(line, "{workers} workers")?;
+    line.push_str("\n")?;
+    Ok(line)
 }
 
 /// Tells error output how far a run is, where that is asked for. Where the clock cannot be read, or memory for a line is refused, no line is
@@ -89,7 +113,7 @@ impl<'a, E: Sink, T: Clock> Progress<'a, E, T> {
         ensures same_reference { self.new.errors.ghost_name ≡ self.old.errors.ghost_name }
         ensures asked { self.new.asked.is_asked ≡ self.old.asked.is_asked }
         ensures until { self.new.until ≡ self.old.until }
-        ensures heard { HearsAsked E.taken E.failures self.old.asked.is_asked self.old.until self.old.errors.now self.new.errors.now }
+        ensures heard { HearsAsked E.taken E.failures self.old.asked.is_asked (IsProgressLine self.old.until) self.old.errors.now self.new.errors.now }
     {
         if !self.asked.is_asked {
             return;
@@ -107,7 +131,7 @@ impl<'a, E: Sink, T: Clock> Progress<'a, E, T> {
         ensures same_reference { self.new.errors.ghost_name ≡ self.old.errors.ghost_name }
         ensures asked { self.new.asked.is_asked ≡ self.old.asked.is_asked }
         ensures until { self.new.until ≡ self.old.until }
-        ensures heard { HearsAsked E.taken E.failures self.old.asked.is_asked self.old.until self.old.errors.now self.new.errors.now }
+        ensures heard { HearsAsked E.taken E.failures self.old.asked.is_asked (IsProgressLine self.old.until) self.old.errors.now self.new.errors.now }
     {
         let rest = match self.elapsed_ms() {
             Some(ms) => pace_at_end(self.alloc, self.events, ms),
@@ -157,11 +181,11 @@ fn push_line(line: &mut String, moment_ms: u64, until_ms: u64, rest: &str) -> Re
 impl<'a, E: Sink, T: Clock> Watch for Progress<'a, E, T> {
     ghost use Rattle.std.specs.Prelude.{◌≡◌, ℕ, Bool};
     ghost use Rattle.std.proofs.Common.{refl, subst, ◌∙◌};
-    ghost use Rattle.commands.specs.Progress.{HearsAsked};
+    ghost use Rattle.commands.specs.Progress.{HearsAsked, IsProgressLine};
     ghost use Rattle.commands.specs.MoreProgress.{asked_none, asked_more};
 
     ghost becomes = { λ old new. (new.errors.ghost_name ≡ old.errors.ghost_name) × (new.asked.is_asked ≡ old.asked.is_asked) × (new.until ≡ old.until)
-        × HearsAsked E.taken E.failures old.asked.is_asked old.until old.errors.now new.errors.now };
+        × HearsAsked E.taken E.failures old.asked.is_asked (IsProgressLine old.until) old.errors.now new.errors.now };
 
     fn look(&mut self, moment: Time, events: u32) {
         self.events = self.events.saturating_add(u64::from(events));
@@ -177,14 +201,14 @@ impl<'a, E: Sink, T: Clock> Watch for Progress<'a, E, T> {
         }
     }
 
-    ghost stays = { λ w. (refl, refl, refl, asked_none E.taken E.failures w.until w.asked.is_asked w.errors.now) };
+    ghost stays = { λ w. (refl, refl, refl, asked_none E.taken E.failures (IsProgressLine w.until) w.asked.is_asked w.errors.now) };
 
     ghost goes_on = { λ a b c f g. (
       g.0 ∙ f.0,
       g.1 ∙ f.1,
       g.2 ∙ f.2,
-      asked_more E.taken E.failures a.until a.asked.is_asked a.errors.now b.errors.now c.errors.now f.3
-          (subst (λ (asked : Bool). HearsAsked E.taken E.failures asked a.until b.errors.now c.errors.now) f.1
-          (subst (λ (until : ℕ). HearsAsked E.taken E.failures b.asked.is_asked until b.errors.now c.errors.now) f.2 g.3)),
+      asked_more E.taken E.failures (IsProgressLine a.until) a.asked.is_asked a.errors.now b.errors.now c.errors.now f.3
+          (subst (λ (asked : Bool). HearsAsked E.taken E.failures asked (IsProgressLine a.until) b.errors.now c.errors.now) f.1
+          (subst (λ (until : ℕ). HearsAsked E.taken E.failures b.asked.is_asked (IsProgressLine until) b.errors.now c.errors.now) f.2 g.3)),
     ) };
 }

@@ -5,7 +5,7 @@ ghost use Rattle.trace_tables.specs.Text.{tables_text};
 ghost use Rattle.commands.specs.declared.fault.Fault.TheVariants.{CannotWrite};
 ghost use Rattle.commands.specs.Ending.{Took, IsFaultOfOutput};
 ghost use Rattle.commands.specs.Files.{LacksSeq, LeavesSeq, ShowsAlone};
-ghost use Rattle.commands.specs.Progress.{HearsAsked};
+ghost use Rattle.commands.specs.Progress.{HearsAsked, IsProgressLine};
 ghost use Rattle.commands.specs.Sequencing.{IsTablesText, IsFaultOfRun};
 ghost use Rattle.commands.specs.Streams.{IsHeard, ShowsTables, heard_host};
 
@@ -50,7 +50,7 @@ fn tables_of_run<E: Sink, T: Clock>(
 ) -> Result<Tables, Fault<'static>>
     ensures text { IfOk result (λ tables. IsTablesText network.now (tables_text network.now tables)) }
     ensures fault { IfErr result (IsFaultOfRun network.now) }
-    ensures heard { HearsAsked E.taken E.failures asked.is_asked network.now.until errors.old errors.new }
+    ensures heard { HearsAsked E.taken E.failures asked.is_asked (IsProgressLine network.now.until) errors.old errors.new }
 {
     let mut progress = Progress::new(rt, alloc, network.until(), asked, errors);
     let tables = run_tables(alloc, network, &mut progress)?;
@@ -70,7 +70,7 @@ fn whole_run<E: Sink, T: Clock>(
     ensures text { IfOk result (λ finished. IsTablesText network.now (tables_text network.now finished.tables)) }
     ensures rows { IfOk result (λ finished. AreRowsOf network.now finished.rows.items) }
     ensures fault { IfErr result (IsFaultOfRun network.now) }
-    ensures heard { HearsAsked E.taken E.failures asked.is_asked network.now.until errors.old errors.new }
+    ensures heard { HearsAsked E.taken E.failures asked.is_asked (IsProgressLine network.now.until) errors.old errors.new }
 {
     let mut progress = Progress::new(rt, alloc, network.until(), asked, errors);
     let finished = run(alloc, network, &mut progress)?;
@@ -88,7 +88,7 @@ fn heard_tables<H: Host, T: Clock>(
 ) -> Result<Tables, Fault<'static>>
     ensures text { IfOk result (λ tables. IsTablesText network.now (tables_text network.now tables)) }
     ensures fault { IfErr result (IsFaultOfRun network.now) }
-    ensures heard { IsHeard H.outside host.old is_asked network.now (H.outside.errors host.new) }
+    ensures heard { IsHeard H.outside host.old is_asked (IsProgressLine network.now.until) (H.outside.errors host.new) }
     ensures host { host.new ≡ heard_host H.outside host.old is_asked (H.outside.errors host.new) }
     ensures output { H.outside.output host.new ≡ H.outside.output host.old }
 {
@@ -107,7 +107,7 @@ fn heard_run<H: Host, T: Clock>(
     ensures text { IfOk result (λ finished. IsTablesText network.now (tables_text network.now finished.tables)) }
     ensures rows { IfOk result (λ finished. AreRowsOf network.now finished.rows.items) }
     ensures fault { IfErr result (IsFaultOfRun network.now) }
-    ensures heard { IsHeard H.outside host.old is_asked network.now (H.outside.errors host.new) }
+    ensures heard { IsHeard H.outside host.old is_asked (IsProgressLine network.now.until) (H.outside.errors host.new) }
     ensures host { host.new ≡ heard_host H.outside host.old is_asked (H.outside.errors host.new) }
     ensures output { H.outside.output host.new ≡ H.outside.output host.old }
 {
@@ -127,7 +127,7 @@ fn run_to_tables<H: Host, T: Clock>(
     ensures left { OnOk result (ShowsAlone H.outside (heard_host H.outside host.old is_asked (H.outside.errors host.new)) host.new) }
     ensures fault { IfErr result (LacksSeq H.outside None (heard_host H.outside host.old is_asked (H.outside.errors host.new)) host.new network.now) }
     ensures kept { IfErr result (λ fault. fault ≢ CannotWrite → H.outside.output host.new ≡ H.outside.output host.old) }
-    ensures heard { IsHeard H.outside host.old is_asked network.now (H.outside.errors host.new) }
+    ensures heard { IsHeard H.outside host.old is_asked (IsProgressLine network.now.until) (H.outside.errors host.new) }
 {
     let tables = heard_tables(rt, alloc, network, is_asked, host)?;
     let shown = show_tables(alloc, network, &tables, host.output());
@@ -149,7 +149,7 @@ fn run_to_trace<'a, H: Host, T: Clock>(
     ensures left { OnOk result (LeavesSeq H.outside (Some path.entry.now) (heard_host H.outside host.old is_asked (H.outside.errors host.new)) host.new network.now) }
     ensures fault { IfErr result (LacksSeq H.outside (Some path.entry.now) (heard_host H.outside host.old is_asked (H.outside.errors host.new)) host.new network.now) }
     ensures kept { IfErr result (λ fault. fault ≢ CannotWrite → H.outside.output host.new ≡ H.outside.output host.old) }
-    ensures heard { IsHeard H.outside host.old is_asked network.now (H.outside.errors host.new) }
+    ensures heard { IsHeard H.outside host.old is_asked (IsProgressLine network.now.until) (H.outside.errors host.new) }
 {
     let finished = heard_run(rt, alloc, network, is_asked, host)?;
     let rows = finished.rows.as_slice();
@@ -173,7 +173,7 @@ pub fn seq<'a, H: Host, T: Clock>(
     ensures fault { IfErr result (LacksSeq H.outside (option_map string_bytes order.entry.now.trace)
         (heard_host H.outside host.old order.entry.now.progress (H.outside.errors host.new)) host.new network.now) }
     ensures kept { IfErr result (λ fault. fault ≢ CannotWrite → H.outside.output host.new ≡ H.outside.output host.old) }
-    ensures heard { IsHeard H.outside host.old order.entry.now.progress network.now (H.outside.errors host.new) }
+    ensures heard { IsHeard H.outside host.old order.entry.now.progress (IsProgressLine network.now.until) (H.outside.errors host.new) }
 {
     let asked = order.progress;
     match &order.trace {

@@ -6,6 +6,8 @@ mod accounts;
 mod checks;
 mod elements;
 mod exchanges;
+mod group_stage;
+mod groups;
 mod messages;
 mod networks;
 mod node_rows;
@@ -49,6 +51,7 @@ fn an_exchange_does_what_scripts_say(rt: HostRuntime) {
     let mut refused = with_room(rt.alloc());
     let mut wrong = with_room(rt.alloc());
     try_rows(rt.alloc(), exchanges::ROWS, &mut refused, &mut wrong);
+    try_rows(rt.alloc(), groups::ROWS, &mut refused, &mut wrong);
     let _ = eprint!(rt; "{refused}");
     assert!(rt; wrong.is_empty(), "{wrong}");
 }
@@ -105,7 +108,7 @@ fn tell_row(alloc: Global, row: &str, told: &mut String, refused: &mut String) {
         "journal" => worlds::tell_read(alloc, begin, script, told),
         "width" => segments::tell_width(script, told),
         "gather" => segments::tell_gathered(alloc, script, told),
-        "node" | "offers" | "segments" | "exchange" => {
+        "node" | "offers" | "segments" | "exchange" | "groups" => {
             tell_of_network(alloc, kind, begin, script, told, refused);
         }
         _ => elements::tell_element(alloc, kind, begin, script, told),
@@ -135,7 +138,7 @@ fn tell_of_network(
     }
 }
 
-// Behind the name of the network stands the number of a process, or how many steps a journal can have.
+// Behind the name of the network stands the number of a process, or how many steps a journal can have and how many groups there are.
 fn tell_on(
     alloc: Global,
     network: &Network,
@@ -149,6 +152,10 @@ fn tell_on(
         "node" => node_rows::tell_node(alloc, network, short_at(begin, 1), script, told),
         "offers" => node_rows::tell_offers(alloc, network, told),
         "segments" => segments::tell_segments(alloc, network, short_at(begin, 1), script, told),
+        "groups" => {
+            let (limit, groups) = (number_at(begin, 1), short_at(begin, 2));
+            groups::tell_groups(alloc, network, limit, groups, script, told, refused);
+        }
         _ => exchanges::tell_exchange(alloc, network, number_at(begin, 1), script, told, refused),
     }
 }

@@ -16,33 +16,62 @@ use vlink::process_number;
 /// How many events a group is to have within a lead, at the least.
 const EVENTS_IN_LEAD: u64 = 8;
 
-/// How many groups a network is worth: at most so many, and each has some events within the lead, in ns, by which workers may be apart.
-pub fn group_count(
+/// How many groups there are where so many are asked for: at least one, and no more than processes. A network without a process has none.
+pub fn groups_asked(network: &Network, asked: u16) -> u16
+    ensures least { 1 ≤ process_count network.now → 1 ≤ result }
+    ensures few { result ≤ process_count network.now }
+    ensures most { 1 ≤ asked → result ≤ asked }
+    ensures given { 1 ≤ asked → asked ≤ process_count network.now → result ≡ asked }
+{
+    asked.max(1).min(network.process_count())
+}
+
+/// How many groups a network is worth: at most so many, and each has some events within the lead, in ns, by which workers may be apart. There is at least
+/// one, and there are no more than processes. A network without a process has none. It is refused for memory alone.
+pub fn groups_worth(
     alloc: Global,
     network: &Network,
     most: u16,
     lead_ns: u64,
 ) -> Result<u16, AllocError>
-    ensures least { IfOk result (λ groups. 1 ≤ groups) }
+    ensures least { 1 ≤ process_count network.now → IfOk result (λ groups. 1 ≤ groups) }
+    ensures few { IfOk result (λ groups. groups ≤ process_count network.now) }
     ensures most { 1 ≤ most → IfOk result (λ groups. groups ≤ most) }
 {
     let loads = loads_of(alloc, network, &flows_of(alloc, network)?)?;
     let within = all(&loads).saturating_mul(lead_ns) / 1_000_000_000;
     let worth = u16::try_from(within / EVENTS_IN_LEAD).unwrap_or(most);
-    Ok(worth.min(most).max(1))
+    Ok(worth.min(most).max(1).min(network.process_count()))
 }
 
 /// The group of each process of the network, by its number, where there are so many groups, from 0. Each end system goes with a switch, switches with much
-/// traffic between them go together while a group can take both, and a line goes with the node to which it leads. It is refused for memory alone.
+/// traffic between them go together while a group can take both, and a line goes with the node to which it leads. Where there are more groups than nodes,
+/// processes go to them in turn. It is refused for memory alone.
 pub fn groups_of(alloc: Global, network: &Network, groups: u16) -> Result<Vec<u16>, AllocError>
     requires { 1 ≤ groups }
     ensures all { IfOk result (λ places. length places.items ≡ process_count network.now) }
     ensures within { IfOk result (λ places. All (λ group. group < groups) places.items) }
 {
+    if usize::from(groups) > network.node_count() {
+        return in_turn(alloc, network.process_count(), groups);
+    }
     let owners = owners_in(alloc, network, usize::from(groups))?;
     let places = places_of(alloc, network, &owners, groups);
     drop(owners);
     places
+}
+
+/// The group of each of so many processes, where they go to so many groups in turn.
+fn in_turn(alloc: Global, processes: u16, groups: u16) -> Result<Vec<u16>, AllocError>
+    requires { 1 ≤ groups }
+    ensures all { IfOk result (λ places. length places.items ≡ processes) }
+    ensures within { IfOk result (λ places. All (λ group. group < groups) places.items) }
+{
+    let mut places = Vec::with_capacity(alloc, usize::from(processes))?;
+    for process in 0..processes {
+        places.push(process % groups)?;
+    }
+    Ok(places)
 }
 
 /// The group of each process, where each node has one: that of a line is the one of the node to which it leads.

@@ -11,4 +11,4 @@ mod matrix;
 mod moving;
 mod packing;
 
-pub use groups::{group_count, groups_of};
+pub use groups::{groups_asked, groups_of, groups_worth};

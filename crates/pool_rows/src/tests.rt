@@ -68,25 +68,33 @@ a = [["ES2", "SW1", "ES1"]]
 b = []
 "#;
 
-// How many workers there are; how often a process looks whether the other one has begun, at most; two pairs of processes, of which the first
+// How many workers and how many groups of processes there are; how often a process looks whether the other one has begun, at most; two pairs of processes, of which the first
 // waits for the second; and a process that takes a letter, and one that handles a message. Then how many looked in vain, and whether in the
 // journal the first `T` of the one, of its first letter, stands before the first `R` of the other. A message of which the gate is told out of
 // order counts as one that looked in vain.
-type Row = (u8, u64, [(u16, u16); 2], u16, u16, &'static str);
+type Row = (u8, u16, u64, [(u16, u16); 2], u16, u16, &'static str);
 
-// With one worker the process that waits stands in the way of the other one. A process takes a letter before it handles a message.
-const ROWS: [Row; 4] = [
-    (2, 100_000_000, [(0, 6), (0, 6)], 6, 0, "0 true"),
-    (1, 4096, [(0, 6), (0, 6)], 6, 0, "1 false"),
-    (2, 100_000_000, [(0, 1), (1, 0)], 0, 0, "0 true"),
-    (1, 4096, [(0, 1), (1, 0)], 0, 0, "1 true"),
+// With one worker the process that waits stands in the way of the other one. A process takes a letter before it handles a message. Of three groups one has
+// SW1 with the lines that lead to it, one ES1 and the line 4, and one ES2 and the line 5: there two processes of two groups of two wait for each other.
+const ROWS: [Row; 6] = [
+    (2, 7, 100_000_000, [(0, 6), (0, 6)], 6, 0, "0 true"),
+    (1, 7, 4096, [(0, 6), (0, 6)], 6, 0, "1 false"),
+    (2, 7, 100_000_000, [(0, 1), (1, 0)], 0, 0, "0 true"),
+    (1, 7, 4096, [(0, 1), (1, 0)], 0, 0, "1 true"),
+    (2, 3, 100_000_000, [(0, 1), (1, 0)], 0, 0, "0 true"),
+    (1, 3, 4096, [(0, 1), (1, 0)], 0, 0, "1 true"),
 ];
 
 #[test]
 fn processes_meet_in_a_run_by_workers(rt: HostRuntime) {
     for row in ROWS {
         let told = told_by(&rt, rt.alloc(), row);
-        assert!(rt; told.as_str() == row.5, "{} workers: {told}", row.0);
+        assert!(rt;
+            told.as_str() == row.6,
+            "{} workers, {} groups: {told}",
+            row.0,
+            row.1
+        );
     }
 }
 
@@ -112,9 +120,10 @@ fn meet<T: Threads + Wait + Sync>(
     row: Row,
     told: &mut String,
 ) {
-    let (workers, looks, pairs, taker, runner, _) = row;
+    let (workers, groups, looks, pairs, taker, runner, _) = row;
     let pace = Pace {
         workers,
+        groups,
         turn: 1,
         window_ns: 1_000_000,
     };

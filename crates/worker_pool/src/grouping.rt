@@ -1,9 +1,10 @@
 //! Which processes of a run belong together.
-ghost use Rattle.std.specs.Prelude.{◌≡◌, ◌<◌, ◌≤◌, All, IfOk, length};
+ghost use Rattle.std.specs.Prelude.{◌≡◌, ◌<◌, ◌≤◌, All, IfOk, IfSome, length};
+ghost use Rattle.network.specs.Words.{process_count};
 ghost use Rattle.group_exchange.specs.Keeps.{AreGrouped};
 ghost use Rattle.worker_pool.specs.Runs.{IsGroupingOf};
 
-use group_choice::{group_count, groups_of};
+use group_choice::{groups_asked, groups_of, groups_worth};
 use group_exchange::Pairs;
 use network::Network;
 use std::alloc::{AllocError, Global};
@@ -11,8 +12,9 @@ use std::thread;
 use std::thread::Threads;
 use turns::LEAD_NS;
 
-/// In a network of at most so many processes each process is a group: there meetings of processes are tried and looked at. A larger one has no more
-/// groups than workers, since a section of the exchange moves some four lines of memory between cores, 100 ns each beside 75 ns of work for an event.
+/// In a network of at most so many processes each process is a group, unless a number of groups is asked for: there meetings of processes are tried and
+/// looked at. A larger one has no more groups than workers, since a section of the exchange moves some four lines of memory between cores, 100 ns each
+/// beside 75 ns of work for an event.
 const FEW_PROCESSES: u16 = 16;
 
 /// So many groups a network has at most, where it has more processes.
@@ -25,17 +27,66 @@ pub(crate) struct Grouping {
     pub groups: u16,
 }
 
-/// The groups of a network for so many workers, and for each the pair of its marks. It is refused for memory alone.
-pub(crate) fn marked_groups<T: Threads>(
+/// How many groups of processes a run of the network by so many workers has: as many as are asked for, where a number is asked for. Else each process of a
+/// small network is one, and a larger one has as many as there are workers and processors, but no more than are worth their letters. There is at least one,
+/// and there are no more than processes. It is refused for memory alone.
+pub fn group_number<T: Threads>(
     rt: &T,
     alloc: Global,
     network: &Network,
     workers: u8,
+    asked: Option<u8>,
+) -> Result<u16, AllocError>
+    ensures least { 1 ≤ process_count network.now → IfOk result (λ groups. 1 ≤ groups) }
+    ensures few { IfOk result (λ groups. groups ≤ process_count network.now) }
+    ensures asked { IfSome asked (λ most. 1 ≤ most → IfOk result (λ groups. groups ≤ most)) }
+    ensures given { IfSome asked (λ most. 1 ≤ most → most ≤ process_count network.now → IfOk result (λ groups. groups ≡ most)) }
+{
+    match asked {
+        Some(groups) => Ok(groups_asked(network, u16::from(groups))),
+        None => usual_number(rt, alloc, network, workers),
+    }
+}
+
+/// How many groups there are where no number is asked for. It is refused for memory alone.
+fn usual_number<T: Threads>(
+    rt: &T,
+    alloc: Global,
+    network: &Network,
+    workers: u8,
+) -> Result<u16, AllocError>
+    ensures least { 1 ≤ process_count network.now → IfOk result (λ groups. 1 ≤ groups) }
+    ensures few { IfOk result (λ groups. groups ≤ process_count network.now) }
+{
+    let processes = network.process_count();
+    if processes <= FEW_PROCESSES {
+        return Ok(processes);
+    }
+    let most = u16::from(useful(rt, workers)).min(MOST_GROUPS).max(1);
+    groups_worth(alloc, network, most, LEAD_NS)
+}
+
+/// Of so many workers those that a processor can serve at once.
+fn useful<T: Threads>(rt: &T, workers: u8) -> u8 {
+    match thread::available_parallelism(rt) {
+        Ok(processors) => u8::try_from(processors.get())
+            .unwrap_or(workers)
+            .min(workers),
+        Err(_) => workers,
+    }
+}
+
+/// So many groups of the processes of a network, but at least one, and no more than processes; and for each the pair of its marks. It is refused for memory
+/// alone.
+pub(crate) fn marked_groups(
+    alloc: Global,
+    network: &Network,
+    groups: u16,
 ) -> Result<(Grouping, Pairs), AllocError>
     ensures grouped { IfOk result (λ r. IsGroupingOf network.now r.0.groups r.0.owners.items) }
     ensures each { IfOk result (λ r. length r.1 ≡ r.0.groups) }
 {
-    let grouping = groups_for(rt, alloc, network, workers)?;
+    let grouping = grouping_of(alloc, network, groups)?;
     match Pairs::new(alloc, usize::from(grouping.groups)) {
         Ok(pairs) => Ok((grouping, pairs)),
         Err(_) => {
@@ -45,29 +96,20 @@ pub(crate) fn marked_groups<T: Threads>(
     }
 }
 
-/// The groups of a network for so many workers: as many as there are workers and processors, and no more than are worth their letters; in a small
-/// network each process. It is refused for memory alone.
-fn groups_for<T: Threads>(
-    rt: &T,
-    alloc: Global,
-    network: &Network,
-    workers: u8,
-) -> Result<Grouping, AllocError>
+/// So many groups of the processes of a network, but at least one, and no more than processes. It is refused for memory alone.
+fn grouping_of(alloc: Global, network: &Network, groups: u16) -> Result<Grouping, AllocError>
     ensures { IfOk result (λ g. IsGroupingOf network.now g.groups g.owners.items) }
 {
-    let processes = network.process_count();
-    if processes <= FEW_PROCESSES {
-        return each_alone(alloc, processes);
+    let groups = groups_asked(network, groups);
+    if groups == network.process_count() {
+        return each_alone(alloc, groups);
     }
-    let most = u16::from(useful(rt, workers)).min(MOST_GROUPS).max(1);
-    let groups = group_count(alloc, network, most, LEAD_NS)?;
     let owners = groups_of(alloc, network, groups)?;
     Ok(Grouping { owners, groups })
 }
 
 /// Each of so many processes is a group.
 fn each_alone(alloc: Global, processes: u16) -> Result<Grouping, AllocError>
-    requires { processes ≤ 16 }
     ensures grouped { IfOk result (λ g. AreGrouped processes g.groups g.owners.items) }
     ensures groups { IfOk result (λ g. g.groups ≡ processes) }
 {
@@ -79,14 +121,4 @@ fn each_alone(alloc: Global, processes: u16) -> Result<Grouping, AllocError>
         owners,
         groups: processes,
     })
-}
-
-/// Of so many workers those that a processor can serve at once.
-fn useful<T: Threads>(rt: &T, workers: u8) -> u8 {
-    match thread::available_parallelism(rt) {
-        Ok(processors) => u8::try_from(processors.get())
-            .unwrap_or(workers)
-            .min(workers),
-        Err(_) => workers,
-    }
 }

@@ -22,6 +22,7 @@ mod tasks;
 mod tracing;
 mod workers;
 
+pub use grouping::group_number;
 pub use journal::{Gate, PoolFault, Table};
 pub use pace::Pace;
 pub use run_rows::{NetworkRun, TraceRun};

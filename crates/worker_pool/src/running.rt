@@ -206,7 +206,7 @@ pub fn run<G: Gate + Sync, T: Threads + Wait + Sync>(
     ensures exhausted { IfErr result (λ fault. fault ≡ Exhausted → UsesUpNumbers network.now) }
     ensures spawn { IfErr result (λ fault. fault ≡ Spawn → CanWantWorkers pace.workers (process_count network.now)) }
 {
-    let Ok((grouping, pairs)) = marked_groups(rt, alloc, network, pace.workers) else {
+    let Ok((grouping, pairs)) = marked_groups(alloc, network, pace.groups) else {
         return Err(PoolFault::OutOfMemory);
     };
     let start = Start {

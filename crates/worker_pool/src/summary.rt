@@ -139,7 +139,7 @@ pub fn run_summary<G: Gate + Sync, T: Threads + Wait + Sync, W: Watch>(
     ensures spawn { IfErr result (λ fault. fault ≡ Spawn → CanWantWorkers pace.workers (process_count network.now)) }
     ensures watched { W.becomes watch.old watch.new }
 {
-    let Ok((grouping, pairs)) = marked_groups(rt, alloc, network, pace.workers) else {
+    let Ok((grouping, pairs)) = marked_groups(alloc, network, pace.groups) else {
         return Err(PoolFault::OutOfMemory);
     };
     let start = Start {

@@ -269,7 +269,7 @@ pub fn run_traced<S: Sink + Drop + Send, G: Gate + Sync, T: Threads + Wait + Syn
     ensures exhausted { IfErr result (λ fault. fault ≡ Exhausted → UsesUpNumbers network.now) }
     ensures watched { W.becomes watch.old watch.new }
 {
-    let Ok((grouping, pairs)) = marked_groups(rt, alloc, network, pace.workers) else {
+    let Ok((grouping, pairs)) = marked_groups(alloc, network, pace.groups) else {
         return Err(PoolFault::OutOfMemory);
     };
     let start = Start {

@@ -2,7 +2,7 @@
 ghost use Rattle.std.specs.Prelude.{◌≡◌, ◌≤◌, ◌^◌, true, length};
 ghost use Rattle.network.specs.Words.{process_count};
 
-use crate::tests::stage::{play_words, tell_journal};
+use crate::tests::stage::{play_on_processes, tell_journal};
 use crate::tests::words::tell;
 use journal::{PoolFault, Table};
 use network::Network;
@@ -97,7 +97,7 @@ fn play_at_start<J: NetworkRun>(
     requires most { limit ≤ 2 ^ 26 }
 {
     let (mut exchange, mut helds) = open_network::<J>(alloc, network, Some(table), pairs, limit)?;
-    play_words(&mut exchange, &mut helds, part.as_str(), told, refused);
+    play_on_processes(&mut exchange, &mut helds, part.as_str(), told, refused);
     tell_journal(&exchange, told);
     forget(helds);
     forget(exchange);

@@ -1,4 +1,4 @@
-//! Plays the words of a script on an exchange and its processes, and tells what it answers.
+//! Plays the words of a script on an exchange and its processes, or on one and its groups (`group_stage.rt`), and tells what it answers.
 //!
 //! A word stands for the call of that name; behind colons stand its numbers, that of the process first: `collect:0:8` collects 8 letters
 //! at most, `work:0:16:1` works with turn 16 and window 1 ns, `mail:0` counts the letters in a mail, and `before` and `after` tell how often
@@ -42,8 +42,43 @@ impl Gate for CountingGate {
     }
 }
 
+// On what a script is played.
+pub trait Stage {
+    // What the call answers, or what is asked. None: there is no such process or group.
+    fn act(&mut self, word: &str, refused: &mut String) -> Result<Option<u64>, PoolFault>;
+}
+
 // Plays each word, and tells what it answers.
-pub fn play_words<J: NetworkRun>(
+pub fn play_words<S: Stage>(stage: &mut S, script: &str, told: &mut String, refused: &mut String) {
+    for word in script.split_whitespace() {
+        let answer = match stage.act(word, refused) {
+            Err(PoolFault::OutOfMemory) => {
+                tell_refused(name_in(word), refused);
+                stage.act(word, refused)
+            }
+            answer => answer,
+        };
+        tell_answer(answer, told);
+    }
+    tell(told, "| ");
+}
+
+// An exchange and its processes in hand.
+#[derive(Drop)]
+struct Processes<'a, J: NetworkRun> {
+    exchange: &'a mut Exchange<Node, Of<J>>,
+    helds: &'a mut Vec<Held<Node, Of<J>>>,
+    gate: CountingGate,
+}
+
+impl<J: NetworkRun> Stage for Processes<'_, J> {
+    fn act(&mut self, word: &str, refused: &mut String) -> Result<Option<u64>, PoolFault> {
+        act(self.exchange, self.helds, &self.gate, word, refused)
+    }
+}
+
+// Plays on an exchange and its processes.
+pub fn play_on_processes<J: NetworkRun>(
     exchange: &mut Exchange<Node, Of<J>>,
     helds: &mut Vec<Held<Node, Of<J>>>,
     script: &str,
@@ -54,21 +89,16 @@ pub fn play_words<J: NetworkRun>(
         before: Cell::new(0),
         after: Cell::new(0),
     };
-    for word in script.split_whitespace() {
-        let answer = match act(exchange, helds, &gate, word, refused) {
-            Err(PoolFault::OutOfMemory) => {
-                tell_refused(name_in(word), refused);
-                act(exchange, helds, &gate, word, refused)
-            }
-            answer => answer,
-        };
-        tell_answer(answer, told);
-    }
-    tell(told, "| ");
+    let mut stage = Processes {
+        exchange,
+        helds,
+        gate,
+    };
+    play_words(&mut stage, script, told, refused);
 }
 
 // The name of the call that a word stands for.
-fn name_in(word: &str) -> &str {
+pub fn name_in(word: &str) -> &str {
     word.split_once(':').unwrap_or((word, "")).0
 }
 
@@ -183,7 +213,7 @@ pub fn tell_journal<J: NetworkRun>(exchange: &Exchange<Node, Of<J>>, told: &mut 
     }
 }
 
-fn tell_step(step: Step, told: &mut String) {
+pub fn tell_step(step: Step, told: &mut String) {
     match step {
         Step::Take { process, place } => {
             tell_labelled("T:", &[u64::from(process), u64::from(place)], told);

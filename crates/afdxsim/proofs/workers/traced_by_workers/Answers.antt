@@ -1,12 +1,13 @@
-use Rattle.std.proofs.Common.{◌∙◌, rules}
-use Rattle.commands.specs.MoreProgress.{one_behind_another}
+use Rattle.commands.specs.MoreProgress.{asked_none}
+use Rattle.commands.specs.Progress.{IsWorkersLine}
+use Rattle.afdxsim.proofs.Heard.{heard_whole}
 use Rattle.afdxsim.proofs.workers.traced_by_workers.Goals as goal
 
 pub returns-clause-heard : goal.returns-clause-heard
 returns-clause-heard g c =
-    let began = c.new-progress.ensures in
-    let ran = c.in_ok-found.ensures.watched in
-    one_behind_another g.E.Sink.taken g.E.Sink.failures c.args.network.now.until c.args.asked.is_asked c.args.errors.now c.new-progress.result.errors.now
-    c.run_traced.new.watch.errors.now c.end.new.self.errors.now _
-    c.new-progress.result.asked.is_asked c.run_traced.new.watch.asked.is_asked c.new-progress.result.until c.run_traced.new.watch.until
-    began.asked (began.until ∙ c.until.ensures.value) began.errors ran.3 ran.1 ran.2 c.end.ensures.heard (search rules)
+    heard_whole g.E.Sink.taken g.E.Sink.failures c.args.network.now c.args.asked.is_asked c.in_ok-pace.pace.groups c.in_ok-pace.pace.workers
+    c.args.errors.now c.tell_groups.new.errors c.traced_at.new.errors c.in_ok-pace.ensures.few c.in_ok-pace.ensures.served c.tell_groups.ensures
+    c.traced_at.ensures.heard
+
+pub returns-in_err-pace-clause-heard : goal.returns-in_err-pace-clause-heard
+returns-in_err-pace-clause-heard g c = asked_none g.E.Sink.taken g.E.Sink.failures (IsWorkersLine c.args.network.now) c.args.asked.is_asked c.args.errors.now

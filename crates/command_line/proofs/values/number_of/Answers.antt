@@ -1,35 +1,17 @@
-use Rattle.std.proofs.Common.{◌≡◌, ◌∙◌, None}
-use Rattle.std.specs.Str.Parse.{ParsesUnsigned, ExplainsUnsignedError, HasUnsignedDigitsIfOk}
 use Rattle.clap.specs.Words.{found_of, one_of, rows_of}
-use Rattle.clap.proofs.WalkLemmas.{one_text-rows}
-use Rattle.command_line.specs.Meaning.{IsNumberOf}
-use Rattle.command_line.proofs.Reading.{in_limits, is_read, read_argument}
+use Rattle.command_line.proofs.Reading.{or_usual, usual_in_limits}
 use Rattle.command_line.proofs.values.number_of.Goals as goal
 
-pub unwrap-requires : goal.unwrap-requires
-unwrap-requires c =
-    let rows = one_text-rows (found_of c.args.values.now) c.args.id.now in
-    is_read _ (λ t r. ParsesUnsigned 64 10 t r × ExplainsUnsignedError 10 t r × HasUnsignedDigitsIfOk t r)
-    (one_of c.args.id.now (rows_of (found_of c.args.values.now))) c.try_get_one.result c.args.most (λ t x h. h.0)
-    (λ h. c.try_get_one.ensures.none (rows ∙ h)) (λ t h. c.try_get_one.ensures.value t (rows ∙ h)) c.requires.given
-
-abbrev Given : goal.After-unwrap_or → Type 0
-Given c = (one_of c.args.id.now (rows_of (found_of c.args.values.now)) ≡ None → c.unwrap_or.result ≡ c.args.usual)
-    × IsNumberOf (one_of c.args.id.now (rows_of (found_of c.args.values.now))) c.unwrap_or.result
-
-given : (c : goal.After-unwrap_or) → Given c
-given c =
-    let rows = one_text-rows (found_of c.args.values.now) c.args.id.now in
-    read_argument _ (λ t r. ParsesUnsigned 64 10 t r × ExplainsUnsignedError 10 t r × HasUnsignedDigitsIfOk t r)
-    (one_of c.args.id.now (rows_of (found_of c.args.values.now))) c.try_get_one.result c.unwrap.result c.args.usual c.unwrap_or.result
-    (λ t x h. h.0) c.unwrap.ensures (λ h. c.try_get_one.ensures.none (rows ∙ h)) (λ t h. c.try_get_one.ensures.value t (rows ∙ h)) c.unwrap_or.ensures
-
 pub returns-clause-value : goal.returns-clause-value
-returns-clause-value c = (given c).1
+returns-clause-value c =
+    (or_usual (one_of c.args.id.now (rows_of (found_of c.args.values.now))) c.named_number.result c.args.usual c.unwrap_or.result
+    c.named_number.ensures.value c.unwrap_or.ensures).1
 
 pub returns-clause-usual : goal.returns-clause-usual
-returns-clause-usual c = (given c).0
+returns-clause-usual c =
+    (or_usual (one_of c.args.id.now (rows_of (found_of c.args.values.now))) c.named_number.result c.args.usual c.unwrap_or.result
+    c.named_number.ensures.value c.unwrap_or.ensures).0
 
 pub returns-clause-limits : goal.returns-clause-limits
 returns-clause-limits c =
-    in_limits (one_of c.args.id.now (rows_of (found_of c.args.values.now))) c.args.most c.args.usual c.unwrap_or.result c.requires.given c.requires.usual (given c)
+    usual_in_limits c.args.most c.named_number.result c.args.usual c.unwrap_or.result c.named_number.ensures.limits c.requires.usual c.unwrap_or.ensures

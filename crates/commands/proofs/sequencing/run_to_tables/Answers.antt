@@ -1,5 +1,6 @@
 use Rattle.std.proofs.Common.{◌∙◌, None, inl, inr, refl, sym, subst, true}
 use Rattle.commands.specs.Files.{LacksSeq, ShowsAlone}
+use Rattle.commands.specs.Progress.{IsProgressLine}
 use Rattle.commands.specs.Streams.{IsHeard}
 use Rattle.commands.proofs.Outcomes.{err_then, no_value, ok_then, same_err}
 use Rattle.commands.proofs.Heard.{at_end}
@@ -52,5 +53,5 @@ returns-clause-kept g c =
 
 pub returns-clause-heard : goal.returns-clause-heard
 returns-clause-heard g c =
-    subst (IsHeard g.H.Host.outside c.args.host.now c.args.is_asked c.args.network.now)
+    subst (IsHeard g.H.Host.outside c.args.host.now c.args.is_asked (IsProgressLine c.args.network.now.until))
     (sym (g.met.H.Host.lawful.errors_beside c.heard_tables.new.host c.show_tables-shown.new.output)) c.heard_tables.ensures.heard

@@ -3,6 +3,7 @@ use Rattle.trace_segments.specs.Words.{trace_text}
 use Rattle.seqsim.specs.Networks.{AreRowsOf}
 use Rattle.commands.specs.Files.{LacksFile, LacksSeq, LeavesSeq}
 use Rattle.commands.specs.Sequencing.{IsTraceText}
+use Rattle.commands.specs.Progress.{IsProgressLine}
 use Rattle.commands.specs.Streams.{IsHeard}
 use Rattle.commands.proofs.Outcomes.{err_then, no_value, ok_then, same_err}
 use Rattle.commands.proofs.Heard.{at_end}
@@ -97,7 +98,7 @@ returns-in_err-keep-clause-kept g c =
     (λ other. c.keep.ensures.output ∙ c.heard_run.ensures.output)
 
 pub returns-in_err-keep-clause-heard : goal.returns-in_err-keep-clause-heard
-returns-in_err-keep-clause-heard g c = subst (IsHeard g.H.Host.outside c.args.host.now c.args.is_asked c.args.network.now) (sym c.keep.ensures.quiet) c.heard_run.ensures.heard
+returns-in_err-keep-clause-heard g c = subst (IsHeard g.H.Host.outside c.args.host.now c.args.is_asked (IsProgressLine c.args.network.now.until)) (sym c.keep.ensures.quiet) c.heard_run.ensures.heard
 
 pub returns-clause-kept : goal.returns-clause-kept
 returns-clause-kept g c =
@@ -107,5 +108,5 @@ returns-clause-kept g c =
 
 pub returns-clause-heard : goal.returns-clause-heard
 returns-clause-heard g c =
-    subst (IsHeard g.H.Host.outside c.args.host.now c.args.is_asked c.args.network.now)
+    subst (IsHeard g.H.Host.outside c.args.host.now c.args.is_asked (IsProgressLine c.args.network.now.until))
     (sym (g.met.H.Host.lawful.errors_beside c.keep.new.host c.show_tables.new.output ∙ c.keep.ensures.quiet)) c.heard_run.ensures.heard

@@ -7,6 +7,6 @@ pub returns-clause-heard : goal.returns-clause-heard
 returns-clause-heard g c =
     let until = c.args.self.now.until in
     let asked : c.args.self.now.asked.is_asked ≡ true = search (c.if-not-self) in
-    subst (λ is_asked. HearsAsked g.E.Sink.taken g.E.Sink.failures is_asked until c.args.self.now.errors.now c.say.new.errors) (sym asked)
-    (one_line g.E.Sink.taken g.E.Sink.failures until c.args.self.now.errors.now c.say.new.errors c.as_str.result.now
+    subst (λ is_asked. HearsAsked g.E.Sink.taken g.E.Sink.failures is_asked (IsProgressLine until) c.args.self.now.errors.now c.say.new.errors) (sym asked)
+    (one_line g.E.Sink.taken g.E.Sink.failures (IsProgressLine until) c.args.self.now.errors.now c.say.new.errors c.as_str.result.now
     c.say.ensures.failed (subst (IsProgressLine until) (sym c.as_str.ensures.value) c.in-Ok.ensures) c.say.ensures.took)

@@ -1,0 +1,5 @@
+use Rattle.std.proofs.Common.{◌≡◌, ◌<◌, All, length}
+use Rattle.group_choice.proofs.groups.in_turn.Given as goal
+
+abbrev pub invariant-loop-process : goal.invariant-loop-process
+invariant-loop-process l = (length l.places.items ≡ l.process) × All (λ group. group < l.groups) l.places.items
