@@ -9,40 +9,43 @@ that a rollback sends other messages. All states that can be reached are listed,
 What a step stands for, in `crates/turns/src` and, of a group, in `tasks.rt` of `crates/worker_pool/src`:
 
   turns_until_over    worker.rt: `is_over`, and the beginning of `own_turns`
-  own_turns, turn_of  worker.rt: `try_take` of a seat; `turn`: the limit, the report (report.rt), `is_to_meet`, `is_due`
+  turn_of             worker.rt: `try_take` of a seat; `turn`: the limit, `is_to_meet`, `is_due` (report.rt)
   meet                tasks.rt: `meet_at`, the section of the exchange: Post, Gvt, Take, and `Moments::collect` (moments.rt)
-  call_all            moments.rt: one `fetch_min` of a letter's moment
-  handle_due          worker.rt: `handle_piece` with `work` and `tell`; then `ends_turn` (report.rt)
-  wake_due            signals.rt: is anyone resting? is this group due? wake its worker: a step each
-  give_back           worker.rt, `turn_of`: a helped group is posted (`meet` once more), and the seat is given back
-  turn_of_others      worker.rt: the limit; then for each group `is_due`, and `turn_of`
+  call_all            moments.rt: one `fetch_min` of the moment of a letter
+  tell_next           worker.rt: `tell` at the end of `meet`
+  handle_due          worker.rt: `handle_piece` with `handle` and `tell`; `ends_turn` and `is_to_post` (report.rt)
+  wake_due            signals.rt: is anyone resting? Then `wake_of`, is this group due, and `wake`, its worker: a step each
+  give_back           worker.rt, `turn_of`: the seat is given back; behind it a helper calls `wake_due`
+  turn_of_others      worker.rt: the limit; then `look_at_others`, for each group of others `is_due`, and `turn_of`
   found_nothing       worker.rt: the look in vain, and `waits_for_gvt`
   publish             tasks.rt: Gvt where the exchange is free
-  rest                worker.rt, signals.rt: `begin_rest`; `is_over`; `is_any_due`; the kernel's look at the word
-                      (`park_timeout`); `end_rest`
+  rest                worker.rt, signals.rt: `begin_rest`; `look_before_rest`: `is_over`; `is_any_due`; `park`: the look of
+                      `park_timeout` at the word; `end_rest`
   end                 worker.rt, `give_turns`: `Signals::end` wakes each worker
+  give_up             workers.rt, `show_gvt`: where a run stands still, `stop` and `Signals::end`
 
 A rest ends by a wake-up alone, since its limit of time would hide one that is lost; --timeouts lets it end at any moment.
-One thing at a time is too few where the code reads the moments of all groups, or looks at all seats of a worker: that is one
-step here. Hints at groups change the order of turns alone, and are left out; so are faults of memory.
+A step here reads the moments of all groups, or tries all seats of a worker, where the code does so one after another. The hints
+of agenda.rt change the order of turns alone, and are left out; so are faults. That the end can be reached from a state does not
+say that a scheduler which is unfair for ever lets the run come there.
 
 With --without-wake-up the worker that helped does not call `wake_due` behind the seat that it gave back. Then a worker that
-went to rest while another held the seat of its group may sleep for ever.
+went to rest while another held the seat of its group may sleep for ever; with --gives-up as well, the run comes to its end.
 """
 import argparse
 import collections
 import operator
-import random
 import sys
 
 import files
 from afdx import whole
+from turn_groups import NEVER, Groups, drawn
 
 EXAMPLES = """
 examples:
   turn_model.py
-        eight networks of three events, two groups and two workers: some 300,000 states, a minute
-  turn_model.py --without-wake-up --networks 1 --trail
+        eight networks of two events, two groups and two workers: some 150,000 states, 20 s
+  turn_model.py --without-wake-up --events 1 --networks 1 --trail
         the lost wake-up, and the steps to it
 
 It prints a line for each network: how many states there are, and how many of them cannot come to the end.
@@ -53,7 +56,6 @@ status:
   2  a word is wrong
 """
 
-NEVER = 255
 # What a worker does for itself alone, at once behind the step before.
 SILENT = ("own_turns", "behind_turn")
 # In the place of the numbers of `turns`, small ones: how far ahead events are due, how many a turn and a piece of it have, when a
@@ -65,44 +67,8 @@ SECTIONS_PER_GVT, LOOKS_PER_GVT, LOOKS_BEFORE_POST, LOOKS_BEFORE_HELP, LOOKS_BEF
 WRONG = {
     "mute": "call_all tells no group of its letters",
     "blind": "is_to_meet does not look at letters",
-    "unpublished": "who finds nothing never sets GVT",
-    "unposted": "what is not due is never posted",
+    "unposted": "a turn never ends with a meeting, and what is not due is never posted",
 }
-
-
-class Network:
-    """A few events in groups. `children[was_before]` are those that an event sends, where its own `before` was handled or not."""
-
-    def __init__(self, groups, rows):
-        """A row has the group, the moment, the event that sends it or None, the sort of sending (0 always, 1 where the sender's
-        `before` was handled, 2 where not), and `before` or None."""
-        self.groups = groups
-        self.at = [row[0] for row in rows]
-        self.moment = [row[1] for row in rows]
-        self.sender = [row[2] for row in rows]
-        self.before = [row[4] for row in rows]
-        self.until = max(self.moment)
-        numbers = range(len(rows))
-        self.children = [
-            [[e for e in numbers if rows[e][2] == sender and rows[e][3] != wrong] for sender in numbers] for wrong in (1, 2)
-        ]
-        self.order = sorted(numbers, key=lambda e: (self.moment[e], e))
-        self.rank = [self.order.index(e) for e in numbers]
-        self.of_group = [[e for e in self.order if self.at[e] == group] for group in range(groups)]
-
-
-def drawn(groups, events, seed):
-    """A network of so many events."""
-    draw = random.Random(seed)
-    rows = []
-    for event in range(events):
-        sender = None if not event or draw.random() < 0.33 else draw.randrange(event)
-        moment = draw.randint(1, 8) if sender is None else rows[sender][1] + draw.randint(1, 4)
-        group = draw.randrange(groups)
-        earlier = [e for e in range(event) if rows[e][0] == group and rows[e][1] < moment]
-        before = draw.choice(earlier) if earlier and draw.random() < 0.5 else None
-        rows.append((group, moment, sender, draw.randrange(3), before))
-    return Network(groups, rows)
 
 
 class State:
@@ -112,17 +78,18 @@ class State:
         "next_ns", "letter_ns", "rests", "seats", "floors", "boxes", "trays", "abroad", "counts", "done", "otherwise", "committed",
         "blocks", "seen", "unposted", "seat_next",
     )
-    NUMBERS = ("resting", "gvt_ns", "gvt", "sections")
+    NUMBERS = ("resting", "gvt_ns", "gvt", "sections", "stop")
     __slots__ = (*LISTS, *NUMBERS, "workers")
 
     def copy(self, number):
-        """The same, in which this worker is another copy too."""
+        """The same, in which this worker, if one is given, is a copy too."""
         other = State.__new__(State)
         for name, values in zip(State.LISTS, LISTS_OF(self)):
             setattr(other, name, values[:])
-        other.resting, other.gvt_ns, other.gvt, other.sections = self.resting, self.gvt_ns, self.gvt, self.sections
+        other.resting, other.gvt_ns, other.gvt, other.sections, other.stop = NUMBERS_OF(self)
         other.workers = self.workers[:]
-        other.workers[number] = self.workers[number].copy()
+        if number is not None:
+            other.workers[number] = self.workers[number].copy()
         return other
 
     def key(self):
@@ -134,7 +101,7 @@ class Worker:
 
     OWN = (
         "at", "group", "place", "is_own", "worked", "has_worked", "handled", "limit", "other_limit", "looks", "patience", "then",
-        "is_parked",
+        "is_parked", "behind_wakes",
     )
     __slots__ = (*OWN, "letters")
 
@@ -147,7 +114,7 @@ class Worker:
         """What is not needed any more is the same in all states."""
         self.group = self.place = self.handled = self.limit = self.other_limit = 0
         self.is_own = self.worked = self.has_worked = False
-        self.then = None
+        self.then = self.behind_wakes = None
 
     def copy(self):
         other = Worker.__new__(Worker)
@@ -160,123 +127,13 @@ class Worker:
 LISTS_OF, NUMBERS_OF, OWN_OF = (operator.attrgetter(*it) for it in (State.LISTS, State.NUMBERS, Worker.OWN))
 
 
-def more(letters, others):
-    return letters[0] + others[0], letters[1] + others[1]
-
-
-class Undone(Exception):
-    """What must never be: a committed event is undone, or GVT falls."""
-
-
-class Groups:
-    """What is done with a group, as the exchange and the hand do it."""
-
-    def __init__(self, network):
-        self.network = network
-
-    def first(self, s, group):
-        """The first of its messages that wait, or None."""
-        return next((e for e in self.network.of_group[group] if s.counts[e] >= 1 and not s.done[e]), None)
-
-    def next_moment(self, s, group):
-        event = self.first(s, group)
-        return NEVER if event is None else self.network.moment[event]
-
-    def has_letters(self, s, group):
-        """Whether it has letters for others."""
-        sender = self.network.sender
-        return any(letters != (0, 0) and self.network.at[sender[e]] == group for e, letters in enumerate(s.abroad))
-
-    def post(self, s, group, listed):
-        """What it did goes to the journal, its letters into the boxes; `listed` gets the least moment for each group."""
-        if not s.blocks[group]:
-            return
-        network = self.network
-        for e, letters in enumerate(s.abroad):
-            if letters != (0, 0) and network.at[network.sender[e]] == group:
-                listed[network.at[e]] = min(listed[network.at[e]], network.moment[e])
-                s.boxes[e] = more(s.boxes[e], letters)
-                s.abroad[e] = (0, 0)
-        moments = [network.moment[e] for e in network.of_group[group] if s.trays[e] != (0, 0)]
-        s.floors[group] = min([self.next_moment(s, group), network.until + 1, *moments])
-        s.blocks[group] = False
-
-    def publish(self, s):
-        """GVT is set, in the exchange."""
-        moments = [self.network.moment[e] for e, letters in enumerate(s.boxes) if letters != (0, 0)]
-        gvt = min(s.floors + moments)
-        if gvt < s.gvt:
-            raise Undone("GVT falls")
-        s.gvt = gvt
-
-    def collect(self, s, group):
-        """The letters of its box come to its tray."""
-        for e in self.network.of_group[group]:
-            if s.boxes[e] != (0, 0):
-                s.trays[e] = more(s.trays[e], s.boxes[e])
-                s.boxes[e] = (0, 0)
-                s.floors[group] = min(s.floors[group], self.network.moment[e])
-        s.seen[group] = s.gvt
-
-    def send(self, s, event, sign):
-        """What an event sends is sent, or taken back."""
-        network = self.network
-        for child in network.children[s.otherwise[event]][event]:
-            if network.at[child] == network.at[event]:
-                s.counts[child] += sign
-            else:
-                s.abroad[child] = more(s.abroad[child], (1, 0) if sign > 0 else (0, 1))
-
-    def roll_back(self, s, group, event):
-        """Undoes what it did from this event on, the newest first."""
-        network = self.network
-        for e in reversed(network.of_group[group]):
-            if network.rank[e] < network.rank[event]:
-                return
-            if s.done[e]:
-                if s.committed[e] or network.moment[e] < s.seen[group]:
-                    raise Undone("a committed event is undone")
-                s.done[e] = False
-                self.send(s, e, -1)
-                s.otherwise[e] = 0
-
-    def arrive(self, s, group):
-        """All letters of the tray arrive."""
-        for e in self.network.of_group[group]:
-            if s.trays[e] != (0, 0):
-                before = s.counts[e]
-                s.counts[e] += s.trays[e][0] - s.trays[e][1]
-                s.trays[e] = (0, 0)
-                s.blocks[group] = True
-                if (before < 1) != (s.counts[e] < 1):
-                    self.roll_back(s, group, e)
-
-    def work(self, s, group, most, limit):
-        """`group_exchange::work`: letters arrive, messages before the limit are handled, so many at most, events are committed.
-        The answer is how many were handled."""
-        network = self.network
-        self.arrive(s, group)
-        handled = 0
-        while handled < most and self.next_moment(s, group) < min(limit, network.until + 1):
-            event = self.first(s, group)
-            before = network.before[event]
-            s.otherwise[event] = int(before is not None and not s.done[before])
-            s.done[event] = s.blocks[group] = True
-            self.send(s, event, 1)
-            handled += 1
-        for e in network.of_group[group]:
-            if s.done[e] and not s.committed[e] and network.moment[e] < s.seen[group]:
-                s.committed[e] = s.blocks[group] = True
-        return handled
-
-
 class Model:
     """The steps of the workers, each a method, which changes a state of its own."""
 
-    def __init__(self, network, workers, window, has_wake_up=True, has_timeouts=False, wrong=()):
+    def __init__(self, network, workers, window, has_wake_up=True, has_timeouts=False, gives_up=False, wrong=()):
         self.network, self.count, self.window = network, workers, window
         self.groups = Groups(network)
-        self.has_wake_up, self.has_timeouts, self.wrong = has_wake_up, has_timeouts, wrong
+        self.has_wake_up, self.has_timeouts, self.gives_up, self.wrong = has_wake_up, has_timeouts, gives_up, wrong
 
     def beginning(self):
         network, s = self.network, State.__new__(State)
@@ -289,6 +146,7 @@ class Model:
         s.counts, s.done, s.otherwise, s.committed = [0] * events, [False] * events, [0] * events, [False] * events
         s.rests = [False] * self.count
         s.resting = s.gvt_ns = s.gvt = s.sections = 0
+        s.stop = False
         s.workers = [Worker(groups) for _ in range(self.count)]
         return s
 
@@ -297,6 +155,8 @@ class Model:
 
     def after(self, state, number):
         """The state after the next step of a worker, or None where it cannot step."""
+        if number == self.count:
+            return self.after_giving_up(state)
         me = state.workers[number]
         if me.at == "ended" or me.at == "asleep" and me.is_parked and not self.has_timeouts:
             return None
@@ -305,6 +165,16 @@ class Model:
         getattr(self, me.at)(s, me, number)
         while me.at in SILENT:
             getattr(self, me.at)(s, me, number)
+        return s
+
+    def after_giving_up(self, state):
+        """The state after the calling thread gives the workers up, at any moment: they are to stop, and are woken."""
+        if not self.gives_up or state.stop:
+            return None
+        s = state.copy(None)
+        s.stop = True
+        for number in range(self.count):
+            self.wake_worker(s, number)
         return s
 
     # ---- report.rt, moments.rt ----
@@ -316,7 +186,7 @@ class Model:
         return NEVER if self.network.groups == 1 else min(NEVER, min(s.next_ns + s.letter_ns) + LEAD)
 
     def is_over(self, s):
-        return s.gvt_ns > self.network.until
+        return s.stop or s.gvt_ns > self.network.until
 
     def waits_for_gvt(self, s, group):
         return s.seat_next[group] >= s.seen[group] + self.window
@@ -328,7 +198,7 @@ class Model:
         return s.next_ns[group] < limit or s.letter_ns[group] < limit
 
     def is_to_meet(self, s, group, limit, looks):
-        if s.unposted[group] >= MOST_UNPOSTED or self.groups.has_letters(s, group):
+        if s.unposted[group] >= MOST_UNPOSTED:
             return True
         if "blind" not in self.wrong and s.letter_ns[group] <= s.seat_next[group] and s.letter_ns[group] < limit:
             return True
@@ -405,12 +275,9 @@ class Model:
 
     def call_on(self, s, me):
         """What follows where letters are left to be called, or none."""
-        if "mute" in self.wrong or all(letter == NEVER for letter in me.letters):
+        if "mute" in self.wrong:
             me.letters = [NEVER] * self.network.groups
-            me.at, me.then = me.then, None
-            me.limit = self.limit(s)
-        else:
-            me.at = "call_all"
+        me.at = "call_all" if any(letter != NEVER for letter in me.letters) else "tell_next"
 
     def call_all(self, s, me, number):
         group = next(group for group, letter in enumerate(me.letters) if letter != NEVER)
@@ -418,28 +285,33 @@ class Model:
         me.letters[group] = NEVER
         self.call_on(s, me)
 
+    def tell_next(self, s, me, number):
+        s.next_ns[me.group] = s.seat_next[me.group]
+        me.at, me.then = me.then, None
+        me.limit = self.limit(s)
+
     def handle_due(self, s, me, number):
         group = me.group
         most = min(PIECE, TURN - me.handled)
         count = self.groups.work(s, group, most, min(me.limit, s.seen[group] + self.window))
         me.handled += count
-        s.next_ns[group] = s.seat_next[group] = self.groups.next_moment(s, group)
-        ends = me.handled >= MOST_WITH_LETTERS and self.groups.has_letters(s, group) or s.letter_ns[group] <= s.seat_next[group]
+        s.seat_next[group], letters = self.groups.next_moment(s, group), self.groups.letters_moment(s, group)
+        s.next_ns[group] = min(s.seat_next[group], letters)
+        ends = me.handled >= MOST_WITH_LETTERS and letters != NEVER or s.letter_ns[group] <= s.seat_next[group]
         if count == most and me.handled < TURN and not ends:
             me.limit = self.limit(s)
             return
         s.unposted[group] = min(MOST_UNPOSTED, s.unposted[group] + me.handled)
-        me.worked, me.handled = me.handled > 0, 0
-        me.at, me.then = "wake_due", "give_back"
+        me.worked, me.handled, me.limit = me.handled > 0, 0, 0
+        me.behind_wakes = "give_back"
+        is_to_post = letters != NEVER or s.blocks[group] and not me.is_own
+        me.at, me.then = ("meet", "wake_due") if is_to_post and "unposted" not in self.wrong else ("wake_due", None)
 
     def give_back(self, s, me, number):
-        if not me.is_own and s.blocks[me.group]:
-            me.then = "give_back"
-            return self.meet(s, me, number)
         s.seats[me.group] = None
         me.at = "behind_turn"
         if not me.is_own and self.has_wake_up:
-            me.at, me.then = "wake_due", "behind_turn"
+            me.at, me.behind_wakes = "wake_due", "behind_turn"
 
     def found_nothing(self, s, me, number):
         me.forget()
@@ -447,7 +319,7 @@ class Model:
         if me.looks > LOOKS_BEFORE_REST + LOOKS_PER_GVT - 1:
             me.looks -= LOOKS_PER_GVT
         is_long = me.looks >= LOOKS_BEFORE_REST
-        if me.looks % LOOKS_PER_GVT == 0 and "unpublished" not in self.wrong:
+        if me.looks % LOOKS_PER_GVT == 0:
             limit = self.limit(s)
             own = [group for group in range(self.network.groups) if self.owner(group) == number]
             if is_long or limit > self.network.until or any(self.is_told_due(s, group, limit) for group in own):
@@ -460,7 +332,7 @@ class Model:
         follows = "rest" if me.looks >= LOOKS_BEFORE_REST else "turns_until_over"
         if s.gvt_ns != s.gvt:
             s.gvt_ns = s.gvt
-            me.at, me.then = "wake_due", follows
+            me.at, me.behind_wakes = "wake_due", follows
         else:
             me.at = follows
 
@@ -468,14 +340,14 @@ class Model:
 
     def wake_due(self, s, me, number):
         if not s.resting:
-            return self.behind_wakes(s, me)
+            return self.end_wakes(me)
         me.limit, me.handled, me.at = self.limit(s), 0, "wake_of"
 
     def wake_of(self, s, me, number):
         """`handled` is the place in the list of groups: nothing is handled meanwhile."""
         group = me.handled
         if group == self.network.groups:
-            return self.behind_wakes(s, me)
+            return self.end_wakes(me)
         if self.is_told_due(s, group, me.limit) and s.rests[self.owner(group)]:
             me.at = "wake"
         else:
@@ -491,8 +363,8 @@ class Model:
             s.workers[other] = s.workers[other].copy()
             s.workers[other].is_parked = False
 
-    def behind_wakes(self, s, me):
-        me.at, me.then, me.limit, me.handled = me.then, None, 0, 0
+    def end_wakes(self, me):
+        me.at, me.behind_wakes, me.limit, me.handled = me.behind_wakes, None, 0, 0
 
     def rest(self, s, me, number):
         s.resting += 1
@@ -548,8 +420,8 @@ def tried(model, most):
         states[at] = None
         if model.is_end(state):
             ends.append(at)
-        for number in range(model.count):
-            step = state.workers[number].at
+        for number in range(model.count + 1):
+            step = "give_up" if number == model.count else state.workers[number].at
             after = model.after(state, number)
             if after is None:
                 continue
@@ -589,12 +461,13 @@ def words_of(arguments):
     add = parser.add_argument
     add("--networks", type=whole(1, 10**6), default=8, metavar="N", help="how many networks (default 8)")
     add("--first", type=whole(0, 10**9), default=1, metavar="N", help="number of the first (default 1)")
-    add("--events", type=whole(1, 8), default=3, metavar="N", help="events of a network (default 3)")
+    add("--events", type=whole(1, 8), default=2, metavar="N", help="events of a network (default 2)")
     add("--groups", type=whole(1, 4), default=2, metavar="N", help="groups (default 2)")
     add("--workers", type=whole(1, 3), default=2, metavar="N", help="workers (default 2)")
     add("--window", type=whole(1, 100), default=1, metavar="N", help="how far a group runs ahead of GVT (default 1)")
     add("--most", type=whole(1, 10**8), default=10**6, metavar="N", help="most states of a network (default 1000000)")
     add("--without-wake-up", action="store_true", help="who helped wakes nobody behind the seat that it gave back")
+    add("--gives-up", action="store_true", help="the calling thread may give the workers up, once, at any moment")
     add("--timeouts", action="store_true", help="a rest may end at any moment")
     add("--wrong", choices=sorted(WRONG), action="append", default=[], help="leaves out: " + "; ".join(f"{it}: {WRONG[it]}" for it in WRONG))
     add("--trail", action="store_true", help="prints the steps to the first state that cannot come to the end")
@@ -607,7 +480,7 @@ def main(arguments=None):
     is_well = True
     for seed in range(words.first, words.first + words.networks):
         network = drawn(words.groups, words.events, seed)
-        model = Model(network, words.workers, words.window, not words.without_wake_up, words.timeouts, words.wrong)
+        model = Model(network, words.workers, words.window, not words.without_wake_up, words.timeouts, words.gives_up, words.wrong)
         found = tried(model, words.most)
         said = f"{found.lost} cannot come to the end" if found.is_whole else "not all were listed"
         files.say(f"network {seed}: {found.states} states, {said}")
