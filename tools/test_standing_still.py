@@ -22,7 +22,7 @@ from afdx import PROGRAM  # noqa: E402
 # How long a worker stands still, in s, and how long a run may take in all.
 STILL, LONGEST = 20, 120
 # Some 3 s of work for one thread, so that a worker is at its work when it is stopped.
-NETWORK = ["--end-systems", "60", "--virtual-links", "1500", "--until", "400000000"]
+NETWORK = ["--end-systems", "60", "--virtual-links", "1500", "--until", "1500000000"]
 PACE = ["--workers", "2", "--groups", "2"]
 
 
@@ -48,19 +48,33 @@ class StandingStill(unittest.TestCase):
     def words(self):
         return [PROGRAM, "run", "net.toml", *PACE]
 
+    def from_birth(self):
+        """A run of which the second worker does nothing."""
+        run, thread = stopped_threads.start(self.words(), self.folder, 2)
+        self.addCleanup(self.end, run)
+        self.assertIsNotNone(thread, "the run has ended")
+        return run, thread
+
+    def end(self, run):
+        if run.returncode is None:
+            run.kill()
+            run.communicate()
+
     def at_work(self, after):
         """A run of which a worker is stopped after so many s."""
         run = subprocess.Popen(self.words(), cwd=self.folder, stdout=subprocess.PIPE, stderr=subprocess.PIPE)
-        self.addCleanup(run.kill)
+        self.addCleanup(self.end, run)
+        while len(stopped_threads.threads_of(run)) < 2:
+            self.assertIsNone(run.poll(), "the run has ended")
+            time.sleep(0.001)
         time.sleep(after)
-        threads = stopped_threads.threads_of(run)
-        self.assertEqual(len(threads), 2, "the run has ended, or has not begun")
-        self.assertTrue(stopped_threads.stop(threads[-1]))
-        return run, threads[-1]
+        thread = max(stopped_threads.threads_of(run), default=None)
+        self.assertTrue(thread and stopped_threads.stop(thread), "the run has ended")
+        return run, thread
 
     def test_a_run_of_which_one_thread_stands_still_ends(self):
         begin = time.monotonic()
-        runs = [stopped_threads.start(self.words(), self.folder, 2), self.at_work(0.3), self.at_work(0.5)]
+        runs = [self.from_birth(), self.at_work(0.1), self.at_work(0.3)]
         try:
             time.sleep(max(0, begin + STILL - time.monotonic()))
             for run, thread in runs:

@@ -51,6 +51,19 @@ if command == "run":
 """
 
 
+class DrawnRuns(unittest.TestCase):
+    """Drawn runs of the built program, which `rt ci` leaves at crates/afdxsim/out/afdxsim."""
+
+    def test_runs_by_workers_come_out_as_those_of_one_thread(self):
+        if not os.path.isfile(afdx.PROGRAM):
+            self.fail(f"there is no program at {afdx.PROGRAM}: `rt ci` at the top builds it")
+        said = io.StringIO()
+        with contextlib.redirect_stdout(said):
+            status = threaded_runs.main(["--runs", "60"])
+        sys.stderr.write(said.getvalue())
+        self.assertEqual(status, 0, said.getvalue())
+
+
 class ThreadedRuns(unittest.TestCase):
     def ended(self, lines, *arguments):
         """The status and the lines of the tool, over a stand-in with these lines."""
