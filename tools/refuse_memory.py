@@ -116,6 +116,14 @@ COMMANDS = (
         {"journal.txt": None, "trace.csv": TRACE},
         (NO_MEMORY, NO_WORKER),
     ),
+    # Each of the two groups has several of the 7 processes: nodes, and the lines that lead to them.
+    Command(
+        "run n1.toml --workers 2 --groups 2 --journal journal.txt --trace trace.csv",
+        TABLES,
+        "",
+        {"journal.txt": None, "trace.csv": TRACE},
+        (NO_MEMORY, NO_WORKER),
+    ),
     Command("check syntax.toml", "", "afdxsim: description: 1 Syntax\n", {}, (NO_MEMORY,), 3),
     Command("seq missing.toml", "", "afdxsim: description: 2 Missing at top seed\n", {}, (NO_MEMORY,), 3),
     Command("seq unknown.toml", "", "afdxsim: description: 5 UnknownName at top\n", {}, (NO_MEMORY,), 3),

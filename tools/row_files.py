@@ -1,10 +1,14 @@
 """Rows of tests that are texts, in tools/rows, and the texts that they write. A line with `# ` in front is a heading.
 
 A row has pieces with ` => ` between them. The first names a network: `n1`, `n2`, `n3` of examples/, `top` for the first two
-lines of n1, `endless` for n2 with more offers than any memory holds, or `empty` for no text. Then come its changes: `OLD -> NEW`
-puts NEW in the place of the first OLD, and `+ TEXT` puts TEXT at the end. `+ 3 x TEXT` puts it there three times, with 0, 1 and 2
-for each `#` in it and 1, 2 and 3 for each `@`. A `;` stands for the end of a line. The last piece is what the row tells."""
+lines of n1, `endless` for n2 with more offers than any memory holds, `sixty` for one of 60 end systems with 1,500 virtual links
+and 4 ms, or `empty` for no text. Then come its changes: `OLD -> NEW` puts NEW in the place of the first OLD, and `+ TEXT` puts
+TEXT at the end. `+ 3 x TEXT` puts it there three times, with 0, 1 and 2 for each `#` in it and 1, 2 and 3 for each `@`. A `;`
+stands for the end of a line. The last piece is what the row tells."""
+import functools
 import os
+
+import large_network
 
 HERE = os.path.dirname(os.path.abspath(__file__))
 EXAMPLES = os.path.join(HERE, "..", "examples")
@@ -42,12 +46,17 @@ def repeated(text):
     return "".join(one.replace("#", str(number)).replace("@", str(number + 1)) for number in range(int(count)))
 
 
+@functools.cache
 def network(name):
     """The text of the network with this name."""
     if name == "empty":
         return ""
     if name == "top":
         return "".join(network("n1").splitlines(keepends=True)[:2])
+    if name == "sixty":
+        words, pieces = large_network.words_of(["--end-systems", "60", "--virtual-links", "1500", "--until", "4000000"]), []
+        large_network.write_network(words, pieces.append, lambda _: None)
+        return "".join(pieces)
     if name == "endless":
         text = network("n2").replace("until_ns = 2000000", "until_ns = 1000000000000000")
         return text.replace("period_ns = 1000000000000", "period_ns = 1000")

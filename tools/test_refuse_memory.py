@@ -13,7 +13,7 @@ sys.path.insert(0, HERE)
 import refuse_memory  # noqa: E402
 from refuse_memory import COMMANDS, TABLES, TESTS, TRACE, Ended  # noqa: E402
 
-CHECK, SEQ, TRACED, REPLAY, RUN, RUN_FILES, SYNTAX, *_ = COMMANDS
+CHECK, SEQ, TRACED, REPLAY, RUN, RUN_FILES, _, SYNTAX, *_ = COMMANDS
 MEMORY, WORKER = "afdxsim: out of memory\n", "afdxsim: cannot start a worker\n"
 
 

@@ -2,10 +2,12 @@
 import contextlib
 import io
 import os
+import re
 import sys
 import tempfile
 import unittest
 import zlib
+from unittest import mock
 
 HERE = os.path.dirname(os.path.abspath(__file__))
 sys.path.insert(0, HERE)
@@ -14,6 +16,7 @@ import afdx  # noqa: E402
 import benchmark  # noqa: E402
 import explain  # noqa: E402
 import large_network  # noqa: E402
+import stopped_threads  # noqa: E402
 import threaded_runs  # noqa: E402
 import toml_lines  # noqa: E402
 from second_opinion import Simulation  # noqa: E402
@@ -23,15 +26,42 @@ STAND_IN = """#!{python}
 import sys
 command = sys.argv[1]
 tables, trace, told = "tables\\n", "trace\\n", "replay: 3 did, 0 not enabled, 0 refused, gvt 9, finished\\n"
+journal, groups = "R 0\\nR 0\\nC 0\\n", "afdxsim: 2 groups, 2 workers\\n"
 {lines}
-for flag, text in (("--trace", trace), ("--journal", "G\\n")):
+for flag, text in (("--trace", trace), ("--journal", journal)):
     if flag in sys.argv:
         with open(sys.argv[sys.argv.index(flag) + 1], "w") as out:
             out.write(text)
 sys.stdout.write(tables)
 if command == "replay":
     sys.stderr.write(told)
+if "--progress" in sys.argv:
+    sys.stderr.write(groups)
 """
+
+# A run by two threads, neither of which needs the other.
+WORKS = """
+if command == "run":
+    import threading
+    workers = [threading.Thread(target=lambda: None) for _ in range(2)]
+    for worker in workers:
+        worker.start()
+    for worker in workers:
+        worker.join()
+"""
+
+
+class DrawnRuns(unittest.TestCase):
+    """Drawn runs of the built program, which `rt ci` leaves at crates/afdxsim/out/afdxsim."""
+
+    def test_runs_by_workers_come_out_as_those_of_one_thread(self):
+        if not os.path.isfile(afdx.PROGRAM):
+            self.fail(f"there is no program at {afdx.PROGRAM}: `rt ci` at the top builds it")
+        said = io.StringIO()
+        with contextlib.redirect_stdout(said):
+            status = threaded_runs.main(["--runs", "60"])
+        sys.stderr.write(said.getvalue())
+        self.assertEqual(status, 0, said.getvalue())
 
 
 class ThreadedRuns(unittest.TestCase):
@@ -48,8 +78,25 @@ class ThreadedRuns(unittest.TestCase):
             return status, out.getvalue().splitlines()
 
     def test_runs_like_those_of_seq_are_counted(self):
-        status, lines = self.ended("", "--runs", "3")
-        self.assertEqual((status, lines), (0, ["3 runs, 3 came out as seq, 0 did not"]))
+        for lines, several, rolled_back in (("", 4, 3), ("groups = groups.replace('2 g', '1 g')", 0, 3), ("journal = 'R 0\\nC 0\\n'", 4, 0)):
+            status, found = self.ended(lines, "--runs", "4")
+            self.assertEqual((status, found), (0, [
+                "4 runs, 4 came out as seq, 0 did not",
+                f"of these {several} over several groups of several members, {rolled_back} rolled back, "
+                "0 served the groups of a worker that stood still",
+            ]))
+
+    @unittest.skipUnless(stopped_threads.is_allowed(), "this system does not allow ptrace")
+    def test_it_fails_where_no_run_did_what_is_counted(self):
+        for lines, did in (
+            (WORKS, (1, 1, 1)), ("", (1, 1, 0)), (WORKS + "journal = 'R 0\\nC 0\\n'", (1, 0, 1)),
+            (WORKS + "groups = groups.replace('2 g', '1 g')", (0, 1, 1)),
+        ):
+            for enough in (1, 2):
+                with self.subTest(lines=lines, enough=enough), mock.patch.object(threaded_runs, "ENOUGH_RUNS", enough):
+                    status, found = self.ended(lines, "--runs", "1", "--first", "5")
+                    self.assertEqual(tuple(map(int, re.findall(r"\d+", found[1]))), did)
+                    self.assertEqual(status, 0 if all(did) or enough > 1 else 1)
 
     def test_each_difference_is_told(self):
         for lines, told in (
@@ -60,10 +107,11 @@ class ThreadedRuns(unittest.TestCase):
             ("told = told.replace('finished', 'unfinished')", "replay told: replay: 3 did, 0 not enabled, 0 refused, gvt 9, unfinished"),
             ("told = told.replace('0 refused', '1 refused')", "replay told: replay: 3 did, 0 not enabled, 1 refused, gvt 9, finished"),
             ("if command == 'run': sys.exit('afdxsim: torn')", "run ended with status 1: afdxsim: torn"),
+            ("groups = ''", "run did not report its groups and workers"),
         ):
             with self.subTest(lines=lines):
                 status, found = self.ended(lines, "--runs", "1")
-                self.assertEqual((status, len(found)), (1, 2))
+                self.assertEqual((status, len(found)), (1, 3))
                 self.assertTrue(found[0].startswith("run 0 (--workers ") and found[0].endswith("): " + told), found[0])
                 self.assertEqual(found[1], "1 runs, 0 came out as seq, 1 did not")
 
