@@ -256,8 +256,9 @@ class AimedRuns:
         is_above = lambda found, bound: bound is not None and found > bound
         return [it for it in self.lines if is_above(max(it.plain_ns, it.aimed_ns), it.bound_ns) or is_above(it.frame_ns, it.way_ns)]
 
-    def table(self):
-        return "\n".join([HEAD, *(",".join(map(bounds.said, it)) for it in self.lines)]) + "\n"
+    def table(self, maker):
+        """The table; its last column names the program."""
+        return "\n".join([HEAD + ",program", *(",".join([*map(bounds.said, it), maker.cell()]) for it in self.lines)]) + "\n"
 
     def long_rows(self):
         for it in self.lines:

@@ -27,6 +27,7 @@ import explain  # noqa: E402
 import files  # noqa: E402
 import limits  # noqa: E402
 import long_form  # noqa: E402
+import program  # noqa: E402
 
 EXAMPLES = """
 examples:
@@ -57,6 +58,7 @@ columns (further ones may stand beside them; who reads the file goes by their na
   delay_ns     the longest time from the arrival of a frame at the output port before the line to its last bit on the
                line, in ns, or none
   description  checksum of the description: the first 16 digits of its SHA-256
+  program      who computed the bounds: this tool, its version and its commit, with + where files differed from it
 
 There is no bound (none)
   where a line of the way may be given more than it can send: the frames that come to it are allowed more by their BAGs.
@@ -75,7 +77,7 @@ status:
 
 COLUMNS = [
     "vl", "where", "bound_ns", "wait_ns", "waiting_bytes", "port_bytes", "why", "sure", "skew_ns", "skew_max_ns", "jitter_ns",
-    "policing_jitter_ns", "warning", "network_ns", "network_a_ns", "network_b_ns", "delay_ns", "description",
+    "policing_jitter_ns", "warning", "network_ns", "network_a_ns", "network_b_ns", "delay_ns", "description", "program",
 ]
 
 # Each BAG divides the longest one. So in units of a byte by this many parts a rate is whole, and a line's speed too.
@@ -583,8 +585,8 @@ class Bounds:
             yield row | {"why": port.why if port.most is None else "", "warning": "too_small" if is_small else ""}
 
     def text(self):
-        description = afdx.checksum(self.net.text)
-        lines = [COLUMNS] + [[row.get(column, "") for column in COLUMNS[:-1]] + [description] for row in self.rows()]
+        behind = [afdx.checksum(self.net.text), program.tool("bounds.py").cell()]
+        lines = [COLUMNS] + [[row.get(column, "") for column in COLUMNS[:-2]] + behind for row in self.rows()]
         return "".join(",".join(map(str, line)) + "\n" for line in lines)
 
 
@@ -615,7 +617,7 @@ def words_of(arguments=None):
         description=__doc__, epilog=EXAMPLES, formatter_class=argparse.RawDescriptionHelpFormatter
     )
     parser.add_argument("net", metavar="NET", help="the description (TOML)")
-    parser.add_argument("-o", "--output", metavar="FILE", help="the file for the bounds (default: standard output)")
+    parser.add_argument("-o", "--output", metavar="FILE", type=files.output_name, help="the file for the bounds (default: standard output)")
     parser.add_argument("--json", action="store_true", help="writes JSON in long form (docs/TOOLS.md, section 7) in place of CSV")
     says = "holds limits against the bounds: standard output has the margins, in place of the bounds"
     parser.add_argument("--limits", metavar="FILE", help=says + "; NET itself for its comments")
@@ -631,6 +633,7 @@ def words_of(arguments=None):
 def main(arguments=None):
     words = words_of(arguments)
     net = accepted(words.net)
+    files.ready(list(filter(None, [words.output, words.junit])), prints=not words.output or bool(words.limits))
     found = Bounds(net)
     text = long_form.text_of(long_rows(found.rows())) if words.json else found.text()
     texts = {words.output: text} if words.output else {}

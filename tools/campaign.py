@@ -28,7 +28,6 @@ With a file of limits, each run is held against them, and the status is 1 where 
 import argparse
 import os
 import random
-import re
 import subprocess
 import sys
 import tempfile
@@ -45,13 +44,15 @@ import explain
 import files
 import long_form
 import one_run
+import program
 import reckoning
 import record
 import runs
 import sweep
 import tried_runs
 from afdx import GREATEST_SEED, PROGRAM, whole
-from files import Fault, text_of, write_whole
+from files import Fault, text_of
+from folder import Folder
 from limits import limits_of
 from merged import Merged
 from runs import Failure
@@ -96,13 +97,6 @@ status:
   130, 143  interrupted, or ended by SIGTERM: what was made before is merged and kept
 """
 
-# The names of the files that it writes.
-WRITTEN = (
-    r"campaign\.json|(merged|greatest|histograms|outages|sweep|aim)\.(csv|json)|(outages|sweep)\.html"
-    r"|((outage|set|aimed)-\d+-)?seed-\d+\.(toml|tables\.csv)"
-)
-# What a campaign says of the program where it was these sources by `rt try`.
-NOT_PROVED = "afdxsim, not proved: its sources by rt try"
 # Of so many outages a line tells what they do.
 MOST_TOLD = 10
 
@@ -114,11 +108,12 @@ class Network(afdx.Network):
     """A description that the program has accepted, with another end where one is given."""
 
     def __init__(self, path, program, until_ns=None):
-        text = text_of(path)
-        # Without a program its runs judge it.
         if program:
+            text = text_of(path)
             self.check(path, text, program)
-        description = afdx.Description(path, text)
+            description = afdx.Description(path, text)
+        else:
+            description = explain.accepted(path)
         if until_ns is not None:
             description.tree["until_ns"] = until_ns
         super().__init__(path, description=description)
@@ -335,8 +330,10 @@ def words_of(arguments=None):
     add("--dask", type=address, metavar="ADDRESS", help=says)
     add("--keep", action="store_true", help="keep the description and the tables of each run in DIR too")
     add("--program", default=PROGRAM, metavar="PATH", help="the program (default: crates/afdxsim/out/afdxsim)")
-    add("--by-try", action="store_true", help="these sources without a proof make the runs: built once, by the kit's `rt try`")
+    says = "who makes the runs in place of the program: try, these sources without a proof, built once by the kit's `rt try`; or "
+    add("--by", choices=("try", "second-opinion"), metavar="WHAT", help=says + "second-opinion, tools/second_opinion.py, without the kit")
     add("-o", "--output", metavar="DIR", required=True, help="the folder for what comes of it; it is made if need be")
+    add("--replace", action="store_true", help="replace the files of an earlier campaign in DIR, which is else refused")
     words = parser.parse_args(arguments)
     kinds = {"--each-outage": words.each_outage is not None, "--set": bool(words.set), "--aim": bool(words.aim)}
     named = [name for name, is_named in kinds.items() if is_named]
@@ -346,6 +343,8 @@ def words_of(arguments=None):
         parser.error(f"{' and '.join(named)} are two kinds of campaigns")
     if words.histograms and named:
         parser.error(f"--histograms counts the latencies of runs over seeds, and not with {named[0]}")
+    if words.dask and words.by:
+        parser.error("--dask has the program run on other machines, and not what --by names")
     if words.aim and (words.offsets or words.limits):
         parser.error(f"--aim has offsets of its own, and no {'--offsets' if words.offsets else '--limits'}")
     words.seeds = words.seeds or 1
@@ -354,60 +353,79 @@ def words_of(arguments=None):
 
 def prepare(words):
     """The network, the limits and the seeds, or a fault."""
-    if not words.by_try and not os.path.isfile(words.program):
-        raise Fault(words.program, None, "is not there. `afdx build` builds the program")
-    net = Network(words.net, None if words.by_try else words.program, words.until)
+    if not words.by and not os.path.isfile(words.program):
+        raise Fault(words.program, None, "is not there. `afdx build` builds the program; --by second-opinion does without it")
+    words.maker = who_made(words)
+    net = Network(words.net, None if words.by else words.program, words.until)
+    judge_outages(words, net)
     limits = limits_of(words.limits, net) if words.limits else {}
     first = net.seed if words.first is None else words.first
     if first + words.seeds - 1 > GREATEST_SEED:
         line = net.description.line("top", None, "seed")
         raise Fault(words.net, line, f"the seeds from {first} on would pass {GREATEST_SEED}")
-    files.judge_folder(words.output, re.compile(WRITTEN).fullmatch)
-    try:
-        os.makedirs(words.output, exist_ok=True)
-    except OSError as fault:
-        raise Fault(words.output, None, f"cannot be made: {fault.strerror}") from None
+    words.folder = Folder(words.output, words.replace)
     return net, limits, range(first, first + words.seeds)
+
+
+def judge_outages(words, net):
+    """Refuses outages in turn that begin after the end of the run, and tells those of the description that do."""
+    end = f"the run ends before that, at {net.until_ns} ns"
+    if words.each_outage is not None and words.each_outage > net.until_ns:
+        raise Fault(words.net, net.description.line("top", None, "until_ns"), f"--each-outage {words.each_outage}: {end}")
+    for i, it in enumerate(net.outages, 1):
+        if it.from_ns > net.until_ns:
+            told = Fault(words.net, net.description.line("outage", i, "from_ns"), f"warning: {it.line} is out from {it.from_ns} ns on: {end}")
+            files.tell("campaign.py", told)
 
 
 def maker_of(words, is_traced):
     """Who makes the runs: this machine, by the program or by its sources, or a cluster."""
-    if words.by_try:
+    if words.by == "try":
         return tried_runs.Tried(is_traced)
+    if words.by == "second-opinion":
+        return runs.Here([sys.executable, os.path.join(afdx.HERE, "second_opinion.py")], words.jobs, is_traced, tells=False)
     if words.dask:
-        return cluster.Cluster(words.dask, words.program, is_traced)
-    return runs.Here(words.program, words.jobs, is_traced)
+        return cluster.Cluster(words.dask, words.program, words.maker.sha256, is_traced)
+    return runs.Here([words.program, "seq"], words.jobs, is_traced)
 
 
 def write_results(words, campaign):
     """Writes what came of the runs, and answers the path of the merged tables."""
-    path, merged, has_counts = os.path.join(words.output, record.MERGED), campaign.merged, words.histograms
-    text = merged.text()
-    write_whole(path, text)
-    write_whole(os.path.join(words.output, record.GREATEST), merged.greatest_text(has_counts))
+    merged, has_counts = campaign.merged, words.histograms
+    path = words.folder.write(record.MERGED, merged.text())
+    words.folder.write(record.GREATEST, merged.greatest_text(has_counts))
     if has_counts:
-        write_whole(os.path.join(words.output, "histograms.csv"), merged.histograms_text())
-    write_record(words, campaign.net, campaign.seeds[: campaign.done], text)
+        words.folder.write("histograms.csv", merged.histograms_text())
     return path
 
 
 def who_made(words):
-    """The program that made the runs, as the campaign and its pages tell it."""
-    return NOT_PROVED if words.by_try else cluster.version_of(words.program)
+    """Who makes the runs, as the campaign and its files name it."""
+    try:
+        if words.by:
+            return (program.tried if words.by == "try" else program.second_opinion)().maker
+        return program.maker_of(words.program)
+    except program.NoProgram as why:
+        raise Fault(f"--by {words.by}", None, str(why)) from None
+    except OSError as fault:
+        raise Fault(words.program, None, f"cannot be read: {fault.strerror}") from None
 
 
-def write_record(words, net, seeds, merged=None):
-    """Writes what the campaign says of itself."""
+def write_record(words, net, seeds):
+    """Writes what the campaign says of itself, last of all, with the checksum of each other file of its folder."""
+    if not words.by and who_made(words).sha256 != words.maker.sha256:
+        raise Fault(words.program, None, f"was replaced while the runs were made, so {record.NAME} is not written. Run the campaign anew")
     own = ["--seeds", str(words.seeds)]
     own += ["--each-outage", str(words.each_outage)] if words.each_outage is not None else []
     own += ["--until", str(words.until)] if words.until is not None else []
     own += [word for it in words.set or () for word in ("--set", it.text)] + [word for vl in words.aim or () for word in ("--aim", str(vl))]
     own += [name for name, is_given in (("--offsets", words.offsets), ("--histograms", words.histograms)) if is_given]
     found = record.Record(
-        afdx.checksum(net.text), who_made(words), net.until_ns, seeds[0] if seeds else net.seed, len(seeds), words.offsets, own,
-        None if merged is None else afdx.checksum(merged),
+        afdx.checksum(net.text), words.maker, net.until_ns, seeds[0] if seeds else net.seed, len(seeds), words.offsets, own,
+        dict(sorted(words.folder.sums.items())),
     )
-    write_whole(os.path.join(words.output, record.NAME), found.text())
+    words.folder.write(record.NAME, found.text())
+    words.folder.close()
 
 
 def over_seeds(words, net, limits, seeds):
@@ -418,6 +436,7 @@ def over_seeds(words, net, limits, seeds):
     if campaign.done:
         path = write_results(words, campaign)
         write_json(words, "merged.json", campaign.merged.long_rows)
+        write_record(words, net, seeds[: campaign.done])
     campaign.tell(path, time.monotonic() - begin)
     return campaign.status or (1 if campaign.broken else 0)
 
@@ -437,9 +456,8 @@ def over_settings(words, net, limits, seeds):
     if not whole:
         files.say("no combination was run to its end, and nothing is written")
         return found.status
-    table, page = (os.path.join(words.output, name) for name in ("sweep.csv", "sweep.html"))
-    write_whole(table, found.table())
-    write_whole(page, sweep.page(found, words.net, who_made(words), bool(limits)))
+    table = words.folder.write("sweep.csv", found.table(words.maker))
+    page = words.folder.write("sweep.html", sweep.page(found, words.net, words.maker.in_words(), bool(limits)))
     write_json(words, "sweep.json", found.long_rows)
     write_record(words, net, seeds)
     files.say(f"{table} and {page}: {len(whole)} combinations, {found.done} runs, in {time.monotonic() - begin:.1f} s")
@@ -470,8 +488,7 @@ def over_aims(words, net, _, seeds):
     if not found.lines:
         files.say("no aimed run was made, and nothing is written")
         return found.status
-    table = os.path.join(words.output, "aim.csv")
-    write_whole(table, found.table())
+    table = words.folder.write("aim.csv", found.table(words.maker))
     write_json(words, "aim.json", found.long_rows)
     write_record(words, net, seeds)
     files.say(f"{table}: {found.done} runs, in {time.monotonic() - begin:.1f} s")
@@ -485,7 +502,7 @@ def over_aims(words, net, _, seeds):
 def write_json(words, name, rows):
     """Writes a table in long form too, where that is asked for."""
     if words.json:
-        write_whole(os.path.join(words.output, name), long_form.text_of(rows()))
+        words.folder.write(name, long_form.text_of(rows()))
 
 
 def over_outages(words, net, limits, seeds):
@@ -498,9 +515,8 @@ def over_outages(words, net, limits, seeds):
     if not found.courses:
         files.say("no run without an outage was made, and nothing is written")
         return found.status
-    table, page = (os.path.join(words.output, name) for name in ("outages.csv", "outages.html"))
-    write_whole(table, found.table())
-    write_whole(page, each_outage.page(found, words.net, who_made(words)))
+    table = words.folder.write("outages.csv", found.table(words.maker))
+    page = words.folder.write("outages.html", each_outage.page(found, words.net, words.maker.in_words()))
     write_record(words, net, seeds)
     summaries = found.summaries()
     files.say(f"{table} and {page}: {len(summaries)} outages, {found.done} runs, in {time.monotonic() - begin:.1f} s")
@@ -517,8 +533,8 @@ def keeper(words):
 
     def keep(name, text, tables):
         if words.keep:
-            write_whole(os.path.join(words.output, f"{name}.toml"), text)
-            write_whole(os.path.join(words.output, f"{name}.tables.csv"), tables)
+            words.folder.write(f"{name}.toml", text)
+            words.folder.write(f"{name}.tables.csv", tables)
 
     return keep
 

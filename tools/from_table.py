@@ -669,7 +669,7 @@ def words_of(arguments):
         description=__doc__, epilog=EXAMPLES, formatter_class=argparse.RawDescriptionHelpFormatter
     )
     parser.add_argument("tables", metavar="TABLE", nargs="+", help="the tables (CSV or .xlsx); with --back the description")
-    parser.add_argument("-o", "--output", metavar="FILE", help="the file to write (default: standard output)")
+    parser.add_argument("-o", "--output", metavar="FILE", type=files.output_name, help="the file to write (default: standard output)")
     parser.add_argument("--back", action="store_true", help="makes the tables of a description")
     words = parser.parse_args(arguments)
     if words.back and len(words.tables) > 1:

@@ -143,6 +143,8 @@ class Bounds:
 
     def __init__(self, path, net):
         self.path, self.net, self.of, self.accounts, self.waiting, self.kinds = path, net, {}, {}, {}, {}
+        # Who computed them, where the file says so.
+        self.made_by = None
         lines, said = afdx.text_of(path).split("\n"), {}
         columns = lines[0].removesuffix("\r").split(",")
         lacks = [name for name in BOUNDS_COLUMNS if name not in columns]
@@ -160,6 +162,7 @@ class Bounds:
                 text = f"these are bounds of another description: its checksum is {cut(row['description'])}, and that of "
                 raise Fault(path, i, text + f"{net.path} is {own}. tools/bounds.py makes them anew")
             self.row(i, row, said)
+            self.made_by = self.made_by or row.get("program")
         for vl, where in net.destinations - set(self.of):
             raise Fault(path, len(lines), f"the file ends without the bound of virtual link {vl} at {where}")
 

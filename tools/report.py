@@ -29,6 +29,7 @@ import files
 import frames
 import hops
 import limits
+import program
 import record
 from afdx import CAUSES, Network, Tables
 from drawing import Drawing, chart_over_time, heat, legend_of_loads
@@ -355,7 +356,9 @@ def tiles_of_run(given):
     if net.outages:
         count = len(net.outages)
         told = f"on {len({outage.line for outage in net.outages})} of {len(net.mbit)} lines"
-        yield tile("outages", str(count), told, "", "grid-outages")
+        after = sum(outage.from_ns > net.until_ns for outage in net.outages)
+        told += f"; {after} begin{'s' if after == 1 else ''} after the end of the run" if after else ""
+        yield tile("outages", str(count), told, "warn" if after else "", "grid-outages")
 
 
 # ---- the page ----
@@ -866,7 +869,9 @@ class Page:
         """What the page is made of, and who made that: a date stands there where it is given, so the same words make the
         same page."""
         given = self.given
-        by = f"The tables are by {esc(given.made_by)}." if given.made_by else "Who made the tables is not told (--made-by)."
+        by = f"The tables are by {esc(given.made_by)}." if given.made_by else "Nothing says who made the tables (--made-by)."
+        by += f" The bounds are by {esc(given.bounds.made_by)}." if given.bounds and given.bounds.made_by else ""
+        by += f" This page is by {esc(program.tool('report.py').in_words())}."
         date = f" {esc(given.date)}." if given.date else ""
         return f"{self.made_of()} {by} Description: SHA-256 {afdx.checksum(self.net.text)}..{date}"
 
@@ -990,7 +995,7 @@ def given_by(words):
         other = Other(before, ends_before, limits.Bounds(words.against_bounds, before.net) if words.against_bounds else None)
     made_of = [net.path, tables.path, words.trace, words.limits, words.bounds, words.hops]
     made_of += [words.against, words.against_net, words.against_bounds]
-    made_by = words.made_by or (f"{found.program}, as their campaign says" if found else None)
+    made_by = words.made_by or (f"{found.program.in_words()}, as their campaign says" if found else None)
     margins = {it.limit[:2]: it for it in margins}
     percentiles = record.percentiles(found, tables) if tables.merged else None
     made_of += [os.path.join(os.path.dirname(tables.path), record.GREATEST)] if percentiles else []
@@ -1015,8 +1020,10 @@ def tell_above(given):
 @files.tool
 def main(arguments=None):
     words = words_of(arguments)
+    outputs = list(filter(None, [words.output, words.junit]))
+    files.ready(outputs, prints=bool(words.limits))
     given = given_by(words)
-    files.judge(list(filter(None, [words.output, words.junit])), prints=bool(words.limits))
+    files.judge(outputs, prints=bool(words.limits))
     texts = {words.output: Page(given).html()}
     if words.junit:
         texts[words.junit] = limits.junit_text(list(given.margins.values()), words.strict, os.path.basename(words.net))

@@ -20,6 +20,7 @@ sys.path.insert(0, HERE)
 import afdx  # noqa: E402
 import bounded_runs  # noqa: E402
 import bounds  # noqa: E402
+import program  # noqa: E402
 
 EXAMPLES = os.path.join(HERE, "..", "examples")
 MS = 10**6
@@ -407,8 +408,9 @@ class Command(unittest.TestCase):
         path = os.path.join(EXAMPLES, "n1.toml")
         with open(path, "rb") as file:
             own = hashlib.sha256(file.read()).hexdigest()[:16]
+        own += "," + program.tool("bounds.py").cell()
         text = "vl,where,bound_ns,wait_ns,waiting_bytes,port_bytes,why,sure,skew_ns,skew_max_ns,jitter_ns,"
-        text += "policing_jitter_ns,warning,network_ns,network_a_ns,network_b_ns,delay_ns,description\n"
+        text += "policing_jitter_ns,warning,network_ns,network_a_ns,network_b_ns,delay_ns,description,program\n"
         text += f"1,ES2,27720,0,,,,A,,,,,,27720,27720,,,{own}\n1,SW1,,,,,,,,,0,0,,,,,,{own}\n"
         text += f"1,ES1>SW1,,,,,,,,,,,,,,,5760,{own}\n1,SW1>ES2,,,,,,,,,,,,,,,5760,{own}\n"
         text += f",ES1>SW1,,,0,4096,,,,,,,,,,,,{own}\n,SW1>ES2,,,0,65536,,,,,,,,,,,,{own}\n"

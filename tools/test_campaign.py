@@ -1,6 +1,8 @@
 """Tests of campaign.py. Those of the class WithTheProgram need the built program, at crates/afdxsim/out/afdxsim, where
 `rt ci` leaves it; the others have a stand-in of a few lines, which can be told to fail."""
 import contextlib
+import csv
+import hashlib
 import io
 import json
 import os
@@ -120,7 +122,7 @@ class Here(unittest.TestCase):
         """The status of campaign.py with these words, and what it says on standard output and on error output."""
         out, said = io.StringIO(), io.StringIO()
         with contextlib.redirect_stdout(out), contextlib.redirect_stderr(said):
-            status = campaign.main([*words, "--program", self.program, "-o", self.output])
+            status = campaign.main([*words, "--program", self.program, "-o", self.output, "--replace"])
         return status, out.getvalue(), said.getvalue()
 
 
@@ -231,7 +233,7 @@ class WithAStandIn(Here):
         for lines, said in (
             ("if seed == 9: sys.exit('afdxsim: out of memory')", "afdxsim: out of memory (status 1)"),
             ("if seed == 9: sys.exit(5)", "status 5"),
-            ("if seed == 9: os.kill(os.getpid(), signal.SIGKILL)", "signal 9"),
+            ("if seed == 9: os.kill(os.getpid(), signal.SIGKILL)", "ended by SIGKILL, as the system does where memory is used up"),
             ("if seed == 9: sys.exit(print('no table'))", "what it printed are no whole tables"),
             (
                 "if seed == 9: del net['vl'][0]",
@@ -365,8 +367,8 @@ class WithAStandIn(Here):
             self.assertEqual(self.call(COCKPIT, "--seeds", "3", *words)[0], 0)
             told = json.loads(read(os.path.join(self.output, "campaign.json")))
             self.assertEqual(told["description"], afdx.checksum(read(COCKPIT)))
-            wanted = ("stand-in 1", 512_000_000, 5 if words else 7, 3, bool(words), ["--seeds", "3"] + words[:1])
-            self.assertEqual(tuple(told[name] for name in ("program", "until_ns", "first_seed", "seeds", "offsets", "words")), wanted)
+            wanted = (512_000_000, 5 if words else 7, 3, bool(words), ["--seeds", "3"] + words[:1])
+            self.assertEqual(tuple(told[name] for name in ("until_ns", "first_seed", "seeds", "offsets", "words")), wanted)
             self.assertEqual(report.main([COCKPIT, self.output, "-o", page]), 0)
             self.assertIn('data-name="lost end to end"', read(page))
             self.assertNotIn('data-name="under way too long"', read(page))
@@ -404,7 +406,7 @@ class WithAStandIn(Here):
         """It is there on a terminal alone, and is taken away at the end."""
         self.stand_in()
         command = [sys.executable, os.path.join(HERE, "campaign.py"), N1, "--seeds", "3", "--program", self.program]
-        command += ["-o", self.output]
+        command += ["-o", self.output, "--replace"]
         run = subprocess.run(command, capture_output=True)
         self.assertEqual((run.returncode, run.stderr), (0, b""))
         terminal, end = pty.openpty()
@@ -419,7 +421,7 @@ class WithAStandIn(Here):
     def test_a_long_run_is_watched(self):
         """On a terminal the line tells how far a run is; what else it says is its fault. Elsewhere no run is asked."""
         far = "if '--progress' in sys.argv:\n    sys.stderr.write('afdxsim: 1 of 2 ms, 50 %, 1 s left\\n'); sys.stderr.flush(); time.sleep(0.3)\n"
-        command = [sys.executable, os.path.join(HERE, "campaign.py"), N1, "--seeds", "1", "-o", self.output]
+        command = [sys.executable, os.path.join(HERE, "campaign.py"), N1, "--seeds", "1", "-o", self.output, "--replace"]
         for fails, status in ("", 0), ("sys.exit('afdxsim: out of memory')\n", 1):
             self.stand_in(far + fails)
             terminal, end = pty.openpty()
@@ -464,7 +466,7 @@ class WithAStandIn(Here):
             self.call(N1, "--seeds", "1"), (2, "", f"campaign.py: {self.output}: cannot be made: File exists\n")
         )
         self.program = none
-        said = f"campaign.py: {none}: is not there. `afdx build` builds the program\n"
+        said = f"campaign.py: {none}: is not there. `afdx build` builds the program; --by second-opinion does without it\n"
         self.assertEqual(self.call(N1, "--seeds", "1"), (2, "", said))
         for words in (["--seeds", "0"], ["--seeds", "x"], ["--jobs", "0", "--seeds", "1"], []):
             with self.assertRaises(SystemExit) as ended:
@@ -478,6 +480,121 @@ class WithAStandIn(Here):
         self.assertEqual((run.returncode, run.stderr), (0, ""))
         for word in ("--seeds", "--jobs", "--offsets", "--limits", "examples:", "status:", "merged.csv"):
             self.assertIn(word, run.stdout)
+
+
+class Evidence(Here):
+    """What a campaign writes names its program, and its folder has the files of one campaign."""
+
+    def run_of(self, *words):
+        """The same without --replace."""
+        out, said = io.StringIO(), io.StringIO()
+        with contextlib.redirect_stdout(out), contextlib.redirect_stderr(said):
+            status = campaign.main([N1, *words, "--program", self.program, "-o", self.output])
+        return status, out.getvalue(), said.getvalue()
+
+    def record(self):
+        return json.loads(read(os.path.join(self.output, "campaign.json")))
+
+    def test_the_record_names_the_program_by_its_sum(self):
+        """A program is taken for the proved one only where it has the sum of a record, whatever it prints as its version."""
+        self.stand_in()
+        text = read(self.program).replace("stand-in 1", "afdxsim 0.1.0")
+        self.program = self.file("afdxsim", text)
+        own = hashlib.sha256(text.encode()).hexdigest()
+        proved = {"version": "0.1.0", "commit": "c" * 40, "kit": "kit-1 logic 2", "program": own}
+        for record, wanted in (
+            (None, ("afdxsim", "0.1.0", None, own, None, None, False)),
+            (proved | {"program": "0" * 64}, ("afdxsim", "0.1.0", None, own, None, None, False)),
+            (proved, ("afdxsim", "0.1.0", "c" * 40, own, None, "kit-1 logic 2", True)),
+        ):
+            if record:
+                self.file("afdxsim.record.json", json.dumps(record))
+            self.assertEqual(self.call(N1, "--seeds", "1")[0], 0)
+            names = ("name", "version", "commit", "sha256", "sources", "kit", "proved")
+            self.assertEqual(self.record()["program"], dict(zip(names, wanted)))
+            # So does the page, and the tables of the other kinds of campaigns.
+            page = os.path.join(self.folder, "page.html")
+            self.assertEqual(report.main([N1, self.output, "-o", page]), 0)
+            said = f"afdxsim 0.1.0, not proved, SHA-256 {own}"
+            if wanted[-1]:
+                said = f"afdxsim 0.1.0, proved, commit cccccccccccc, SHA-256 {own}, logic 2 (kit-1)"
+            self.assertIn(f"The tables are by {said}, as their campaign says. ", read(page))
+            cell = f"afdxsim 0.1.0 not proved SHA-256 {own[:16]}"
+            if wanted[-1]:
+                cell = f"afdxsim 0.1.0 proved commit cccccccccccc SHA-256 {own[:16]} logic 2 (kit-1)"
+            for words, name in ((["--set", "vl.1.depth=1,2"], "sweep"), (["--aim", "1"], "aim"), (["--each-outage"], "outages")):
+                self.assertEqual(self.call(N1, *words)[0], 0)
+                with open(os.path.join(self.output, name + ".csv"), newline="") as file:
+                    rows = list(csv.DictReader(file))
+                self.assertEqual({row["program"] for row in rows}, {cell})
+                if name != "aim":
+                    self.assertIn(f"They are by {said}. ", read(os.path.join(self.output, name + ".html")))
+
+    def test_the_record_lists_each_file_with_its_sum(self):
+        self.stand_in()
+        for words in (
+            ["--seeds", "2", "--histograms", "--keep", "--json"], ["--set", "vl.1.depth=1,2", "--keep", "--json"],
+            ["--aim", "1", "--keep", "--json"], ["--each-outage", "--keep"],
+        ):
+            self.assertEqual(self.call(N1, *words)[0], 0)
+            found = {}
+            for name in os.listdir(self.output):
+                with open(os.path.join(self.output, name), "rb") as file:
+                    found[name] = hashlib.sha256(file.read()).hexdigest()
+            del found["campaign.json"]
+            self.assertGreater(len(found), 4)
+            self.assertEqual(self.record()["files"], found)
+
+    def test_an_earlier_campaign_is_refused_or_replaced(self):
+        """Refused before the first run. Replaced once this one has come to its end: nothing of the earlier one is left."""
+        self.stand_in()
+        self.assertEqual(self.run_of("--seeds", "2", "--keep", "--histograms")[0], 0)
+        self.file("campaign/own.txt", "mine")
+        before = {name: read(os.path.join(self.output, name)) for name in os.listdir(self.output)}
+        self.stand_in("open(%r, 'w')" % os.path.join(self.folder, "ran"))
+        said = f"campaign.py: {self.output}: has files of an earlier campaign: campaign.json, greatest.csv, histograms.csv and 5 more. Name another folder, or --replace them\n"
+        self.assertEqual(self.run_of("--seeds", "1"), (2, "", said))
+        self.assertFalse(os.path.exists(os.path.join(self.folder, "ran")))
+        self.assertEqual({name: read(os.path.join(self.output, name)) for name in os.listdir(self.output)}, before)
+        self.assertEqual(self.run_of("--seeds", "1", "--replace")[0], 0)
+        self.assertEqual(sorted(os.listdir(self.output)), ["campaign.json", "greatest.csv", "merged.csv", "own.txt"])
+
+    def test_a_program_that_is_replaced_meanwhile(self):
+        """Then nothing says that the runs are its own."""
+        self.stand_in("if seed == 43:\n    open(sys.argv[0], 'a').write('# another')")
+        status, _, said = self.run_of("--seeds", "3")
+        self.assertEqual((status, said), (2, f"campaign.py: {self.program}: was replaced while the runs were made, so campaign.json is not written. Run the campaign anew\n"))
+        self.assertFalse(os.path.exists(os.path.join(self.output, "campaign.json")))
+
+    def test_a_file_that_was_changed_has_no_record(self):
+        self.stand_in()
+        self.assertEqual(self.run_of("--seeds", "2")[0], 0)
+        with open(self.merged, "a") as out:
+            out.write("dropped,1,SW1,policed,1,,,,42\n")
+        said = io.StringIO()
+        with contextlib.redirect_stderr(said):
+            status = report.main([N1, self.output, "-o", os.path.join(self.folder, "page.html")])
+        self.assertEqual((status, said.getvalue()), (2, f"report.py: {self.output}: has no campaign.json that is the record of its merged.csv\n"))
+
+    def test_the_second_opinion_makes_the_runs(self):
+        """Each kind of campaign brings what the stand-in brings, which is made of it; and names it."""
+        self.stand_in()
+        for words, names in (
+            (["--seeds", "3", "--histograms", "--offsets"], ["merged.csv", "greatest.csv", "histograms.csv"]),
+            (["--set", "vl.1.depth=1,2"], ["sweep.csv"]), (["--aim", "1"], ["aim.csv"]), (["--each-outage"], ["outages.csv"]),
+        ):
+            found = []
+            for more in ([], ["--by", "second-opinion"]):
+                self.assertEqual(self.call(N1, *words, *more)[0], 0)
+                texts = [read(os.path.join(self.output, name)) for name in names]
+                found.append([re.sub(",[^,\n]* not proved[^,\n]*", "", text) for text in texts])
+            self.assertEqual(*found)
+            made_by = self.record()["program"]
+            self.assertEqual((made_by["name"], made_by["proved"]), ("tools/second_opinion.py", False))
+        net = self.file("wrong.toml", read(N1).replace("seed = 42", "seed = -1"))
+        self.program, status = "none", self.call(net, "--seeds", "1", "--by", "second-opinion")
+        self.assertEqual(status[:2], (2, ""))
+        self.assertRegex(status[2], f"^campaign.py: {net} line 2: is refused: 4 OutOfLimit at top seed; .*\n$")
 
 
 class ThePage(Here):
