@@ -167,6 +167,14 @@ ROWS = [
     ("pcap net.toml windows_trace.csv -o new.pcapng", 2, "windows_trace.csv line 1: " + WINDOWS),
     ("report net.toml EARLIER -o page.html", 2, "EARLIER/campaign.json: is no record of a campaign: it has no files. Run the campaign anew: an earlier version wrote this"),
     ("report net.toml WRONG -o page.html", 2, "WRONG/campaign.json: is no record of a campaign: program is \"{{'name': 1}}\""),
+    (
+        "from_table misspelt.csv -o new.toml", 1,
+        "misspelt.csv line 1: the column 'prioritty' is not known, and priority may be meant: write it so, or say what it is by --column "
+        "'prioritty=priority', or 'prioritty=-' where it is to be passed over",
+    ),
+    ("from_table two.csv net.csv --column Box=source -o new.toml", 2, "two.csv: cannot be read: No such file or directory"),
+    ("from_table net.csv --column Box=source -o new.toml", 1, "net.csv: no table has a column 'box' that --column can make 'source'"),
+    ("from_table twofold.csv -o new.toml", 1, "twofold.csv line 3: virtual link 1 is in line 2 too, and bag_ms is '16' here and '8' there"),
     ("from_table broken.xlsx -o new.toml", 2, "broken.xlsx: is no workbook that can be read: BadZipFile: File is not a zip file"),
 ]
 
@@ -222,6 +230,9 @@ class Rows(unittest.TestCase):
         texts |= {"huge_hops.csv": hops.format(1, huge), "huge_vl.csv": hops.format(huge, 1)}
         texts["long.toml"] = net.replace('a = "ES1"', f'a = "{"x" * 5000}"')
         texts["huge_limits.csv"] = f"1,ES2,{huge}\n"
+        vls = "id,source,destinations,bag_ms,smax,a"
+        texts["misspelt.csv"] = f"{vls},prioritty\n1,ES1,ES2,8,64,ES1 SW1 ES2,high\n\nname,net\nSW1,A\n\na,b\nES1,SW1\nES2,SW1\n"
+        texts["twofold.csv"] = f"{vls}\n1,ES1,ES2,8,64,ES1 SW1 ES2\n1,ES1,ES2,16,64,ES1 SW1 ES2\n\nname,net\nSW1,A\n\na,b\nES1,SW1\nES2,SW1\n"
         texts["empty_limits.csv"] = "# none\n"
         texts["huge.toml"] = f"until_ns = {huge}\nseed = 1\n"
         texts["deep.toml"] = "until_ns = " + "[" * 100_000
