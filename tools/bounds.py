@@ -83,6 +83,8 @@ COLUMNS = [
 # Each BAG divides the longest one. So in units of a byte by this many parts a rate is whole, and a line's speed too.
 PARTS = 128 * 10**6
 
+LONGEST_BAG_NS = 128 * 10**6
+
 # How many bytes of a frame's time on the line are behind its last bit.
 GAP_BYTES = 12
 
@@ -136,6 +138,30 @@ def peak(pieces, speed, first=0):
         if slope <= speed:
             break
         found, begin = max(found, at + (slope - speed) * last), last + 1
+    return found
+
+
+def peak_of_frames(hops, speed, most):
+    """The same excess where frames are counted whole, whatever lines they come by, as holistic analysis does it: of a
+    virtual link there come in t ns at most 1 + (t + spread) / BAG frames, cut to a whole number. It is taken where it is
+    less than `most`, so what is not less is not looked at further; then the answer is `most`.
+
+    The excess is greatest where a frame comes. Once all that came is sent, what comes later begins anew; and each BAG
+    divides the longest one, so that where no more comes than the port sends, no excess after that is greater."""
+    if any(hop.spread is None for hop in hops):
+        return most
+    came = sum((1 + hop.spread // hop.link.vl.bag_ns) * hop.link.amount for hop in hops) * PARTS
+    if came >= most or sum(hop.link.rate for hop in hops) > speed:
+        return most
+    found, due = came, [(hop.link.vl.bag_ns - hop.spread % hop.link.vl.bag_ns, i) for i, hop in enumerate(hops)]
+    heapq.heapify(due)
+    while due[0][0] * speed < came and due[0][0] < LONGEST_BAG_NS:
+        t, i = due[0]
+        heapq.heapreplace(due, (t + hops[i].link.vl.bag_ns, i))
+        came += hops[i].link.amount * PARTS
+        found = max(found, came - t * speed)
+        if found >= most:
+            return most
     return found
 
 
@@ -303,18 +329,22 @@ class Port:
         high, low = curve(self.come(True)), curve(self.come(False))
         if self.groups[True]:
             blocking = max((most for (is_high, _), most in self.greatest.items() if not is_high), default=0)
-            longest = self.longest_first(high, blocking)
+            longest = self.longest_first(high, blocking, True)
             self.set_delays(True, lambda hop: longest)
             starts = self.longest_behind(high, low)
             self.set_delays(False, lambda hop: starts and starts[hop.link.amount] + hop.least)
         else:
-            longest = self.longest_first(low, 0)
+            longest = self.longest_first(low, 0, False)
             self.set_delays(False, lambda hop: longest)
 
-    def longest_first(self, pieces, blocking):
-        """The longest delay of frames that go first, in ns, where one frame of `blocking` bytes may be on the line."""
+    def longest_first(self, pieces, blocking, high):
+        """The longest delay of frames that go first, in ns, where one frame of `blocking` bytes may be on the line. Both
+        ways to count what comes hold, so the lesser answer does."""
         excess = peak(pieces, self.speed)
-        return None if excess is None else (excess + blocking * PARTS) // self.speed - GAP_BYTES * self.byte_ns
+        if excess is None:
+            return None
+        excess = peak_of_frames([hop for _, hops in self.groups[high] for hop in hops], self.speed, excess)
+        return (excess + blocking * PARTS) // self.speed - GAP_BYTES * self.byte_ns
 
     def longest_behind(self, high, low):
         """For each size of low frames how long they may wait for their start, in ns, where high frames go first."""
