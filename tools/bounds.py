@@ -28,6 +28,7 @@ import files  # noqa: E402
 import limits  # noqa: E402
 import long_form  # noqa: E402
 import program  # noqa: E402
+import transmit_jitter  # noqa: E402
 
 EXAMPLES = """
 examples:
@@ -51,12 +52,17 @@ columns (further ones may stand beside them; who reads the file goes by their na
   policing_jitter_ns  how much of it the account there allows, in ns
   warning      what may go wrong in the worst case, with blanks between: the account may_refuse a frame; at the
                destination neither network is sure (not_sure); the second copy of a frame may come so late that it is
-               delivered_twice; the port is too_small
+               delivered_twice; the port is too_small; the transmit_jitter is longer than allowed, or the sum of the rule
+               above 500 us
   network_ns   how much of bound_ns is the network's own: bound_ns less wait_ns, or none
   network_a_ns, network_b_ns  the longest time from the release of a frame to its arrival at the destination by this
                network alone, in ns, or none
   delay_ns     the longest time from the arrival of a frame at the output port before the line to its last bit on the
                line, in ns, or none
+  transmit_jitter_ns  of a line by which an end system sends: the longest time from the release of a frame to its first bit,
+               in ns, or none
+  transmit_rule_ns  what ARINC 664 Part 7 sets beside it: 40 us + the sum over the virtual links of the line of
+               (20 + Smax) * 8 bits by its speed, in ns. A jitter is allowed up to this, and up to 500 us
   description  checksum of the description: the first 16 digits of its SHA-256
   program      who computed the bounds: this tool, its version and its commit, with + where files differed from it
 
@@ -77,7 +83,8 @@ status:
 
 COLUMNS = [
     "vl", "where", "bound_ns", "wait_ns", "waiting_bytes", "port_bytes", "why", "sure", "skew_ns", "skew_max_ns", "jitter_ns",
-    "policing_jitter_ns", "warning", "network_ns", "network_a_ns", "network_b_ns", "delay_ns", "description", "program",
+    "policing_jitter_ns", "warning", "network_ns", "network_a_ns", "network_b_ns", "delay_ns", "transmit_jitter_ns",
+    "transmit_rule_ns", "description", "program",
 ]
 
 # Each BAG divides the longest one. So in units of a byte by this many parts a rate is whole, and a line's speed too.
@@ -608,11 +615,16 @@ class Bounds:
         for vl, line in sorted(self.hops, key=self.order):
             hop = self.hops[vl, line]
             yield {"vl": vl, "where": line, "delay_ns": said(hop.delay), "why": hop.port.why if hop.delay is None else ""}
+        transmit = transmit_jitter.TransmitJitter(self.net, bound=lambda vl, line: self.hops[vl, line].delay)
         for line in sorted(self.ports, key=self.net.process.get):
             port = self.ports[line]
             row = {"where": line, "waiting_bytes": said(port.most), "port_bytes": port.node.port_bytes}
             is_small = port.most is None or port.most > port.node.port_bytes
-            yield row | {"why": port.why if port.most is None else "", "warning": "too_small" if is_small else ""}
+            warnings = ["too_small"] if is_small else []
+            if line in transmit.users:
+                row |= {"transmit_jitter_ns": said(transmit.bound[line]), "transmit_rule_ns": transmit.allowed[line].sum_ns}
+                warnings += ["transmit_jitter"] if transmit.is_broken(line) else []
+            yield row | {"why": port.why if port.most is None else "", "warning": " ".join(warnings)}
 
     def text(self):
         behind = [afdx.checksum(self.net.text), program.tool("bounds.py").cell()]

@@ -131,6 +131,35 @@ class ByHand(unittest.TestCase):
         third = last_bit(64) + TO_SWITCH + delay + TO_END
         self.assertEqual([found.latencies[i, "E3"] for i in (1, 2, 3)], [(first, ""), (first, ""), (third, "")])
 
+    def test_frames_are_counted_whole_where_that_is_less(self):
+        """1 has waited for 2, which goes elsewhere, and meets 3, all of 64 bytes. A rate would count 1 and the part of a
+        second frame that a spread of busy(64) allows: 45 ns more. There comes one frame of each, whole."""
+        found = network([virtual_link(1, way("E1", "A", "E3")), virtual_link(2, way("E1", "A", "E4")), virtual_link(3, way("E2", "A", "E3"))])
+        delay = 2 * busy(64) - 12 * BYTE
+        self.assertEqual(found.latencies[3, "E3"], (last_bit(64) + TO_SWITCH + delay + TO_END, ""))
+        self.assertEqual(found.latencies[1, "E3"], (busy(64) + last_bit(64) + TO_SWITCH + delay + TO_END, ""))
+        # High ones too, where one low frame may be on the line.
+        high = {"priority": "high"}
+        found = network(
+            [virtual_link(1, way("E1", "A", "E3"), **high), virtual_link(2, way("E1", "A", "E4")), virtual_link(3, way("E2", "A", "E3"), **high)]
+            + [virtual_link(4, way("E5", "A", "E3"), size=1518)]
+        )
+        self.assertEqual(found.latencies[3, "E3"], (last_bit(64) + TO_SWITCH + delay + busy(1518) + TO_END, ""))
+
+    def test_whole_frames_by_hand(self):
+        """Of 1000 bytes, 81,600 ns, and in each ms: with a spread of 2.5 ms three come at once, and the fourth after half a
+        ms, when all are sent. With 0.9 ms one comes, and 100 us later the next one; so twelve have 979,200 ns at once and
+        twice that less 100,000 ns then."""
+        for count, spread, excess in ((1, 2_500_000, 3 * 81_600), (12, 900_000, 24 * 81_600 - 100_000), (12, 999_999, 24 * 81_600 - 1)):
+            hops = network([virtual_link(i, way("E1", "A", "E2"), size=1000) for i in range(count)]).ports["E1>A"].hops
+            for hop in hops:
+                hop.spread = spread
+            speed = bounds.PARTS // BYTE
+            self.assertEqual(bounds.peak_of_frames(hops, speed, 10**18), excess * speed)
+            self.assertEqual(bounds.peak_of_frames(hops, speed, excess * speed - 1), excess * speed - 1)
+            hops[0].spread = None
+            self.assertEqual(bounds.peak_of_frames(hops, speed, 5), 5)
+
     def test_a_slow_line_brings_less(self):
         """As above, but the first line has 10 Mbit/s: a byte takes ten times the time, so it brings one frame in 67,200
         ns, and the others do not have to wait for a second one. t is later, and the excess at 0 counts."""
@@ -410,10 +439,10 @@ class Command(unittest.TestCase):
             own = hashlib.sha256(file.read()).hexdigest()[:16]
         own += "," + program.tool("bounds.py").cell()
         text = "vl,where,bound_ns,wait_ns,waiting_bytes,port_bytes,why,sure,skew_ns,skew_max_ns,jitter_ns,"
-        text += "policing_jitter_ns,warning,network_ns,network_a_ns,network_b_ns,delay_ns,description,program\n"
-        text += f"1,ES2,27720,0,,,,A,,,,,,27720,27720,,,{own}\n1,SW1,,,,,,,,,0,0,,,,,,{own}\n"
-        text += f"1,ES1>SW1,,,,,,,,,,,,,,,5760,{own}\n1,SW1>ES2,,,,,,,,,,,,,,,5760,{own}\n"
-        text += f",ES1>SW1,,,0,4096,,,,,,,,,,,,{own}\n,SW1>ES2,,,0,65536,,,,,,,,,,,,{own}\n"
+        text += "policing_jitter_ns,warning,network_ns,network_a_ns,network_b_ns,delay_ns,transmit_jitter_ns,transmit_rule_ns,description,program\n"
+        text += f"1,ES2,27720,0,,,,A,,,,,,27720,27720,,,,,{own}\n1,SW1,,,,,,,,,0,0,,,,,,,,{own}\n"
+        text += f"1,ES1>SW1,,,,,,,,,,,,,,,5760,,,{own}\n1,SW1>ES2,,,,,,,,,,,,,,,5760,,,{own}\n"
+        text += f",ES1>SW1,,,0,4096,,,,,,,,,,,,0,46720,{own}\n,SW1>ES2,,,0,65536,,,,,,,,,,,,,,{own}\n"
         self.assertEqual(self.call(path), (0, text, ""))
         with tempfile.TemporaryDirectory() as folder:
             out = os.path.join(folder, "bounds.csv")
