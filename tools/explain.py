@@ -622,7 +622,8 @@ class Warnings:
         for line, known in transmit_jitter.allowed(self.net, transmit_jitter.users_of(self.net)).items():
             if known.sum_ns > transmit_jitter.MOST_NS:
                 name = line.split(">")[0]
-                text = f"sends {known.users} virtual links by {line}: 40 us and their frames take {known.sum_ns} ns, and ARINC 664 Part 7 "
+                of = f"{known.users} virtual link{'' if known.users == 1 else 's'}"
+                text = f"has {of} on {line}: 40 us and a frame of each take {known.sum_ns} ns, and ARINC 664 Part 7 "
                 self.add("node", rows[name], None, f"end system {name}", text + f"allows {transmit_jitter.MOST_NS} ns of transmit jitter")
 
     def add(self, section, row, key, name, text):

@@ -64,7 +64,7 @@ class ByHand(unittest.TestCase):
             tree = many(count).net.description.tree
             found = explain.Warnings(afdx.Network("net.toml", afdx.text_of_tree(tree))).findings
             said = [f"{it.who} {it.text}" for it in found if "transmit jitter" in it.text]
-            text = "end system E1 (node row 2) sends 69 virtual links by E1>A: 40 us and their frames take 503680 ns, and ARINC 664 Part 7 allows 500000 ns of transmit jitter"
+            text = "end system E1 (node row 2) has 69 virtual links on E1>A: 40 us and a frame of each take 503680 ns, and ARINC 664 Part 7 allows 500000 ns of transmit jitter"
             self.assertEqual(said, [text] if count == 69 else [])
 
 
