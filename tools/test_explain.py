@@ -483,7 +483,7 @@ class Explained(unittest.TestCase):
         status, lines = self.told(text=seven)
         wanted = "gets 86.1 percent of the 100 Mbit/s of {}: frames wait long there"
         self.assertEqual(status, 0)
-        self.assertEqual([line.split(": ", 3)[-1] for line in lines[:2]], [wanted.format(line) for line in ("ADC>SWA", "SWA>DU")])
+        self.assertEqual([line.split(": ", 3)[-1] for line in lines[1:3]], [wanted.format(line) for line in ("ADC>SWA", "SWA>DU")])
 
     def test_words(self):
         said = io.StringIO()
