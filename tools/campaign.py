@@ -16,7 +16,8 @@ With --set a key of the description has several values in turn, or several keys 
 and the page DIR/sweep.html tell what the values do, beside what the seeds do.
 
 With --aim the offsets are such that the frames of others meet those of a virtual link at each port of its way, just ahead
-of them. DIR/aim.csv tells how much of its bounds is then reached.
+of them. DIR/aim.csv has how much of its bounds is then reached. --aim all --limits FILE aims at each destination that has a
+limit: drawn offsets hardly ever come near the worst case, and aimed ones often do.
 
 With --each-outage each link and each switch is out in turn, for the whole run or from a moment on. DIR/outages.csv and the
 page DIR/outages.html tell what is then lost end to end, and what becomes late, beside the same runs without it.
@@ -73,6 +74,8 @@ examples:
         Nodes have names, as node.SWA.latency_ns=8000,16000. sweep/sweep.html shows effects beside the spread of seeds
   campaign.py net.toml --aim 157 --until 100000000 -o aim
         how near 157 comes to its bound at each destination, in runs of 100 ms: aim/aim.csv
+  campaign.py net.toml --aim all --limits limits.csv -o aim
+        each limit tried by aimed runs, those of a destination on network A and on network B
   campaign.py net.toml --each-outage -o outages
         what is lost and what becomes late without each link and each switch: outages/outages.html
   campaign.py net.toml --each-outage 50000000 --seeds 5 --keep -o outages
@@ -178,8 +181,8 @@ class Changed(Network):
 class Progress:
     """The line on a terminal that says how far the campaign is."""
 
-    def __init__(self, count):
-        self.count, self.begin = count, time.monotonic()
+    def __init__(self, count, of="runs"):
+        self.count, self.of, self.begin = count, of, time.monotonic()
         self.shown, self.last = sys.stderr.isatty(), 0.0
         self.lock, self.done, self.worst, self.far = threading.Lock(), 0, None, None
 
@@ -203,7 +206,7 @@ class Progress:
             return
         self.last = now
         took = now - self.begin
-        text = f"{self.done:,} of {self.count:,} runs, {took:.0f} s"
+        text = f"{self.done:,} of {self.count:,} {self.of}, {took:.0f} s"
         if self.done:
             text += f", {took / self.done * (self.count - self.done):.0f} s to go"
         if self.far:
@@ -292,6 +295,14 @@ class Campaign:
 # ---- words ----
 
 
+def aimed_at(text):
+    """The type of a word of --aim: the number of a virtual link, or `all`."""
+    return text if text == "all" else whole(0, 65535)(text)
+
+
+aimed_at.__name__ = "number of a virtual link"
+
+
 def words_of(arguments=None):
     parser = argparse.ArgumentParser(
         description=__doc__, epilog=EXAMPLES, formatter_class=argparse.RawDescriptionHelpFormatter
@@ -312,8 +323,9 @@ def words_of(arguments=None):
         help="runs each seed with each value of a key, as vl.157.bag_ms=4,8,16; of several, with each combination",
     )
     add(
-        "--aim", type=whole(0, 65535), action="append", metavar="VL",
-        help="runs each seed (1 unless told) with offsets that let other frames meet those of this virtual link at each port",
+        "--aim", type=aimed_at, action="append", metavar="VL",
+        help="runs each seed (1 unless told) with offsets that let other frames meet those of this virtual link at each port; "
+        "`all`: of each destination that has a limit, or without --limits of all virtual links",
     )
     add("--until", type=whole(1, afdx.LATEST_NS), metavar="NS", help="the end of the runs (default: that of NET)")
     add(
@@ -345,8 +357,10 @@ def words_of(arguments=None):
         parser.error(f"--histograms counts the latencies of runs over seeds, and not with {named[0]}")
     if words.dask and words.by:
         parser.error("--dask has the program run on other machines, and not what --by names")
-    if words.aim and (words.offsets or words.limits):
-        parser.error(f"--aim has offsets of its own, and no {'--offsets' if words.offsets else '--limits'}")
+    if words.aim and words.offsets:
+        parser.error("--aim has offsets of its own, and no --offsets")
+    if "all" in (words.aim or ()) and len(words.aim) > 1:
+        parser.error("--aim all has each virtual link already")
     words.seeds = words.seeds or 1
     return words
 
@@ -472,16 +486,30 @@ def over_settings(words, net, limits, seeds):
     return found.status or (1 if broken else 0)
 
 
-def over_aims(words, net, _, seeds):
-    """Runs all seeds with offsets that aim at virtual links, and answers the status."""
-    begin = time.monotonic()
+def aims_of(words, net, limits):
+    """The destinations at which runs are aimed: virtual links and names."""
+    if "all" in words.aim:
+        return list(limits or sorted(net.destinations))
     for vl in words.aim:
         if vl not in net.vls:
             known = explain.meant(str(vl), map(str, net.vls))
             raise Fault(words.net, net.description.line("vl"), f"--aim {vl}: there is no such virtual link{known}")
-    found = aim.AimedRuns(net, list(dict.fromkeys(words.aim)), seeds)
-    if not found.courses:
+    return [(vl, where) for vl in dict.fromkeys(words.aim) for where in net.vls[vl].destinations]
+
+
+def over_aims(words, net, limits, seeds):
+    """Runs all seeds with offsets that aim at virtual links, and answers the status."""
+    begin = time.monotonic()
+    found = aim.AimedRuns(net, aims_of(words, net, limits), seeds, limits)
+    if not found.ways:
         raise Fault(words.net, None, "no frame of the aimed virtual links arrives: size is above smax")
+    progress = Progress(len(found.ways), "ways aimed at")
+    try:
+        found.aim(words.jobs, lambda done: progress.tell(done, None))
+    except Failure as failure:
+        raise Fault(words.net, None, str(failure)) from None
+    finally:
+        progress.end()
     found.run(maker_of(words, False), keeper(words), Progress(found.count()), words.jobs)
     if found.failure:
         files.tell("campaign.py", found.failure)
@@ -496,7 +524,21 @@ def over_aims(words, net, _, seeds):
         files.say(text)
     for it in found.above():
         files.say(f"above its bound, so one of the two is wrong: {','.join(map(bounds.said, it))}")
-    return found.status or (1 if found.above() else 0)
+    tell_limits(found)
+    return found.status or (1 if found.above() or found.broken() else 0)
+
+
+def tell_limits(found):
+    """Says which limits the aimed runs tried, and which they break."""
+    if not found.limits:
+        return
+    tried, broken = found.tried(), found.broken()
+    files.say(f"limits: {len(found.limits)}, tried: {len(tried)}, broken: {len(broken)}")
+    for limit, latency, line in broken:
+        how = f"aimed at by network {line.network}" if latency == line.aimed_ns else "as described"
+        files.say(f"limit broken: virtual link {limit.vl} at {limit.where} has {limit.ns} ns, and took {latency} ns {how} with the seed {line.seed}")
+    for key in [key for key in found.limits if key not in tried][:MOST_TOLD]:
+        files.say(f"limit not tried: virtual link {key[0]} at {key[1]}")
 
 
 def write_json(words, name, rows):

@@ -110,6 +110,34 @@ def pool_of(jobs, forks, reckoner):
         raise files.Fault(SHARED, None, text) from None
 
 
+def answers(reckoner, asked, jobs):
+    """Yields what is answered to each of some calls of a reckoner, in their order: by so many processes side by side, where
+    there are several calls."""
+    if min(jobs, len(asked)) < 2:
+        yield from (reckoner.answer(*words) for words in asked)
+        return
+    forks, waiting = multiprocessing.get_context("fork"), []
+    with pool_of(min(jobs, len(asked)), forks, reckoner) as pool:
+        try:
+            with files.signals_held():
+                future_of(pool, int)
+            waiting = [future_of(pool, own_answer, *words) for words in asked]
+            while waiting:
+                yield waiting[0].result()
+                waiting.pop(0)
+        except concurrent.futures.BrokenExecutor:
+            waiting = []
+            raise Failure("a process was ended before it answered") from None
+        finally:
+            if waiting:
+                end_processes()
+
+
+def own_answer(*asked):
+    """What the reckoner of this process answers."""
+    return OWN.answer(*asked)
+
+
 def ask(pool, reckoner, path, key, run, printed):
     """Asks a process about a run, whose files get this name and more behind it."""
     # Its description is long, and not needed there.
