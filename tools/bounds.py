@@ -37,6 +37,10 @@ examples:
   bounds.py net.toml -o bounds.csv --limits limits.csv --strict --junit limits.xml
         for a build server: the margins, the least first, and the status 1 where a limit is below its bound
 
+  bounds.py net.toml --fit fitted.toml
+        net.toml with policing jitters and port bytes that are just enough for the worst case; the rest of it, comments
+        too, stays. Standard output has each of these values before and after
+
 columns (further ones may stand beside them; who reads the file goes by their names):
   vl,where     a virtual link and a destination; or a virtual link and a switch, for its account there; or a virtual
                link and a line, for its hop there; or no virtual link, and the line before which an output port is
@@ -77,7 +81,8 @@ copy of the other can come so late that it is taken for a new frame (skew_max_ns
 
 status:
   0  the bounds are written, also where there are none, and whatever they warn of
-  1  with --strict a limit is below its bound, or has none
+  1  with --strict a limit is below its bound, or has none; with --fit a value stays, since it cannot be worked out: error
+     output has its line and why, and FILE is written
   2  a word is wrong, a file cannot be read or written, or `afdxsim` would refuse NET: one line on error output says why
 """
 
@@ -665,17 +670,38 @@ def words_of(arguments=None):
     parser.add_argument("--limits", metavar="FILE", help=says + "; NET itself for its comments")
     parser.add_argument("--strict", action="store_true", help="the status is 1 where a limit is below its bound, or has none")
     parser.add_argument("--junit", metavar="FILE", help="writes what became of each limit as JUnit's XML")
+    says = "writes NET there with policing_jitter_ns and port_bytes by the bounds, all else as it is, in place of bounds"
+    parser.add_argument("--fit", metavar="FILE", help=says)
     words = parser.parse_args(arguments)
+    if words.fit and (words.output or words.json or words.limits):
+        parser.error("--fit writes a description, and no bounds: call bounds.py of it")
     if (words.strict or words.junit) and not words.limits:
         parser.error("--strict and --junit are about limits, and there are none: --limits FILE")
     return words
+
+
+def write_fitted(net, path):
+    """Writes the description with the values that fit, and answers the status."""
+    import fit  # It imports this file.
+
+    proposed = fit.proposals(net)
+    files.write_all({path: fit.replaced(net.text, proposed)}, prints=True)
+    files.write_out(fit.table(proposed))
+    stays = [it for it in proposed if it.after is None]
+    for it in stays:
+        line = net.description.line(it.section, it.row, it.key)
+        who = f"virtual link {it.name}" if it.section == "vl" else it.name
+        files.tell("bounds.py", afdx.Fault(net.path, line, f"{who}, {it.key} stays {it.before}: {it.why}"))
+    return 1 if stays else 0
 
 
 @files.tool
 def main(arguments=None):
     words = words_of(arguments)
     net = accepted(words.net)
-    files.ready(list(filter(None, [words.output, words.junit])), prints=not words.output or bool(words.limits))
+    files.ready(list(filter(None, [words.output, words.junit, words.fit])), prints=not words.output or bool(words.limits))
+    if words.fit:
+        return write_fitted(net, words.fit)
     found = Bounds(net)
     text = long_form.text_of(long_rows(found.rows())) if words.json else found.text()
     texts = {words.output: text} if words.output else {}
