@@ -671,7 +671,7 @@ def words_of(arguments=None):
     parser.add_argument("--strict", action="store_true", help="the status is 1 where a limit is below its bound, or has none")
     parser.add_argument("--junit", metavar="FILE", help="writes what became of each limit as JUnit's XML")
     says = "writes NET there with policing_jitter_ns and port_bytes by the bounds, all else as it is, in place of bounds"
-    parser.add_argument("--fit", metavar="FILE", help=says)
+    parser.add_argument("--fit", metavar="FILE", type=files.output_name, help=says)
     words = parser.parse_args(arguments)
     if words.fit and (words.output or words.json or words.limits):
         parser.error("--fit writes a description, and no bounds: call bounds.py of it")

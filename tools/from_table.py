@@ -102,6 +102,8 @@ UNITS = headings.NS
 PASSED = "-"
 # Of the lines that have a fault so many are named.
 FEW_LINES = 3
+# What of a fault is not the same in other lines that have it: what is quoted, numbers, and where a virtual link is from.
+VALUES = re.compile(r"'[^']*'(\.\. of [0-9,]+ characters)?|\"[^\"]*\"|\b[0-9][0-9.,_]*|(?<=is reached from )\S+")
 # How a description and a table say what a heading stands for.
 COLUMN_SAID = re.compile(r'# --column "(.*=.*)"')
 
@@ -233,7 +235,7 @@ class Tables:
         for section, needed in SORTS:
             known = {name: key_of(*it, section) for name in names if len(it := self.meanings(name, section)) == 1}
             keys = set(known.values()) - {PASSED}
-            is_weak = section == "node" and len(keys) == 1 and set(known) <= headings.WEAK
+            is_weak = section == "node" and not keys & headings.OF_NODES and {it for it, key in known.items() if key == "name"} <= headings.WEAK
             if needed <= keys and not is_weak:
                 found.append((len(keys), section))
         return max(found, key=lambda it: it[0])[1] if found else None
@@ -247,12 +249,15 @@ class Tables:
             if name in self.columns and (fitting == [PASSED] or fitting == headings.columns_of(self.columns[name], section)):
                 self.used.add(name)
             column = fitting[0] if len(fitting) == 1 and fitting != [PASSED] else ""
-            if column in said and column:
+            if column in said and column in headings.ASIDE:
+                self.notes.append(Fault(line.path, line.number, f"the column {name} is passed over: {said[column]!r} is there as {column}"))
+                column = ""
+            elif column in said and column:
                 also = f", as {said[column]!r} and as {cell!r}" if said[column] != cell else ""
                 self.add(line, f"has the column {column} twice{also}")
             elif len(fitting) > 1 and not present.issuperset(key_of(it, section) for it in fitting):
                 which = " or ".join(filter(None, (", ".join(fitting[:-1]), fitting[-1])))
-                self.add(line, f"the column {cell!r} may be {which}: say which one by --column {cell + '=' + fitting[0]!r}")
+                self.add(line, f"the column {cell!r} may be {which}: say which one by --column {cell + '=' + fitting[0]!r}, or {cell + '=-'!r} where it is to be passed over")
             elif not fitting and name:
                 self.unknown(line, section, cell, name, present)
             elif len(fitting) > 1:
@@ -347,7 +352,7 @@ def together(faults):
     have them and the first few of these."""
     found, said = {}, []
     for fault in faults:
-        kind = fault.path, re.sub(r"'[^']*'(\.\. of [0-9,]+ characters)?|\"[^\"]*\"|\b[0-9][0-9.,_]*", "#", fault.text)
+        kind = fault.path, VALUES.sub("#", fault.text)
         first = found.get(kind)
         if first is None or fault.line is None or first[0].line == fault.line:
             found[kind if first is None else len(said)] = one = [fault, []]

@@ -128,8 +128,9 @@ OPEN = {
         **dict.fromkeys(("network", "networks", "net", "redundancy", "redundant"), ("a", "b")),
     },
 }
-# Headings by which alone no table is one of nodes.
-WEAK = {"switch", "end_system", "lru", "equipment", "device"}
+# Headings that name nodes only where one of these keys stands beside: a list of equipment is no table of nodes.
+WEAK = {"switch", "switch_name", "end_system", "end_system_name", "lru", "lru_name", "equipment", "device"}
+OF_NODES = {"net", "port_bytes", "latency_ns"}
 # Columns that are no values of a description, so that nothing usual stands in the place of one that is misspelt.
 ASIDE = {REMARKS, "udp_port", "udp_source_port", "udp_destination_port"}
 

@@ -332,7 +332,7 @@ id = 1
         self.assertEqual(tree["outage"], [{"from": "ADC", "to": "SWA", "from_ns": 1_000_000, "to_ns": 2_000_000}])
 
     def test_a_column_that_may_be_two_is_a_fault(self):
-        or_by = lambda names, example: f"{names}: say which one by --column {example!r}"
+        or_by = lambda names, one: f"{names}: say which one by --column {one!r}, or {one.partition('=')[0] + '=-'!r} where it is to be passed over"
         for heads, said in (
             ("bag_ms,Frame size", "the column 'Frame size' may be " + or_by("smax or size", "Frame size=smax")),
             ("bag_ms,smax,Period", "the column 'Period' may be " + or_by("period_ns, period_us, period_ms or period_s", "Period=period_ns")),
@@ -362,6 +362,16 @@ id = 1
         again = os.path.join(self.folder, "again.toml")
         self.assertEqual(self.call(tables, "-o", again), (0, "", ""))
         self.assertEqual(toml_lines.read(read(again)), tree)
+
+    def test_tables_that_are_of_something_else(self):
+        """A list of equipment is no table of nodes, and one remark is enough."""
+        tree, said = self.noted(NODES + LINKS + LINE.replace("smax", "smax,Remarks,Description").replace("100", "100,left,right"))
+        self.assertEqual((said, len(tree["node"])), (["table0.csv line 11: the column description is passed over: 'Remarks' is there as remarks"], 4))
+        self.assertIn("# remarks left\n", read(self.output))
+        os.unlink(self.output)
+        self.assertEqual(self.faults(NODES + LINKS + LINE, "LRU,Type,Description\nADC,computer,air data\n"), ["table1.csv line 1: names no columns of a table, but lru, type, description: --help has them"])
+        tree, _ = self.noted("Switch,Network,Latency (us)\nSWA,A,16\nSWB,B,16\n\n" + LINKS + LINE)
+        self.assertEqual([row.get("net") for row in tree["node"]], ["A", "B", None, None])
 
     def test_words_about_columns_that_are_wrong(self):
         table = self.file("table.csv", NODES + LINKS + LINE)
