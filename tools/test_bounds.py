@@ -132,19 +132,23 @@ class ByHand(unittest.TestCase):
         self.assertEqual([found.latencies[i, "E3"] for i in (1, 2, 3)], [(first, ""), (first, ""), (third, "")])
 
     def test_frames_are_counted_whole_where_that_is_less(self):
-        """1 has waited for 2, which goes elsewhere, and meets 3, all of 64 bytes. A rate would count 1 and the part of a
-        second frame that a spread of busy(64) allows: 45 ns more. There comes one frame of each, whole."""
-        found = network([virtual_link(1, way("E1", "A", "E3")), virtual_link(2, way("E1", "A", "E4")), virtual_link(3, way("E2", "A", "E3"))])
+        """1 and 3 meet, all of 64 bytes. Each has waited for another one, 2 and 4, which goes elsewhere, so it has a spread
+        of busy(64), for which a rate counts the part of a second frame, 45 ns, on both lines. Whole, there comes one of each."""
+
+        def of(**changes):
+            ends = {1: ("E1", "E3"), 2: ("E1", "E4"), 3: ("E2", "E3"), 4: ("E2", "E5")}
+            return [virtual_link(i, way(source, "A", end), **changes) for i, (source, end) in ends.items()]
+
         delay = 2 * busy(64) - 12 * BYTE
-        self.assertEqual(found.latencies[3, "E3"], (last_bit(64) + TO_SWITCH + delay + TO_END, ""))
-        self.assertEqual(found.latencies[1, "E3"], (busy(64) + last_bit(64) + TO_SWITCH + delay + TO_END, ""))
+        found = network(of())
+        for vl in (1, 3):
+            self.assertEqual(found.latencies[vl, "E3"], (busy(64) + last_bit(64) + TO_SWITCH + delay + TO_END, ""))
         # High ones too, where one low frame may be on the line.
-        high = {"priority": "high"}
-        found = network(
-            [virtual_link(1, way("E1", "A", "E3"), **high), virtual_link(2, way("E1", "A", "E4")), virtual_link(3, way("E2", "A", "E3"), **high)]
-            + [virtual_link(4, way("E5", "A", "E3"), size=1518)]
-        )
-        self.assertEqual(found.latencies[3, "E3"], (last_bit(64) + TO_SWITCH + delay + busy(1518) + TO_END, ""))
+        found = network([*of(priority="high"), virtual_link(5, way("E6", "A", "E3"), size=1518)])
+        for vl in (1, 3):
+            self.assertEqual(found.latencies[vl, "E3"], (busy(64) + last_bit(64) + TO_SWITCH + delay + busy(1518) + TO_END, ""))
+        with mock.patch.object(bounds, "peak_of_frames", lambda hops, speed, most: most):
+            self.assertEqual(network(of()).hops[1, "A>E3"].delay, delay + 45)
 
     def test_whole_frames_by_hand(self):
         """Of 1000 bytes, 81,600 ns, and in each ms: with a spread of 2.5 ms three come at once, and the fourth after half a
