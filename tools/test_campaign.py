@@ -22,6 +22,7 @@ sys.path.insert(0, HERE)
 
 import afdx  # noqa: E402
 import campaign  # noqa: E402
+import latency_counts  # noqa: E402
 import report  # noqa: E402
 from merged import Merged  # noqa: E402
 from second_opinion import CAUSES, Simulation  # noqa: E402
@@ -329,10 +330,10 @@ class WithAStandIn(Here):
 
     def test_greatest_latencies_over_seeds_and_percentiles(self):
         """From the notes of the plain simulator: of each run's greatest latency the least, the mean and the greatest; and
-        each latency of all runs, with the nearest rank of each percentage. A run that delivers nothing there is none."""
+        the bins of latencies of all runs, with the nearest rank of each percentage. A run that delivers nothing there is none."""
         self.stand_in()
         runs = [(seed, rows_of(COCKPIT, seed)) for seed in range(7, 12)]
-        lines, counts = [], ["vl,where,latency_ns,count"]
+        lines, counts = [], ["vl,where,from_ns,to_ns,count"]
         for vl, where in runs[0][1][1]:
             found = [(seed, [v[3] for v in rows if v[:3] == (vl, where, "delivered")]) for seed, (rows, _, _) in runs]
             greatest = {seed: max(values) for seed, values in found if values}
@@ -341,8 +342,10 @@ class WithAStandIn(Here):
             worst = max(greatest, key=lambda seed: (greatest[seed], -seed))
             ranks = [next(v for i, v in enumerate(values, 1) if i * 100 >= percent * len(values)) for percent in (50, 95, 99)]
             numbers = [number, min(greatest.values()), (2 * total + number) // (2 * number), greatest[worst], total, worst]
+            ends = [latency_counts.ends_of(latency_counts.bin_of(value)) for value in values]
+            ranks = [min(values[-1], ends[values.index(rank)][1]) for rank in ranks]
             lines.append(",".join(map(str, [vl, where, *numbers, *ranks])))
-            counts += [f"{vl},{where},{value},{values.count(value)}" for value in sorted(set(values))]
+            counts += [f"{vl},{where},{least},{most},{ends.count((least, most))}" for least, most in sorted(set(ends))]
         head = "vl,where,runs,least_greatest_ns,mean_greatest_ns,greatest_ns,sum_greatest_ns,seed"
         for jobs in ("1", "3"):
             self.assertEqual(self.call(COCKPIT, "--seeds", "5", "--jobs", jobs, "--histograms")[0], 0)
@@ -383,7 +386,7 @@ class WithAStandIn(Here):
         self.assertEqual(self.call(net, "--seeds", "2", "--histograms")[0], 0)
         told = read(os.path.join(self.output, "greatest.csv")).splitlines()
         self.assertEqual(told[1:], ["1,ES2,0,0,0,0,0,,,,"])
-        self.assertEqual(read(os.path.join(self.output, "histograms.csv")), "vl,where,latency_ns,count\n")
+        self.assertEqual(read(os.path.join(self.output, "histograms.csv")), "vl,where,from_ns,to_ns,count\n")
 
     def test_jobs_are_side_by_side(self):
         """As many as asked, and no more: each run tells by a file when it begins and ends."""
@@ -607,7 +610,7 @@ class ThePage(Here):
         return status, said.getvalue(), page
 
     def test_percentiles_of_histograms(self):
-        """Those of all frames of all runs, by the nearest rank, from the notes of the plain simulator."""
+        """Those of all frames of all runs, by the nearest rank to the end of its bin, from the notes of the plain simulator."""
         self.stand_in()
         self.assertEqual(self.call(COCKPIT, "--seeds", "3", "--first", "7", "--histograms")[0], 0)
         status, said, page = self.page(COCKPIT)
@@ -618,7 +621,8 @@ class ThePage(Here):
             for vl, where, what, value in rows_of(COCKPIT, seed)[0]:
                 if what == "delivered":
                     values.setdefault((vl, where), []).append(value)
-        rank = lambda found, percent: sorted(found)[-(-len(found) * percent // 100) - 1]
+        end = lambda ns: latency_counts.ends_of(latency_counts.bin_of(ns))[1]
+        rank = lambda found, percent: min(max(found), end(sorted(found)[-(-len(found) * percent // 100) - 1]))
         wanted = [[rank(values[key], percent) for percent in (50, 95, 99)] for key in zip(ends["vl"], ends["where"])]
         self.assertEqual([list(it) for it in zip(ends["p50"], ends["p95"], ends["p99"])], wanted)
         self.assertIn("Distribution of the latencies", read(page))
