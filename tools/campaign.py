@@ -8,9 +8,9 @@ offer of each virtual link, anew and evenly within its period: so frames that ne
 DIR/merged.csv has the tables of all runs together, in the form in which the program prints tables, with one column
 more: the seed that gave the greatest latency of a line, or the most losses. tools/report.py makes a page of it. Counts
 and sums are added and leasts and greatests taken, exactly; so the merged tables do not depend on --jobs.
-DIR/campaign.json says of what description, seeds and program they are. DIR/greatest.csv has of the greatest latencies of
-the runs the least, the mean and the greatest. With --histograms each latency is counted (DIR/histograms.csv), and
-percentiles of the frames of all runs stand in DIR/greatest.csv.
+DIR/campaign.json says of what description, seeds and program they are, and lists the files of DIR with their checksums.
+DIR/greatest.csv has of the greatest latencies of the runs the least, the mean and the greatest. With --histograms latencies are
+counted in bins of less than 0.1 percent (DIR/histograms.csv), and percentiles of the frames of all runs stand in DIR/greatest.csv.
 
 With --set a key of the description has several values in turn, or several keys each combination of theirs. DIR/sweep.csv
 and the page DIR/sweep.html tell what the values do, beside what the seeds do.
@@ -45,6 +45,7 @@ import explain
 import files
 import long_form
 import one_run
+import output_sizes
 import program
 import reckoning
 import record
@@ -337,7 +338,7 @@ def words_of(arguments=None):
     add("--jobs", type=whole(1, 1024), default=jobs, metavar="N", help=f"runs side by side, and as many processes that read them (default here: {jobs})")
     add("--offsets", action="store_true", help="draw the offset of each virtual link within its period, for each run")
     add("--limits", metavar="FILE", help="limits of latencies, lines VL,NAME,NS")
-    add("--histograms", action="store_true", help="count each latency: DIR/histograms.csv, percentiles in DIR/greatest.csv")
+    add("--histograms", action="store_true", help="count latencies in bins of less than 0.1 percent: DIR/histograms.csv, percentiles in DIR/greatest.csv")
     address, says = cluster.address, "the workers of the Dask cluster with this scheduler make the runs: tcp://HOST:PORT"
     add("--dask", type=address, metavar="ADDRESS", help=says)
     add("--keep", action="store_true", help="keep the description and the tables of each run in DIR too")
@@ -372,6 +373,8 @@ def prepare(words):
     words.maker = who_made(words)
     net = Network(words.net, None if words.by else words.program, words.until)
     judge_outages(words, net)
+    if words.by == "try":
+        foresee(net, words.histograms or words.each_outage is not None)
     limits = limits_of(words.limits, net) if words.limits else {}
     first = net.seed if words.first is None else words.first
     if first + words.seeds - 1 > GREATEST_SEED:
@@ -379,6 +382,14 @@ def prepare(words):
         raise Fault(words.net, line, f"the seeds from {first} on would pass {GREATEST_SEED}")
     words.folder = Folder(words.output, words.replace)
     return net, limits, range(first, first + words.seeds)
+
+
+def foresee(net, is_traced):
+    """Refuses runs of which `rt try` could not pass on all that they print, before the two minutes in which it builds."""
+    for what, size in [("the tables of a run", output_sizes.of_tables(net))] + [("the trace of a run", output_sizes.of_trace(net))] * is_traced:
+        if size > output_sizes.MOST:
+            remedy = "give --by second-opinion or a shorter --until, or build the proved program by `afdx build`"
+            raise Fault(net.path, None, str(output_sizes.refused(what, size, remedy)))
 
 
 def judge_outages(words, net):
@@ -409,7 +420,7 @@ def write_results(words, campaign):
     path = words.folder.write(record.MERGED, merged.text())
     words.folder.write(record.GREATEST, merged.greatest_text(has_counts))
     if has_counts:
-        words.folder.write("histograms.csv", merged.histograms_text())
+        words.folder.write("histograms.csv", merged.histograms())
     return path
 
 

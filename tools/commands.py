@@ -12,6 +12,7 @@ import afdx
 import by_rt
 import explain
 import files
+import output_sizes
 import program
 from by_rt import tell
 from program import HERE, NoProgram
@@ -90,6 +91,9 @@ examples:
 
 status: that of the program or the tool; 2 where a word is wrong, or where no program is there
 """
+
+
+TOO_LONG = "the trace is too long for `rt try`: the page has no histograms, and tells the losses of tables alone"
 
 
 class Mistake(Exception):
@@ -231,6 +235,8 @@ def by_program(name, words):
             # As the program does; it would take two minutes to say so.
             print(f"afdxsim: cannot read {words[place]}", file=sys.stderr)
             return 4
+    if name in ("seq", "run"):
+        foresee(words[read[0]], "--by second-opinion, or " if name == "seq" else "")
     tell(it.says)
     status, printed, said = by_rt.by_try([name, *words], [1 + place for place in read])
     write(sys.stderr, said)
@@ -244,6 +250,16 @@ def ended(words, **more):
     if status < 0:
         tell(f"{os.path.basename(words[0])} was {files.ended_by(-status)}")
     return status
+
+
+def foresee(path, other):
+    """Refuses a run of which `rt try` could not pass on the tables. What is no description the program itself refuses."""
+    try:
+        size = output_sizes.of_tables(afdx.Network(path))
+    except files.Fault:
+        return
+    if size > output_sizes.MOST:
+        raise output_sizes.refused(f"the tables of {path}", size, f"{other}`afdx build` builds the proved program")
 
 
 def check_by_opinion(words, read):
@@ -453,12 +469,20 @@ def simulate_by_try(net, out, trace):
     """The same by `rt try`, with the trace where it is not too long to be passed on."""
     with open(net, "rb") as file:
         text = file.read()
-    traced, alone = by_rt.cases_by_try([(text, ["--trace", "/dev/stderr"]), (text, [])])
+    foresee(net, "--by second-opinion, or ")
+    found = afdx.Network(net)
+    is_short = output_sizes.of_trace(found) <= output_sizes.MOST
+    if not is_short:
+        tell(TOO_LONG)
+    cases = [(text, ["--trace", "/dev/stderr"])] * is_short + [(text, [])]
+    *with_trace, alone = by_rt.cases_by_try(cases)
+    traced = with_trace[0] if with_trace else (None, b"", b"")
     if traced[0] == 0:
         with open(trace, "wb") as file:
             file.write(traced[2])
     elif alone[0] == 0:
-        tell("the trace is too long for `rt try`: the page has no histograms, and tells the losses of tables alone")
+        if is_short:
+            tell(TOO_LONG)
     else:
         write(sys.stderr, alone[2])
         if alone[0] is None:
