@@ -69,6 +69,7 @@ def whole(least, greatest):
 def lines_of(path, head, name, text=None):
     """The lines of a file of tables or of a trace, without line feeds. The first of them must be a head."""
     lines = (text_of(path) if text is None else text).split("\n")
+    refuse_carriage_returns(path, lines[0], head)
     if lines[0] not in head:
         raise Fault(path, 1, f"the columns are not those of {name}: {head[0]}")
     if lines.pop():
@@ -76,10 +77,17 @@ def lines_of(path, head, name, text=None):
     return lines
 
 
+def refuse_carriage_returns(path, first, head):
+    """Refuses a file whose lines end as those of Windows do: some editor or mail has changed it."""
+    if first.endswith("\r") and first[:-1] in head:
+        raise Fault(path, 1, "ends with CR LF, as all lines do that Windows writes, and the program writes LF: sed -i 's/\\r$//' mends the file")
+
+
 def read_lines(path, head, name):
     """The lines of a file behind its head, without line feeds, one by one as they are asked for."""
     lines = files.lines_of(path)
     first = next(lines, "")
+    refuse_carriage_returns(path, first.removesuffix("\n"), [head])
     if first.removesuffix("\n") != head:
         raise Fault(path, 1, f"the columns are not those of {name}: {head}")
     for i, line in enumerate(itertools.chain([first], lines), 1):
@@ -439,11 +447,17 @@ class Network:
 # ---- offers ----
 
 
-def words(seed, stream):
-    """The words of PCG XSH RR 64/32."""
-    mask = 2**64 - 1
+def words(seed, stream, first=0):
+    """The words of PCG XSH RR 64/32, from one of them on."""
+    mask, by = 2**64 - 1, 6364136223846793005
     increment = (stream << 1 | 1) & mask
-    state = ((seed + increment) * 6364136223846793005 + increment) & mask
+    state = ((seed + increment) * by + increment) & mask
+    # So many steps at once as 1, 2, 4, ..: each is a product and a sum as one step is.
+    product, more = by, increment
+    while first:
+        if first & 1:
+            state = (state * product + more) & mask
+        product, more, first = product * product & mask, (product + 1) * more & mask, first >> 1
     while True:
         shifted = ((state >> 18 ^ state) >> 27) & 0xFFFFFFFF
         rotation = state >> 59
@@ -459,6 +473,16 @@ def offers(seed, vl, offset_ns, period_ns, jitter_ns, until_ns):
         if moment <= until_ns:
             yield k, moment
         k += 1
+
+
+def count_of_offers(seed, vl, offset_ns, period_ns, jitter_ns, until_ns):
+    """How many offers there are; those that are there whatever their jitter is are not drawn."""
+    surely = max(0, (until_ns - jitter_ns - offset_ns) // period_ns + 1)
+    drawn, count, moment = words(seed, vl, surely), surely, offset_ns + surely * period_ns
+    while moment <= until_ns:
+        count += moment + next(drawn) % (jitter_ns + 1) <= until_ns
+        moment += period_ns
+    return count
 
 
 # ---- tables ----

@@ -6,6 +6,7 @@ aimed one; those of several lines come to their ends together. Ports are taken i
 the frame at one port says when it comes to the next. Then some offsets are moved here and there, and what makes the
 frame later is kept. Other offsets may make it later still: what is found is reached, and no bound.
 """
+import contextlib
 import random
 from collections import namedtuple
 from itertools import repeat
@@ -178,23 +179,51 @@ def aimed(net, vl, where, side, found=None, moves=MOVES):
 HEAD = "vl,where,network,seed,plain_ns,aimed_ns,frame_ns,way_ns,bound_ns,wait_ns"
 
 
-class AimedRuns:
-    """The runs of a campaign that aims at virtual links, and what came of them: one for each of their destinations, each
-    network and each seed, beside that of the description with this seed."""
+class Search(reckoning.Reckoner):
+    """Looks for the offsets of aimed runs, several of them side by side in processes of their own."""
 
-    def __init__(self, net, vls, seeds, moves=MOVES):
-        self.net, self.seeds = net, seeds
+    def __init__(self, net, found, moves):
+        self.net, self.bounds, self.moves = net, found, moves
+
+    def answer(self, *way):
+        """The offers by which a frame on a way comes late, and how late it is."""
+        aim, frame = aimed(self.net, *way, self.bounds, self.moves)
+        return aim.offers, frame
+
+    def courses(self, ways, jobs, tell):
+        """For each way whom the runs are aimed at and how late the frame is; `tell` hears how many were found."""
+        found = []
+        with contextlib.closing(reckoning.answers(self, ways, jobs)) as answers:
+            for way, (offers, frame) in zip(ways, answers):
+                aim = Aim(self.net, self.bounds, *way)
+                aim.offers = offers
+                found.append((aim, frame))
+                tell(len(found))
+        return found
+
+
+class AimedRuns:
+    """The runs of a campaign that aims at destinations of virtual links, and what came of them: one for each of them, each
+    network and each seed, beside that of the description with this seed. Limits are held against them."""
+
+    def __init__(self, net, wanted, seeds, limits=(), moves=MOVES):
+        self.net, self.seeds, self.limits = net, seeds, dict(limits)
         self.bounds = bounds.Bounds(net)
-        self.courses = []
-        for vl in vls:
-            for where in sorted(net.vls[vl].destinations, key=net.process.get):
-                for side in sorted(net.vls[vl].paths):
-                    if (where in (path[-1] for path in net.vls[vl].paths[side])) and (vl, where) in self.bounds.by_network:
-                        self.courses.append(aimed(net, vl, where, side, self.bounds, moves))
+        self.ways = [
+            (vl, where, side)
+            for vl, where in sorted(wanted, key=self.bounds.order)
+            for side in sorted(net.vls[vl].paths)
+            if side in self.bounds.by_network.get((vl, where), {})
+        ]
+        self.search, self.courses = Search(net, self.bounds, moves), []
         self.lines, self.done, self.status, self.failure = [], 0, 0, None
 
     def count(self):
-        return len(self.seeds) * (1 + len(self.courses))
+        return len(self.seeds) * (1 + len(self.ways))
+
+    def aim(self, jobs, tell=lambda done: None):
+        """Looks for the offsets of all runs."""
+        self.courses = self.search.courses(self.ways, jobs, tell)
 
     def plan(self):
         """For each run its seed, and whom it is aimed at, or None."""
@@ -251,13 +280,27 @@ class AimedRuns:
         reached = [plain[key], aimed[key], frame]
         return Line(*key, aim.side, seed, *reached, way, bound, self.bounds.links[aim.vl.id].wait)
 
+    def tried(self):
+        """The limits at whose destinations a run was aimed, by virtual link and destination."""
+        return {it[:2]: self.limits[it[:2]] for it in self.lines if it[:2] in self.limits}
+
+    def broken(self):
+        """The limits that a run breaks: each with the line whose latency is the greatest there, in their order."""
+        worst = {}
+        for it in self.lines:
+            key, latency = it[:2], max(it.plain_ns, it.aimed_ns)
+            if key in self.limits and latency > self.limits[key].ns and latency > worst.get(key, (0, None))[0]:
+                worst[key] = latency, it
+        return [(self.limits[key], *worst[key]) for key in sorted(worst, key=lambda it: self.limits[it].line)]
+
     def above(self):
         """The lines whose latency is above a bound: one of the two is wrong."""
         is_above = lambda found, bound: bound is not None and found > bound
         return [it for it in self.lines if is_above(max(it.plain_ns, it.aimed_ns), it.bound_ns) or is_above(it.frame_ns, it.way_ns)]
 
-    def table(self):
-        return "\n".join([HEAD, *(",".join(map(bounds.said, it)) for it in self.lines)]) + "\n"
+    def table(self, maker):
+        """The table; its last column names the program."""
+        return "\n".join([HEAD + ",program", *(",".join([*map(bounds.said, it), maker.cell()]) for it in self.lines)]) + "\n"
 
     def long_rows(self):
         for it in self.lines:

@@ -27,6 +27,8 @@ import explain  # noqa: E402
 import files  # noqa: E402
 import limits  # noqa: E402
 import long_form  # noqa: E402
+import program  # noqa: E402
+import transmit_jitter  # noqa: E402
 
 EXAMPLES = """
 examples:
@@ -34,6 +36,10 @@ examples:
         all bounds of a network; report.py --bounds bounds.csv shows them beside the latencies of a run
   bounds.py net.toml -o bounds.csv --limits limits.csv --strict --junit limits.xml
         for a build server: the margins, the least first, and the status 1 where a limit is below its bound
+
+  bounds.py net.toml --fit fitted.toml
+        net.toml with policing jitters and port bytes that are just enough for the worst case; the rest of it, comments
+        too, stays. Standard output has each of these values before and after
 
 columns (further ones may stand beside them; who reads the file goes by their names):
   vl,where     a virtual link and a destination; or a virtual link and a switch, for its account there; or a virtual
@@ -50,13 +56,19 @@ columns (further ones may stand beside them; who reads the file goes by their na
   policing_jitter_ns  how much of it the account there allows, in ns
   warning      what may go wrong in the worst case, with blanks between: the account may_refuse a frame; at the
                destination neither network is sure (not_sure); the second copy of a frame may come so late that it is
-               delivered_twice; the port is too_small
+               delivered_twice; the port is too_small; the transmit_jitter is longer than allowed, or the sum of the rule
+               above 500 us
   network_ns   how much of bound_ns is the network's own: bound_ns less wait_ns, or none
   network_a_ns, network_b_ns  the longest time from the release of a frame to its arrival at the destination by this
                network alone, in ns, or none
   delay_ns     the longest time from the arrival of a frame at the output port before the line to its last bit on the
                line, in ns, or none
+  transmit_jitter_ns  of a line by which an end system sends: the longest time from the release of a frame to its first bit,
+               in ns, or none
+  transmit_rule_ns  what ARINC 664 Part 7 sets beside it: 40 us + the sum over the virtual links of the line of
+               (20 + Smax) * 8 bits by its speed, in ns. A jitter is allowed up to this, and up to 500 us
   description  checksum of the description: the first 16 digits of its SHA-256
+  program      who computed the bounds: this tool, its version and its commit, with + where files differed from it
 
 There is no bound (none)
   where a line of the way may be given more than it can send: the frames that come to it are allowed more by their BAGs.
@@ -69,17 +81,21 @@ copy of the other can come so late that it is taken for a new frame (skew_max_ns
 
 status:
   0  the bounds are written, also where there are none, and whatever they warn of
-  1  with --strict a limit is below its bound, or has none
+  1  with --strict a limit is below its bound, or has none; with --fit a value stays, since it cannot be worked out: error
+     output has its line and why, and FILE is written
   2  a word is wrong, a file cannot be read or written, or `afdxsim` would refuse NET: one line on error output says why
 """
 
 COLUMNS = [
     "vl", "where", "bound_ns", "wait_ns", "waiting_bytes", "port_bytes", "why", "sure", "skew_ns", "skew_max_ns", "jitter_ns",
-    "policing_jitter_ns", "warning", "network_ns", "network_a_ns", "network_b_ns", "delay_ns", "description",
+    "policing_jitter_ns", "warning", "network_ns", "network_a_ns", "network_b_ns", "delay_ns", "transmit_jitter_ns",
+    "transmit_rule_ns", "description", "program",
 ]
 
 # Each BAG divides the longest one. So in units of a byte by this many parts a rate is whole, and a line's speed too.
 PARTS = 128 * 10**6
+
+LONGEST_BAG_NS = 128 * 10**6
 
 # How many bytes of a frame's time on the line are behind its last bit.
 GAP_BYTES = 12
@@ -134,6 +150,30 @@ def peak(pieces, speed, first=0):
         if slope <= speed:
             break
         found, begin = max(found, at + (slope - speed) * last), last + 1
+    return found
+
+
+def peak_of_frames(hops, speed, most):
+    """The same excess where frames are counted whole, whatever lines they come by, as holistic analysis does it: of a
+    virtual link there come in t ns at most 1 + (t + spread) / BAG frames, cut to a whole number. It is taken where it is
+    less than `most`, so what is not less is not looked at further; then the answer is `most`.
+
+    The excess is greatest where a frame comes. Once all that came is sent, what comes later begins anew; and each BAG
+    divides the longest one, so that where no more comes than the port sends, no excess after that is greater."""
+    if any(hop.spread is None for hop in hops):
+        return most
+    came = sum((1 + hop.spread // hop.link.vl.bag_ns) * hop.link.amount for hop in hops) * PARTS
+    if came >= most or sum(hop.link.rate for hop in hops) > speed:
+        return most
+    found, due = came, [(hop.link.vl.bag_ns - hop.spread % hop.link.vl.bag_ns, i) for i, hop in enumerate(hops)]
+    heapq.heapify(due)
+    while due[0][0] * speed < came and due[0][0] < LONGEST_BAG_NS:
+        t, i = due[0]
+        heapq.heapreplace(due, (t + hops[i].link.vl.bag_ns, i))
+        came += hops[i].link.amount * PARTS
+        found = max(found, came - t * speed)
+        if found >= most:
+            return most
     return found
 
 
@@ -301,18 +341,22 @@ class Port:
         high, low = curve(self.come(True)), curve(self.come(False))
         if self.groups[True]:
             blocking = max((most for (is_high, _), most in self.greatest.items() if not is_high), default=0)
-            longest = self.longest_first(high, blocking)
+            longest = self.longest_first(high, blocking, True)
             self.set_delays(True, lambda hop: longest)
             starts = self.longest_behind(high, low)
             self.set_delays(False, lambda hop: starts and starts[hop.link.amount] + hop.least)
         else:
-            longest = self.longest_first(low, 0)
+            longest = self.longest_first(low, 0, False)
             self.set_delays(False, lambda hop: longest)
 
-    def longest_first(self, pieces, blocking):
-        """The longest delay of frames that go first, in ns, where one frame of `blocking` bytes may be on the line."""
+    def longest_first(self, pieces, blocking, high):
+        """The longest delay of frames that go first, in ns, where one frame of `blocking` bytes may be on the line. Both
+        ways to count what comes hold, so the lesser answer does."""
         excess = peak(pieces, self.speed)
-        return None if excess is None else (excess + blocking * PARTS) // self.speed - GAP_BYTES * self.byte_ns
+        if excess is None:
+            return None
+        excess = peak_of_frames([hop for _, hops in self.groups[high] for hop in hops], self.speed, excess)
+        return (excess + blocking * PARTS) // self.speed - GAP_BYTES * self.byte_ns
 
     def longest_behind(self, high, low):
         """For each size of low frames how long they may wait for their start, in ns, where high frames go first."""
@@ -576,15 +620,20 @@ class Bounds:
         for vl, line in sorted(self.hops, key=self.order):
             hop = self.hops[vl, line]
             yield {"vl": vl, "where": line, "delay_ns": said(hop.delay), "why": hop.port.why if hop.delay is None else ""}
+        transmit = transmit_jitter.TransmitJitter(self.net, bound=lambda vl, line: self.hops[vl, line].delay)
         for line in sorted(self.ports, key=self.net.process.get):
             port = self.ports[line]
             row = {"where": line, "waiting_bytes": said(port.most), "port_bytes": port.node.port_bytes}
             is_small = port.most is None or port.most > port.node.port_bytes
-            yield row | {"why": port.why if port.most is None else "", "warning": "too_small" if is_small else ""}
+            warnings = ["too_small"] if is_small else []
+            if line in transmit.users:
+                row |= {"transmit_jitter_ns": said(transmit.bound[line]), "transmit_rule_ns": transmit.allowed[line].sum_ns}
+                warnings += ["transmit_jitter"] if transmit.is_broken(line) else []
+            yield row | {"why": port.why if port.most is None else "", "warning": " ".join(warnings)}
 
     def text(self):
-        description = afdx.checksum(self.net.text)
-        lines = [COLUMNS] + [[row.get(column, "") for column in COLUMNS[:-1]] + [description] for row in self.rows()]
+        behind = [afdx.checksum(self.net.text), program.tool("bounds.py").cell()]
+        lines = [COLUMNS] + [[row.get(column, "") for column in COLUMNS[:-2]] + behind for row in self.rows()]
         return "".join(",".join(map(str, line)) + "\n" for line in lines)
 
 
@@ -615,22 +664,44 @@ def words_of(arguments=None):
         description=__doc__, epilog=EXAMPLES, formatter_class=argparse.RawDescriptionHelpFormatter
     )
     parser.add_argument("net", metavar="NET", help="the description (TOML)")
-    parser.add_argument("-o", "--output", metavar="FILE", help="the file for the bounds (default: standard output)")
+    parser.add_argument("-o", "--output", metavar="FILE", type=files.output_name, help="the file for the bounds (default: standard output)")
     parser.add_argument("--json", action="store_true", help="writes JSON in long form (docs/TOOLS.md, section 7) in place of CSV")
     says = "holds limits against the bounds: standard output has the margins, in place of the bounds"
     parser.add_argument("--limits", metavar="FILE", help=says + "; NET itself for its comments")
     parser.add_argument("--strict", action="store_true", help="the status is 1 where a limit is below its bound, or has none")
     parser.add_argument("--junit", metavar="FILE", help="writes what became of each limit as JUnit's XML")
+    says = "writes NET there with policing_jitter_ns and port_bytes by the bounds, all else as it is, in place of bounds"
+    parser.add_argument("--fit", metavar="FILE", type=files.output_name, help=says)
     words = parser.parse_args(arguments)
+    if words.fit and (words.output or words.json or words.limits):
+        parser.error("--fit writes a description, and no bounds: call bounds.py of it")
     if (words.strict or words.junit) and not words.limits:
         parser.error("--strict and --junit are about limits, and there are none: --limits FILE")
     return words
+
+
+def write_fitted(net, path):
+    """Writes the description with the values that fit, and answers the status."""
+    import fit  # It imports this file.
+
+    proposed = fit.proposals(net)
+    files.write_all({path: fit.replaced(net.text, proposed)}, prints=True)
+    files.write_out(fit.table(proposed))
+    stays = [it for it in proposed if it.after is None]
+    for it in stays:
+        line = net.description.line(it.section, it.row, it.key)
+        who = f"virtual link {it.name}" if it.section == "vl" else it.name
+        files.tell("bounds.py", afdx.Fault(net.path, line, f"{who}, {it.key} stays {it.before}: {it.why}"))
+    return 1 if stays else 0
 
 
 @files.tool
 def main(arguments=None):
     words = words_of(arguments)
     net = accepted(words.net)
+    files.ready(list(filter(None, [words.output, words.junit, words.fit])), prints=not words.output or bool(words.limits))
+    if words.fit:
+        return write_fitted(net, words.fit)
     found = Bounds(net)
     text = long_form.text_of(long_rows(found.rows())) if words.json else found.text()
     texts = {words.output: text} if words.output else {}

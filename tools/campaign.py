@@ -8,15 +8,16 @@ offer of each virtual link, anew and evenly within its period: so frames that ne
 DIR/merged.csv has the tables of all runs together, in the form in which the program prints tables, with one column
 more: the seed that gave the greatest latency of a line, or the most losses. tools/report.py makes a page of it. Counts
 and sums are added and leasts and greatests taken, exactly; so the merged tables do not depend on --jobs.
-DIR/campaign.json says of what description, seeds and program they are. DIR/greatest.csv has of the greatest latencies of
-the runs the least, the mean and the greatest. With --histograms each latency is counted (DIR/histograms.csv), and
-percentiles of the frames of all runs stand in DIR/greatest.csv.
+DIR/campaign.json says of what description, seeds and program they are, and lists the files of DIR with their checksums.
+DIR/greatest.csv has of the greatest latencies of the runs the least, the mean and the greatest. With --histograms latencies are
+counted in bins of less than 0.1 percent (DIR/histograms.csv), and percentiles of the frames of all runs stand in DIR/greatest.csv.
 
 With --set a key of the description has several values in turn, or several keys each combination of theirs. DIR/sweep.csv
 and the page DIR/sweep.html tell what the values do, beside what the seeds do.
 
 With --aim the offsets are such that the frames of others meet those of a virtual link at each port of its way, just ahead
-of them. DIR/aim.csv tells how much of its bounds is then reached.
+of them. DIR/aim.csv has how much of its bounds is then reached. --aim all --limits FILE aims at each destination that has a
+limit: drawn offsets hardly ever come near the worst case, and aimed ones often do.
 
 With --each-outage each link and each switch is out in turn, for the whole run or from a moment on. DIR/outages.csv and the
 page DIR/outages.html tell what is then lost end to end, and what becomes late, beside the same runs without it.
@@ -28,7 +29,6 @@ With a file of limits, each run is held against them, and the status is 1 where 
 import argparse
 import os
 import random
-import re
 import subprocess
 import sys
 import tempfile
@@ -45,13 +45,16 @@ import explain
 import files
 import long_form
 import one_run
+import output_sizes
+import program
 import reckoning
 import record
 import runs
 import sweep
 import tried_runs
 from afdx import GREATEST_SEED, PROGRAM, whole
-from files import Fault, text_of, write_whole
+from files import Fault, text_of
+from folder import Folder
 from limits import limits_of
 from merged import Merged
 from runs import Failure
@@ -72,6 +75,8 @@ examples:
         Nodes have names, as node.SWA.latency_ns=8000,16000. sweep/sweep.html shows effects beside the spread of seeds
   campaign.py net.toml --aim 157 --until 100000000 -o aim
         how near 157 comes to its bound at each destination, in runs of 100 ms: aim/aim.csv
+  campaign.py net.toml --aim all --limits limits.csv -o aim
+        each limit tried by aimed runs, those of a destination on network A and on network B
   campaign.py net.toml --each-outage -o outages
         what is lost and what becomes late without each link and each switch: outages/outages.html
   campaign.py net.toml --each-outage 50000000 --seeds 5 --keep -o outages
@@ -96,13 +101,6 @@ status:
   130, 143  interrupted, or ended by SIGTERM: what was made before is merged and kept
 """
 
-# The names of the files that it writes.
-WRITTEN = (
-    r"campaign\.json|(merged|greatest|histograms|outages|sweep|aim)\.(csv|json)|(outages|sweep)\.html"
-    r"|((outage|set|aimed)-\d+-)?seed-\d+\.(toml|tables\.csv)"
-)
-# What a campaign says of the program where it was these sources by `rt try`.
-NOT_PROVED = "afdxsim, not proved: its sources by rt try"
 # Of so many outages a line tells what they do.
 MOST_TOLD = 10
 
@@ -114,11 +112,12 @@ class Network(afdx.Network):
     """A description that the program has accepted, with another end where one is given."""
 
     def __init__(self, path, program, until_ns=None):
-        text = text_of(path)
-        # Without a program its runs judge it.
         if program:
+            text = text_of(path)
             self.check(path, text, program)
-        description = afdx.Description(path, text)
+            description = afdx.Description(path, text)
+        else:
+            description = explain.accepted(path)
         if until_ns is not None:
             description.tree["until_ns"] = until_ns
         super().__init__(path, description=description)
@@ -183,8 +182,8 @@ class Changed(Network):
 class Progress:
     """The line on a terminal that says how far the campaign is."""
 
-    def __init__(self, count):
-        self.count, self.begin = count, time.monotonic()
+    def __init__(self, count, of="runs"):
+        self.count, self.of, self.begin = count, of, time.monotonic()
         self.shown, self.last = sys.stderr.isatty(), 0.0
         self.lock, self.done, self.worst, self.far = threading.Lock(), 0, None, None
 
@@ -208,7 +207,7 @@ class Progress:
             return
         self.last = now
         took = now - self.begin
-        text = f"{self.done:,} of {self.count:,} runs, {took:.0f} s"
+        text = f"{self.done:,} of {self.count:,} {self.of}, {took:.0f} s"
         if self.done:
             text += f", {took / self.done * (self.count - self.done):.0f} s to go"
         if self.far:
@@ -297,6 +296,14 @@ class Campaign:
 # ---- words ----
 
 
+def aimed_at(text):
+    """The type of a word of --aim: the number of a virtual link, or `all`."""
+    return text if text == "all" else whole(0, 65535)(text)
+
+
+aimed_at.__name__ = "number of a virtual link"
+
+
 def words_of(arguments=None):
     parser = argparse.ArgumentParser(
         description=__doc__, epilog=EXAMPLES, formatter_class=argparse.RawDescriptionHelpFormatter
@@ -317,8 +324,9 @@ def words_of(arguments=None):
         help="runs each seed with each value of a key, as vl.157.bag_ms=4,8,16; of several, with each combination",
     )
     add(
-        "--aim", type=whole(0, 65535), action="append", metavar="VL",
-        help="runs each seed (1 unless told) with offsets that let other frames meet those of this virtual link at each port",
+        "--aim", type=aimed_at, action="append", metavar="VL",
+        help="runs each seed (1 unless told) with offsets that let other frames meet those of this virtual link at each port; "
+        "`all`: of each destination that has a limit, or without --limits of all virtual links",
     )
     add("--until", type=whole(1, afdx.LATEST_NS), metavar="NS", help="the end of the runs (default: that of NET)")
     add(
@@ -330,13 +338,15 @@ def words_of(arguments=None):
     add("--jobs", type=whole(1, 1024), default=jobs, metavar="N", help=f"runs side by side, and as many processes that read them (default here: {jobs})")
     add("--offsets", action="store_true", help="draw the offset of each virtual link within its period, for each run")
     add("--limits", metavar="FILE", help="limits of latencies, lines VL,NAME,NS")
-    add("--histograms", action="store_true", help="count each latency: DIR/histograms.csv, percentiles in DIR/greatest.csv")
+    add("--histograms", action="store_true", help="count latencies in bins of less than 0.1 percent: DIR/histograms.csv, percentiles in DIR/greatest.csv")
     address, says = cluster.address, "the workers of the Dask cluster with this scheduler make the runs: tcp://HOST:PORT"
     add("--dask", type=address, metavar="ADDRESS", help=says)
     add("--keep", action="store_true", help="keep the description and the tables of each run in DIR too")
     add("--program", default=PROGRAM, metavar="PATH", help="the program (default: crates/afdxsim/out/afdxsim)")
-    add("--by-try", action="store_true", help="these sources without a proof make the runs: built once, by the kit's `rt try`")
+    says = "who makes the runs in place of the program: try, these sources without a proof, built once by the kit's `rt try`; or "
+    add("--by", choices=("try", "second-opinion"), metavar="WHAT", help=says + "second-opinion, tools/second_opinion.py, without the kit")
     add("-o", "--output", metavar="DIR", required=True, help="the folder for what comes of it; it is made if need be")
+    add("--replace", action="store_true", help="replace the files of an earlier campaign in DIR, which is else refused")
     words = parser.parse_args(arguments)
     kinds = {"--each-outage": words.each_outage is not None, "--set": bool(words.set), "--aim": bool(words.aim)}
     named = [name for name, is_named in kinds.items() if is_named]
@@ -346,68 +356,101 @@ def words_of(arguments=None):
         parser.error(f"{' and '.join(named)} are two kinds of campaigns")
     if words.histograms and named:
         parser.error(f"--histograms counts the latencies of runs over seeds, and not with {named[0]}")
-    if words.aim and (words.offsets or words.limits):
-        parser.error(f"--aim has offsets of its own, and no {'--offsets' if words.offsets else '--limits'}")
+    if words.dask and words.by:
+        parser.error("--dask has the program run on other machines, and not what --by names")
+    if words.aim and words.offsets:
+        parser.error("--aim has offsets of its own, and no --offsets")
+    if "all" in (words.aim or ()) and len(words.aim) > 1:
+        parser.error("--aim all has each virtual link already")
     words.seeds = words.seeds or 1
     return words
 
 
 def prepare(words):
     """The network, the limits and the seeds, or a fault."""
-    if not words.by_try and not os.path.isfile(words.program):
-        raise Fault(words.program, None, "is not there. `afdx build` builds the program")
-    net = Network(words.net, None if words.by_try else words.program, words.until)
+    if not words.by and not os.path.isfile(words.program):
+        raise Fault(words.program, None, "is not there. `afdx build` builds the program; --by second-opinion does without it")
+    words.maker = who_made(words)
+    net = Network(words.net, None if words.by else words.program, words.until)
+    judge_outages(words, net)
+    if words.by == "try":
+        foresee(net, words.histograms or words.each_outage is not None)
     limits = limits_of(words.limits, net) if words.limits else {}
     first = net.seed if words.first is None else words.first
     if first + words.seeds - 1 > GREATEST_SEED:
         line = net.description.line("top", None, "seed")
         raise Fault(words.net, line, f"the seeds from {first} on would pass {GREATEST_SEED}")
-    files.judge_folder(words.output, re.compile(WRITTEN).fullmatch)
-    try:
-        os.makedirs(words.output, exist_ok=True)
-    except OSError as fault:
-        raise Fault(words.output, None, f"cannot be made: {fault.strerror}") from None
+    words.folder = Folder(words.output, words.replace)
     return net, limits, range(first, first + words.seeds)
+
+
+def foresee(net, is_traced):
+    """Refuses runs of which `rt try` could not pass on all that they print, before the two minutes in which it builds."""
+    for what, size in [("the tables of a run", output_sizes.of_tables(net))] + [("the trace of a run", output_sizes.of_trace(net))] * is_traced:
+        if size > output_sizes.MOST:
+            remedy = "give --by second-opinion or a shorter --until, or build the proved program by `afdx build`"
+            raise Fault(net.path, None, str(output_sizes.refused(what, size, remedy)))
+
+
+def judge_outages(words, net):
+    """Refuses outages in turn that begin after the end of the run, and tells those of the description that do."""
+    end = f"the run ends before that, at {net.until_ns} ns"
+    if words.each_outage is not None and words.each_outage > net.until_ns:
+        raise Fault(words.net, net.description.line("top", None, "until_ns"), f"--each-outage {words.each_outage}: {end}")
+    for i, it in enumerate(net.outages, 1):
+        if it.from_ns > net.until_ns:
+            told = Fault(words.net, net.description.line("outage", i, "from_ns"), f"warning: {it.line} is out from {it.from_ns} ns on: {end}")
+            files.tell("campaign.py", told)
 
 
 def maker_of(words, is_traced):
     """Who makes the runs: this machine, by the program or by its sources, or a cluster."""
-    if words.by_try:
+    if words.by == "try":
         return tried_runs.Tried(is_traced)
+    if words.by == "second-opinion":
+        return runs.Here([sys.executable, os.path.join(afdx.HERE, "second_opinion.py")], words.jobs, is_traced, tells=False)
     if words.dask:
-        return cluster.Cluster(words.dask, words.program, is_traced)
-    return runs.Here(words.program, words.jobs, is_traced)
+        return cluster.Cluster(words.dask, words.program, words.maker.sha256, is_traced)
+    return runs.Here([words.program, "seq"], words.jobs, is_traced)
 
 
 def write_results(words, campaign):
     """Writes what came of the runs, and answers the path of the merged tables."""
-    path, merged, has_counts = os.path.join(words.output, record.MERGED), campaign.merged, words.histograms
-    text = merged.text()
-    write_whole(path, text)
-    write_whole(os.path.join(words.output, record.GREATEST), merged.greatest_text(has_counts))
+    merged, has_counts = campaign.merged, words.histograms
+    path = words.folder.write(record.MERGED, merged.text())
+    words.folder.write(record.GREATEST, merged.greatest_text(has_counts))
     if has_counts:
-        write_whole(os.path.join(words.output, "histograms.csv"), merged.histograms_text())
-    write_record(words, campaign.net, campaign.seeds[: campaign.done], text)
+        words.folder.write("histograms.csv", merged.histograms())
     return path
 
 
 def who_made(words):
-    """The program that made the runs, as the campaign and its pages tell it."""
-    return NOT_PROVED if words.by_try else cluster.version_of(words.program)
+    """Who makes the runs, as the campaign and its files name it."""
+    try:
+        if words.by:
+            return (program.tried if words.by == "try" else program.second_opinion)().maker
+        return program.maker_of(words.program)
+    except program.NoProgram as why:
+        raise Fault(f"--by {words.by}", None, str(why)) from None
+    except OSError as fault:
+        raise Fault(words.program, None, f"cannot be read: {fault.strerror}") from None
 
 
-def write_record(words, net, seeds, merged=None):
-    """Writes what the campaign says of itself."""
+def write_record(words, net, seeds):
+    """Writes what the campaign says of itself, last of all, with the checksum of each other file of its folder."""
+    if not words.by and who_made(words).sha256 != words.maker.sha256:
+        raise Fault(words.program, None, f"was replaced while the runs were made, so {record.NAME} is not written. Run the campaign anew")
     own = ["--seeds", str(words.seeds)]
     own += ["--each-outage", str(words.each_outage)] if words.each_outage is not None else []
     own += ["--until", str(words.until)] if words.until is not None else []
     own += [word for it in words.set or () for word in ("--set", it.text)] + [word for vl in words.aim or () for word in ("--aim", str(vl))]
     own += [name for name, is_given in (("--offsets", words.offsets), ("--histograms", words.histograms)) if is_given]
     found = record.Record(
-        afdx.checksum(net.text), who_made(words), net.until_ns, seeds[0] if seeds else net.seed, len(seeds), words.offsets, own,
-        None if merged is None else afdx.checksum(merged),
+        afdx.checksum(net.text), words.maker, net.until_ns, seeds[0] if seeds else net.seed, len(seeds), words.offsets, own,
+        dict(sorted(words.folder.sums.items())),
     )
-    write_whole(os.path.join(words.output, record.NAME), found.text())
+    words.folder.write(record.NAME, found.text())
+    words.folder.close()
 
 
 def over_seeds(words, net, limits, seeds):
@@ -418,6 +461,7 @@ def over_seeds(words, net, limits, seeds):
     if campaign.done:
         path = write_results(words, campaign)
         write_json(words, "merged.json", campaign.merged.long_rows)
+        write_record(words, net, seeds[: campaign.done])
     campaign.tell(path, time.monotonic() - begin)
     return campaign.status or (1 if campaign.broken else 0)
 
@@ -437,9 +481,8 @@ def over_settings(words, net, limits, seeds):
     if not whole:
         files.say("no combination was run to its end, and nothing is written")
         return found.status
-    table, page = (os.path.join(words.output, name) for name in ("sweep.csv", "sweep.html"))
-    write_whole(table, found.table())
-    write_whole(page, sweep.page(found, words.net, who_made(words), bool(limits)))
+    table = words.folder.write("sweep.csv", found.table(words.maker))
+    page = words.folder.write("sweep.html", sweep.page(found, words.net, words.maker.in_words(), bool(limits)))
     write_json(words, "sweep.json", found.long_rows)
     write_record(words, net, seeds)
     files.say(f"{table} and {page}: {len(whole)} combinations, {found.done} runs, in {time.monotonic() - begin:.1f} s")
@@ -454,24 +497,37 @@ def over_settings(words, net, limits, seeds):
     return found.status or (1 if broken else 0)
 
 
-def over_aims(words, net, _, seeds):
-    """Runs all seeds with offsets that aim at virtual links, and answers the status."""
-    begin = time.monotonic()
+def aims_of(words, net, limits):
+    """The destinations at which runs are aimed: virtual links and names."""
+    if "all" in words.aim:
+        return list(limits or sorted(net.destinations))
     for vl in words.aim:
         if vl not in net.vls:
             known = explain.meant(str(vl), map(str, net.vls))
             raise Fault(words.net, net.description.line("vl"), f"--aim {vl}: there is no such virtual link{known}")
-    found = aim.AimedRuns(net, list(dict.fromkeys(words.aim)), seeds)
-    if not found.courses:
+    return [(vl, where) for vl in dict.fromkeys(words.aim) for where in net.vls[vl].destinations]
+
+
+def over_aims(words, net, limits, seeds):
+    """Runs all seeds with offsets that aim at virtual links, and answers the status."""
+    begin = time.monotonic()
+    found = aim.AimedRuns(net, aims_of(words, net, limits), seeds, limits)
+    if not found.ways:
         raise Fault(words.net, None, "no frame of the aimed virtual links arrives: size is above smax")
+    progress = Progress(len(found.ways), "ways aimed at")
+    try:
+        found.aim(words.jobs, lambda done: progress.tell(done, None))
+    except Failure as failure:
+        raise Fault(words.net, None, str(failure)) from None
+    finally:
+        progress.end()
     found.run(maker_of(words, False), keeper(words), Progress(found.count()), words.jobs)
     if found.failure:
         files.tell("campaign.py", found.failure)
     if not found.lines:
         files.say("no aimed run was made, and nothing is written")
         return found.status
-    table = os.path.join(words.output, "aim.csv")
-    write_whole(table, found.table())
+    table = words.folder.write("aim.csv", found.table(words.maker))
     write_json(words, "aim.json", found.long_rows)
     write_record(words, net, seeds)
     files.say(f"{table}: {found.done} runs, in {time.monotonic() - begin:.1f} s")
@@ -479,13 +535,27 @@ def over_aims(words, net, _, seeds):
         files.say(text)
     for it in found.above():
         files.say(f"above its bound, so one of the two is wrong: {','.join(map(bounds.said, it))}")
-    return found.status or (1 if found.above() else 0)
+    tell_limits(found)
+    return found.status or (1 if found.above() or found.broken() else 0)
+
+
+def tell_limits(found):
+    """Says which limits the aimed runs tried, and which they break."""
+    if not found.limits:
+        return
+    tried, broken = found.tried(), found.broken()
+    files.say(f"limits: {len(found.limits)}, tried: {len(tried)}, broken: {len(broken)}")
+    for limit, latency, line in broken:
+        how = f"aimed at by network {line.network}" if latency == line.aimed_ns else "as described"
+        files.say(f"limit broken: virtual link {limit.vl} at {limit.where} has {limit.ns} ns, and took {latency} ns {how} with the seed {line.seed}")
+    for key in [key for key in found.limits if key not in tried][:MOST_TOLD]:
+        files.say(f"limit not tried: virtual link {key[0]} at {key[1]}")
 
 
 def write_json(words, name, rows):
     """Writes a table in long form too, where that is asked for."""
     if words.json:
-        write_whole(os.path.join(words.output, name), long_form.text_of(rows()))
+        words.folder.write(name, long_form.text_of(rows()))
 
 
 def over_outages(words, net, limits, seeds):
@@ -498,9 +568,8 @@ def over_outages(words, net, limits, seeds):
     if not found.courses:
         files.say("no run without an outage was made, and nothing is written")
         return found.status
-    table, page = (os.path.join(words.output, name) for name in ("outages.csv", "outages.html"))
-    write_whole(table, found.table())
-    write_whole(page, each_outage.page(found, words.net, who_made(words)))
+    table = words.folder.write("outages.csv", found.table(words.maker))
+    page = words.folder.write("outages.html", each_outage.page(found, words.net, words.maker.in_words()))
     write_record(words, net, seeds)
     summaries = found.summaries()
     files.say(f"{table} and {page}: {len(summaries)} outages, {found.done} runs, in {time.monotonic() - begin:.1f} s")
@@ -517,8 +586,8 @@ def keeper(words):
 
     def keep(name, text, tables):
         if words.keep:
-            write_whole(os.path.join(words.output, f"{name}.toml"), text)
-            write_whole(os.path.join(words.output, f"{name}.tables.csv"), tables)
+            words.folder.write(f"{name}.toml", text)
+            words.folder.write(f"{name}.tables.csv", tables)
 
     return keep
 

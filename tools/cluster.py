@@ -1,8 +1,8 @@
 """Runs of the program on the workers of a Dask cluster, which may be on several machines.
 
 A run goes to a worker as its description. The worker writes it to a file of its own and runs its own `afdxsim`: the one
-that its environment names as AFDXSIM, else the one on its PATH, else the one at the path that it has here. It has to say
-the same version. Where a worker is lost, the scheduler gives what it had to another one.
+that its environment names as AFDXSIM, else the one on its PATH, else the one at the path that it has here. It has to be the
+same program, byte for byte: its SHA-256 is compared. Where a worker is lost, the scheduler gives what it had to another one.
 
 Dask is Debian's package python3-distributed, of Debian's own interpreter.
 """
@@ -46,16 +46,12 @@ def interpreter():
     raise Fault("--dask", None, f"needs Dask for {DEBIAN}: apt-get install -y {PACKAGE}")
 
 
-def version_of(program):
-    run = subprocess.run([program, "--version"], stdin=subprocess.DEVNULL, capture_output=True, text=True)
-    return run.stdout.strip()
-
-
 def made_for_workers():
     """The function that a worker calls. It is made in a function, so that it is sent as it stands: the worker has none of
     these files. It answers the status and what the program printed, said and traced, or None and why it could not be run."""
 
-    def run_there(text, program, version, is_traced):
+    def run_there(text, program, wanted, is_traced):
+        import hashlib
         import os
         import shutil
         import subprocess
@@ -68,9 +64,11 @@ def made_for_workers():
                 out.write(text)
             words = [program, "seq", path] + (["--trace", traced] if is_traced else [])
             try:
-                found = subprocess.run([program, "--version"], stdin=subprocess.DEVNULL, capture_output=True, text=True)
-                if found.stdout.strip() != version:
-                    return None, f"{program} of {os.uname().nodename} is {found.stdout.strip()!r}, and here it is {version!r}"
+                with open(program, "rb") as file:
+                    found = hashlib.file_digest(file, "sha256").hexdigest()
+                if found != wanted:
+                    told = f"{program} of {os.uname().nodename} is another program: its SHA-256 is {found[:16]}.."
+                    return None, f"{told}, and here it is {wanted[:16]}..; AFDXSIM in the environment of a worker names its program"
                 run = subprocess.run(words, stdin=subprocess.DEVNULL, capture_output=True)
             except OSError as fault:
                 return None, f"{program} cannot be run on {os.uname().nodename}: {fault.strerror}"
@@ -86,13 +84,13 @@ def made_for_workers():
 class Cluster:
     """Makes runs on the workers of a cluster whose scheduler is at an address."""
 
-    def __init__(self, address, program, is_traced=False):
+    def __init__(self, address, program, sha256, is_traced=False):
         from distributed import Client
 
         # What they tell of connections that end is no news here.
         for name in ("distributed", "tornado", "asyncio"):
             logging.getLogger(name).setLevel(logging.CRITICAL + 1)
-        self.program, self.version, self.is_traced = program, version_of(program), is_traced
+        self.program, self.sha256, self.is_traced = program, sha256, is_traced
         try:
             self.client = Client(address, timeout=PATIENCE, set_as_default=False)
         except OSError as fault:
@@ -111,7 +109,7 @@ class Cluster:
             while True:
                 # Workers may come and go.
                 while len(waiting) < 2 * max(1, sum(self.client.nthreads().values())) and (run := next(rest, None)):
-                    words = run.text, self.program, self.version, self.is_traced
+                    words = run.text, self.program, self.sha256, self.is_traced
                     waiting.append((run, self.client.submit(run_there, *words, pure=False)))
                 if not waiting:
                     return

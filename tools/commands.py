@@ -10,7 +10,9 @@ from collections import namedtuple
 
 import afdx
 import by_rt
+import explain
 import files
+import output_sizes
 import program
 from by_rt import tell
 from program import HERE, NoProgram
@@ -56,7 +58,7 @@ OF_RUN = (
     "machine: where tables are all that is wanted, and you have not measured it, use seq."
 )
 # What is said of the tools that have the program run.
-OF_CHOICE = "--by WHAT (proved or try; default: proved, else try) or --program PATH names the program that makes the runs."
+OF_CHOICE = "--by WHAT (proved, try or second-opinion; default: proved, else try) or --program PATH names who makes the runs."
 
 IN_A_CLONE = """\
   the proved one, where it was built of these very sources: `afdx build` and ./test leave it, a package brings it;
@@ -72,7 +74,7 @@ One command for all that is done with a network: each line is a command, and `af
 
 which program runs is told on error output, once. It is
 {which}
-  with --by second-opinion the plain simulator in Python, for seq and page{only};
+  with --by second-opinion the plain simulator in Python, for all but run and replay{only};
   with --program PATH the program that you name
 
 {of_run}
@@ -89,6 +91,9 @@ examples:
 
 status: that of the program or the tool; 2 where a word is wrong, or where no program is there
 """
+
+
+TOO_LONG = "the trace is too long for `rt try`: the page has no histograms, and tells the losses of tables alone"
 
 
 class Mistake(Exception):
@@ -168,7 +173,7 @@ def why_tried(why):
         found = program.tried()
     except NoProgram as other:
         raise NoProgram(
-            f"{why}, and {other}: `afdx build` needs the kit; seq and page have --by second-opinion"
+            f"{why}, and {other}: `afdx build` needs the kit; all but run and replay have --by second-opinion"
         ) from None
     tell(f"{why}; `afdx build` builds it, in 25 to 60 minutes")
     return found
@@ -210,13 +215,14 @@ def by_program(name, words):
     it = chosen(by, path)
     if it.how in ("proved", "given"):
         tell(it.says)
-        return subprocess.run([it.path, name, *words]).returncode
+        return ended([it.path, name, *words])
     read, written = files_of(name, words)
     if it.how == "second opinion":
-        if name != "seq" or "--progress" in words:
-            raise Mistake("the second opinion is one of seq, without --progress, and of page")
+        lacks = name if name in ("run", "replay") else f"{name} --progress" if "--progress" in words else None
+        if lacks:
+            raise Mistake(f"{lacks} needs the program: the second opinion has no such thing")
         tell(it.says)
-        return subprocess.run([sys.executable, os.path.join(HERE, "second_opinion.py"), *words]).returncode
+        return check_by_opinion(words, read) if name == "check" else ended(tool_command("second_opinion.py", *words))
     if len(read) < OF_PROGRAM[name].files:
         raise Mistake(f"usage: afdx {name} {OF_PROGRAM[name].usage}")
     if written:
@@ -229,11 +235,53 @@ def by_program(name, words):
             # As the program does; it would take two minutes to say so.
             print(f"afdxsim: cannot read {words[place]}", file=sys.stderr)
             return 4
+    if name in ("seq", "run"):
+        foresee(words[read[0]], "--by second-opinion, or " if name == "seq" else "")
     tell(it.says)
     status, printed, said = by_rt.by_try([name, *words], [1 + place for place in read])
     write(sys.stderr, said)
     write(sys.stdout, printed)
     return status
+
+
+def ended(words, **more):
+    """Runs a command, and answers its status. One that a signal ended says nothing itself."""
+    status = subprocess.run(words, **more).returncode
+    if status < 0:
+        tell(f"{os.path.basename(words[0])} was {files.ended_by(-status)}")
+    return status
+
+
+def foresee(path, other):
+    """Refuses a run of which `rt try` could not pass on the tables. What is no description the program itself refuses."""
+    try:
+        size = output_sizes.of_tables(afdx.Network(path))
+    except files.Fault:
+        return
+    if size > output_sizes.MOST:
+        raise output_sizes.refused(f"the tables of {path}", size, f"{other}`afdx build` builds the proved program")
+
+
+def check_by_opinion(words, read):
+    """Judges a description as `afdxsim check` does, by tools/explain.py, and answers the status."""
+    if len(read) < 1 or len(words) > 1 + ("--" in words):
+        raise Mistake(f"usage: afdx check {OF_PROGRAM['check'].usage}")
+    path = words[read[0]]
+    try:
+        text = files.text_of(path)
+    except files.Fault as fault:
+        print("afdxsim: description: 1 Syntax" if fault.line else f"afdxsim: cannot read {files.printable(path)}", file=sys.stderr)
+        return 3 if fault.line else 4
+    found, description = explain.findings_of(path, text)
+    if found:
+        print(f"afdxsim: description: {explain.answer(found[0])}", file=sys.stderr)
+        return 3
+    net = afdx.Network(path, text, description)
+    offers = sum(
+        afdx.count_of_offers(net.seed, vl.id, vl.offset_ns, vl.period_ns, vl.jitter_ns, net.until_ns) for vl in net.vls.values()
+    )
+    files.say(f"ok: {len(net.process)} processes, {len(net.vls)} virtual links, {offers} offers")
+    return 0
 
 
 def help_of_program(name, words, path):
@@ -268,8 +316,10 @@ def by_tool(name, words):
         own = " ".join(filter(None, (tool.file, tool.option)))
         files.say(f"`afdx {name}` is tools/{own}, which has these words." + (f"\n{OF_CHOICE}" if name in RUN_IT else "") + "\n")
     asks = asks_for_help(words) or not words
-    # At the end, since the option may have a value.
-    words = words + [tool.option] * bool(tool.option and not any(word.startswith(tool.option) for word in words))
+    # At the end of the options, since it may have a value.
+    end = words.index("--") if "--" in words else len(words)
+    has_option = any(word.startswith(tool.option or "-") for word in words[:end])
+    words = words if has_option or not tool.option else [*words[:end], tool.option, *words[end:]]
     if name in RUN_IT and not asks:
         words, status = with_program(words)
         if status:
@@ -285,14 +335,14 @@ def with_program(words):
     words, by = taken_out(words, "--by")
     words, path = taken_out(words, "--program")
     it = chosen(by, path)
-    if it.how == "second opinion":
-        raise Mistake("the second opinion is one of seq, without --progress, and of page")
     tell(it.says)
     if it.path:
         return ["--program", it.path, *words], 0
+    if it.how == "second opinion":
+        return ["--by", "second-opinion", *words], 0
     # Before the two minutes in which the program is built.
     status = explained(words[0]) if words and not words[0].startswith("-") else 0
-    return ["--by-try", *words], status
+    return ["--by", "try", *words], status
 
 
 # ---- the page ----
@@ -313,12 +363,26 @@ def page_words(arguments):
     add("--by", metavar="WHAT", help="proved, try or second-opinion (default: proved, else try)")
     add("--program", metavar="PATH", help="the program to run, whatever it is")
     add("--no-bounds", action="store_true", help="leave the worst-case bounds out")
-    # Only behind NET, since words behind an option that is the page's own may be its value.
-    is_told = len(arguments) > 1 and not arguments[0].startswith("-") and not arguments[1].startswith("-")
-    words, more = parser.parse_known_args([arguments[0], *arguments[2:]] if is_told else arguments)
-    words.tables = arguments[1] if is_told else None
+    names, options = names_and_options(arguments)
+    if len(names) > 2:
+        parser.error(f"which tables? {' '.join(names[1:])}")
+    words, more = parser.parse_known_args(["NET", *options] if names else options)
+    words.net, words.tables = [*map(no_option, names), None, None][:2] if names else (words.net, None)
     words.no_bounds = words.no_bounds or any(word.split("=")[0] == "--bounds" for word in more)
     return words, more
+
+
+def names_and_options(arguments):
+    """The names of files that stand before all options, or behind --, and the options: a word behind another option may be its
+    value."""
+    end = arguments.index("--") if "--" in arguments else len(arguments)
+    begin = next((i for i, word in enumerate(arguments[:end]) if word.startswith("-")), end)
+    return arguments[:begin] + arguments[end + 1 :], arguments[begin:end]
+
+
+def no_option(path):
+    """A name of a file that no tool takes for an option."""
+    return os.path.join(".", path) if path.startswith("-") else path
 
 
 def tool_command(file, *words):
@@ -338,6 +402,10 @@ def explained(net):
 def page(arguments):
     """Makes the page of a description, and answers the status."""
     words, more = page_words(arguments)
+    # Before the run, which may take long.
+    for path in filter(None, (words.net, words.tables)):
+        files.reads(path)
+    files.ready(list(filter(None, [words.output, taken_out(more, "--junit")[1]])))
     if status := explained(words.net):
         return status
     it = None if words.tables else chosen(words.by, words.program)
@@ -360,7 +428,7 @@ def page(arguments):
         more = [absolute(word) for word in more]
         more += ["--trace", "trace.csv"] if os.path.exists(trace) else []
         more += [] if words.no_bounds else ["--bounds", "bounds.csv"]
-        more += ["--made-by", it.says] if it else []
+        more += ["--made-by", it.maker.in_words()] if it else []
         tables = linked_tables(words.tables, folder) if words.tables else "tables.csv"
         command = tool_command("report.py", linked(words.net, folder), tables, "-o", os.path.abspath(words.output), *more)
         return subprocess.run(command, cwd=folder).returncode
@@ -394,19 +462,27 @@ def simulate(it, net, tables, trace):
         if it.how == "tried":
             return simulate_by_try(net, out, trace)
         command = [it.path, "seq"] if it.path else tool_command("second_opinion.py")
-        return subprocess.run([*command, net, "--trace", trace], stdin=subprocess.DEVNULL, stdout=out).returncode
+        return ended([*command, net, "--trace", trace], stdin=subprocess.DEVNULL, stdout=out)
 
 
 def simulate_by_try(net, out, trace):
     """The same by `rt try`, with the trace where it is not too long to be passed on."""
     with open(net, "rb") as file:
         text = file.read()
-    traced, alone = by_rt.cases_by_try([(text, ["--trace", "/dev/stderr"]), (text, [])])
+    foresee(net, "--by second-opinion, or ")
+    found = afdx.Network(net)
+    is_short = output_sizes.of_trace(found) <= output_sizes.MOST
+    if not is_short:
+        tell(TOO_LONG)
+    cases = [(text, ["--trace", "/dev/stderr"])] * is_short + [(text, [])]
+    *with_trace, alone = by_rt.cases_by_try(cases)
+    traced = with_trace[0] if with_trace else (None, b"", b"")
     if traced[0] == 0:
         with open(trace, "wb") as file:
             file.write(traced[2])
     elif alone[0] == 0:
-        tell("the trace is too long for `rt try`: the page has no histograms, and tells the losses of tables alone")
+        if is_short:
+            tell(TOO_LONG)
     else:
         write(sys.stderr, alone[2])
         if alone[0] is None:
@@ -437,7 +513,7 @@ def options_of(name):
         words = tool_command(OF_TOOLS[name].file, "--help")
         said = subprocess.run(words, capture_output=True, text=True, stdin=subprocess.DEVNULL).stdout
         found = set(re.findall(r"(?<![\w-])--[a-z][a-z-]*[a-z]", said))
-        return sorted((found - {"--by-try"}) | {"--by"} if name in RUN_IT else found)
+        return sorted(found | {"--by"} if name in RUN_IT else found)
     more = {"page": ["--by", "--limits", "--no-bounds", "--output", "--program"], "build": ["--jobs"], "package": ["--output"]}
     return [*more.get(name, []), "--help"]
 

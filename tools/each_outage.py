@@ -8,6 +8,7 @@ from fractions import Fraction
 
 import afdx
 import files
+import program
 import reckoning
 import runs
 from frames import Range, exactly
@@ -178,12 +179,13 @@ class EachOutage:
         found = [Summary(course, course.changes, course.broken) for course in self.courses[1:]]
         return sorted(found, key=lambda it: (-it.lost().least, -it.lost().most, -it.latest(), it.course.number))
 
-    def table(self):
-        lines = [TABLE_HEAD]
+    def table(self, maker):
+        """The table; its last column names the program."""
+        lines = [TABLE_HEAD + ",program"]
         for course in self.courses[1:]:
             for it in course.changes:
                 numbers = it.delivered_before, it.delivered, *it.lost_before, *it.lost, it.greatest_before, it.greatest
-                lines.append(f"{name_of(course.element)},{it.vl},{it.where},{','.join(map(str, numbers))}")
+                lines.append(f"{name_of(course.element)},{it.vl},{it.where},{','.join(map(str, numbers))},{maker.cell()}")
         return "\n".join(lines) + "\n"
 
 
@@ -312,5 +314,5 @@ def page(found, path, made_by):
         "told from the least to the most: a trace tells neither which port of a switch was full where copies go on by several, "
         "nor of which frames copies were lost after the last frame that came. Later means that the greatest latency "
         f"grows by more than {later_in_words(found.least_later)}; outages.csv has each. It tells what happened in these runs, and is no bound on what can happen. "
-        f"They are by {html.escape(made_by)}.</footer></main></body></html>\n"
+        f"They are by {html.escape(made_by)}. This page is by {html.escape(program.tool('campaign.py').in_words())}.</footer></main></body></html>\n"
     )

@@ -15,6 +15,7 @@ from collections import namedtuple
 import afdx
 import files
 import toml_lines
+import transmit_jitter
 from afdx import KEYS, MOST_DESTINATIONS, MOST_OUTAGES, MOST_PORTS, MOST_PROCESSES, SECTIONS, Fault
 
 EXAMPLES = """
@@ -33,6 +34,7 @@ what is told, in this order:
             a jitter of offers by which more frames may wait in the regulator than it holds, or longer than a BAG; then
             most of a latency is the regulator's and not the network's (second_opinion.py --hops tells them apart)
             a line that gets more than 75 percent of what it carries, or more than 100
+            an end system whose transmit jitter by the rule of ARINC 664 Part 7 is above 500 us
             an outage that begins after the end; a virtual link that offers nothing before the end
             a BAG longer than the run
             with --bounds, of the worst case: accounts that may refuse frames, destinations to which neither network
@@ -611,7 +613,18 @@ class Warnings:
         for i, link in enumerate(net.links, 1):
             for line in (link.a + ">" + link.b, link.b + ">" + link.a):
                 self.load(i, link, line)
+        self.transmit_jitter()
         self.findings.sort(key=lambda it: it.line)
+
+    def transmit_jitter(self):
+        """End systems that may send later than the standard allows."""
+        rows = {name: i for i, name in enumerate(self.net.nodes, 1)}
+        for line, known in transmit_jitter.allowed(self.net, transmit_jitter.users_of(self.net)).items():
+            if known.sum_ns > transmit_jitter.MOST_NS:
+                name = line.split(">")[0]
+                of = f"{known.users} virtual link{'' if known.users == 1 else 's'}"
+                text = f"has {of} on {line}: 40 us and a frame of each take {known.sum_ns} ns, and ARINC 664 Part 7 "
+                self.add("node", rows[name], None, f"end system {name}", text + f"allows {transmit_jitter.MOST_NS} ns of transmit jitter")
 
     def add(self, section, row, key, name, text):
         line = self.net.description.line(section, row, key)

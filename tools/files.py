@@ -11,6 +11,7 @@ is replaced whole or not at all.
 """
 import collections
 import contextlib
+import errno
 import functools
 import os
 import re
@@ -63,6 +64,16 @@ def cut(text, most=40):
     return repr(text) if len(text) <= most else repr(text[: most - 10]) + f".. of {len(text):,} characters"
 
 
+def ended_by(number):
+    """What is said of a program that a signal ended."""
+    try:
+        name = signal.Signals(number).name
+    except ValueError:
+        name = f"signal {number}"
+    more = ", as the system does where memory is used up" if number == signal.SIGKILL else ""
+    return f"ended by {name}{more}"
+
+
 # ---- what a file is ----
 
 
@@ -105,15 +116,56 @@ def reads(path):
 
 
 def judge(paths, prints=False):
-    """Refuses names that would be written where one is a file that was read, or two are one file. `prints`: standard
-    output is written too, which may be a file."""
-    others = collections.ChainMap({}, KNOWN.written)
+    """Refuses names that would be written where one is a file that was read, or two are one file, however they are spelled.
+    `prints`: standard output is written too, which may be a file."""
+    others, own = collections.ChainMap({}, KNOWN.written), {}
     if prints:
         for found in standard_output():
             judge_one(STANDARD_OUTPUT, found, others)
     for path in paths:
+        if path == "-":
+            raise Fault(path, None, "is no file: without -o most tools write to standard output, and ./- is a file of this name")
         with contextlib.suppress(OSError):
-            judge_one(path, what_is(path), others)
+            found = what_is(path)
+            if own.get(found) == path and found != path:
+                raise Fault(path, None, f"would be written over {printable(path)}, which is written too; nothing is written")
+            judge_one(path, found, others)
+            own[found] = path
+
+
+def ready(paths, prints=False):
+    """The same of names that are written once much is done; and sees that they can be written, as far as that can be seen before:
+    so nothing is done in vain."""
+    judge(paths, prints)
+    for path in paths:
+        try:
+            try_to_write(path)
+        except OSError as fault:
+            raise Fault(path, None, f"cannot be written: {fault.strerror}") from None
+
+
+def try_to_write(path):
+    """Fails where a name cannot be written. What stands there stays as it is."""
+    try:
+        found = os.stat(path)
+    except FileNotFoundError:
+        return try_folder(os.path.dirname(os.path.realpath(path)))
+    if stat.S_ISDIR(found.st_mode):
+        raise IsADirectoryError(errno.EISDIR, os.strerror(errno.EISDIR))
+    if stat.S_ISREG(found.st_mode):
+        if found.st_nlink == 1 and os.access(path, os.W_OK):
+            try_folder(os.path.dirname(os.path.realpath(path)))
+        os.close(os.open(path, os.O_WRONLY))
+    elif not os.access(path, os.W_OK):
+        raise PermissionError(errno.EACCES, os.strerror(errno.EACCES))
+
+
+def try_folder(folder):
+    """Fails where no file can be made in a folder. None is left there."""
+    out, beside = new_file(folder)
+    out.close()
+    if beside is not None:
+        os.unlink(beside)
 
 
 def judge_one(path, found, others):
@@ -186,6 +238,11 @@ def lines_of(path):
 # ---- writing ----
 
 
+def output_name(text):
+    """The type of a word of the command line that names a file to write, or standard output by `-`: then None."""
+    return None if text == "-" else text
+
+
 def write_whole(path, text):
     """Writes a file of a text or of bytes: whole, or nothing of it."""
     write_all({path: text})
@@ -202,7 +259,18 @@ def write_all(texts, prints=False):
             raise Fault(path, None, f"cannot be written: {fault.strerror}") from None
 
 
+def write_pieces(path, pieces):
+    """Writes a file of pieces, bytes one after another, of which no two need be in memory at once: whole, or nothing of it."""
+    judge([path])
+    try:
+        write_bytes(path, pieces)
+        KNOWN.note(KNOWN.written, path, os.stat(path))
+    except OSError as fault:
+        raise Fault(path, None, f"cannot be written: {fault.strerror}") from None
+
+
 def write_bytes(path, content):
+    """Writes a file of bytes, or of pieces of them."""
     try:
         found = os.stat(path)
     except FileNotFoundError:
@@ -210,12 +278,14 @@ def write_bytes(path, content):
     if stat.S_ISREG(found.st_mode) and (found.st_dev, found.st_ino) in standard_output():
         with output():
             sys.stdout.flush()
-            sys.stdout.buffer.write(content)
+            sys.stdout.buffer.writelines([content] if isinstance(content, bytes) else content)
             return sys.stdout.buffer.flush()
     real = os.path.realpath(path)
     has_one_name = stat.S_ISREG(found.st_mode) and found.st_nlink == 1 and is_same_file(path, real)
     if has_one_name and os.access(real, os.W_OK):
         return replace(real, content, found)
+    if not isinstance(content, bytes):
+        content = b"".join(content)
     with open(path, "r+b" if stat.S_ISREG(found.st_mode) else "wb", buffering=0) as out:
         return write_into(out, content, found)
 
@@ -226,7 +296,7 @@ def replace(real, content, before):
     out, beside = new_file(folder)
     try:
         with out:
-            out.write(content)
+            out.writelines([content] if isinstance(content, bytes) else content)
             out.flush()
             if before:
                 with contextlib.suppress(PermissionError):

@@ -4,9 +4,11 @@ destination of one, one line a node, one line a link, in one file or in several,
 
 Paths are shortest ones on both networks. What the tables leave open has usual values. The description says in comments
 which value is usual, which frame size was computed of a payload, and which line of which table each row is made of.
-Columns of which this tool knows nothing are passed over, and told on error output.
+The headings that are usual in interface control documents are known (Tx LRU, VL ID, Lmax, Rate (Hz), ..). A heading
+that looks misspelt, or that two columns fit, is a fault; --column says what it stands for. Columns of which this tool
+knows nothing are ignored, with a note on error output.
 
---back makes the tables of a description.
+--back makes the tables of a description, with the limits, ports and remarks of its comments.
 """
 import argparse
 import csv
@@ -19,8 +21,11 @@ from fractions import Fraction
 import afdx
 import explain
 import files
+import headings
+import to_tables
 import workbook
 from afdx import BAGS_MS, KEYS, SECTIONS, Fault, cut
+from headings import REMARKS, key_of, unit_of
 
 EXAMPLES = """
 examples:
@@ -30,6 +35,8 @@ examples:
         the same of the sheets of a workbook
   from_table.py virtual_links.csv topology.csv -o net.toml
         the same of two tables
+  from_table.py icd.xlsx --column 'Box=source' --column 'Repetition=period_ms' --column 'Phase=-' -o net.toml
+        with three headings that the tool does not know, of which the last is ignored. net.toml keeps them in comments
   from_table.py --back net.toml -o tables.csv
         the tables of a description
 
@@ -47,12 +54,14 @@ it has. Columns marked * must be there; lines that begin with # are passed over:
   outages         from*, to*, from_ns*, to_ns*
   the run         until_ns, seed
 A node that has no line of its own is an end system. A time may be given in another unit: period_ms,
-jitter_us, until_s. Capital letters, blanks and brackets in the name of a column do not matter: `BAG (ms)` is bag_ms.
-docs/TOOLS.md, sections 2 and 13, has more.
+jitter_us, until_s, and a period as a rate: rate_hz. Capital letters, blanks and brackets in the name of a column do not
+matter: `BAG (ms)` is bag_ms. docs/TOOLS.md, section 2, lists the other headings that are known; section 13 has more.
 
 status:
-  0  the description is written, also where columns, titles or sheets are passed over, with a line for each on error output
-  1  the tables have a fault: all are told, each with its file and line, and nothing is written
+  0  the description is written. Error output has a note for each column, title or sheet that is ignored, and for what is
+     hidden in a workbook
+  1  the tables have a fault, and nothing is written. Error output has each fault once, with the first line that has it
+     and the number of the others
   2  a word is wrong, or a file cannot be read or written
 """
 
@@ -69,66 +78,17 @@ USUAL = {
     "vl": {"priority": "low", "policing_jitter_ns": 500_000, "depth": 4, "offset_ns": 0, "jitter_ns": 0},
 }
 
-# The names of columns beside those of the keys.
-ALIASES = {
-    "vl": "id",
-    "vl_id": "id",
-    "number": "id",
-    "bag": "bag_ms",
-    "src": "source",
-    "destination": "destinations",
-    "dest": "destinations",
-    "dst": "destinations",
-    "sinks": "destinations",
-    "payload_bytes": "payload",
-    "smax_bytes": "smax",
-    "size_bytes": "size",
-    "sub_links": "sub",
-    "sub_virtual_links": "sub",
-    "sub_vls": "sub",
-    "network": "net",
-    "type": "kind",
-    "node": "name",
-    "speed": "mbit",
-    "mbit_s": "mbit",
-    "speed_mbit_s": "mbit",
-    "length": "length_m",
-    "paths_a": "a",
-    "paths_b": "b",
-    "udp": "udp_port",
-    "udp_ports": "udp_port",
-    "source_port": "udp_source_port",
-    "src_port": "udp_source_port",
-    "udp_source": "udp_source_port",
-    "udp_src_port": "udp_source_port",
-    "destination_port": "udp_destination_port",
-    "dest_port": "udp_destination_port",
-    "dst_port": "udp_destination_port",
-    "udp_destination": "udp_destination_port",
-    "udp_dst_port": "udp_destination_port",
-    "max_latency_us": "limit_us",
-    "max_latency_ms": "limit_ms",
-    "latency_limit_us": "limit_us",
-    "latency_limit_ms": "limit_ms",
-    "remark": "remarks",
-    "comment": "remarks",
-    "comments": "remarks",
-    "note": "remarks",
-    "notes": "remarks",
-    "description": "remarks",
-}
-MORE_COLUMNS = {"vl": ["source", "destinations", "payload", "via"], "link": ["length_m"]}
 # Columns that become comments of a row. Those of virtual links may differ where lines differ in the destination alone.
-LIMITS = ["limit_us", "limit_ms", "limit_ns"]
+LIMITS = ["limit_us", "limit_ms", "limit_ns", "limit_s"]
 COMMENTED = {"vl": [*LIMITS, "udp_port", "udp_source_port", "udp_destination_port"]}
-REMARKS = "remarks"
-# Which columns tell what a table has, the first that fits.
+# Which columns tell what a table has. Of several that fit it is what most of its columns are known of, else the first.
 SORTS = [
+    ("link", {"a", "b"}),
     ("vl", {"id", "source"}),
     ("vl", {"id", "destinations"}),
     ("node", {"name"}),
-    ("outage", {"from", "to"}),
-    ("link", {"a", "b"}),
+    ("outage", {"from", "to", "from_ns"}),
+    ("outage", {"from", "to", "to_ns"}),
     ("vl", {"id"}),
     ("top", {"until_ns"}),
     ("top", {"seed"}),
@@ -137,15 +97,25 @@ NEEDED = {"vl": ["id"], "node": ["name"], "link": ["a", "b"], "outage": ["from",
 WORDS = {"end system": "es", "end_system": "es", "sw": "switch"}
 # So many digits has no number of a table.
 MOST_DIGITS = 30
-UNITS = {"ns": 1, "us": 10**3, "ms": 10**6, "s": 10**9}
+UNITS = headings.NS
+# Stands for a column that is to be passed over.
+PASSED = "-"
+# Of the lines that have a fault so many are named.
+FEW_LINES = 3
+# What of a fault is not the same in other lines that have it: what is quoted, numbers, and where a virtual link is from.
+VALUES = re.compile(r"'[^']*'(\.\. of [0-9,]+ characters)?|\"[^\"]*\"|\b[0-9][0-9.,_]*|(?<=is reached from )\S+")
+# How a description and a table say what a heading stands for.
+COLUMN_SAID = re.compile(r'# --column "(.*=.*)"')
 
 
 class Line:
     """A line of a table: the file, the line, and the cells that are not empty, by the names of their columns. `parts` has
     the lines that it is made of, where it is made of others."""
 
-    def __init__(self, path, number, cells):
+    def __init__(self, path, number, cells, has_commas=False):
         self.path, self.number, self.cells, self.parts = path, number, cells, []
+        # Whether numbers may have a comma in place of the point.
+        self.has_commas = has_commas
 
 
 # A value of a description, and what a comment says of it.
@@ -153,19 +123,6 @@ Value = namedtuple("Value", "value said")
 
 
 # ---- tables ----
-
-
-def column_of(text):
-    """The name of a column as this tool knows it."""
-    name = re.sub("[^a-z0-9]+", "_", text.strip().lower().replace("µ", "u")).strip("_")
-    return ALIASES.get(name, name)
-
-
-def unit_of(column, section):
-    """The key of times for which a column stands, and its unit in ns; None where it is no such column."""
-    found = re.fullmatch("(.*)_(ns|us|ms|s)", column)
-    key = found and found[1] + "_ns"
-    return (key, UNITS[found[2]]) if key in [it.name for it in KEYS[section]] else None
 
 
 def commented(section):
@@ -176,8 +133,8 @@ def commented(section):
 def reader_of(path):
     """A reader of a file of CSV: with or without a byte order mark, by commas, semicolons or tabs."""
     text = afdx.text_of(path).removeprefix("\ufeff")
-    first = next((line for line in text.split("\n") if line.strip() and not line.startswith("#")), "")
-    return csv.reader(io.StringIO(text, newline=""), delimiter=max(",;\t", key=first.count))
+    marked = (line for line in text.split("\n") if re.search("[,;\t]", line) and not line.startswith("#"))
+    return csv.reader(io.StringIO(text, newline=""), delimiter=max(",;\t", key=next(marked, "").count))
 
 
 def numbered(rows):
@@ -187,29 +144,37 @@ def numbered(rows):
 
 
 class Tables:
-    """The lines of tables by section, their faults, and what is passed over."""
+    """The lines of tables by section, their faults, and what is passed over. `columns` says of headings, in normal form,
+    what they stand for."""
 
-    def __init__(self, paths):
+    def __init__(self, paths, columns=()):
         self.lines, self.faults, self.notes = {section: [] for section in ("top", *SECTIONS)}, [], []
+        self.columns, self.used, self.marks = dict(columns), set(), {}
         for path in paths:
             if workbook.is_workbook(path):
                 self.read_workbook(path)
             else:
                 self.read_csv(path)
+        for name, column in self.columns.items():
+            if name not in self.used:
+                self.add(Line(paths[0], None, {}), f"no table has a column {name!r} that --column can make {column!r}")
         self.lines["vl"] = self.joined(self.lines["vl"])
 
     def read_csv(self, path):
         rows = reader_of(path)
         try:
-            self.read(path, numbered(rows), self.add)
+            self.read(path, numbered(rows), self.add, rows.dialect.delimiter)
         except csv.Error as fault:
             self.add(Line(path, rows.line_num, {}), f"is no line of a table: {fault}")
 
     def read_workbook(self, path):
         """Reads the sheets. One without a table may tell of something else, and is passed over."""
         before = sum(map(len, self.lines.values()))
-        for name, rows in workbook.sheets_of(path):
-            self.read(f"{path}, sheet {name},", enumerate(rows, 1), self.pass_over)
+        for sheet in workbook.sheets_of(path):
+            place = f"{path}, sheet {sheet['name']},"
+            for number, text in sheet["hidden"]:
+                self.notes.append(Fault(place, number, text + ", and is read all the same"))
+            self.read(place, workbook.numbered(sheet["rows"]), self.pass_over)
         if before == sum(map(len, self.lines.values())):
             self.add(Line(path, None, {}), "has no table: --help has their columns")
 
@@ -219,46 +184,107 @@ class Tables:
     def pass_over(self, line, text):
         self.notes.append(Fault(line.path, line.number, text + ", and is passed over"))
 
-    def read(self, path, rows, tell_no_table):
-        """Reads tables. Who is to be told of a line in place of the names of columns is given."""
+    def read(self, path, rows, tell_no_table, mark=None):
+        """Reads tables. Who is to be told of a line in place of the names of columns is given, and what parts the cells."""
         section, columns = None, None
         for number, cells in rows:
             cells = [cell.strip() for cell in cells]
-            line = Line(path, number, {})
+            line = Line(path, number, {}, mark == ";")
             if not any(cells):
                 section, columns = None, None
             elif cells[0].startswith("#"):
-                pass
+                self.comment((mark or "").join(cells))
             elif columns is None:
-                named = [column_of(cell) for cell in cells]
-                section = section_of(named)
-                if section:
-                    columns = named
-                    self.check_columns(line, section, columns)
-                elif len(cells) - cells.count("") == 1:
-                    self.pass_over(line, f"is a title, {''.join(cells)!r}")
-                else:
-                    columns = named
-                    text = f"names no columns of a table, but {', '.join(filter(None, columns))}"
-                    tell_no_table(line, text + (": --help has them" if tell_no_table == self.add else ""))
+                section, columns = self.head(line, cells, tell_no_table)
             elif section:
                 self.line(line, section, columns, cells)
 
-    def check_columns(self, line, section, columns):
-        known = [key.name for key in KEYS[section]] + MORE_COLUMNS.get(section, []) + commented(section)
-        for i, column in enumerate(columns):
-            if column in columns[:i] and column:
-                self.add(line, f"has the column {column} twice")
-            elif column and column not in known and not unit_of(column, section):
-                text = f"the column {column} is passed over{explain.meant(column, known)}"
-                self.notes.append(Fault(line.path, line.number, text))
-        for column in NEEDED[section]:
-            if column not in columns and not any((unit_of(it, section) or "?")[0] == column for it in columns):
-                self.add(line, f"has no column {column}")
+    def comment(self, text):
+        """Takes what --back has written of the names of columns."""
+        found = COLUMN_SAID.fullmatch(text)
+        if found:
+            name, column = mapped(found[1])
+            self.columns.setdefault(name, column)
+
+    # ---- the names of columns ----
+
+    def head(self, line, cells, tell_no_table):
+        """What a table has, and its columns, by the line that names them; None and what is no table."""
+        names = list(map(headings.normal, cells))
+        section = self.section_of(names)
+        if section:
+            return section, self.columns_of(line, section, cells, names)
+        if len(cells) - cells.count("") == 1:
+            self.pass_over(line, f"is a title, {''.join(cells)!r}")
+            return None, None
+        text = f"names no columns of a table, but {', '.join(filter(None, names))}"
+        tell_no_table(line, text + (": --help has them" if tell_no_table == self.add else ""))
+        return None, names
+
+    def meanings(self, name, section):
+        """The columns that a heading may be in a table of this section."""
+        column = self.columns.get(name)
+        if column == PASSED:
+            return [PASSED]
+        fitting = headings.columns_of(column, section) if column else []
+        return fitting if len(fitting) == 1 else headings.columns_of(name, section)
+
+    def section_of(self, names):
+        """What a table has whose columns these are, or None."""
+        found = []
+        for section, needed in SORTS:
+            known = {name: key_of(*it, section) for name in names if len(it := self.meanings(name, section)) == 1}
+            keys = set(known.values()) - {PASSED}
+            is_weak = section == "node" and not keys & headings.OF_NODES and {it for it, key in known.items() if key == "name"} <= headings.WEAK
+            if needed <= keys and not is_weak:
+                found.append((len(keys), section))
+        return max(found, key=lambda it: it[0])[1] if found else None
+
+    def columns_of(self, line, section, cells, names):
+        """The columns of a table, and nothing for what is passed over."""
+        found, said = [], {}
+        present = {key_of(*it, section) for name in names if len(it := self.meanings(name, section)) == 1}
+        for cell, name in zip(cells, names):
+            fitting = self.meanings(name, section)
+            if name in self.columns and (fitting == [PASSED] or fitting == headings.columns_of(self.columns[name], section)):
+                self.used.add(name)
+            column = fitting[0] if len(fitting) == 1 and fitting != [PASSED] else ""
+            if column in said and column in headings.ASIDE:
+                self.notes.append(Fault(line.path, line.number, f"the column {name} is passed over: {said[column]!r} is there as {column}"))
+                column = ""
+            elif column in said and column:
+                also = f", as {said[column]!r} and as {cell!r}" if said[column] != cell else ""
+                self.add(line, f"has the column {column} twice{also}")
+            elif len(fitting) > 1 and not present.issuperset(key_of(it, section) for it in fitting):
+                which = " or ".join(filter(None, (", ".join(fitting[:-1]), fitting[-1])))
+                self.add(line, f"the column {cell!r} may be {which}: say which one by --column {cell + '=' + fitting[0]!r}, or {cell + '=-'!r} where it is to be passed over")
+            elif not fitting and name:
+                self.unknown(line, section, cell, name, present)
+            elif len(fitting) > 1:
+                self.notes.append(Fault(line.path, line.number, f"the column {name} is passed over"))
+            found.append(column)
+            said.setdefault(column, cell)
+        for key in NEEDED[section]:
+            if key not in present:
+                self.add(line, f"has no column {key}")
+        return found
+
+    def unknown(self, line, section, cell, name, present):
+        """Tells of a column that is not known. One that looks like another, which the table has not, may be misspelt."""
+        near = headings.nearest(name, section)
+        if near and key_of(near, section) not in present and near not in headings.ASIDE:
+            text = f"the column {cell!r} is not known, and {near} may be meant: write it so, or say what it is by --column"
+            self.add(line, f"{text} {cell + '=' + near!r}, or {cell + '=-'!r} where it is to be passed over")
+        else:
+            hint = f"; {near}?" if near else ""
+            self.notes.append(Fault(line.path, line.number, f"the column {name} is passed over{hint}"))
+
+    # ---- lines ----
 
     def line(self, line, section, columns, cells):
         if len(cells) > len(columns) and any(cells[len(columns) :]):
-            self.add(line, f"has {len(cells)} cells, and the table has {len(columns)} columns")
+            last = max(i for i, cell in enumerate(cells) if cell)
+            self.add(line, f"has {last + 1} cells, and the table has {len(columns)} columns")
         for column, cell in zip(columns, cells):
             if cell and column:
                 line.cells[column] = cell
@@ -269,27 +295,80 @@ class Tables:
         all, and `parts` has the lines that it is made of."""
         found = {}
         for line in lines:
-            own = {key: cell for key, cell in line.cells.items() if key not in ("destinations", *commented("vl"))}
-            key = tuple(sorted(own.items()))
-            if "id" in own and key in found:
-                first = found[key]
-                again = set(names_of(first.cells.get("destinations", ""))) & set(names_of(line.cells.get("destinations", "")))
-                if again:
-                    text = f"names {', '.join(sorted(again))} for virtual link {own['id']} again, as line"
-                    self.notes.append(Fault(line.path, line.number, f"{text} {first.number} does"))
-                names = [first.cells.get("destinations", ""), line.cells.get("destinations", "")]
-                first.cells["destinations"] = " ".join(filter(None, names))
-                first.parts.append(line)
-            else:
-                found[key if "id" in own else len(found)] = joint = Line(line.path, line.number, dict(line.cells))
+            number = line.cells.get("id")
+            first = found.get(number)
+            if number is None or first is None:
+                found[number or len(found)] = joint = Line(line.path, line.number, dict(line.cells), line.has_commas)
                 joint.parts.append(line)
+                continue
+            again = set(names_of(first.cells.get("destinations", ""))) & set(names_of(line.cells.get("destinations", "")))
+            different = list(self.differences(first.parts[0], line))
+            if different:
+                self.add(line, f"virtual link {number} is in {where_is(first, line)} too, and {'; '.join(different)}")
+                continue
+            if again:
+                text = f"names {', '.join(sorted(again))} for virtual link {number} again, as line"
+                self.notes.append(Fault(line.path, line.number, f"{text} {first.number} does"))
+            names = [first.cells.get("destinations", ""), line.cells.get("destinations", "")]
+            first.cells["destinations"] = " ".join(filter(None, names))
+            first.parts.append(line)
         return list(found.values())
 
+    @staticmethod
+    def differences(first, line):
+        """In what the cells of two lines of one virtual link differ, but for what may differ."""
+        columns = dict.fromkeys([*first.cells, *line.cells])
+        for column in columns:
+            if column not in ("destinations", *commented("vl")):
+                cells = [it.cells.get(column) for it in (first, line)]
+                if len(set(map(alike, cells))) == 2:
+                    there, here = (cut(cell) if cell else "empty" for cell in cells)
+                    yield f"{column} is {here} here and {there} there"
 
-def section_of(columns):
-    """What a table has whose columns these are, or None."""
-    found = {*columns, *(unit_of(it, "top")[0] for it in columns if unit_of(it, "top"))}
-    return next((section for section, names in SORTS if names <= found), None)
+
+def alike(cell):
+    """What two cells of the same meaning have alike: a number, or a word in small letters. Names of nodes are no such words."""
+    if cell is None:
+        return None
+    plain = cell.replace("_", "")
+    if re.fullmatch(rf"[0-9]{{1,{MOST_DIGITS}}}(\.[0-9]{{1,{MOST_DIGITS}}})?", plain):
+        return Fraction(plain)
+    return cell.lower() if cell.lower() in ("high", "low", "bytes", "frames") else cell
+
+
+def where_is(first, line):
+    """Where a line is, for the reader of another one."""
+    return f"line {first.number}" + (f" of {first.path}" if first.path != line.path else "")
+
+
+def mapped(text):
+    """A heading in normal form, and the column for which it stands, of `HEADING=COLUMN`."""
+    heading, _, column = text.rpartition("=")
+    return headings.normal(heading), PASSED if column.strip() == PASSED else headings.normal(column)
+
+
+def together(faults):
+    """The faults of tables, where those of several lines that differ in values alone are told once, with how many lines
+    have them and the first few of these."""
+    found, said = {}, []
+    for fault in faults:
+        kind = fault.path, VALUES.sub("#", fault.text)
+        first = found.get(kind)
+        if first is None or fault.line is None or first[0].line == fault.line:
+            found[kind if first is None else len(said)] = one = [fault, []]
+            said.append(one)
+        elif fault.line not in first[1]:
+            first[1].append(fault.line)
+    return [with_lines(fault, lines) for fault, lines in said]
+
+
+def with_lines(fault, lines):
+    """A fault, and the other lines that have it."""
+    if not lines:
+        return fault
+    more = f"{len(lines)} more line{'' if len(lines) == 1 else 's'}"
+    few = ", ".join(map(str, lines[:FEW_LINES])) + (", .." if len(lines) > FEW_LINES else "")
+    return Fault(fault.path, fault.line, f"{fault.text}; so have {more}: {few}" if len(lines) > 1 else f"{fault.text}; so has {more}: {few}")
 
 
 # ---- a description of tables ----
@@ -324,7 +403,7 @@ class Maker:
         text = line.cells[column]
         time = unit_of(column, section)
         if time:
-            return self.time(line, column, text, time[1])
+            return self.time(line, column, text, *time)
         if column in ("length_m", "payload") or any(it.name == column and it.value_type == "integer" for it in KEYS[section]):
             plain = text.replace("_", "")
             if re.fullmatch(f"[0-9]{{1,{MOST_DIGITS}}}", plain):
@@ -337,27 +416,36 @@ class Maker:
             return WORDS.get(text.lower(), text.lower())
         return text
 
-    def time(self, line, column, text, unit):
+    def time(self, line, column, text, key, in_unit):
+        """The number of a cell in the unit of a key, or None. In a file that is parted by semicolons it may have a comma in
+        place of the point, but not in one cell the one and in another the other."""
         plain = text.replace("_", "")
+        mark = next((sign for sign in ",." if sign in plain), None)
+        if line.has_commas and mark:
+            other, first = self.tables.marks.setdefault(line.path, (mark, line.number))
+            if other != mark:
+                self.add(line, f"{column} is {cut(text)}, and line {first} has a number with {other!r} in place of {mark!r}")
+                return None
+            plain = plain.replace(",", ".")
         if not re.fullmatch(rf"[0-9]{{1,{MOST_DIGITS}}}(\.[0-9]{{1,{MOST_DIGITS}}})?", plain):
             self.add(line, f"{column} is {cut(text)}, and no number" + (f" of at most {MOST_DIGITS} digits" if plain.isdigit() else ""))
             return None
-        ns = Fraction(plain) * unit
-        if ns.denominator != 1:
-            self.add(line, f"{column} is {text}, which is no whole number of ns")
+        found = in_unit(Fraction(plain))
+        if found.denominator != 1:
+            self.add(line, f"{column} is {text}, which is no whole number of {key.rpartition('_')[2]}")
             return None
-        return int(ns)
+        return int(found)
 
     def row_of(self, line, section, usual):
         """The values of the keys of a section that a line has, or else usual ones."""
         row, own = {}, [it.name for it in KEYS[section] if it.value_type != "paths"]
         for column in line.cells:
-            key = (unit_of(column, section) or [column])[0]
+            key = key_of(column, section)
             if key in own:
                 value = self.value(line, section, column)
                 if key in row:
                     self.add(line, f"has {key} twice, as {column} too")
-                said = f"{column} {line.cells[column]}" if column != key else ""
+                said = f"{column} {one_line(line.cells[column])}" if column != key else ""
                 if value is not None:
                     row[key] = Value(value, said)
         for key, value in usual.items():
@@ -430,7 +518,8 @@ class Maker:
         for part in line.parts:
             for column in LIMITS:
                 if column in part.cells:
-                    self.time(part, column, part.cells[column], UNITS[column.removeprefix("limit_")])
+                    unit = UNITS[column.removeprefix("limit_")]
+                    self.time(part, column, part.cells[column], "limit_ns", lambda number: number * unit)
         row = self.row_of(line, "vl", {})
         self.sizes(line, row)
         self.times(line, row)
@@ -462,7 +551,7 @@ class Maker:
     def times(self, line, row):
         """BAG and period, of each other, and the skew."""
         if "bag_ms" not in row and "period_ns" not in row:
-            if not any(column == "bag_ms" or column.startswith("period_") for column in line.cells):
+            if not {"bag_ms", "period_ns"} & {key_of(column, "vl") for column in line.cells}:
                 self.add(line, "has neither bag_ms nor period_ns")
             return
         if "bag_ms" not in row:
@@ -573,11 +662,15 @@ def comments_of(section, line):
     """What a table has of a row that no key has. Where the lines that it is made of differ, each is told with its
     destinations."""
     parts, said = line.parts or [line], []
-    for column in commented(section):
+    # An end system without a line of its own is made of another row's.
+    is_own = section != "node" or "name" in line.cells
+    for column in commented(section) if is_own else ():
         cells = [one_line(part.cells.get(column, "")) for part in parts]
         for cell in dict.fromkeys(filter(None, cells)):
             names = [name for part, own in zip(parts, cells) if own == cell for name in names_of(part.cells.get("destinations", ""))]
-            of = f" at {' '.join(dict.fromkeys(names))}" if set(cells) != {cell} else ""
+            # So is a text that ends as if it named some.
+            is_told = set(cells) != {cell} or to_tables.AT.fullmatch(cell)
+            of = f" at {' '.join(dict.fromkeys(names))}" if is_told and names else ""
             said.append(f"{column} {cell}{of}")
     return said
 
@@ -590,6 +683,7 @@ def text_of_rows(maker, paths):
         "# Behind a value stands where it is from, unless the table has it itself: `usual` where the table says nothing.",
         f"# smax and size count a frame {afdx.COUNTED}: the payload of UDP and 47 bytes.",
         "# Paths are the shortest ones; where two are equally short, names decide.",
+        *(f'# --column "{name}={column}"' for name, column in maker.tables.columns.items()),
     ]
     lines += [line_of_value(key.name, maker.top[key.name]) for key in KEYS["top"] if key.name in maker.top]
     for section in SECTIONS:
@@ -600,15 +694,15 @@ def text_of_rows(maker, paths):
     return "\n".join(lines) + "\n"
 
 
-def made(paths):
+def made(paths, columns=()):
     """The description of tables, their faults, and what is passed over."""
-    tables = Tables(paths)
+    tables = Tables(paths, columns)
     maker = Maker(tables)
     text = text_of_rows(maker, paths)
     if not tables.faults:
         for finding in explain.judged(Made(text, maker)):
             tables.faults.append(fault_of(finding, maker, paths))
-    return text, tables.faults, tables.notes
+    return text, together(tables.faults), together(tables.notes)
 
 
 class Made(afdx.Description):
@@ -633,35 +727,17 @@ def fault_of(finding, maker, paths):
     return Fault(path, finding.line, f"{who}{joint}{finding.text}" if who else finding.text)
 
 
-# ---- back ----
-
-
-def cell_of(key, value):
-    if key.value_type == "paths":
-        return " | ".join(" ".join(path) for path in value) or "-"
-    return str(value)
-
-
-def back(path):
-    """The tables of a description."""
-    tree = explain.accepted(path).tree
-    blocks = []
-    for section in ("top", *SECTIONS):
-        rows = [tree] if section == "top" else tree.get(section, [])
-        keys = [key for key in KEYS[section] if any(key.name in row for row in rows)]
-        columns = [key.name for key in keys]
-        lines = [[cell_of(key, row[key.name]) if key.name in row else "" for key in keys] for row in rows]
-        if section == "vl" and rows:
-            columns[1:1] = ["source", "destinations"]
-            for row, cells in zip(rows, lines):
-                paths = [*row["a"], *row["b"]]
-                cells[1:1] = [paths[0][0], " ".join(dict.fromkeys(way[-1] for way in paths))]
-        if rows:
-            blocks.append("\n".join(",".join(cells) for cells in [columns, *lines]) + "\n")
-    return "\n".join(blocks)
-
-
 # ---- words of the command line ----
+
+
+def column_word(text):
+    """The type of a word of --column: a heading in normal form, and the column for which it stands."""
+    name, column = mapped(text)
+    if not name:
+        raise argparse.ArgumentTypeError(f"{text!r} is not HEADING=COLUMN, as 'Tx LRU=source'")
+    if column != PASSED and not headings.is_known(column):
+        raise argparse.ArgumentTypeError(f"{text!r}: there is no column {column!r}: see the columns above")
+    return name, column
 
 
 def words_of(arguments):
@@ -669,9 +745,18 @@ def words_of(arguments):
         description=__doc__, epilog=EXAMPLES, formatter_class=argparse.RawDescriptionHelpFormatter
     )
     parser.add_argument("tables", metavar="TABLE", nargs="+", help="the tables (CSV or .xlsx); with --back the description")
-    parser.add_argument("-o", "--output", metavar="FILE", help="the file to write (default: standard output)")
+    parser.add_argument("-o", "--output", metavar="FILE", type=files.output_name, help="the file to write (default: standard output)")
     parser.add_argument("--back", action="store_true", help="makes the tables of a description")
+    parser.add_argument(
+        "--column", type=column_word, action="append", default=[], metavar="HEADING=COLUMN",
+        help="says which column a heading stands for, as 'Tx LRU=source' or 'Rate=period_ms'; HEADING=- passes over it",
+    )
     words = parser.parse_args(arguments)
+    if words.back and words.column:
+        parser.error("--column is about the headings of tables; --back has those of the description")
+    twice = [name for name, _ in words.column if [it for it, _ in words.column].count(name) > 1]
+    if twice:
+        parser.error(f"--column says of {twice[0]!r} what it stands for, and says it again")
     if words.back and len(words.tables) > 1:
         parser.error("--back makes the tables of one description")
     return words
@@ -680,7 +765,7 @@ def words_of(arguments):
 @files.tool
 def main(arguments=None):
     words = words_of(arguments)
-    text, faults, notes = (back(words.tables[0]), [], []) if words.back else made(words.tables)
+    text, faults, notes = (to_tables.Back(words.tables[0], commented, COLUMN_SAID).text(), [], []) if words.back else made(words.tables, words.column)
     for note in notes:
         files.tell("from_table.py", f"note: {note}")
     for fault in faults:

@@ -8,6 +8,7 @@ from fractions import Fraction
 
 import afdx
 import from_table
+import headings
 from files import Fault, cut
 
 # ---- limits ----
@@ -18,7 +19,7 @@ Limit = namedtuple("Limit", "vl where ns line")
 # The names of the columns where none stand above.
 LIMIT_COLUMNS = ["vl", "destination", "limit_ns"]
 # How a description that tools/from_table.py made has the limits of a table.
-COMMENT = re.compile(r"# limit_(ns|us|ms) ([0-9_.]+)(?: at (.+))?")
+COMMENT = re.compile(r"# limit_(ns|us|ms|s) ([0-9_.]+)(?: at (.+))?")
 
 
 def limits_of(path, net):
@@ -38,10 +39,13 @@ class Limits:
 
     def __init__(self, path, net):
         self.path, self.net, self.of = path, net, {}
+        # Whether numbers may have a comma in place of the point.
+        self.has_commas = False
 
     def read_table(self):
         """Reads a table: `VL,NAME,NS`, or one that names its columns, as an interface control document does."""
         rows, columns = from_table.reader_of(self.path), None
+        self.has_commas = rows.dialect.delimiter == ";"
         try:
             for line, cells in from_table.numbered(rows):
                 cells = [cell.strip() for cell in cells]
@@ -61,7 +65,9 @@ class Limits:
         if not re.search("[A-Za-z]", cells[0]):
             return None
         names = {"id": "vl", "destinations": "destination", "where": "destination", "name": "destination"}
-        found = [names.get(name, name) for name in map(from_table.column_of, cells)]
+        fitting = [(headings.columns_of(name, "vl"), name) for name in map(headings.normal, cells)]
+        known = [ones[0] if len(ones) == 1 else name for ones, name in fitting]
+        found = [names.get(name, name) for name in known]
         lacks = [name for name in ("vl", "destination") if name not in found]
         if not lacks and sum(name in from_table.LIMITS for name in found) != 1:
             lacks = ["limit_ns, limit_us or limit_ms, and one of them alone"]
@@ -86,6 +92,8 @@ class Limits:
     def ns(self, line, column, text):
         if column == "limit_ns":
             return afdx.whole_number(self.path, line, "the limit", text.replace("_", ""))
+        if self.has_commas:
+            text = text.replace(",", ".")
         if not re.fullmatch(r"[0-9_]{1,30}(\.[0-9_]{1,30})?", text):
             raise Fault(self.path, line, f"the limit is {cut(text)}, and no number")
         ns = Fraction(text.replace("_", "")) * from_table.UNITS[column.removeprefix("limit_")]
@@ -143,6 +151,8 @@ class Bounds:
 
     def __init__(self, path, net):
         self.path, self.net, self.of, self.accounts, self.waiting, self.kinds = path, net, {}, {}, {}, {}
+        # Who computed them, where the file says so.
+        self.made_by = None
         lines, said = afdx.text_of(path).split("\n"), {}
         columns = lines[0].removesuffix("\r").split(",")
         lacks = [name for name in BOUNDS_COLUMNS if name not in columns]
@@ -160,6 +170,7 @@ class Bounds:
                 text = f"these are bounds of another description: its checksum is {cut(row['description'])}, and that of "
                 raise Fault(path, i, text + f"{net.path} is {own}. tools/bounds.py makes them anew")
             self.row(i, row, said)
+            self.made_by = self.made_by or row.get("program")
         for vl, where in net.destinations - set(self.of):
             raise Fault(path, len(lines), f"the file ends without the bound of virtual link {vl} at {where}")
 

@@ -66,7 +66,7 @@ def words_of(arguments):
     )
     parser.add_argument("net", metavar="NET", help="the description (TOML)")
     parser.add_argument("tables", metavar="TABLES", help="the tables that the program printed for it, or merged ones")
-    parser.add_argument("-o", "--output", metavar="FILE", help="the file to write (default: standard output)")
+    parser.add_argument("-o", "--output", metavar="FILE", type=files.output_name, help="the file to write (default: standard output)")
     return parser.parse_args(arguments)
 
 

@@ -1,10 +1,10 @@
 """The tables of the runs of a campaign together, and what of them is over the seeds. Counts and sums are added and leasts and
 greatests taken, exactly."""
-from collections import Counter
 from fractions import Fraction
 from math import floor
 
 import afdx
+import latency_counts
 import long_form
 import one_run
 from afdx import CAUSES, TABLES_HEAD
@@ -13,33 +13,20 @@ from record import COUNTED_HEAD, GREATEST_HEAD, PERCENTS
 
 class OverSeeds:
     """What a virtual link at a destination had in the runs together: of those in which a frame was delivered, how many
-    they were, and the least and the sum of their greatest latencies; and how often there was each latency."""
+    they were, and the least and the sum of their greatest latencies; and how many frames there were in each bin of latencies."""
+
+    __slots__ = ("runs", "least", "total", "counts")
 
     def __init__(self):
-        self.runs, self.least, self.total, self.counts = 0, 0, 0, Counter()
+        self.runs, self.least, self.total, self.counts = 0, 0, 0, latency_counts.Counts()
 
     def add(self, greatest):
         self.least = greatest if self.runs == 0 else min(self.least, greatest)
         self.runs, self.total = self.runs + 1, self.total + greatest
 
-    def count(self, times):
-        """Adds how often there was each latency in one more run."""
-        mine = self.counts
-        for latency, number in times.items():
-            mine[latency] = mine.get(latency, 0) + number
-
     def mean(self):
         """The mean of the greatest latencies, to the nearest ns."""
         return floor(Fraction(self.total, self.runs) + Fraction(1, 2))
-
-    def percentiles(self):
-        """For each of PERCENTS the least latency that so many percent of the frames do not exceed."""
-        ranks, found, passed = [-(-self.counts.total() * percent // 100) for percent in PERCENTS], [], 0
-        for latency in sorted(self.counts):
-            passed += self.counts[latency]
-            while len(found) < len(ranks) and ranks[len(found)] <= passed:
-                found.append(latency)
-        return found
 
 
 class Merged:
@@ -70,7 +57,7 @@ class Merged:
             mine[0] += count
             mine[3] += total
         for over, times in zip(self.over_seeds.values(), told.times or ()):
-            over.count(times)
+            over.counts.add(times)
         for key, count in told.losses.items():
             mine = self.losses.setdefault(key, [0, 0, None])
             mine[0] += count
@@ -86,17 +73,19 @@ class Merged:
             numbers = [over.runs, over.least, over.mean(), greatest, over.total] if over.runs else [0] * 5
             numbers += [] if seed is None else [seed]
             numbers += [""] * (len(GREATEST_HEAD.split(",")) - 2 - len(numbers))
-            numbers += (over.percentiles() or [""] * len(PERCENTS)) if has_counts else []
+            numbers += (over.counts.percentiles(PERCENTS, greatest) or [""] * len(PERCENTS)) if has_counts else []
             lines.append(f"{vl},{where},{','.join(map(str, numbers))}")
         return "\n".join(lines) + "\n"
 
-    def histograms_text(self):
-        """How often there was each latency."""
-        lines = ["vl,where,latency_ns,count"]
+    def histograms(self):
+        """How many frames there were in each bin, from one latency to another; as texts, of which no two need be in memory."""
+        yield "vl,where,from_ns,to_ns,count\n"
         for vl, where in self.latencies:
-            counts = self.over_seeds[vl, where].counts
-            lines += (f"{vl},{where},{latency},{counts[latency]}" for latency in sorted(counts))
-        return "\n".join(lines) + "\n"
+            lines = []
+            for number, count in self.over_seeds[vl, where].counts.items():
+                least, most = latency_counts.ends_of(number)
+                lines.append(f"{vl},{where},{least},{most},{count}\n")
+            yield "".join(lines)
 
     def text(self):
         """The tables in the order in which the program prints tables, with the seed as the last column."""

@@ -1,7 +1,8 @@
 """What a campaign needs of one run. Its tables and its trace are read in a process beside the runs, which answers that."""
-from collections import Counter, namedtuple
+from collections import namedtuple
 
 import afdx
+import latency_counts
 import reckoning
 from afdx import TABLES_HEAD
 from files import Fault
@@ -9,8 +10,8 @@ from runs import Failure
 from traces import Trace
 
 # What a run says. Of each virtual link at each destination, in the order of `keys_of`: how many frames came, the least and the
-# greatest of their latencies and the sum of all, and how often there was each latency (`times`, None without a trace). And
-# `losses` has the count of each virtual link, place and cause.
+# greatest of their latencies and the sum of all, and how many there were in each bin of latencies (`times`, None without a trace).
+# And `losses` has the count of each virtual link, place and cause.
 Told = namedtuple("Told", "count least greatest total times losses")
 
 
@@ -29,26 +30,36 @@ class Reader(reckoning.Reckoner):
         net = self.nets[number]
         keys = keys_of(net)
         try:
-            tables, trace = read(net, run, kept)
+            tables = read_tables(net, run, kept)
+            # In the order of `keys`.
+            tables.latencies = {key: tables.latencies[key] for key in keys}
+            times = counted(tables, run, kept.trace) if kept.trace else None
         finally:
             reckoning.drop(kept)
-        rows = [tables.latencies[key] for key in keys]
+        rows = list(tables.latencies.values())
         return Told(
             [row.count for row in rows], [row.least for row in rows], [row.greatest for row in rows], [row.total for row in rows],
-            [times_of(trace.came.get(key)) for key in keys] if trace else None, {key: row.count for key, row in tables.losses.items()},
+            times, {key: row.count for key, row in tables.losses.items()},
         )
 
 
-def times_of(came):
-    """How often there was each latency of what came to a destination."""
-    return dict(Counter(came.latencies)) if came else {}
+def counted(tables, run, path):
+    """How many frames of each virtual link and destination there are in each bin of latencies, by the trace of a run."""
+    try:
+        return latency_counts.of_trace(path, tables)
+    except Fault as fault:
+        raise Failure(f"{run.name}: {Fault('what it traced', fault.line, fault.text)}") from None
 
 
 def read(net, run, kept):
     """The tables and the trace of a run, by the paths of its files. Without a file of a trace there is none."""
-    with open(kept.tables, encoding="utf-8", newline="") as file:
-        tables = tables_of(net, run, file.read())
+    tables = read_tables(net, run, kept)
     return tables, trace_of(tables, run, kept.trace) if kept.trace else None
+
+
+def read_tables(net, run, kept):
+    with open(kept.tables, encoding="utf-8", newline="") as file:
+        return tables_of(net, run, file.read())
 
 
 def tables_of(net, run, text):

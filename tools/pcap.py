@@ -17,6 +17,7 @@ import sys
 import afdx
 import explain
 import files
+import program
 import second_opinion
 from files import Fault
 
@@ -98,7 +99,7 @@ def block(kind, body, options=()):
 
 def section_of(net):
     head = struct.pack("<IHHq", 0x1A2B3C4D, 1, 0, -1)
-    return block(SECTION, head, [(APPLICATION, b"afdxsim, tools/pcap.py"), (COMMENT, f"a run of {net}".encode())])
+    return block(SECTION, head, [(APPLICATION, program.tool("pcap.py").in_words().encode()), (COMMENT, f"a run of {net}".encode())])
 
 
 def interface_of(name, says, mbit=None):
@@ -225,7 +226,7 @@ def main(arguments=None):
     words = words_of(arguments)
     description = explain.accepted(words.net)
     found = afdx.lines_of(words.trace, [afdx.TRACE_HEAD], "a trace")
-    files.judge([words.output])
+    files.ready([words.output])
     simulation = KINDS[words.each](second_opinion.small_enough(description))
     simulation.run()
     compare(words.trace, found, simulation)

@@ -4,6 +4,7 @@ A program is *proved of these sources* where a record beside it says so: what wa
 or by `./test`, or what a package has. The record has the checksum of the sources and of the program itself, so that a program
 is not taken for one of other sources. What is only found, without a record, is not called proved.
 """
+import functools
 import hashlib
 import json
 import os
@@ -22,13 +23,62 @@ RECORD = ".record.json"
 VERSION_STANDS = os.path.join("crates", "command_line", "src", "program.rt")
 SECONDS_FOR_GIT = 60
 
-# How a program came to be: `proved` (of these sources), `given` (named by the user; nothing is known of it), `tried` (these
-# sources, by `rt try`, without a proof) or `second opinion` (tools/second_opinion.py). `path` is None of the last two.
-Program = namedtuple("Program", "how path says")
+# How a program came to be: `proved` (of these sources), `given` (named by the user), `tried` (these sources, by `rt try`,
+# without a proof) or `second opinion` (tools/second_opinion.py). `path` is None of the last two. `maker` is how files that it
+# makes name it.
+Program = namedtuple("Program", "how path says maker")
 
 
 class NoProgram(Exception):
     """Why no program can be run, in one line."""
+
+
+# ---- who made a file ----
+
+
+class Maker(namedtuple("Maker", "name version commit sha256 sources kit proved")):
+    """Who made a file: a program, or a tool. `sha256` is the checksum of the program, `sources` that of what it is made of
+    where no program is kept (`rt try`), and `kit` the line of the kit that it was proved or translated with. What is not known
+    is None. `proved`: a record on this machine says that this very program was built and proved of its sources."""
+
+    def in_words(self):
+        """All that is known, for a page."""
+        return ", ".join(self.parts(12, 64))
+
+    def cell(self):
+        """The same for a cell of a table: no commas, and 16 digits of each checksum, as `description` has them."""
+        return " ".join(self.parts(12, 16)).replace(",", ";").replace('"', "'")
+
+    def parts(self, of_commit, of_sum):
+        found = [" ".join(filter(None, (self.name, self.version))), "proved" if self.proved else "not proved"]
+        if self.commit:
+            found.append(f"commit {self.commit[:of_commit]}{'+' if self.commit.endswith('+') else ''}")
+        found += [f"SHA-256 {self.sha256[:of_sum]}"] if self.sha256 else []
+        found += [f"of sources with the SHA-256 {self.sources[:of_sum]}"] if self.sources else []
+        return found + ([kit_in_words(self.kit)] if self.kit else [])
+
+
+def maker_of(path):
+    """Who the program at a path is. A record is that of this program only where it has the program's checksum, whatever the
+    program prints as its version: that beside it, that of this clone or package, or that of the installed package."""
+    own = sum_of_file(path)
+    for place in filter(None, (path, os.path.join(ROOT, BUILT), installed())):
+        record = record_of(place)
+        if record.get("program") == own:
+            return maker_by_record(record)
+    says = first_line([path, "--version"], None) or os.path.basename(path)
+    name, _, number = says.partition(" ")
+    return Maker(name, number or None, None, own, None, None, False)
+
+
+def maker_by_record(record):
+    return Maker("afdxsim", record.get("version"), record.get("commit"), record["program"], None, record.get("kit"), True)
+
+
+@functools.cache
+def tool(file):
+    """Who made what a tool works out by itself: the tool, of the commit that it stands in."""
+    return Maker(f"tools/{file}", version(), commit() if is_clone() else record_of(os.path.join(ROOT, BUILT)).get("commit"), None, None, None, False)
 
 
 def is_clone(root=ROOT):
@@ -60,6 +110,17 @@ def first_line(words, folder):
 def kit(root=ROOT):
     """The line of the kit that is here, or None."""
     return first_line(["rt", "version"], root) if shutil.which("rt") else None
+
+
+def logic(kit_line):
+    """What judges proofs, by the line of a kit: two kits of one logic judge alike, whatever their names are."""
+    return (kit_line or "").rpartition(" logic ")[2]
+
+
+def kit_in_words(kit_line):
+    """A kit by its logic, and then by its name."""
+    name, has_logic, found = (kit_line or "").rpartition(" logic ")
+    return f"logic {found} ({name})" if has_logic else kit_line or "kit unknown"
 
 
 def commit(root=ROOT):
@@ -106,13 +167,13 @@ def sum_of(names, first, root):
 
 
 def sum_of_sources(kit_line, root=ROOT):
-    """The checksum of the sources, and of the line of the kit that they are proved with."""
-    return sum_of(source_files(root), kit_line, root)
+    """The checksum of the sources, and of the logic that they are proved with."""
+    return sum_of(source_files(root), logic(kit_line), root)
 
 
 def sum_of_judged(kit_line, root=ROOT):
     """The same of all that `rt ci` judges."""
-    return sum_of(judged_files(root), kit_line, root)
+    return sum_of(judged_files(root), logic(kit_line), root)
 
 
 # ---- records ----
@@ -133,7 +194,7 @@ def write_record(kit_line, sources, gate=None, root=ROOT):
     passed, where they did; then `judged` is the checksum of what that line is of."""
     path = os.path.join(root, BUILT)
     found = {
-        "version": version(root), "commit": commit(root), "kit": kit_line, "sources": sources,
+        "version": version(root), "commit": commit(root), "kit": kit_line, "logic": logic(kit_line), "sources": sources,
         "program": sum_of_file(path), "gate": gate, "judged": sum_of_judged(kit_line, root) if gate else None,
     }
     with open(path + RECORD, "w", encoding="utf-8") as out:
@@ -159,7 +220,7 @@ def installed():
 def in_words(record):
     """What a record says, in a few words."""
     at = f"commit {record['commit'][:8]}{'+' if record['commit'].endswith('+') else ''}, " if record.get("commit") else ""
-    return f"afdxsim {record.get('version', 'unknown')}, proved, {at}{record.get('kit') or 'kit unknown'}"
+    return f"afdxsim {record.get('version', 'unknown')}, proved, {at}{kit_in_words(record.get('kit'))}"
 
 
 def proved(root=ROOT):
@@ -168,7 +229,7 @@ def proved(root=ROOT):
     if not is_clone(root):
         record = is_recorded(here)
         if record:
-            return Program("proved", here, in_words(record))
+            return Program("proved", here, in_words(record), maker_by_record(record))
         raise NoProgram(f"{os.path.normpath(here)} is not the program that its record is of: install the package anew")
     kit_line = kit(root)
     sources = None
@@ -179,9 +240,9 @@ def proved(root=ROOT):
         # Without a kit here the record's own is taken: the sources are what counts.
         sources = sum_of_sources(kit_line or record.get("kit"), root)
         if record.get("sources") == sources:
-            return Program("proved", path, in_words(record))
+            return Program("proved", path, in_words(record), maker_by_record(record))
     if sources:
-        raise NoProgram("the proved program that is here is of other sources, or of another kit")
+        raise NoProgram("the proved program that is here is of other sources, or of another logic of the kit")
     if os.path.isfile(here):
         raise NoProgram(f"{BUILT} is there, and no record says which sources it was built of")
     raise NoProgram("no proved program is here")
@@ -194,8 +255,10 @@ def given(path):
     says = first_line([path, "--version"], None)
     if says is None or not says.startswith("afdxsim "):
         raise NoProgram(f"{path} cannot be run, or is no afdxsim")
+    maker = maker_of(path)
     record = is_recorded(path)
-    return Program("given", path, in_words(record) if record else f"{says}, at {path}, of which no record is there")
+    said = in_words(record) if record else f"{says}, at {path}, of which no record is there"
+    return Program("given", path, said, maker)
 
 
 def tried(root=ROOT):
@@ -203,9 +266,12 @@ def tried(root=ROOT):
     kit_line = kit(root)
     if not is_clone(root) or not kit_line:
         raise NoProgram("`rt`, the kit's command, is not on the PATH")
-    return Program("tried", None, f"afdxsim {version(root)}, not proved: these sources by `rt try`, {kit_line}")
+    number = version(root)
+    maker = Maker("afdxsim by `rt try`", number, commit(root), None, sum_of_sources(kit_line, root), kit_line, False)
+    return Program("tried", None, f"afdxsim {number}, not proved: these sources by `rt try`, {kit_in_words(kit_line)}", maker)
 
 
 def second_opinion(root=ROOT):
     """The plain simulator in Python."""
-    return Program("second opinion", None, f"second opinion {version(root)}, not proved: tools/second_opinion.py")
+    says = f"second opinion {version(root)}, not proved: tools/second_opinion.py"
+    return Program("second opinion", None, says, tool("second_opinion.py"))

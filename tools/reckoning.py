@@ -14,6 +14,8 @@ import tempfile
 import files
 from runs import Failure, Printed
 
+# Where processes share what they wait by.
+SHARED = "/dev/shm"
 # An interrupt waits so many s at the most for what is being reckoned on the runs that were made before it.
 PATIENCE = 10
 
@@ -75,7 +77,7 @@ def results(reckoner, runs, jobs, folder):
     side by side, by files of a folder. What ends the runs is raised once those before it are told."""
     forks, numbered = multiprocessing.get_context("fork"), enumerate(runs)
     waiting, ended = collections.deque(), None
-    with concurrent.futures.ProcessPoolExecutor(jobs, forks, begin, (reckoner,)) as pool:
+    with pool_of(jobs, forks, reckoner) as pool:
         try:
             # With the first call all processes begin, before the threads that make the runs.
             with files.signals_held():
@@ -97,6 +99,43 @@ def results(reckoner, runs, jobs, folder):
         finally:
             if waiting:
                 end_processes()
+
+
+def pool_of(jobs, forks, reckoner):
+    """The processes. They need semaphores, which Linux keeps in /dev/shm."""
+    try:
+        return concurrent.futures.ProcessPoolExecutor(jobs, forks, begin, (reckoner,))
+    except OSError as fault:
+        text = f"holds no semaphore for processes side by side: {fault.strerror}. Mount it: mount -t tmpfs -o mode=1777 tmpfs {SHARED}"
+        raise files.Fault(SHARED, None, text) from None
+
+
+def answers(reckoner, asked, jobs):
+    """Yields what is answered to each of some calls of a reckoner, in their order: by so many processes side by side, where
+    there are several calls."""
+    if min(jobs, len(asked)) < 2:
+        yield from (reckoner.answer(*words) for words in asked)
+        return
+    forks, waiting = multiprocessing.get_context("fork"), []
+    with pool_of(min(jobs, len(asked)), forks, reckoner) as pool:
+        try:
+            with files.signals_held():
+                future_of(pool, int)
+            waiting = [future_of(pool, own_answer, *words) for words in asked]
+            while waiting:
+                yield waiting[0].result()
+                waiting.pop(0)
+        except concurrent.futures.BrokenExecutor:
+            waiting = []
+            raise Failure("a process was ended before it answered") from None
+        finally:
+            if waiting:
+                end_processes()
+
+
+def own_answer(*asked):
+    """What the reckoner of this process answers."""
+    return OWN.answer(*asked)
 
 
 def ask(pool, reckoner, path, key, run, printed):

@@ -1,10 +1,12 @@
 """What a campaign says of itself: DIR/campaign.json. tools/campaign.py writes it, and tools/report.py reads it, so that the
 seeds of merged tables need not be told again."""
+import hashlib
 import json
 import os
 from collections import namedtuple
 
-from afdx import checksum, lines_of, whole_number
+import program
+from afdx import lines_of, whole_number
 from files import Fault, cut, text_of
 
 NAME = "campaign.json"
@@ -16,21 +18,20 @@ PERCENTS = [50, 95, 99]
 COUNTED_HEAD = GREATEST_HEAD + "".join(f",percent_{percent}_ns" for percent in PERCENTS)
 
 
-class Record(namedtuple("Record", "description program until_ns first_seed seeds offsets words merged")):
-    """Of a campaign: the checksum of its description, the version of the program, the end of its runs, the first of its
-    seeds and how many of them were run, whether offsets were drawn, its words as far as what comes of it depends on them,
-    and the checksum of the merged tables, or None where it has none."""
+class Record(namedtuple("Record", "description program until_ns first_seed seeds offsets words files")):
+    """Of a campaign: the checksum of its description; who made its runs, as tools/program.py knows it; the end of its runs, the
+    first of its seeds and how many of them were run, and whether offsets were drawn; its words as far as what comes of it depends
+    on them; and the SHA-256 of each other file that it has written into its folder."""
 
     def text(self):
-        return json.dumps(self._asdict(), indent=2) + "\n"
+        return json.dumps(self._asdict() | {"program": self.program._asdict()}, indent=2) + "\n"
 
     def all_seeds(self):
         return range(self.first_seed, self.first_seed + self.seeds)
 
 
 TYPES = {
-    "description": str, "program": str, "until_ns": int, "first_seed": int, "seeds": int, "offsets": bool, "words": list,
-    "merged": (str, type(None)),
+    "description": str, "program": dict, "until_ns": int, "first_seed": int, "seeds": int, "offsets": bool, "words": list, "files": dict,
 }
 
 
@@ -43,11 +44,24 @@ def read(path):
         raise Fault(path, line, f"is no JSON: {getattr(fault, 'msg', None) or 'a number is too long, or it is nested too deep'}") from None
     lacks = [name for name in TYPES if name not in found] if type(found) is dict else list(TYPES)
     if lacks:
-        raise Fault(path, None, f"is no record of a campaign: it has no {lacks[0]}")
+        # Records of version 0.1.0 had no checksums.
+        more = ". Run the campaign anew: an earlier version wrote this" if lacks == ["files"] else ""
+        raise Fault(path, None, f"is no record of a campaign: it has no {lacks[0]}{more}")
     for name, wanted in TYPES.items():
         if not isinstance(found[name], wanted) or wanted is int and (type(found[name]) is bool or found[name] < 0):
             raise Fault(path, None, f"is no record of a campaign: {name} is {cut(repr(found[name]))}")
-    return Record(**{name: found[name] for name in TYPES})
+    maker = maker_of(found["program"])
+    if maker is None:
+        raise Fault(path, None, f"is no record of a campaign: program is {cut(repr(found['program']))}")
+    return Record(**{name: found[name] for name in TYPES} | {"program": maker})
+
+
+def maker_of(found):
+    """The program that a record names, or None."""
+    is_text = all(isinstance(found.get(name), (str, type(None))) for name in program.Maker._fields[:-1])
+    if not is_text or not found.get("name") or type(found.get("proved")) is not bool:
+        return None
+    return program.Maker(**{name: found.get(name) for name in program.Maker._fields})
 
 
 def beside(tables, text):
@@ -56,7 +70,11 @@ def beside(tables, text):
     if not os.path.exists(path):
         return None
     found = read(path)
-    return found if found.merged == checksum(text) else None
+    return found if found.files.get(MERGED) == sha256(text) else None
+
+
+def sha256(text):
+    return hashlib.sha256(text.encode("utf-8")).hexdigest()
 
 
 def percentiles(found, tables):

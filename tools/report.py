@@ -29,7 +29,9 @@ import files
 import frames
 import hops
 import limits
+import program
 import record
+import transmit_jitter
 from afdx import CAUSES, Network, Tables
 from drawing import Drawing, chart_over_time, heat, legend_of_loads
 from files import cut
@@ -239,8 +241,15 @@ def tile_of_way(given):
     return tile("above on the way", f"{above:,}", more, "bad", "way") if above else ""
 
 
+def tile_of_transmit_jitter(given):
+    """The end systems that may send later than the standard allows."""
+    broken = given.transmit.broken()
+    more = "40 µs and the frames of its virtual links, or what is known of its jitter, are more than ARINC 664 allows"
+    return tile("transmit jitter too long", counted(len(broken), "end-system line"), more, "bad", "transmit") if broken else ""
+
+
 def tiles(given, ends):
-    found = [tile_of_above(given), tile_of_way(given), tile_of_lost(given, ends), tile_of_too_long(given), tile_of_copies_lost(given.tables)]
+    found = [tile_of_above(given), tile_of_way(given), tile_of_transmit_jitter(given), tile_of_lost(given, ends), tile_of_too_long(given), tile_of_copies_lost(given.tables)]
     found += [*tiles_of_limits(given, ends), *tiles_of_bounds(given.bounds), tile_of_few(given, ends), *tiles_of_run(given)]
     return '<div class="tiles">' + "".join(filter(None, found)) + "</div>"
 
@@ -355,7 +364,9 @@ def tiles_of_run(given):
     if net.outages:
         count = len(net.outages)
         told = f"on {len({outage.line for outage in net.outages})} of {len(net.mbit)} lines"
-        yield tile("outages", str(count), told, "", "grid-outages")
+        after = sum(outage.from_ns > net.until_ns for outage in net.outages)
+        told += f"; {after} begin{'s' if after == 1 else ''} after the end of the run" if after else ""
+        yield tile("outages", str(count), told, "warn" if after else "", "grid-outages")
 
 
 # ---- the page ----
@@ -371,7 +382,8 @@ def part_of_page(name):
 # `margins` has those of the destinations that have a limit, the least first, and `files` all files that it is made of.
 # `way` has what was measured on the way and its bounds, or is None where there is neither. `percentiles` has those of all frames
 # of merged tables, where their campaign has counted each latency.
-Given = namedtuple("Given", "net tables trace percentiles ends margins bounds other way files made_by date")
+# `transmit` has what is known of the transmit jitter of end systems.
+Given = namedtuple("Given", "net tables trace percentiles ends margins bounds other way transmit files made_by date")
 Other = namedtuple("Other", "tables ends bounds")
 
 
@@ -621,6 +633,25 @@ class Page:
             "<h3>What waits</h3>", self.grid("backlogs", backlogs, "backlog" + first, "backlogs", what="ports"),
         )
 
+    def transmit_jitter(self):
+        """The lines by which end systems send, and what the standard allows there."""
+        of = self.given.transmit
+        if not of.users:
+            return ""
+        self.rows["transmit"] = of.columns()
+        columns = [column("line", "line", "line"), count_column("users", "virtual links", unit="number")]
+        if of.is_measured:
+            columns.append(time_column("jitter", "measured", "from the release of a frame to its first bit, the greatest of this run", "jitter_tone"))
+        if of.is_bounded:
+            columns.append(time_column("jitter_bound", "bound", "the longest in this model; – where it has no bound", "jitter_bound_tone"))
+        rule = "40 µs + the sum over the virtual links of (20 + Smax) * 8 bits by the speed of the line"
+        columns += [time_column("sum", "by the rule", rule, "sum_tone"), time_column("allowed", "allowed", "by the rule, and 500 µs at most")]
+        words = (
+            "How late after its release an end system may begin to send a frame (ARINC 664 Part 7). Red is a sum by the rule "
+            "above 500 µs, or a jitter above what is allowed. Of the 40 µs, which are for the end system's own work, this model uses none."
+        )
+        return panel("transmit", "Transmit jitter of end systems", words, self.grid("transmit-jitter", columns, "sum", "transmit"))
+
     @staticmethod
     def marks_of_ranges(has_limits, has_bounds):
         marks = [("range", "least to greatest"), ("range late", "the same, where the greatest is above the BAG")]
@@ -837,6 +868,7 @@ class Page:
         panels = [self.network(), self.end_to_end(), self.latency()]
         panels += [self.worst_case()] if given.bounds else []
         panels += [self.on_the_way()] if given.way else []
+        panels += [self.transmit_jitter()]
         panels += [self.against()] if given.other else []
         panels += [self.distribution()] if given.trace or given.percentiles else []
         panels += [self.losses()] + ([self.over_time()] if given.trace else []) + [self.second_copies()]
@@ -866,7 +898,9 @@ class Page:
         """What the page is made of, and who made that: a date stands there where it is given, so the same words make the
         same page."""
         given = self.given
-        by = f"The tables are by {esc(given.made_by)}." if given.made_by else "Who made the tables is not told (--made-by)."
+        by = f"The tables are by {esc(given.made_by)}." if given.made_by else "Nothing says who made the tables (--made-by)."
+        by += f" The bounds are by {esc(given.bounds.made_by)}." if given.bounds and given.bounds.made_by else ""
+        by += f" This page is by {esc(program.tool('report.py').in_words())}."
         date = f" {esc(given.date)}." if given.date else ""
         return f"{self.made_of()} {by} Description: SHA-256 {afdx.checksum(self.net.text)}..{date}"
 
@@ -990,12 +1024,14 @@ def given_by(words):
         other = Other(before, ends_before, limits.Bounds(words.against_bounds, before.net) if words.against_bounds else None)
     made_of = [net.path, tables.path, words.trace, words.limits, words.bounds, words.hops]
     made_of += [words.against, words.against_net, words.against_bounds]
-    made_by = words.made_by or (f"{found.program}, as their campaign says" if found else None)
+    made_by = words.made_by or (f"{found.program.in_words()}, as their campaign says" if found else None)
     margins = {it.limit[:2]: it for it in margins}
     percentiles = record.percentiles(found, tables) if tables.merged else None
     made_of += [os.path.join(os.path.dirname(tables.path), record.GREATEST)] if percentiles else []
     ends, made_of = ends_of(words, tables, found, trace), list(filter(None, made_of))
-    return Given(net, tables, trace, percentiles, ends, margins, bounds, other, way, made_of, made_by, words.date)
+    of_delay = lambda found: found and (lambda vl, line: found("delay", vl, line))
+    transmit = transmit_jitter.TransmitJitter(net, of_delay(measured and measured.greatest), of_delay(bounds and bounds.of_kind))
+    return Given(net, tables, trace, percentiles, ends, margins, bounds, other, way, transmit, made_of, made_by, words.date)
 
 
 def tell_above(given):
@@ -1015,8 +1051,10 @@ def tell_above(given):
 @files.tool
 def main(arguments=None):
     words = words_of(arguments)
+    outputs = list(filter(None, [words.output, words.junit]))
+    files.ready(outputs, prints=bool(words.limits))
     given = given_by(words)
-    files.judge(list(filter(None, [words.output, words.junit])), prints=bool(words.limits))
+    files.judge(outputs, prints=bool(words.limits))
     texts = {words.output: Page(given).html()}
     if words.junit:
         texts[words.junit] = limits.junit_text(list(given.margins.values()), words.strict, os.path.basename(words.net))

@@ -8,6 +8,8 @@ import tempfile
 import threading
 from collections import deque, namedtuple
 
+import files
+
 # A run that is to be made: what it is called, and its description.
 Run = namedtuple("Run", "name text")
 
@@ -26,15 +28,16 @@ class Failure(Exception):
 def failure_of(status, said):
     """What the program said at last, and how it ended."""
     said = said.decode("utf-8", "replace").strip().split("\n")[-1]
-    ended = f"status {status}" if status > 0 else f"signal {-status}"
+    ended = f"status {status}" if status > 0 else files.ended_by(-status)
     return f"{said} ({ended})" if said else ended
 
 
 class Here:
-    """Makes runs on this machine, at most `jobs` side by side."""
+    """Makes runs on this machine, at most `jobs` side by side, by a command before the path of a description. `tells`: whether it
+    knows --progress."""
 
-    def __init__(self, program, jobs, is_traced=False):
-        self.program, self.jobs, self.is_traced = program, jobs, is_traced
+    def __init__(self, command, jobs, is_traced=False, tells=True):
+        self.command, self.jobs, self.is_traced, self.tells = command, jobs, is_traced, tells
         self.lock, self.going, self.last = threading.Lock(), {}, None
         # Who hears how far each run is, if anybody does: it is called with the run's name and a text.
         self.hear = None
@@ -73,11 +76,11 @@ class Here:
     def one(self, folder, number, run):
         """What a run printed, or None where all has ended before it."""
         path = os.path.join(folder, f"{number}.toml")
-        words = [self.program, "seq", path]
+        words = [*self.command, path]
         traced = os.path.join(folder, f"{number}.csv")
         if self.is_traced:
             words += ["--trace", traced]
-        if self.hear:
+        if self.hear and self.tells:
             words.append("--progress")
         with open(path, "w", encoding="utf-8", newline="\n") as out:
             out.write(run.text)

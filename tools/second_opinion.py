@@ -372,7 +372,7 @@ def main(arguments=None):
     description = explain.accepted(words.net)
     net = small_enough(description)
     written = [path for path in (words.trace, words.hops) if path]
-    files.judge(written, prints=True)
+    files.ready(written, prints=True)
     simulation = (Measured if words.hops else Simulation)(net)
     simulation.run()
     text_of = lambda lines: "".join(line + "\n" for line in lines)

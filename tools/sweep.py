@@ -17,6 +17,7 @@ import afdx
 import explain
 import files
 import one_run
+import program
 import reckoning
 from each_outage import STYLE, plain, row, tile
 from files import Fault
@@ -154,10 +155,11 @@ class Sweep:
                 lost = sum(row[0] for (of, _, cause), row in merged.losses.items() if of == vl and cause != "duplicate")
                 yield combination, vl, where, [over.runs, count, *spread, greatest, "" if seed is None else seed, lost]
 
-    def table(self):
-        lines = [",".join(["set", *(it.name for it in self.settings), HEAD])]
+    def table(self, maker):
+        """The table; its last column names the program."""
+        lines = [",".join(["set", *(it.name for it in self.settings), HEAD, "program"])]
         for combination, vl, where, numbers in self.rows():
-            lines.append(",".join(map(str, [combination.number, *combination.values, vl, where, *numbers])))
+            lines.append(",".join(map(str, [combination.number, *combination.values, vl, where, *numbers, maker.cell()])))
         return "\n".join(lines) + "\n"
 
     def long_rows(self):
@@ -283,5 +285,5 @@ def page(sweep, path, made_by, has_limits):
         "<footer>The effect is how far the combinations are apart in the mean, over seeds, of the greatest latency of a run. "
         "The spread of seeds is how far the greatest latencies of the runs of one combination are apart, in the one where "
         "that is most. The effect of one key is how far its values are apart, each taken over all values of the others. It "
-        f"tells what happened in these runs, and is no bound on what can happen. They are by {esc(made_by)}.</footer></main></body></html>\n"
+        f"tells what happened in these runs, and is no bound on what can happen. They are by {esc(made_by)}. This page is by {esc(program.tool('campaign.py').in_words())}.</footer></main></body></html>\n"
     )

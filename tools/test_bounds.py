@@ -20,6 +20,7 @@ sys.path.insert(0, HERE)
 import afdx  # noqa: E402
 import bounded_runs  # noqa: E402
 import bounds  # noqa: E402
+import program  # noqa: E402
 
 EXAMPLES = os.path.join(HERE, "..", "examples")
 MS = 10**6
@@ -129,6 +130,39 @@ class ByHand(unittest.TestCase):
         first = busy(64) + last_bit(64) + TO_SWITCH + delay + TO_END
         third = last_bit(64) + TO_SWITCH + delay + TO_END
         self.assertEqual([found.latencies[i, "E3"] for i in (1, 2, 3)], [(first, ""), (first, ""), (third, "")])
+
+    def test_frames_are_counted_whole_where_that_is_less(self):
+        """1 and 3 meet, all of 64 bytes. Each has waited for another one, 2 and 4, which goes elsewhere, so it has a spread
+        of busy(64), for which a rate counts the part of a second frame, 45 ns, on both lines. Whole, there comes one of each."""
+
+        def of(**changes):
+            ends = {1: ("E1", "E3"), 2: ("E1", "E4"), 3: ("E2", "E3"), 4: ("E2", "E5")}
+            return [virtual_link(i, way(source, "A", end), **changes) for i, (source, end) in ends.items()]
+
+        delay = 2 * busy(64) - 12 * BYTE
+        found = network(of())
+        for vl in (1, 3):
+            self.assertEqual(found.latencies[vl, "E3"], (busy(64) + last_bit(64) + TO_SWITCH + delay + TO_END, ""))
+        # High ones too, where one low frame may be on the line.
+        found = network([*of(priority="high"), virtual_link(5, way("E6", "A", "E3"), size=1518)])
+        for vl in (1, 3):
+            self.assertEqual(found.latencies[vl, "E3"], (busy(64) + last_bit(64) + TO_SWITCH + delay + busy(1518) + TO_END, ""))
+        with mock.patch.object(bounds, "peak_of_frames", lambda hops, speed, most: most):
+            self.assertEqual(network(of()).hops[1, "A>E3"].delay, delay + 45)
+
+    def test_whole_frames_by_hand(self):
+        """Of 1000 bytes, 81,600 ns, and in each ms: with a spread of 2.5 ms three come at once, and the fourth after half a
+        ms, when all are sent. With 0.9 ms one comes, and 100 us later the next one; so twelve have 979,200 ns at once and
+        twice that less 100,000 ns then."""
+        for count, spread, excess in ((1, 2_500_000, 3 * 81_600), (12, 900_000, 24 * 81_600 - 100_000), (12, 999_999, 24 * 81_600 - 1)):
+            hops = network([virtual_link(i, way("E1", "A", "E2"), size=1000) for i in range(count)]).ports["E1>A"].hops
+            for hop in hops:
+                hop.spread = spread
+            speed = bounds.PARTS // BYTE
+            self.assertEqual(bounds.peak_of_frames(hops, speed, 10**18), excess * speed)
+            self.assertEqual(bounds.peak_of_frames(hops, speed, excess * speed - 1), excess * speed - 1)
+            hops[0].spread = None
+            self.assertEqual(bounds.peak_of_frames(hops, speed, 5), 5)
 
     def test_a_slow_line_brings_less(self):
         """As above, but the first line has 10 Mbit/s: a byte takes ten times the time, so it brings one frame in 67,200
@@ -407,11 +441,12 @@ class Command(unittest.TestCase):
         path = os.path.join(EXAMPLES, "n1.toml")
         with open(path, "rb") as file:
             own = hashlib.sha256(file.read()).hexdigest()[:16]
+        own += "," + program.tool("bounds.py").cell()
         text = "vl,where,bound_ns,wait_ns,waiting_bytes,port_bytes,why,sure,skew_ns,skew_max_ns,jitter_ns,"
-        text += "policing_jitter_ns,warning,network_ns,network_a_ns,network_b_ns,delay_ns,description\n"
-        text += f"1,ES2,27720,0,,,,A,,,,,,27720,27720,,,{own}\n1,SW1,,,,,,,,,0,0,,,,,,{own}\n"
-        text += f"1,ES1>SW1,,,,,,,,,,,,,,,5760,{own}\n1,SW1>ES2,,,,,,,,,,,,,,,5760,{own}\n"
-        text += f",ES1>SW1,,,0,4096,,,,,,,,,,,,{own}\n,SW1>ES2,,,0,65536,,,,,,,,,,,,{own}\n"
+        text += "policing_jitter_ns,warning,network_ns,network_a_ns,network_b_ns,delay_ns,transmit_jitter_ns,transmit_rule_ns,description,program\n"
+        text += f"1,ES2,27720,0,,,,A,,,,,,27720,27720,,,,,{own}\n1,SW1,,,,,,,,,0,0,,,,,,,,{own}\n"
+        text += f"1,ES1>SW1,,,,,,,,,,,,,,,5760,,,{own}\n1,SW1>ES2,,,,,,,,,,,,,,,5760,,,{own}\n"
+        text += f",ES1>SW1,,,0,4096,,,,,,,,,,,,0,46720,{own}\n,SW1>ES2,,,0,65536,,,,,,,,,,,,,,{own}\n"
         self.assertEqual(self.call(path), (0, text, ""))
         with tempfile.TemporaryDirectory() as folder:
             out = os.path.join(folder, "bounds.csv")

@@ -1,6 +1,8 @@
 """Tests of campaign.py. Those of the class WithTheProgram need the built program, at crates/afdxsim/out/afdxsim, where
 `rt ci` leaves it; the others have a stand-in of a few lines, which can be told to fail."""
 import contextlib
+import csv
+import hashlib
 import io
 import json
 import os
@@ -20,6 +22,7 @@ sys.path.insert(0, HERE)
 
 import afdx  # noqa: E402
 import campaign  # noqa: E402
+import latency_counts  # noqa: E402
 import report  # noqa: E402
 from merged import Merged  # noqa: E402
 from second_opinion import CAUSES, Simulation  # noqa: E402
@@ -120,7 +123,7 @@ class Here(unittest.TestCase):
         """The status of campaign.py with these words, and what it says on standard output and on error output."""
         out, said = io.StringIO(), io.StringIO()
         with contextlib.redirect_stdout(out), contextlib.redirect_stderr(said):
-            status = campaign.main([*words, "--program", self.program, "-o", self.output])
+            status = campaign.main([*words, "--program", self.program, "-o", self.output, "--replace"])
         return status, out.getvalue(), said.getvalue()
 
 
@@ -231,7 +234,7 @@ class WithAStandIn(Here):
         for lines, said in (
             ("if seed == 9: sys.exit('afdxsim: out of memory')", "afdxsim: out of memory (status 1)"),
             ("if seed == 9: sys.exit(5)", "status 5"),
-            ("if seed == 9: os.kill(os.getpid(), signal.SIGKILL)", "signal 9"),
+            ("if seed == 9: os.kill(os.getpid(), signal.SIGKILL)", "ended by SIGKILL, as the system does where memory is used up"),
             ("if seed == 9: sys.exit(print('no table'))", "what it printed are no whole tables"),
             (
                 "if seed == 9: del net['vl'][0]",
@@ -327,10 +330,10 @@ class WithAStandIn(Here):
 
     def test_greatest_latencies_over_seeds_and_percentiles(self):
         """From the notes of the plain simulator: of each run's greatest latency the least, the mean and the greatest; and
-        each latency of all runs, with the nearest rank of each percentage. A run that delivers nothing there is none."""
+        the bins of latencies of all runs, with the nearest rank of each percentage. A run that delivers nothing there is none."""
         self.stand_in()
         runs = [(seed, rows_of(COCKPIT, seed)) for seed in range(7, 12)]
-        lines, counts = [], ["vl,where,latency_ns,count"]
+        lines, counts = [], ["vl,where,from_ns,to_ns,count"]
         for vl, where in runs[0][1][1]:
             found = [(seed, [v[3] for v in rows if v[:3] == (vl, where, "delivered")]) for seed, (rows, _, _) in runs]
             greatest = {seed: max(values) for seed, values in found if values}
@@ -339,8 +342,10 @@ class WithAStandIn(Here):
             worst = max(greatest, key=lambda seed: (greatest[seed], -seed))
             ranks = [next(v for i, v in enumerate(values, 1) if i * 100 >= percent * len(values)) for percent in (50, 95, 99)]
             numbers = [number, min(greatest.values()), (2 * total + number) // (2 * number), greatest[worst], total, worst]
+            ends = [latency_counts.ends_of(latency_counts.bin_of(value)) for value in values]
+            ranks = [min(values[-1], ends[values.index(rank)][1]) for rank in ranks]
             lines.append(",".join(map(str, [vl, where, *numbers, *ranks])))
-            counts += [f"{vl},{where},{value},{values.count(value)}" for value in sorted(set(values))]
+            counts += [f"{vl},{where},{least},{most},{ends.count((least, most))}" for least, most in sorted(set(ends))]
         head = "vl,where,runs,least_greatest_ns,mean_greatest_ns,greatest_ns,sum_greatest_ns,seed"
         for jobs in ("1", "3"):
             self.assertEqual(self.call(COCKPIT, "--seeds", "5", "--jobs", jobs, "--histograms")[0], 0)
@@ -365,8 +370,8 @@ class WithAStandIn(Here):
             self.assertEqual(self.call(COCKPIT, "--seeds", "3", *words)[0], 0)
             told = json.loads(read(os.path.join(self.output, "campaign.json")))
             self.assertEqual(told["description"], afdx.checksum(read(COCKPIT)))
-            wanted = ("stand-in 1", 512_000_000, 5 if words else 7, 3, bool(words), ["--seeds", "3"] + words[:1])
-            self.assertEqual(tuple(told[name] for name in ("program", "until_ns", "first_seed", "seeds", "offsets", "words")), wanted)
+            wanted = (512_000_000, 5 if words else 7, 3, bool(words), ["--seeds", "3"] + words[:1])
+            self.assertEqual(tuple(told[name] for name in ("until_ns", "first_seed", "seeds", "offsets", "words")), wanted)
             self.assertEqual(report.main([COCKPIT, self.output, "-o", page]), 0)
             self.assertIn('data-name="lost end to end"', read(page))
             self.assertNotIn('data-name="under way too long"', read(page))
@@ -381,7 +386,7 @@ class WithAStandIn(Here):
         self.assertEqual(self.call(net, "--seeds", "2", "--histograms")[0], 0)
         told = read(os.path.join(self.output, "greatest.csv")).splitlines()
         self.assertEqual(told[1:], ["1,ES2,0,0,0,0,0,,,,"])
-        self.assertEqual(read(os.path.join(self.output, "histograms.csv")), "vl,where,latency_ns,count\n")
+        self.assertEqual(read(os.path.join(self.output, "histograms.csv")), "vl,where,from_ns,to_ns,count\n")
 
     def test_jobs_are_side_by_side(self):
         """As many as asked, and no more: each run tells by a file when it begins and ends."""
@@ -404,7 +409,7 @@ class WithAStandIn(Here):
         """It is there on a terminal alone, and is taken away at the end."""
         self.stand_in()
         command = [sys.executable, os.path.join(HERE, "campaign.py"), N1, "--seeds", "3", "--program", self.program]
-        command += ["-o", self.output]
+        command += ["-o", self.output, "--replace"]
         run = subprocess.run(command, capture_output=True)
         self.assertEqual((run.returncode, run.stderr), (0, b""))
         terminal, end = pty.openpty()
@@ -419,7 +424,7 @@ class WithAStandIn(Here):
     def test_a_long_run_is_watched(self):
         """On a terminal the line tells how far a run is; what else it says is its fault. Elsewhere no run is asked."""
         far = "if '--progress' in sys.argv:\n    sys.stderr.write('afdxsim: 1 of 2 ms, 50 %, 1 s left\\n'); sys.stderr.flush(); time.sleep(0.3)\n"
-        command = [sys.executable, os.path.join(HERE, "campaign.py"), N1, "--seeds", "1", "-o", self.output]
+        command = [sys.executable, os.path.join(HERE, "campaign.py"), N1, "--seeds", "1", "-o", self.output, "--replace"]
         for fails, status in ("", 0), ("sys.exit('afdxsim: out of memory')\n", 1):
             self.stand_in(far + fails)
             terminal, end = pty.openpty()
@@ -464,7 +469,7 @@ class WithAStandIn(Here):
             self.call(N1, "--seeds", "1"), (2, "", f"campaign.py: {self.output}: cannot be made: File exists\n")
         )
         self.program = none
-        said = f"campaign.py: {none}: is not there. `afdx build` builds the program\n"
+        said = f"campaign.py: {none}: is not there. `afdx build` builds the program; --by second-opinion does without it\n"
         self.assertEqual(self.call(N1, "--seeds", "1"), (2, "", said))
         for words in (["--seeds", "0"], ["--seeds", "x"], ["--jobs", "0", "--seeds", "1"], []):
             with self.assertRaises(SystemExit) as ended:
@@ -480,6 +485,121 @@ class WithAStandIn(Here):
             self.assertIn(word, run.stdout)
 
 
+class Evidence(Here):
+    """What a campaign writes names its program, and its folder has the files of one campaign."""
+
+    def run_of(self, *words):
+        """The same without --replace."""
+        out, said = io.StringIO(), io.StringIO()
+        with contextlib.redirect_stdout(out), contextlib.redirect_stderr(said):
+            status = campaign.main([N1, *words, "--program", self.program, "-o", self.output])
+        return status, out.getvalue(), said.getvalue()
+
+    def record(self):
+        return json.loads(read(os.path.join(self.output, "campaign.json")))
+
+    def test_the_record_names_the_program_by_its_sum(self):
+        """A program is taken for the proved one only where it has the sum of a record, whatever it prints as its version."""
+        self.stand_in()
+        text = read(self.program).replace("stand-in 1", "afdxsim 0.1.0")
+        self.program = self.file("afdxsim", text)
+        own = hashlib.sha256(text.encode()).hexdigest()
+        proved = {"version": "0.1.0", "commit": "c" * 40, "kit": "kit-1 logic 2", "program": own}
+        for record, wanted in (
+            (None, ("afdxsim", "0.1.0", None, own, None, None, False)),
+            (proved | {"program": "0" * 64}, ("afdxsim", "0.1.0", None, own, None, None, False)),
+            (proved, ("afdxsim", "0.1.0", "c" * 40, own, None, "kit-1 logic 2", True)),
+        ):
+            if record:
+                self.file("afdxsim.record.json", json.dumps(record))
+            self.assertEqual(self.call(N1, "--seeds", "1")[0], 0)
+            names = ("name", "version", "commit", "sha256", "sources", "kit", "proved")
+            self.assertEqual(self.record()["program"], dict(zip(names, wanted)))
+            # So does the page, and the tables of the other kinds of campaigns.
+            page = os.path.join(self.folder, "page.html")
+            self.assertEqual(report.main([N1, self.output, "-o", page]), 0)
+            said = f"afdxsim 0.1.0, not proved, SHA-256 {own}"
+            if wanted[-1]:
+                said = f"afdxsim 0.1.0, proved, commit cccccccccccc, SHA-256 {own}, logic 2 (kit-1)"
+            self.assertIn(f"The tables are by {said}, as their campaign says. ", read(page))
+            cell = f"afdxsim 0.1.0 not proved SHA-256 {own[:16]}"
+            if wanted[-1]:
+                cell = f"afdxsim 0.1.0 proved commit cccccccccccc SHA-256 {own[:16]} logic 2 (kit-1)"
+            for words, name in ((["--set", "vl.1.depth=1,2"], "sweep"), (["--aim", "1"], "aim"), (["--each-outage"], "outages")):
+                self.assertEqual(self.call(N1, *words)[0], 0)
+                with open(os.path.join(self.output, name + ".csv"), newline="") as file:
+                    rows = list(csv.DictReader(file))
+                self.assertEqual({row["program"] for row in rows}, {cell})
+                if name != "aim":
+                    self.assertIn(f"They are by {said}. ", read(os.path.join(self.output, name + ".html")))
+
+    def test_the_record_lists_each_file_with_its_sum(self):
+        self.stand_in()
+        for words in (
+            ["--seeds", "2", "--histograms", "--keep", "--json"], ["--set", "vl.1.depth=1,2", "--keep", "--json"],
+            ["--aim", "1", "--keep", "--json"], ["--each-outage", "--keep"],
+        ):
+            self.assertEqual(self.call(N1, *words)[0], 0)
+            found = {}
+            for name in os.listdir(self.output):
+                with open(os.path.join(self.output, name), "rb") as file:
+                    found[name] = hashlib.sha256(file.read()).hexdigest()
+            del found["campaign.json"]
+            self.assertGreater(len(found), 4)
+            self.assertEqual(self.record()["files"], found)
+
+    def test_an_earlier_campaign_is_refused_or_replaced(self):
+        """Refused before the first run. Replaced once this one has come to its end: nothing of the earlier one is left."""
+        self.stand_in()
+        self.assertEqual(self.run_of("--seeds", "2", "--keep", "--histograms")[0], 0)
+        self.file("campaign/own.txt", "mine")
+        before = {name: read(os.path.join(self.output, name)) for name in os.listdir(self.output)}
+        self.stand_in("open(%r, 'w')" % os.path.join(self.folder, "ran"))
+        said = f"campaign.py: {self.output}: has files of an earlier campaign: campaign.json, greatest.csv, histograms.csv and 5 more. Name another folder, or --replace them\n"
+        self.assertEqual(self.run_of("--seeds", "1"), (2, "", said))
+        self.assertFalse(os.path.exists(os.path.join(self.folder, "ran")))
+        self.assertEqual({name: read(os.path.join(self.output, name)) for name in os.listdir(self.output)}, before)
+        self.assertEqual(self.run_of("--seeds", "1", "--replace")[0], 0)
+        self.assertEqual(sorted(os.listdir(self.output)), ["campaign.json", "greatest.csv", "merged.csv", "own.txt"])
+
+    def test_a_program_that_is_replaced_meanwhile(self):
+        """Then nothing says that the runs are its own."""
+        self.stand_in("if seed == 43:\n    open(sys.argv[0], 'a').write('# another')")
+        status, _, said = self.run_of("--seeds", "3")
+        self.assertEqual((status, said), (2, f"campaign.py: {self.program}: was replaced while the runs were made, so campaign.json is not written. Run the campaign anew\n"))
+        self.assertFalse(os.path.exists(os.path.join(self.output, "campaign.json")))
+
+    def test_a_file_that_was_changed_has_no_record(self):
+        self.stand_in()
+        self.assertEqual(self.run_of("--seeds", "2")[0], 0)
+        with open(self.merged, "a") as out:
+            out.write("dropped,1,SW1,policed,1,,,,42\n")
+        said = io.StringIO()
+        with contextlib.redirect_stderr(said):
+            status = report.main([N1, self.output, "-o", os.path.join(self.folder, "page.html")])
+        self.assertEqual((status, said.getvalue()), (2, f"report.py: {self.output}: has no campaign.json that is the record of its merged.csv\n"))
+
+    def test_the_second_opinion_makes_the_runs(self):
+        """Each kind of campaign brings what the stand-in brings, which is made of it; and names it."""
+        self.stand_in()
+        for words, names in (
+            (["--seeds", "3", "--histograms", "--offsets"], ["merged.csv", "greatest.csv", "histograms.csv"]),
+            (["--set", "vl.1.depth=1,2"], ["sweep.csv"]), (["--aim", "1"], ["aim.csv"]), (["--each-outage"], ["outages.csv"]),
+        ):
+            found = []
+            for more in ([], ["--by", "second-opinion"]):
+                self.assertEqual(self.call(N1, *words, *more)[0], 0)
+                texts = [read(os.path.join(self.output, name)) for name in names]
+                found.append([re.sub(",[^,\n]* not proved[^,\n]*", "", text) for text in texts])
+            self.assertEqual(*found)
+            made_by = self.record()["program"]
+            self.assertEqual((made_by["name"], made_by["proved"]), ("tools/second_opinion.py", False))
+        net = self.file("wrong.toml", read(N1).replace("seed = 42", "seed = -1"))
+        self.program, status = "none", self.call(net, "--seeds", "1", "--by", "second-opinion")
+        self.assertEqual(status[:2], (2, ""))
+        self.assertRegex(status[2], f"^campaign.py: {net} line 2: is refused: 4 OutOfLimit at top seed; .*\n$")
+
+
 class ThePage(Here):
     """The page of a campaign by its folder."""
 
@@ -490,7 +610,7 @@ class ThePage(Here):
         return status, said.getvalue(), page
 
     def test_percentiles_of_histograms(self):
-        """Those of all frames of all runs, by the nearest rank, from the notes of the plain simulator."""
+        """Those of all frames of all runs, by the nearest rank to the end of its bin, from the notes of the plain simulator."""
         self.stand_in()
         self.assertEqual(self.call(COCKPIT, "--seeds", "3", "--first", "7", "--histograms")[0], 0)
         status, said, page = self.page(COCKPIT)
@@ -501,7 +621,8 @@ class ThePage(Here):
             for vl, where, what, value in rows_of(COCKPIT, seed)[0]:
                 if what == "delivered":
                     values.setdefault((vl, where), []).append(value)
-        rank = lambda found, percent: sorted(found)[-(-len(found) * percent // 100) - 1]
+        end = lambda ns: latency_counts.ends_of(latency_counts.bin_of(ns))[1]
+        rank = lambda found, percent: min(max(found), end(sorted(found)[-(-len(found) * percent // 100) - 1]))
         wanted = [[rank(values[key], percent) for percent in (50, 95, 99)] for key in zip(ends["vl"], ends["where"])]
         self.assertEqual([list(it) for it in zip(ends["p50"], ends["p95"], ends["p99"])], wanted)
         self.assertIn("Distribution of the latencies", read(page))

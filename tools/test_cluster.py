@@ -1,7 +1,9 @@
 """Tests of campaign.py --dask, with a real scheduler and real workers on this machine. They need Dask, as Debian's package
 python3-distributed has it."""
+import hashlib
 import json
 import os
+import re
 import subprocess
 import sys
 import time
@@ -71,7 +73,7 @@ class WithACluster(Here):
 
     def campaign(self, *words):
         """Starts campaign.py by the interpreter of the tests, whether it has Dask or not."""
-        command = [sys.executable, os.path.join(HERE, "campaign.py"), *words, "--program", self.program]
+        command = [sys.executable, os.path.join(HERE, "campaign.py"), *words, "--program", self.program, "--replace"]
         pipe = subprocess.PIPE
         run = subprocess.Popen([*command, "-o", self.output], stdout=pipe, stderr=pipe, stdin=subprocess.DEVNULL, text=True)
         self.addCleanup(run.kill)
@@ -97,7 +99,11 @@ class WithACluster(Here):
         out, said = run.communicate(timeout=600)
         self.assertEqual((run.returncode, said), (0, ""))
         self.assertIn("12 runs merged, seeds 7 to 18, in", out)
-        self.assertEqual({name: read(os.path.join(self.output, name)) for name in os.listdir(self.output)}, alone)
+        together = {name: read(os.path.join(self.output, name)) for name in os.listdir(self.output)}
+        # The one program sleeps and the other does not, so their sums differ.
+        records = [json.loads(it.pop("campaign.json")) | {"program": None} for it in (together, alone)]
+        self.assertEqual(*records)
+        self.assertEqual(together, alone)
         begun = self.begun()
         self.assertEqual({worker for _, worker in begun}, {lost.pid, kept.pid})
         self.assertEqual({seed for seed, _ in begun}, set(range(7, 19)))
@@ -114,15 +120,17 @@ class WithACluster(Here):
         self.assertIn("2 runs merged, seeds 42 to 43, in", out)
 
     def another_program(self, kept):
-        """A worker takes the program that its environment names, which has to say the same version."""
+        """A worker takes the program that its environment names, which has to be the same one: the same version is not enough."""
         kept.kill()
-        other = self.file("other", f"#!{sys.executable}\nprint('afdxsim 0')\n")
+        other = self.file("other", read(self.program) + "# another\n")
         os.chmod(other, 0o755)
         self.start_worker(AFDXSIM=other)
         run = self.campaign(N1, "--seeds", "2", "--dask", self.address)
         out, said = run.communicate(timeout=600)
         self.assertEqual((run.returncode, out), (1, "no run was merged, and nothing is written\n"))
-        self.assertRegex(said, r"^campaign.py: seed 42: .*other of .* is 'afdxsim 0', and here it is 'stand-in 1'\n$")
+        sums = [hashlib.sha256(read(path).encode()).hexdigest()[:16] for path in (other, self.program)]
+        told = f"is another program: its SHA-256 is {sums[0]}.., and here it is {sums[1]}..; AFDXSIM in the environment of a worker names its program"
+        self.assertRegex(said, rf"^campaign.py: seed 42: .*other of .* {re.escape(told)}\n$")
 
 
 class WithoutOne(Here):

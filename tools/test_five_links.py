@@ -5,7 +5,9 @@ The formulas, with bits and us: a virtual link has the token bucket s + r * t, w
 s / BAG. Let A(t) be the sum of what comes to an output port that sends R, first in first out. Then its delay is at most
 D = max over t of (A(t) - R * t) / R, and behind it the virtual link has the bucket (s + r * (D - s / R)) + r * t. Without
 grouping A is the sum of all buckets. With grouping those that come by one line together bring at most s + R * t too, and
-the lesser of the two counts. From end to end it is the sum of the delays, and 16 us for each switch."""
+the lesser of the two counts. Counted whole, as by holistic analysis, a virtual link that comes up to J closer than a BAG
+brings s * (1 + (t + J) / BAG), cut to whole frames, and J grows by D - s / R; the lesser D of both counts is taken. From
+end to end it is the sum of the delays, and 16 us for each switch."""
 import os
 import re
 import sys
@@ -39,9 +41,19 @@ def delay_of(groups):
     return max(map(excess, [Fraction(0), *knees])) / SPEED
 
 
-def textbook(is_grouped):
+def delay_of_whole_frames(jitters):
+    """The longest delay at a port to which come frames of virtual links with these jitters."""
+    def excess(t):
+        return sum(FRAME * (1 + (t + jitter) // BAG) for jitter in jitters) - SPEED * t
+
+    moments = [Fraction(0)] + [n * BAG - jitter for jitter in jitters for n in range(1, 4)]
+    return max(excess(t) for t in moments if t >= 0) / SPEED
+
+
+def textbook(is_grouped, is_whole=False):
     """The bound of each virtual link from end to end, in us."""
     rate = Fraction(FRAME, BAG)
+    jitter = dict.fromkeys(WAYS, Fraction(0))
     bucket, total = {vl: Fraction(FRAME) for vl in WAYS}, {vl: Fraction(0) for vl in WAYS}
     # For each line the virtual links, with the line by which they come. Each port stands behind those that feed it.
     for line in ("e1 S1", "e2 S1", "e3 S2", "e4 S2", "e5 S3", "S1 S3", "S2 S3", "S3 e6", "S3 e7"):
@@ -51,7 +63,10 @@ def textbook(is_grouped):
             groups.setdefault(before[-1] if before else None, []).append(vl)
         sums = [(sum(bucket[vl] for vl in ones), rate * len(ones), is_grouped and up is not None) for up, ones in groups.items()]
         delay = delay_of(sums)
+        if is_whole:
+            delay = min(delay, delay_of_whole_frames([jitter[vl] for vl in users]))
         for vl in users:
+            jitter[vl] += delay - Fraction(FRAME, SPEED)
             bucket[vl] += rate * (delay - Fraction(FRAME, SPEED))
             total[vl] += delay + (LATENCY if line[0] == "S" else 0)
     return total
@@ -76,7 +91,7 @@ class FiveLinks(unittest.TestCase):
 
     def test_the_bounds_are_those_of_the_textbook_with_grouping(self):
         """But for what is told in EARLIER, and for less than 1 ns at each hop, since moments are whole."""
-        for vl, us in textbook(True).items():
+        for vl, us in textbook(True, True).items():
             with self.subTest(vl):
                 apart = us * 1000 - self.hops(vl) * EARLIER - self.bound(vl)
                 self.assertTrue(0 <= apart < self.hops(vl), apart)
@@ -106,14 +121,14 @@ class FiveLinks(unittest.TestCase):
         with open(os.path.join(HERE, "..", "docs", "TOOLS.md"), encoding="utf-8") as file:
             text = file.read()
         rows = re.findall(r"^\| ([1-5]) \|(.*)\|$", text, re.MULTILINE)
-        alone, grouped = textbook(False), textbook(True)
+        alone, grouped, whole = textbook(False), textbook(True), textbook(True, True)
         us = lambda number: f"{float(number):.3f}"
         wanted = []
         for vl in WAYS:
             own, reached = self.bound(vl), self.reached(vl)
             self.assertLessEqual(reached, own)
             counted = own + self.hops(vl) * EARLIER
-            numbers = [us(alone[vl]), us(grouped[vl]), us(Fraction(counted, 1000)), str(own), str(reached)]
+            numbers = [us(alone[vl]), us(grouped[vl]), us(whole[vl]), us(Fraction(counted, 1000)), str(own), str(reached)]
             wanted.append((str(vl), f" {WAYS[vl]} | {' | '.join(numbers)} "))
         self.assertEqual(rows, wanted)
 

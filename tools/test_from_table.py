@@ -4,6 +4,7 @@ import contextlib
 import glob
 import io
 import os
+import resource
 import shutil
 import subprocess
 import sys
@@ -200,11 +201,11 @@ class OfTables(Here):
             (good.replace("8,100", "1" * 5000 + ",100"), [f"line 12: bag_ms is '{'1' * 30}'.. of 5,000 characters, and no whole number of at most 30 digits"]),
             (good.replace("8,100", "8,"), ["line 12: has neither smax nor size nor payload"]),
             (good.replace("8,100", ",100"), ["line 12: has neither bag_ms nor period_ns"]),
-            (good.replace("bag_ms", "bag_msec"), ["note: table0.csv line 11: the column bag_msec is passed over; bag_ms?", "line 12: has neither bag_ms nor period_ns"]),
+            (good.replace("bag_ms", "bagg_ms"), ["line 11: the column 'bagg_ms' is not known, and bag_ms may be meant: write it so, or say what it is by --column 'bagg_ms=bag_ms', or 'bagg_ms=-' where it is to be passed over", "line 12: has neither bag_ms nor period_ns"]),
             (good.replace("1,ADC,DU,", "1,ADC,DUX,"), ["line 12: DUX is reached from ADC neither on A nor on B: DUX has no link; DU?"]),
             (good.replace("1,ADC,DU,", "1,,DU,"), ["line 12: has no source"]),
             (good.replace("1,ADC,DU,", "1,ADC,,"), ["line 12: has no destinations"]),
-            (good + "1,DU,ADC,8,100\n", ["line 13: virtual link 1, id: the number 1 is there already, in line 12"]),
+            (good + "1,DU,ADC,8,100\n", ["line 13: virtual link 1 is in line 12 too, and source is 'DU' here and 'ADC' there"]),
             (good.replace("ADC,SWB", "ADC,SWA"), ["line 8: link ADC-SWA, b: there is a link of ADC and SWA already, in line 6", "line 8: link ADC-SWA, b: it is the second link of the end system ADC on network A; the first is in line 6"]),
             (good.replace("SWB,B", "SWB,C"), ["line 3: switch SWB, net is \"C\", and must be \"A\" or \"B\""]),
             (good.replace("8,100", "8,100,7"), ["line 12: has 6 cells, and the table has 5 columns"]),
@@ -219,7 +220,10 @@ class OfTables(Here):
 
     def test_all_faults_are_told_at_once(self):
         said = self.faults(NODES + LINKS, LINE + "2,ADC,DU,8,x\n3,ADC,XX,8,y\n")
-        self.assertEqual([line.split(":")[0] for line in said], ["table1.csv line 3", "table1.csv line 4", "table1.csv line 4"])
+        self.assertEqual(said, [
+            "table1.csv line 3: smax is 'x', and no whole number; so has 1 more line: 4",
+            "table1.csv line 4: XX is reached from ADC neither on A nor on B: XX has no link",
+        ])
 
     def test_words(self):
         none = os.path.join(self.folder, "none.csv")
@@ -260,15 +264,15 @@ class AsItIs(Here):
         return toml_lines.read(read(self.output)), said
 
     def test_further_columns_and_titles_are_passed_over(self):
-        table = "Virtual links of the aircraft,,,,,,\n" + LINE.replace("smax", "smax,Message,prioritty").replace("100", "100,Air data,high")
+        table = "Virtual links of the aircraft,,,,,,\n" + LINE.replace("smax", "smax,Message,depht,depth").replace("100", "100,Air data,9,5")
         tree, said = self.noted(NODES.replace("net", "net,Part number").replace("A\n", "A,77-1\n") + LINKS, table)
         self.assertEqual(said, [
             "table0.csv line 1: the column part_number is passed over",
             "table1.csv line 1: is a title, 'Virtual links of the aircraft', and is passed over",
             "table1.csv line 2: the column message is passed over",
-            "table1.csv line 2: the column prioritty is passed over; priority?",
+            "table1.csv line 2: the column depht is passed over; depth?",
         ])
-        self.assertEqual((tree["vl"][0]["smax"], tree["vl"][0]["priority"]), (100, "low"))
+        self.assertEqual((tree["vl"][0]["smax"], tree["vl"][0]["depth"]), (100, 5))
 
     def test_lines_that_differ_in_the_destination_alone_are_one(self):
         links = LINKS.replace("DU,SWB\n", "DU,SWB\nFWC,SWA\nFWC,SWB\n")
@@ -288,9 +292,131 @@ id = 1
 """
         self.assertIn(wanted, read(self.output))
 
+    def test_lines_that_differ_in_what_is_not_known_are_one(self):
+        """Each line has a reference and a message of its own, as an interface control document has them."""
+        links = LINKS.replace("DU,SWB\n", "DU,SWB\nFWC,SWA\nFWC,SWB\n")
+        head = "id,Reference,source,dest,bag_ms,smax,priority,Message\n"
+        tree, said = self.noted(NODES + links, head + "1,R-17,ADC,DU,8,100,High,Air data\n1,R-18,ADC,FWC,8.0,100,high,Air data 2\n")
+        self.assertEqual(said, ["table1.csv line 1: the column reference is passed over", "table1.csv line 1: the column message is passed over"])
+        self.assertEqual([vl["a"] for vl in tree["vl"]], [[["ADC", "SWA", "DU"], ["ADC", "SWA", "FWC"]]])
+
     def test_lines_that_differ_in_more_are_a_fault(self):
-        (said,) = self.faults(NODES + LINKS + LINE + "1,ADC,DU,16,100\n")
-        self.assertEqual(said, "table0.csv line 13: virtual link 1, id: the number 1 is there already, in line 12")
+        """It names each column with both values, and the lines, also those of two files."""
+        (said,) = self.faults(NODES + LINKS + LINE + "1,ADC,DU,16,99\n")
+        wanted = "virtual link 1 is in line 12 too, and bag_ms is '16' here and '8' there; smax is '99' here and '100' there"
+        self.assertEqual(said, f"table0.csv line 13: {wanted}")
+        (said,) = self.faults(NODES + LINKS + LINE, LINE.replace("8,100", ",100"))
+        wanted = f"virtual link 1 is in line 12 of {self.folder}/table0.csv too, and bag_ms is empty here and '8' there"
+        self.assertEqual(said, f"table1.csv line 2: {wanted}")
+
+    def test_headings_of_interface_control_documents(self):
+        """Each means what the column of ours does, in the unit that it names."""
+        for heads, cells, wanted in (
+            ("VLID,Tx LRU,Rx LRU,BAG (ms),Lmax", "7,ADC,DU,8,100", {"id": 7, "bag_ms": 8, "smax": 100}),
+            ("VL ID,Transmitter,Receiver,BAG (us),Max frame size (bytes)", "7,ADC,DU,8000,100", {"bag_ms": 8, "smax": 100}),
+            ("Virtual link,Source ES,Destination ES,Rate (Hz),Lmax (octets)", "7,ADC,DU,50,100", {"bag_ms": 16, "period_ns": 20_000_000}),
+            ("VL No.,Publisher,Subscribers,Refresh period (msec),UDP payload", "7,ADC,DU,12.5,100", {"period_ns": 12_500_000, "smax": 147}),
+            ("VL,From,To,BAG,Smax,Prio,Queue depth", "7,ADC,DU,8,100,high,9", {"priority": "high", "depth": 9}),
+            ("VL,Tx,Rx,BAG,Smax,SkewMax (us),Refresh rate (kHz)", "7,ADC,DU,1,100,500,0.06", {"skew_max_ns": 500_000, "period_ns": 16_666_666}),
+        ):
+            with self.subTest(heads):
+                tree, said = self.noted(NODES + LINKS, f"{heads}\n{cells}\n")
+                self.assertEqual((said, tree["vl"][0]["a"]), ([], [["ADC", "SWA", "DU"]]))
+                self.assertEqual({key: tree["vl"][0][key] for key in wanted}, wanted)
+
+    def test_cables_from_and_to_are_links(self):
+        for heads in ("From,To", "From LRU,To LRU", "End A,End B"):
+            tree, _ = self.noted(NODES + LINKS.replace("a,b", heads + ",Cable length (m)").replace("SWA\n", "SWA,30\n") + LINE)
+            self.assertEqual([row["propagation_ns"] for row in tree["link"]], [150, 150, 100, 100])
+        tree, _ = self.noted(NODES + LINKS + LINE + "\nFrom,To,From (ms),To (ms)\nADC,SWA,1,2\n")
+        self.assertEqual(tree["outage"], [{"from": "ADC", "to": "SWA", "from_ns": 1_000_000, "to_ns": 2_000_000}])
+
+    def test_a_column_that_may_be_two_is_a_fault(self):
+        or_by = lambda names, one: f"{names}: say which one by --column {one!r}, or {one.partition('=')[0] + '=-'!r} where it is to be passed over"
+        for heads, said in (
+            ("bag_ms,Frame size", "the column 'Frame size' may be " + or_by("smax or size", "Frame size=smax")),
+            ("bag_ms,smax,Period", "the column 'Period' may be " + or_by("period_ns, period_us, period_ms or period_s", "Period=period_ns")),
+            ("bag_ms,smax,Max jitter (us)", "the column 'Max jitter (us)' may be " + or_by("policing_jitter_us or jitter_us", "Max jitter (us)=policing_jitter_us")),
+            ("bag_ms,smax,Network", "the column 'Network' may be " + or_by("a or b", "Network=a")),
+            ("bag_ms,smax,Lmax", "has the column smax twice, as 'smax' and as 'Lmax'"),
+            ("bag_ms,smax,prioritty", "the column 'prioritty' is not known, and priority may be meant: write it so, or say what it is by --column 'prioritty=priority', or 'prioritty=-' where it is to be passed over"),
+            ("bag_ms,smax,Refresh periodd (ms)", "the column 'Refresh periodd (ms)' is not known, and period_ms may be meant: write it so, or say what it is by --column 'Refresh periodd (ms)=period_ms', or 'Refresh periodd (ms)=-' where it is to be passed over"),
+        ):
+            with self.subTest(heads):
+                found = self.faults(NODES + LINKS + f"id,source,destinations,{heads}\n1,ADC,DU,8,100,8\n")
+                self.assertEqual(found[0], f"table0.csv line 11: {said}")
+
+    def test_columns_that_words_name(self):
+        """They stand for what the words say, which the description keeps, and tables that are made of it."""
+        table = self.file("table.csv", NODES + LINKS + "id,Box,Sinks,Repetition,Size of frames,Period\n1,ADC,DU,8,100,x\n")
+        words = ["--column", "Box=source", "--column", "repetition=period_ms", "--column=Size of frames=smax", "--column", "Period=-"]
+        self.assertEqual(self.call(table, "-o", self.output, *words), (0, "", ""))
+        tree, text = toml_lines.read(read(self.output)), read(self.output)
+        self.assertEqual((tree["vl"][0]["a"], tree["vl"][0]["period_ns"], tree["vl"][0]["smax"]), ([["ADC", "SWA", "DU"]], 8 * 10**6, 100))
+        for said in ("box=source", "repetition=period_ms", "size_of_frames=smax", "period=-"):
+            self.assertIn(f'\n# --column "{said}"\n', text)
+        tables = os.path.join(self.folder, "back.csv")
+        self.assertEqual(self.call("--back", self.output, "-o", tables), (0, "", ""))
+        self.assertTrue(read(tables).startswith('# --column "box=source"\n# --column "size_of_frames=smax"\n'), read(tables))
+        self.assertIn("\nid,box,destinations,bag_ms,size_of_frames,", read(tables))
+        again = os.path.join(self.folder, "again.toml")
+        self.assertEqual(self.call(tables, "-o", again), (0, "", ""))
+        self.assertEqual(toml_lines.read(read(again)), tree)
+
+    def test_tables_that_are_of_something_else(self):
+        """A list of equipment is no table of nodes, and one remark is enough."""
+        tree, said = self.noted(NODES + LINKS + LINE.replace("smax", "smax,Remarks,Description").replace("100", "100,left,right"))
+        self.assertEqual((said, len(tree["node"])), (["table0.csv line 11: the column description is passed over: 'Remarks' is there as remarks"], 4))
+        self.assertIn("# remarks left\n", read(self.output))
+        os.unlink(self.output)
+        self.assertEqual(self.faults(NODES + LINKS + LINE, "LRU,Type,Description\nADC,computer,air data\n"), ["table1.csv line 1: names no columns of a table, but lru, type, description: --help has them"])
+        tree, _ = self.noted("Switch,Network,Latency (us)\nSWA,A,16\nSWB,B,16\n\n" + LINKS + LINE)
+        self.assertEqual([row.get("net") for row in tree["node"]], ["A", "B", None, None])
+
+    def test_words_about_columns_that_are_wrong(self):
+        table = self.file("table.csv", NODES + LINKS + LINE)
+        for word, status, said in (
+            ("Box=source", 1, f"from_table.py: {table}: no table has a column 'box' that --column can make 'source'"),
+            ("smax=mbit", 1, f"from_table.py: {table}: no table has a column 'smax' that --column can make 'mbit'"),
+            ("Box=sorce", 2, "'Box=sorce': there is no column 'sorce': see the columns above"),
+            ("=source", 2, "'=source' is not HEADING=COLUMN, as 'Tx LRU=source'"),
+            ("Box", 2, "'Box' is not HEADING=COLUMN, as 'Tx LRU=source'"),
+        ):
+            with self.subTest(word):
+                found = self.call(table, "-o", self.output, "--column", word)
+                self.assertEqual((found[0], os.path.exists(self.output)), (status, False))
+                self.assertTrue(found[2].rstrip("\n").endswith(said), found[2])
+        self.assertEqual(self.call("--back", table, "--column", "Box=source")[0], 2)
+
+    def test_a_fault_of_many_lines_is_told_once(self):
+        lines = "".join(f"{i},ADC,DU,10,100\n" for i in range(2, 70))
+        (said,) = self.faults(NODES + LINKS + LINE + lines)
+        wanted = "line 13: virtual link 2, bag_ms is 10, and must be 1, 2, 4, 8, 16, 32, 64 or 128. The next below 10 is 8; so have 67 more lines: 14, 15, 16, .."
+        self.assertEqual(said, "table0.csv " + wanted)
+
+    def test_decimal_commas(self):
+        """In a file that is parted by semicolons. The same mark stands in all of it."""
+        text = (NODES + LINKS).replace(",", ";") + "VL;Source;Destinations;Period (ms);Smax;Jitter (us);Max latency (us)\n7;ADC;DU;12,5;100;{};0,5\n"
+        tree, said = self.noted("Virtual links of the aircraft\n\n" + text.format("1,5"))
+        self.assertEqual((tree["vl"][0]["period_ns"], tree["vl"][0]["jitter_ns"]), (12_500_000, 1500))
+        os.unlink(self.output)
+        (said,) = self.faults(text.format("1.5"))
+        self.assertEqual(said, "table0.csv line 12: jitter_us is '1.5', and line 12 has a number with ',' in place of '.'")
+        (said,) = self.faults(NODES + LINKS + LINE.replace("smax", "smax,jitter_us").replace("100", '100,"1,5"'))
+        self.assertEqual(said, "table0.csv line 12: jitter_us is '1,5', and no number")
+
+    def test_limits_ports_and_remarks_come_back(self):
+        links = LINKS.replace("a,b", "a,b,remarks").replace("DU,SWB\n", 'DU,SWB,"long, and old"\nFWC,SWA\nFWC,SWB\n')
+        head = "id,source,dest,bag_ms,smax,limit_us,UDP source port,Dst port,Remarks\n"
+        lines = '1,ADC,DU,8,100,500,4001,5001,left\n2,DU,ADC,8,64,,,,look at ADC\n1,ADC,FWC,8,100,700,4001,5001,\n1,ADC,DU,8,100,500,,,"again, ""it"" at FWC"\n'
+        self.noted(NODES + links, head + lines)
+        tables, again = (os.path.join(self.folder, name) for name in ("back.csv", "again.toml"))
+        self.assertEqual(self.call("--back", self.output, "-o", tables), (0, "", ""))
+        self.assertEqual(self.call(tables, "-o", again)[:2], (0, ""))
+        said = [[line for line in read(it).split("\n") if line.startswith(("# limit", "# udp", "# remarks"))] for it in (self.output, again)]
+        self.assertEqual(len(said[0]), 8)
+        self.assertEqual(said[1], said[0])
+        self.assertEqual(toml_lines.read(read(again)), toml_lines.read(read(self.output)))
 
     def test_a_fault_of_a_line_that_was_joined(self):
         said = self.faults(NODES + LINKS + LINE.replace("smax", "smax,limit_us").replace("100", "100,1") + "1,ADC,DU,8,100,x\n")
@@ -353,6 +479,35 @@ class Workbooks(Here):
         path = self.of_rows(["id", "source", "destinations", "bag_ms", "smax"], [1, "ADC", "DU", 10, "x"])
         status, _, said = self.call(path)
         self.assertEqual((status, said.splitlines()[0]), (1, f"from_table.py: {path}, sheet Sheet, line 2: smax is 'x', and no whole number"))
+
+    def test_a_cell_that_was_left_behind(self):
+        """In the last row, or in the last column: neither time nor memory goes by the cells before it."""
+        rows = [["name", "net"], ["SWA", "A"], [], ["a", "b"], ["ADC", "SWA"], ["DU", "SWA"], [], ["id", "source", "destinations", "bag_ms", "smax"], [1, "ADC", "DU", 8, 100]]
+        for more, status, said in (
+            ("sheet['A1048576'] = 'x'\nsheet['XFD1'] = ''", 0, "note: {}, sheet Sheet, line 1048576: is a title, 'x', and is passed over"),
+            ("sheet['XFD1048576'] = 'x'", 0, "note: {}, sheet Sheet, line 1048576: is a title, 'x', and is passed over"),
+            ("sheet['XFD9'] = 'x'", 1, "{}, sheet Sheet, line 9: has 16384 cells, and the table has 5 columns"),
+        ):
+            with self.subTest(more):
+                path = self.of_rows(*rows, more=more)
+                little = lambda: resource.setrlimit(resource.RLIMIT_AS, (500_000_000, 500_000_000))
+                command = [sys.executable, os.path.join(HERE, "from_table.py"), path, "-o", self.output]
+                run = subprocess.run(command, capture_output=True, text=True, preexec_fn=little, timeout=60)
+                self.assertEqual((run.returncode, run.stderr), (status, f"from_table.py: {said.format(path)}\n"))
+
+    def test_what_is_hidden_is_noted(self):
+        rows = [["name", "net"], ["SWA", "A"], [], ["a", "b"], ["ADC", "SWA"], ["DU", "SWA"], [], ["id", "source", "destinations", "bag_ms", "smax"], [1, "ADC", "DU", 8, 100], [2, "ADC", "DU", 8, 100]]
+        more = "sheet.row_dimensions[9].hidden = sheet.row_dimensions[10].hidden = sheet.row_dimensions[11].hidden = True\n"
+        more += "sheet.column_dimensions['E'].hidden = True\nother = book.create_sheet('Old')\nother.append(['until_ns'])\nother.append([1000])\nother.sheet_state = 'hidden'"
+        path = self.of_rows(*rows, more=more)
+        status, _, said = self.call(path, "-o", self.output)
+        self.assertEqual(status, 0, said)
+        self.assertEqual(said.splitlines(), [
+            f"from_table.py: note: {path}, sheet Sheet, line 9: is hidden, and is read all the same; so has 1 more line: 10",
+            f"from_table.py: note: {path}, sheet Sheet,: has the column E, which is hidden, and is read all the same",
+            f"from_table.py: note: {path}, sheet Old,: is hidden, and is read all the same",
+        ])
+        self.assertEqual(len(toml_lines.read(read(self.output))["vl"]), 2)
 
     def test_a_formula_without_a_value(self):
         path = self.of_rows(["id", "smax"], [1, "=64+36"])

@@ -40,6 +40,7 @@ class Files(Here):
             plain.replace("DU_R", '"DU_R"').replace("101", ' "101" '.strip()),
             plain.replace("500000", "500_000"),
             *(f"VL,Destination,Limit ({unit})\n101,DU_R,{one}\n102,DU_L,{two}\n" for unit, (one, two) in units.items()),
+            "VLID;Rx LRU;Max latency (us)\n101;DU_R;500,0\n102;DU_L;10,5\n",
             "\ufeffmessage;limit_us;dest;vl\r\nAirspeed;500;DU_R;101\r\n;10.5;DU_L;102\r\nno limit;;FWC;101\r\n",
         ):
             with self.subTest(text):

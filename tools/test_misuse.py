@@ -2,6 +2,7 @@
 that it says. No call of it changes any file, and none leaves one."""
 import contextlib
 import hashlib
+import json
 import os
 import resource
 import shutil
@@ -34,6 +35,9 @@ FILES = {
 
 # Which tool, its words, the status, and what it says behind its name.
 READ = "would be written over what was read as {}; nothing is written"
+TWICE = "would be written over {}, which is written too; nothing is written"
+NO_FILE = "is no file: without -o most tools write to standard output, and ./- is a file of this name"
+WINDOWS = "ends with CR LF, as all lines do that Windows writes, and the program writes LF: sed -i 's/\\r$//' mends the file"
 ROWS = [
     # What is read is never written over.
     ("report net.toml tables.csv -o net.toml", 2, "net.toml: " + READ.format("net.toml")),
@@ -48,6 +52,10 @@ ROWS = [
     ("report net.toml tables.csv --against tables.csv -o tables.csv", 2, "tables.csv: " + READ.format("tables.csv")),
     ("bounds net.toml -o net.toml", 2, "net.toml: " + READ.format("net.toml")),
     ("bounds net.toml -o link.toml", 2, "link.toml: " + READ.format("net.toml")),
+    ("bounds net.toml --fit net.toml", 2, "net.toml: " + READ.format("net.toml")),
+    ("bounds net.toml --fit ./DIR/../link.toml", 2, "./DIR/../link.toml: " + READ.format("net.toml")),
+    ("bounds hard.toml --fit net.toml", 2, "net.toml: " + READ.format("hard.toml")),
+    ("bounds net.toml --fit /dev/full", 2, "/dev/full: cannot be written: No space left on device"),
     ("bounds net.toml >> net.toml", 2, "standard output: " + READ.format("net.toml")),
     ("explain net.toml >> link.toml", 2, "standard output: " + READ.format("net.toml")),
     ("from_table net.csv -o net.csv", 2, "net.csv: " + READ.format("net.csv")),
@@ -134,10 +142,43 @@ ROWS = [
     ("long_form net.toml trace.csv", 2, "trace.csv line 1: the columns are not those of tables: table,vl,where,cause,count,least_ns,greatest_ns,sum_ns"),
     ("campaign net.toml --set vl.1.depth=1,2 -o LINKED", 2, "LINKED/merged.csv: " + READ.format("net.toml")),
     ("campaign net.toml --aim 1 -o LINKED", 2, "LINKED/merged.csv: " + READ.format("net.toml")),
-    ("campaign net.toml --aim 2 -o DIR", 2, "net.toml line 30: --aim 2: there is no such virtual link"),
+    ("campaign net.toml --aim 2 -o DIR --replace", 2, "net.toml line 30: --aim 2: there is no such virtual link"),
     ("report net.toml tables.csv --hops huge_hops.csv -o new.html", 2, "huge_hops.csv line 2: count has 5,000 digits, and may have 100"),
     ("report net.toml tables.csv --hops huge_vl.csv -o new.html", 2, "huge_vl.csv line 2: the virtual link has 5,000 digits, and may have 100"),
     ("bounds long.toml -o new.csv", 2, "long.toml line 20: link 1 a names " + "x" * 60 + ".. of 5,000 characters, which is no node"),
+    # Two outputs of one name, however it is spelled; and what cannot be written is said before the first run, which the program
+    # here would tell of by a file. HAS_A_FOLDER has one called merged.csv.
+    ("second_opinion net.toml --trace new.csv --hops new.csv", 2, "new.csv: " + TWICE.format("new.csv")),
+    ("second_opinion net.toml --trace one.csv --hops DOUBLE/merged.csv", 2, "DOUBLE/merged.csv: " + TWICE.format("one.csv")),
+    ("second_opinion net.toml --trace hard.csv --hops tables.csv", 2, "tables.csv: " + TWICE.format("hard.csv")),
+    ("report net.toml tables.csv --limits limits.csv --junit page.html -o page.html", 2, "page.html: " + TWICE.format("page.html")),
+    ("report net.toml tables.csv --limits limits.csv --junit ./page.html -o page.html", 2, "./page.html: " + TWICE.format("page.html")),
+    ("bounds net.toml -o new.csv --limits limits.csv --junit new.csv", 2, "new.csv: " + TWICE.format("new.csv")),
+    ("campaign net.toml --seeds 1 -o /proc/self", 2, "/proc/self/campaign.json: cannot be written: No such file or directory"),
+    ("campaign net.toml --seeds 1 -o limits.csv/runs", 2, "limits.csv/runs: cannot be made: Not a directory"),
+    ("campaign net.toml --seeds 1 -o HAS_A_FOLDER --replace", 2, "HAS_A_FOLDER/merged.csv: cannot be written: Is a directory"),
+    ("campaign net.toml --seeds 1 -o DIR", 2, "DIR: has files of an earlier campaign: merged.csv, seed-42.toml. Name another folder, or --replace them"),
+    ("second_opinion huge_run.toml --trace none/trace.csv", 2, "none/trace.csv: cannot be written: No such file or directory"),
+    # Standard output is no file.
+    ("report net.toml tables.csv -o -", 2, "-: " + NO_FILE),
+    ("pcap net.toml trace.csv -o -", 2, "-: " + NO_FILE),
+    ("second_opinion net.toml --trace -", 2, "-: " + NO_FILE),
+    ("campaign net.toml --seeds 1 -o -", 2, "-: is no folder: what a campaign writes are files, and ./- is a folder of this name"),
+    # Outages after the end of the run, lines of Windows, and records of earlier versions.
+    ("campaign net.toml --each-outage 2000001 -o NEW", 2, "net.toml line 1: --each-outage 2000001: the run ends before that, at 2000000 ns"),
+    ("report net.toml windows.csv -o page.html", 2, "windows.csv line 1: " + WINDOWS),
+    ("report net.toml tables.csv --trace windows_trace.csv -o page.html", 2, "windows_trace.csv line 1: " + WINDOWS),
+    ("pcap net.toml windows_trace.csv -o new.pcapng", 2, "windows_trace.csv line 1: " + WINDOWS),
+    ("report net.toml EARLIER -o page.html", 2, "EARLIER/campaign.json: is no record of a campaign: it has no files. Run the campaign anew: an earlier version wrote this"),
+    ("report net.toml WRONG -o page.html", 2, "WRONG/campaign.json: is no record of a campaign: program is \"{{'name': 1}}\""),
+    (
+        "from_table misspelt.csv -o new.toml", 1,
+        "misspelt.csv line 1: the column 'prioritty' is not known, and priority may be meant: write it so, or say what it is by --column "
+        "'prioritty=priority', or 'prioritty=-' where it is to be passed over",
+    ),
+    ("from_table two.csv net.csv --column Box=source -o new.toml", 2, "two.csv: cannot be read: No such file or directory"),
+    ("from_table net.csv --column Box=source -o new.toml", 1, "net.csv: no table has a column 'box' that --column can make 'source'"),
+    ("from_table twofold.csv -o new.toml", 1, "twofold.csv line 3: virtual link 1 is in line 2 too, and bag_ms is '16' here and '8' there"),
     ("from_table broken.xlsx -o new.toml", 2, "broken.xlsx: is no workbook that can be read: BadZipFile: File is not a zip file"),
 ]
 
@@ -193,16 +234,25 @@ class Rows(unittest.TestCase):
         texts |= {"huge_hops.csv": hops.format(1, huge), "huge_vl.csv": hops.format(huge, 1)}
         texts["long.toml"] = net.replace('a = "ES1"', f'a = "{"x" * 5000}"')
         texts["huge_limits.csv"] = f"1,ES2,{huge}\n"
+        vls = "id,source,destinations,bag_ms,smax,a"
+        texts["misspelt.csv"] = f"{vls},prioritty\n1,ES1,ES2,8,64,ES1 SW1 ES2,high\n\nname,net\nSW1,A\n\na,b\nES1,SW1\nES2,SW1\n"
+        texts["twofold.csv"] = f"{vls}\n1,ES1,ES2,8,64,ES1 SW1 ES2\n1,ES1,ES2,16,64,ES1 SW1 ES2\n\nname,net\nSW1,A\n\na,b\nES1,SW1\nES2,SW1\n"
         texts["empty_limits.csv"] = "# none\n"
         texts["huge.toml"] = f"until_ns = {huge}\nseed = 1\n"
         texts["deep.toml"] = "until_ns = " + "[" * 100_000
-        for name in ("DIR", "LINKED", "DOUBLE", "RUNS", "BAD", "DEEP", "LACKS"):
+        for name in ("DIR", "LINKED", "DOUBLE", "RUNS", "BAD", "DEEP", "LACKS", "EARLIER", "WRONG", "HAS_A_FOLDER", "HAS_A_FOLDER/merged.csv"):
             os.mkdir(self.path(name))
         texts |= {"BAD/campaign.json": "", "DEEP/campaign.json": "[" * 100_000, "LACKS/campaign.json": "{}"}
-        texts |= {f"{name}/merged.csv": "" for name in ("BAD", "DEEP", "LACKS")}
+        record = {"description": "", "program": "afdxsim 0.1.0", "until_ns": 1, "first_seed": 1, "seeds": 1, "offsets": False, "words": []}
+        texts |= {"EARLIER/campaign.json": json.dumps(record), "WRONG/campaign.json": json.dumps(record | {"program": {"name": 1}, "files": {}})}
+        texts |= {f"{name}/merged.csv": "" for name in ("BAD", "DEEP", "LACKS", "EARLIER", "WRONG")}
+        texts |= {"windows.csv": texts["tables.csv"].replace("\n", "\r\n"), "windows_trace.csv": texts["trace.csv"].replace("\n", "\r\n")}
+        # What would take minutes, where it began.
+        texts["huge_run.toml"] = net.replace("until_ns = 2000000", "until_ns = 10000000000").replace("period_ns = 1000000000000", "period_ns = 1000")
         for name, text in texts.items():
-            with open(self.path(name), "w", encoding="utf-8") as out:
+            with open(self.path(name), "w", encoding="utf-8", newline="") as out:
                 out.write(text)
+        os.link(self.path("tables.csv"), self.path("hard.csv"))
         os.chmod(self.path("afdxsim"), 0o755)
         os.symlink("net.toml", self.path("link.toml"))
         os.link(self.path("net.toml"), self.path("hard.toml"))

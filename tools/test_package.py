@@ -181,7 +181,7 @@ class Packages(Package):
             record = json.load(file)
         self.assertEqual(record, {
             "version": program.version(TOP), "commit": self.git("rev-parse", "HEAD").strip(), "kit": KIT,
-            "gate": "7 passed, 0 failed", "sources": program.sum_of_sources(KIT, self.clone),
+            "logic": KIT.split(" ")[-1], "gate": "7 passed, 0 failed", "sources": program.sum_of_sources(KIT, self.clone),
             "program": program.sum_of_file(self.built), "judged": program.sum_of_judged(KIT, self.clone),
         })
 

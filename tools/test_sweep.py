@@ -118,7 +118,7 @@ class Sweeps(Here):
         for words in (
             ["--set", "vl.1.bag=4"], ["--set", "vl.1.a=4"], ["--set", "vl.x.bag_ms=4"], ["--set", "vl.1.bag_ms"],
             ["--set", "vl.1.bag_ms=4,,8"], ["--set", "vl.1.bag_ms=4,4"], ["--set", "vl.1.size=9", "--aim", "1"],
-            ["--aim", "1", "--offsets"], ["--aim", "65536"], ["--until", "0"],
+            ["--aim", "1", "--offsets"], ["--aim", "65536"], ["--aim", "every"], ["--aim", "all", "--aim", "1"], ["--until", "0"],
         ):
             with self.subTest(words), self.assertRaises(SystemExit) as ended:
                 self.call(N1, "--seeds", "1", *words)
@@ -189,6 +189,37 @@ class Aims(Here):
             self.assertGreaterEqual(int(row["aimed_ns"]), int(row["frame_ns"]) - 200)
             frames.setdefault((row["where"], row["network"]), set()).add(row["frame_ns"])
         self.assertEqual({len(it) for it in frames.values()}, {1})
+
+    def test_each_limit_is_tried(self):
+        """Aimed runs break a limit that drawn offsets keep, and the status says so."""
+        short = ["--until", "100000000"]
+        limits = self.file("limits.csv", "301,DU_L,200000\n301,DU_R,400000\n101,FMC1,10000000\n")
+        status, out, _ = self.call(COCKPIT, "--seeds", "4", "--offsets", "--limits", limits, *short)
+        self.assertEqual((status, "limits: 3, broken: 0" in out), (0, True), out)
+        status, out, said = self.call(COCKPIT, "--aim", "all", "--limits", limits, "--jobs", "2", *short)
+        self.assertEqual((status, said), (1, ""), out)
+        rows = self.rows()
+        self.assertEqual({(row["vl"], row["where"], row["network"]) for row in rows}, {(vl, where, side) for vl, where in (("301", "DU_L"), ("301", "DU_R"), ("101", "FMC1")) for side in "AB"})
+        worst = max((row for row in rows if row["where"] == "DU_L"), key=lambda row: int(row["aimed_ns"]))
+        wanted = f"limits: 3, tried: 3, broken: 1\nlimit broken: virtual link 301 at DU_L has 200000 ns, and took {worst['aimed_ns']} ns aimed at by network {worst['network']} with the seed 7\n"
+        self.assertTrue(out.endswith(wanted), out)
+        # Of one virtual link its own limits are tried alone, and one process finds the same offsets.
+        status, out, _ = self.call(COCKPIT, "--aim", "301", "--limits", limits, "--jobs", "1", *short)
+        self.assertEqual(status, 1)
+        self.assertIn("limits: 3, tried: 2, broken: 1\n", out)
+        self.assertTrue(out.endswith("limit not tried: virtual link 101 at FMC1\n"))
+        self.assertEqual([row for row in self.rows() if row["where"] != "DU_C"], [row for row in rows if row["vl"] == "301"])
+        kept = self.file("kept.csv", "301,DU_L,900000\n")
+        self.assertEqual(self.call(COCKPIT, "--aim", "all", "--limits", kept, *short)[0], 0)
+
+    def test_all_of_a_small_network(self):
+        status, out, _ = self.call(N1, "--aim", "all")
+        self.assertEqual((status, [(row["vl"], row["where"]) for row in self.rows()]), (0, [("1", "ES2")]))
+
+    def test_a_limit_that_no_frame_can_break(self):
+        path = self.file("net.toml", read(N1).replace("size = 64", "size = 65"))
+        told = f"campaign.py: {path}: no frame of the aimed virtual links arrives: size is above smax\n"
+        self.assertEqual(self.call(path, "--aim", "all", "--limits", self.file("limits.csv", "1,ES2,5\n")), (2, "", told))
 
     def test_a_run_that_is_too_short(self):
         status, _, said = self.call(COCKPIT, "--aim", "301", "--until", "100000")

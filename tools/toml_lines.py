@@ -92,8 +92,11 @@ def is_moment(text):
 
 
 class Reader:
-    def __init__(self, text):
-        self.text = text
+    """Reads a text. Of the keys that are named it notes where in the text their values stand, by the identity of the table
+    and the name of the key: from where and up to where."""
+
+    def __init__(self, text, keys=()):
+        self.text, self.keys, self.places = text, keys, {}
         self.counted, self.line = 0, 1
 
     def line_at(self, place):
@@ -125,6 +128,8 @@ class Reader:
             if plain and plain[1] not in here:
                 here[plain[1]] = plain[2][1:-1] if plain[2] else int(plain[3])
                 here.lines[plain[1]] = self.line_at(place)
+                if plain[1] in self.keys:
+                    self.places[id(here), plain[1]] = plain.span(2 if plain[2] else 3)
                 place = plain.end()
                 continue
             begin = place
@@ -187,7 +192,8 @@ class Reader:
         if not self.text.startswith("=", place):
             self.refuse(place, f"there is {self.shown(place)} after the key {'.'.join(parts)!r}, and not =")
         line = self.line_at(begin)
-        value, place = self.value(SPACE.match(self.text, place + 1).end(), depth)
+        value_begin = SPACE.match(self.text, place + 1).end()
+        value, place = self.value(value_begin, depth)
         for part in parts[:-1]:
             if part not in table:
                 table[part], table.lines[part] = Table(line, "dotted"), line
@@ -199,6 +205,8 @@ class Reader:
         if parts[-1] in table:
             self.refuse(begin, f"the key {parts[-1]!r} is there already, in line {table.lines[parts[-1]]}")
         table[parts[-1]], table.lines[parts[-1]] = value, line
+        if parts[-1] in self.keys:
+            self.places[id(table), parts[-1]] = value_begin, place
         return place
 
     def key(self, begin):

@@ -28,7 +28,8 @@ def is_workbook(path):
 
 
 def sheets_of(path):
-    """The name of each sheet that has cells, and its rows from the first on, as lists of texts."""
+    """The sheets that have cells, each with its name, its rows that are not empty, with their numbers, as lists of texts, and
+    what of it is hidden."""
     files.reads(path)
     if importlib.util.find_spec("openpyxl"):
         found = read(path)
@@ -59,6 +60,56 @@ def text_of(value):
     return str(value).strip()
 
 
+def numbered(rows):
+    """The rows of a sheet with their numbers, and an empty one where some are left out between."""
+    last = 0
+    for number, cells in rows:
+        if number > last + 1:
+            yield last + 1, []
+        yield number, cells
+        last = number
+
+
+def texts_of(sheet):
+    """The texts of the cells that a sheet has, by row and column. Only those that are there are looked at: one cell that
+    was left behind in the last row of a sheet has a million empty ones before it."""
+    found = {}
+    for (row, column), cell in sheet._cells.items():
+        text = text_of(cell.value)
+        if text:
+            found.setdefault(row, {})[column] = text
+    last = max(found, default=0)
+    for span in sheet.merged_cells.ranges:
+        text = found.get(span.min_row, {}).get(span.min_col)
+        for row in range(span.min_row + 1, min(span.max_row, last + 1) + 1) if text else ():
+            found.setdefault(row, {})[span.min_col] = text
+    return found
+
+
+def rows_of(texts):
+    """The rows that have a text, each with its number and its cells up to the last one."""
+    return [[row, [texts[row].get(column, "") for column in range(1, max(texts[row]) + 1)]] for row in sorted(texts)]
+
+
+def hidden_of(sheet, texts):
+    """What of a sheet its reader does not see: for each piece the line, or None, and what it is."""
+    found = [[None, "is hidden"]] if sheet.sheet_state != "visible" else []
+    found += [[row, "is hidden"] for row in sorted(texts) if row in sheet.row_dimensions and sheet.row_dimensions[row].hidden]
+    used = {column for cells in texts.values() for column in cells}
+    for name, column in sheet.column_dimensions.items():
+        if column.hidden and any(column.min <= it <= column.max for it in used):
+            found.append([None, f"has the column {name}, which is hidden"])
+    return found
+
+
+def formula_without_value(sheet, values):
+    """The first cell with a formula of which no value is saved, or None."""
+    for (row, column), cell in sorted(sheet._cells.items()):
+        if cell.data_type == "f" and ((row, column) not in values._cells or values._cells[row, column].value is None):
+            return cell.coordinate
+    return None
+
+
 def read(path):
     """The sheets of a workbook, or what is wrong with it."""
     import openpyxl
@@ -68,17 +119,13 @@ def read(path):
         values, formulas = (openpyxl.load_workbook(path, data_only=is_value) for is_value in (True, False))
         sheets = []
         for sheet in values.worksheets:
-            rows = [[text_of(cell.value) for cell in row] for row in sheet.iter_rows()]
-            for row in formulas[sheet.title].iter_rows():
-                for cell in row:
-                    if cell.data_type == "f" and sheet[cell.coordinate].value is None:
-                        text = f"sheet {sheet.title}, cell {cell.coordinate}, is a formula without a value"
-                        return {"fault": text + ": open and save it in the program that has made it"}
-            for span in sheet.merged_cells.ranges:
-                for i in range(span.min_row, span.max_row):
-                    rows[i][span.min_col - 1] = rows[span.min_row - 1][span.min_col - 1]
-            if any(any(row) for row in rows):
-                sheets.append([sheet.title, rows])
+            lacking = formula_without_value(formulas[sheet.title], sheet)
+            if lacking:
+                text = f"sheet {sheet.title}, cell {lacking}, is a formula without a value"
+                return {"fault": text + ": open and save it in the program that has made it"}
+            texts = texts_of(sheet)
+            if texts:
+                sheets.append({"name": sheet.title, "rows": rows_of(texts), "hidden": hidden_of(sheet, texts)})
         return {"sheets": sheets}
     except Exception as fault:  # The library raises what its own libraries raise.
         return {"fault": f"is no workbook that can be read: {type(fault).__name__}: {' '.join(str(fault).split())}"}
