@@ -1,5 +1,5 @@
 -- Where a number stands among rising ones.
-use Rattle.std.proofs.Common.{◌≡◌, ℕ, zero, suc, ◌<◌, ◌≤◌, ◌==◌, Less, Equal, Greater, Bool, true, false, cond, List, [], ◌∷◌, length, map, get_or, slice_get, slice_set, slice_index_or, Option, Some, None, IfSome, option_map, option_and_then, ◌+◌, Result, Ok, Err, refl, sym, subst, ap, ◌∙◌, inl, inr, arith, add-one, nat_cmp}
+use Rattle.std.proofs.Common.{◌≡◌, ℕ, zero, suc, ◌<◌, ◌≤◌, ◌==◌, Less, Equal, Greater, Bool, true, false, cond, List, [], ◌∷◌, length, map, get_or, slice_get, slice_set, slice_index_or, Option, Some, None, IfSome, option_map, option_and_then, ◌+◌, Result, Ok, Err, refl, sym, ap, ◌∙◌, inl, inr, arith, add-one, nat_cmp, map-id}
 use Rattle.std.specs.Result.{result_ok}
 use Rattle.std.specs.List.Sorted.{IsSearchInRange, IsBinarySearchResult, IsNonDecreasingBy}
 use Rattle.std.specs.Ordering.{ordering_index}
@@ -10,7 +10,7 @@ use Rattle.std.proofs.lemmas.List.{get_or-map, length-map}
 use Rattle.std.proofs.lemmas.List.Sorted.{IsNonDecreasingBy-from_default}
 use Rattle.std.proofs.lemmas.Map.Keys.{below_from_sorted, sorted_tail, non_decreasing_from_sorted}
 use Rattle.std.proofs.lemmas.Option.{none-some, same_Some, slice_get-get_or}
-use Rattle.nodes.specs.Words.{place_of, find, found_at, IsRising}
+use Rattle.nodes.specs.Words.{place_of, find, found_at, IsRising, AreNumbers}
 
 -- the number at a place is found there, since each one before it is less
 pub place-there : (numbers : List ℕ) (id i : ℕ) → IsRising numbers → i < length numbers → get_or numbers i 0 ≡ id → place_of numbers id ≡ Some i
@@ -89,12 +89,23 @@ found-read number searched read xs id i x same inside placed is =
     let there : slice_get read i ≡ Some x = slice_get-get_or read i x within ∙ ap (λ y. Some y) (sym is) in
     ap (λ xs. find number xs id) (sym inside) ∙ ap (option_and_then (found_at read)) (sym here) ∙ ap (option_map (λ x. record { place = i; entry = x })) there
 
--- the numbers still rise when an entry is set where one with the same number was read
-pub rising-kept : {X : Type 0} (number : X → ℕ) (xs : List X) (i : ℕ) (x y : X) → x ≡ slice_index_or xs i x → number y ≡ number x →
-    IsRising (map number xs) → IsRising (map number (slice_set xs i y))
-rising-kept number xs i x y is same rising = subst IsRising (sym (map-set_same number xs i y x (same ∙ ap number is))) rising
+-- the numbers stay when an entry is set where one with the same number was read
+pub numbers-kept : {X : Type 0} (number : X → ℕ) (xs : List X) (numbers : List ℕ) (i : ℕ) (x y : X) → x ≡ slice_index_or xs i x → number y ≡ number x →
+    AreNumbers number xs numbers → AreNumbers number (slice_set xs i y) numbers
+numbers-kept number xs numbers i x y is same are = record {
+  rising = are.rising;
+  listed = are.listed ∙ sym (map-set_same number xs i y x (same ∙ ap number is));
+}
 
-pub ruleset numbers_stay = (rising-kept)
+pub ruleset numbers_stay = (numbers-kept)
+
+-- the numbers as a search reads them
+pub numbers-read : {X : Type 0} (number : X → ℕ) (xs : List X) (numbers read : List ℕ) → read ≡ numbers → AreNumbers number xs numbers → map (λ n. n) read ≡ map number xs
+numbers-read number xs numbers read same are = map-id read ∙ same ∙ are.listed
+
+-- there are as many as entries
+pub numbers-length : {X : Type 0} (number : X → ℕ) (xs : List X) (numbers read : List ℕ) → read ≡ numbers → AreNumbers number xs numbers → length read ≡ length xs
+numbers-length number xs numbers read same are = ap (λ (ns : List ℕ). length ns) (same ∙ are.listed) ∙ length-map xs number
 
 -- a place that a search answers is one of the list
 pub ok-within : (r : Result ℕ ℕ) (n : ℕ) → IsSearchInRange r n → IfSome (result_ok r) (λ i. i < n)

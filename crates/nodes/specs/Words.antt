@@ -7,7 +7,7 @@ pub use Rattle.nodes.specs.laws.Places.{found-there}
 pub use Rattle.nodes.specs.laws.Ports.{put-kept}
 pub use Rattle.nodes.specs.laws.Undoing.{source-last, switch-port-last, transit-last}
 pub use Rattle.nodes.specs.rules.EndSystem.{EndSystemState, asked, check_of, copied_reply, ending_on, full, is_on, lost, received, reception_at, reception_number, regulated, released_kept, released_out, released_reply, source_at, source_number}
-pub use Rattle.nodes.specs.rules.Finding.{Found, IsRising, find, found_at, place_of}
+pub use Rattle.nodes.specs.rules.Finding.{AreNumbers, Found, IsRising, find, found_at, place_of}
 pub use Rattle.nodes.specs.rules.Line.{LineState}
 pub use Rattle.nodes.specs.rules.Meeting.{first_port, is_by, meeting, meetings, ways_at, with_ways}
 unfoldable pub use Rattle.nodes.specs.rules.Meeting.{ports_by}

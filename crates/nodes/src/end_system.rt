@@ -5,7 +5,7 @@ ghost use Rattle.vlink.specs.Numbering.{greatest_number};
 ghost use Rattle.vlink.specs.declared.note.Cause.TheVariants.{Unknown};
 ghost use Rattle.bag_regulator.specs.declared.event.RegEvent.TheVariants.{Offer};
 ghost use Rattle.reverse.specs.Sending.{replied};
-ghost use Rattle.nodes.specs.rules.Finding.{Found, IsRising};
+ghost use Rattle.nodes.specs.rules.Finding.{AreNumbers, Found, place_of};
 ghost use Rattle.nodes.specs.declared.source.Source.{Source};
 ghost use Rattle.nodes.specs.declared.reception.Reception.{Reception};
 ghost use Rattle.nodes.specs.rules.Ports.{port_at};
@@ -32,32 +32,43 @@ use vlink::{Body, Cause, Frame, FrameSize, Message, Net, Time, VlId};
 #[derive(Drop)]
 pub struct EndSystem {
     sources: Vec<Source>,
+    /// The numbers of the virtual links that it sends.
+    sent: Vec<u16>,
     receptions: Vec<Reception>,
+    /// The numbers of those that it receives.
+    received: Vec<u16>,
     ports: Ports,
 }
 
 impl Model for EndSystem {
-    ghost use Rattle.std.specs.Prelude.{map};
-    ghost use Rattle.nodes.specs.rules.Finding.{IsRising};
+    ghost use Rattle.nodes.specs.rules.Finding.{AreNumbers};
     ghost use Rattle.nodes.specs.rules.EndSystem.{EndSystemState, source_number, reception_number};
 
     ghost Value = { EndSystemState };
 
     ghost view = { λ s. record { sources = s.sources.items; receptions = s.receptions.items; ports = s.ports } };
 
-    ghost invariant = { λ s. IsRising (map source_number s.sources.items) × IsRising (map reception_number s.receptions.items) };
+    ghost invariant = { λ s. AreNumbers source_number s.sources.items s.sent.items × AreNumbers reception_number s.receptions.items s.received.items };
 }
 
 impl EndSystem {
     /// An end system of these parts.
-    pub(crate) fn new(sources: Vec<Source>, receptions: Vec<Reception>, ports: Ports) -> Self
-        requires sources { IsRising (map source_number sources.items) }
-        requires receptions { IsRising (map reception_number receptions.items) }
+    pub(crate) fn new(
+        sources: Vec<Source>,
+        sent: Vec<u16>,
+        receptions: Vec<Reception>,
+        received: Vec<u16>,
+        ports: Ports,
+    ) -> Self
+        requires sources { AreNumbers source_number sources.items sent.items }
+        requires receptions { AreNumbers reception_number receptions.items received.items }
         ensures { result ≡ record { sources = sources.items; receptions = receptions.items; ports = ports } }
     {
         EndSystem {
             sources,
+            sent,
             receptions,
+            received,
             ports,
         }
     }
@@ -140,7 +151,7 @@ impl EndSystem {
         ensures change { result ≡ (regulated out.old.sender.number at event.now (lost Unknown event.now) self.old (source_at self.old vl)).change }
         ensures last { IsLastOfEndSystem result self.new }
     {
-        let Some(place) = place_of(self.sources.as_slice(), vl) else {
+        let Some(place) = self.source(vl) else {
             lose_offered(Cause::Unknown, event, out);
             return Change::Nothing;
         };
@@ -173,7 +184,7 @@ impl EndSystem {
     pub fn regulator(&self, vl: VlId) -> Option<&BagRegulator>
         ensures { option_copied result ≡ option_map (λ (found : Found Source). found.entry.regulator) (source_at self.now vl) }
     {
-        let place = place_of(self.sources.as_slice(), vl)?;
+        let place = self.source(vl)?;
         Some(&self.sources[place].regulator)
     }
 
@@ -184,13 +195,33 @@ impl EndSystem {
         self.ports.port(port)
     }
 
+    /// The place of a virtual link among those that the end system sends.
+    #[inline(always)]
+    fn source(&self, vl: VlId) -> Option<usize>
+        ensures place { result ≡ place_of (map source_number self.now.sources) vl.0 }
+        ensures within { IfSome result (λ place. place < length self.now.sources) }
+        ensures small { IfSome result (λ place. place < 2 ^ 16) }
+    {
+        place_of(self.sent.as_slice(), vl)
+    }
+
+    /// The place of a virtual link among those that the end system receives.
+    #[inline(always)]
+    fn ending(&self, vl: VlId) -> Option<usize>
+        ensures place { result ≡ place_of (map reception_number self.now.receptions) vl.0 }
+        ensures within { IfSome result (λ place. place < length self.now.receptions) }
+        ensures small { IfSome result (λ place. place < 2 ^ 16) }
+    {
+        place_of(self.received.as_slice(), vl)
+    }
+
     /// The place of a virtual link that ends here on this network among those that the end system receives.
     #[inline(always)]
     fn reception(&self, vl: VlId, net: Net) -> Option<usize>
         ensures place { result ≡ option_map (λ (found : Found Reception). found.place) (reception_at self.now vl net) }
         ensures small { IfSome result (λ place. place < 2 ^ 16) }
     {
-        let place = place_of(self.receptions.as_slice(), vl)?;
+        let place = self.ending(vl)?;
         if self.receptions[place].end.is_on(net) {
             Some(place)
         } else {

@@ -10,6 +10,7 @@ mod wiring;
 
 use crate::end_system::EndSystem;
 use crate::equipment::Equipment;
+use crate::finding::numbers_of;
 use crate::line::Line;
 use crate::node::Node;
 use crate::switch::Switch;
@@ -31,10 +32,17 @@ fn end_system(
 {
     let sent = meetings(alloc, network, node, Side::Out)?;
     let received = meetings(alloc, network, node, Side::In)?;
+    let sources = sources_of(alloc, &sent)?;
+    let receptions = receptions_of(alloc, &received)?;
+    let source_numbers = numbers_of(alloc, sources.as_slice())?;
+    let reception_numbers = numbers_of(alloc, receptions.as_slice())?;
+    let ports = ports_of(alloc, network, node, 2, bytes)?;
     Ok(EndSystem::new(
-        sources_of(alloc, &sent)?,
-        receptions_of(alloc, &received)?,
-        ports_of(alloc, network, node, 2, bytes)?,
+        sources,
+        source_numbers,
+        receptions,
+        reception_numbers,
+        ports,
     ))
 }
 
@@ -52,11 +60,10 @@ fn switch(
     network.accepted_law();
     let arriving = meetings(alloc, network, node, Side::In)?;
     let departing = meetings(alloc, network, node, Side::Out)?;
-    Ok(Switch::new(
-        latency_ns,
-        transits_of(alloc, &arriving, &departing)?,
-        ports_of(alloc, network, node, GREATEST_PORTS, bytes)?,
-    ))
+    let transits = transits_of(alloc, &arriving, &departing)?;
+    let numbers = numbers_of(alloc, transits.as_slice())?;
+    let ports = ports_of(alloc, network, node, GREATEST_PORTS, bytes)?;
+    Ok(Switch::new(latency_ns, transits, numbers, ports))
 }
 
 /// A line, with its outages.

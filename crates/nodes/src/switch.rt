@@ -1,9 +1,9 @@
 //! A switch: policing, delay and output ports in one process.
-ghost use Rattle.std.specs.Prelude.{◌≡◌, ◌+◌, ◌≤◌, [], map, slice_get, IfSome};
+ghost use Rattle.std.specs.Prelude.{◌≡◌, ◌+◌, ◌<◌, ◌≤◌, ◌^◌, [], length, map, slice_get, IfSome};
 ghost use Rattle.std.specs.Option.{option_copied, option_map};
 ghost use Rattle.vlink.specs.Numbering.{greatest_number};
 ghost use Rattle.reverse.specs.Sending.{replied};
-ghost use Rattle.nodes.specs.rules.Finding.{Found, IsRising};
+ghost use Rattle.nodes.specs.rules.Finding.{AreNumbers, Found, place_of};
 ghost use Rattle.nodes.specs.declared.transit.Transit.{Transit};
 ghost use Rattle.nodes.specs.rules.Ports.{port_at};
 ghost use Rattle.nodes.specs.rules.Switch.{entered, entered_kept, entered_reply, forwarded, judged, outputs_of, switch, taken_in, put, transit_at, transit_number};
@@ -28,30 +28,37 @@ use vlink::{Body, Cause, Frame, Message, Time, VlId};
 pub struct Switch {
     latency_ns: u32,
     transits: Vec<Transit>,
+    /// The numbers of these virtual links.
+    numbers: Vec<u16>,
     ports: Ports,
 }
 
 impl Model for Switch {
-    ghost use Rattle.std.specs.Prelude.{map};
-    ghost use Rattle.nodes.specs.rules.Finding.{IsRising};
+    ghost use Rattle.nodes.specs.rules.Finding.{AreNumbers};
     ghost use Rattle.nodes.specs.rules.Switch.{SwitchState, transit_number};
 
     ghost Value = { SwitchState };
 
     ghost view = { λ s. record { latency = s.latency_ns; transits = s.transits.items; ports = s.ports } };
 
-    ghost invariant = { λ s. IsRising (map transit_number s.transits.items) };
+    ghost invariant = { λ s. AreNumbers transit_number s.transits.items s.numbers.items };
 }
 
 impl Switch {
     /// A switch of these parts.
-    pub(crate) fn new(latency_ns: u32, transits: Vec<Transit>, ports: Ports) -> Self
-        requires { IsRising (map transit_number transits.items) }
+    pub(crate) fn new(
+        latency_ns: u32,
+        transits: Vec<Transit>,
+        numbers: Vec<u16>,
+        ports: Ports,
+    ) -> Self
+        requires { AreNumbers transit_number transits.items numbers.items }
         ensures { result ≡ record { latency = latency_ns; transits = transits.items; ports = ports } }
     {
         Switch {
             latency_ns,
             transits,
+            numbers,
             ports,
         }
     }
@@ -123,7 +130,7 @@ impl Switch {
         ensures change { result ≡ (taken_in out.old.sender.number at port frame.now self.old (transit_at self.old frame.now.vl)).change }
         ensures last { IsLastOfSwitch result self.new }
     {
-        let Some(place) = place_of(self.transits.as_slice(), frame.vl) else {
+        let Some(place) = self.place(frame.vl) else {
             out.lose(Cause::Unknown, frame);
             return Change::Nothing;
         };
@@ -157,8 +164,18 @@ impl Switch {
     fn priority(&self, vl: VlId) -> Option<Priority>
         ensures { result ≡ option_map (λ (found : Found Transit). found.entry.priority) (transit_at self.now vl) }
     {
-        let place = place_of(self.transits.as_slice(), vl)?;
+        let place = self.place(vl)?;
         Some(self.transits[place].priority)
+    }
+
+    /// The place of a virtual link among those that go through the switch.
+    #[inline(always)]
+    fn place(&self, vl: VlId) -> Option<usize>
+        ensures place { result ≡ place_of (map transit_number self.now.transits) vl.0 }
+        ensures within { IfSome result (λ place. place < length self.now.transits) }
+        ensures small { IfSome result (λ place. place < 2 ^ 16) }
+    {
+        place_of(self.numbers.as_slice(), vl)
     }
 }
 

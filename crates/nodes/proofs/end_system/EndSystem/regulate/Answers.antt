@@ -10,7 +10,7 @@ use Rattle.nodes.proofs.end_system.EndSystem.regulate.Goals as goal
 found : (c : goal.After-self-1) → source_at c.args.self.now c.args.vl ≡ Some (record { place = c.in-Some.place; entry = c.index_mut-source.result.now })
 found c =
     let sources = ap (λ (s : EndSystemState). s.sources) c.self.view_is in
-    found-read source_number _ _ c.args.self.now.sources c.args.vl.0 c.in-Some.place c.index_mut-source.result.now c.as_slice.ensures.value sources c.in-Some.ensures.place c.index_mut-source.ensures.value
+    found-read source_number _ _ c.args.self.now.sources c.args.vl.0 c.in-Some.place c.index_mut-source.result.now (sym sources) sources c.in-Some.ensures.place c.index_mut-source.ensures.value
 
 pub returns-clause-state : goal.returns-clause-state
 returns-clause-state c =

@@ -8,7 +8,7 @@ use Rattle.nodes.proofs.switch.Switch.take.Goals as goal
 found : (c : goal.After-of_transit) → transit_at c.args.self.now c.args.frame.now.vl ≡ Some (record { place = c.in-Some.place; entry = c.index_mut-transit.result.now })
 found c =
     let transits = ap (λ (s : SwitchState). s.transits) c.self.view_is in
-    found-read transit_number _ _ c.args.self.now.transits c.args.frame.now.vl.0 c.in-Some.place c.index_mut-transit.result.now c.as_slice.ensures.value transits c.in-Some.ensures.place c.index_mut-transit.ensures.value
+    found-read transit_number _ _ c.args.self.now.transits c.args.frame.now.vl.0 c.in-Some.place c.index_mut-transit.result.now (sym transits) transits c.in-Some.ensures.place c.index_mut-transit.ensures.value
 
 pub returns-clause-state : goal.returns-clause-state
 returns-clause-state c =
