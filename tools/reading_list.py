@@ -88,7 +88,7 @@ class Tree:
     def __init__(self, top=TOP):
         self.crates = os.path.join(top, "crates")
         with open(os.path.join(top, "crates.txt"), encoding="utf-8") as file:
-            self.order = [line.split(":")[0] for line in file if line.strip()]
+            self.order = [line.split(":")[0] for line in file if line.strip() and not line.startswith("#")]
         self.known, self.texts = {}, {}
         self.code = functools.cache(self.code)
         self.type_home = functools.cache(self.type_home)

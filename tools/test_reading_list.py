@@ -12,7 +12,7 @@ import reading_list  # noqa: E402
 # A repository of two crates: the contract of `promise` needs `IsKept`, which needs `grown` of the other crate and the type
 # `Pair`, and it takes a `Store`, which clauses see as a `Shelf`.
 FILES = {
-    "crates.txt": "low:\nhigh: low\n",
+    "crates.txt": "# All of them\nlow:\nhigh: low\n",
     "low/specs/Lib.antt": "pub mod Growth\npub mod Shelves\npub mod Proofs\n",
     "low/specs/Growth.antt": """-- Definition: how a number grows. And more.
 use Rattle.std.specs.Prelude.{ℕ}
