@@ -11,6 +11,8 @@ sys.path.insert(0, HERE)
 import cited_lemmas  # noqa: E402
 
 FOR_TESTS = "For tests alone"
+MAP = "Each crate, with the files to open after its `src/lib.rt`:"
+DOCUMENTS = ["README.md", *(f"docs/{name}.md" for name in ("ARCHITECTURE", "DECISIONS", "PROMISES", "PROOFS", "TIME-WARP", "TRAFFIC"))]
 ITEM = re.compile(r"^- (`.*)$", re.MULTILINE)
 
 
@@ -43,10 +45,19 @@ class Lists(unittest.TestCase):
         self.assertEqual(sorted(self.all), folders)
 
     def test_the_map_has_each_crate_under_its_heading(self):
-        text = between(document("docs/ARCHITECTURE.md"), "Each crate, and where to begin, if not by `src/lib.rt` alone:", "## 2. The way of a frame")
+        text = between(document("docs/ARCHITECTURE.md"), MAP, "## 2. The way of a frame")
         parts = re.split(r"^\*\*(.*)\*\*$", text, flags=re.MULTILINE)[1:]
         found = {heading: [name for item in ITEM.findall(items) for name in named(item)] for heading, items in zip(parts[::2], parts[1::2])}
         self.assertEqual({it: sorted(names) for it, names in found.items()}, {it: sorted(names) for it, names in self.headings.items()})
+
+    def test_the_map_names_files_that_are_there(self):
+        text = between(document("docs/ARCHITECTURE.md"), MAP, "## 2. The way of a frame")
+        for item in ITEM.findall(text):
+            folder = os.path.join(cited_lemmas.TOP, "crates", named(item)[0])
+            for name in re.findall(r"`((?:src/|specs/)?[\w/]+\.(?:rt|antt))`", item):
+                part = "" if name.startswith(("src/", "specs/")) else "src" if name.endswith(".rt") else "specs"
+                with self.subTest(crate=named(item)[0], name=name):
+                    self.assertTrue(os.path.isfile(os.path.join(folder, part, name)))
 
     def test_the_read_me_names_each_crate_once(self):
         items = ITEM.findall(between(document("README.md"), "## What is proved", "## How to check it"))
@@ -56,6 +67,12 @@ class Lists(unittest.TestCase):
         items = ITEM.findall(between(document("docs/PROOFS.md"), "## 2. What each crate proves", "## 3. The files that say what is promised"))
         product = set(self.all) - set(self.headings[FOR_TESTS])
         self.assertEqual(sorted(name for item in items for name in named(item)), sorted(product))
+
+
+    def test_what_documents_name_by_its_crate_is_of_a_crate(self):
+        for name in DOCUMENTS:
+            heads = re.findall(r"`([a-z]\w*)::", document(name)) + re.findall(r"\bcrates/([a-z]\w*)", document(name))
+            self.assertEqual(sorted(set(heads) - set(self.all) - {"crate", "usize"}), [], name)
 
 
 class Lemmas(unittest.TestCase):
