@@ -1,6 +1,5 @@
 //! `run NET [--workers N] [--groups N] [--turn N] [--window NS] [--journal FILE] [--trace FILE] [--progress]`: the run of a network by workers.
 ghost use Rattle.std.specs.Prelude.{◌≡◌, ◌≢◌, ◌⊎◌, ℕ, false, List, Some, IfErr, IfOk, OnOk, option_map, is_some, string_bytes};
-ghost use Rattle.command_line.specs.declared.orders.Order.TheVariants as ordered;
 ghost use Rattle.journal_text.specs.Text.{steps_text};
 ghost use Rattle.trace_tables.specs.Text.{tables_text};
 ghost use Rattle.network.specs.Words.{process_count};
@@ -11,8 +10,7 @@ ghost use Rattle.commands.specs.Files.{LacksFile, MakesAsked, WritesAsked, Write
 ghost use Rattle.commands.specs.Progress.{IsWorkersLine};
 ghost use Rattle.commands.specs.Sequencing.{IsTablesText, IsTraceText};
 ghost use Rattle.commands.specs.Streams.{IsHeard, IsQuiet, ShowsTables, heard_host};
-ghost use Rattle.afdxsim.specs.Files.{LacksTrace, LeavesRun};
-ghost use Rattle.afdxsim.specs.Orders.{IsFaultOn};
+ghost use Rattle.afdxsim.specs.Files.{LacksRun, LacksTrace, LeavesRun};
 ghost use Rattle.afdxsim.specs.Workers.{CanWantThreads, IsFaultOfPool};
 
 use crate::workers::{found_by_workers, traced_by_workers};
@@ -155,7 +153,8 @@ pub fn run<'a, H: Host, T: Threads + Wait + Clock + Sync>(
     ensures tables { OnOk result (ShowsTables H.outside host.old host.new network.now) }
     ensures left { OnOk result (LeavesRun H.outside (option_map string_bytes order.entry.now.journal) (option_map string_bytes order.entry.now.trace)
         (heard_host H.outside host.old order.entry.now.progress (H.outside.errors host.new)) host.new network.now) }
-    ensures fault { IfErr result (IsFaultOn H.outside host.old host.new network.now (ordered.Run order.entry.now)) }
+    ensures fault { IfErr result (LacksRun H.outside (option_map string_bytes order.entry.now.journal) (option_map string_bytes order.entry.now.trace)
+        order.entry.now.workers (heard_host H.outside host.old order.entry.now.progress (H.outside.errors host.new)) host.new network.now) }
     ensures kept { IfErr result (λ fault. fault ≢ CannotWrite → H.outside.output host.new ≡ H.outside.output host.old) }
     ensures heard { IsHeard H.outside host.old order.entry.now.progress (IsWorkersLine network.now) (H.outside.errors host.new) }
 {
