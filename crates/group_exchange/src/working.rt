@@ -4,13 +4,13 @@ ghost use Rattle.reverse.specs.Rules.{rules_of};
 ghost use Rattle.reverse.specs.Setting.{simulation_of};
 ghost use Rattle.journal.specs.declared.fault.PoolFault.TheVariants.{OutOfMemory, Exhausted};
 ghost use Rattle.group_hand.specs.DoneEvents.{messages_of};
-ghost use Rattle.group_hand.specs.declared.early.Early.TheVariants.{Idle, Late};
+ghost use Rattle.group_hand.specs.declared.in_order.InOrder.TheVariants.{Idle, Late};
 ghost use Rattle.group_exchange.specs.Effects.{Goes, IsGroupAsBefore, IsIdleBefore, IsShort, Works, WorksSome};
 
 use crate::group::Group;
 use crate::run_of::GroupRun;
 use group_boxes::Reach;
-use group_hand::{Early, HandFault, hand_law};
+use group_hand::{HandFault, InOrder, hand_law};
 use journal::{Gate, PoolFault};
 use reverse::{Actor, actor_law};
 use vlink::{Message, Time};
@@ -31,8 +31,8 @@ pub fn work<R: Actor, J: GroupRun<R>, G: Gate>(
     ensures some { IfErr result (λ fault. WorksSome (simulation_of (rules_of R.plain) J.setting) J.owners group.old group.new fault) }
 {
     let reach = Reach::of(group.standing.seen, window, group.end);
-    let count = group.run_early(turn, reach.ahead, gate)?;
-    group.commit(reach.good)?;
+    let count = group.run_turn(turn, reach.ahead, gate)?;
+    group.commit_below(reach.good)?;
     Ok(count)
 }
 
@@ -49,7 +49,7 @@ fn receiver_before(message: &Message, limit: Time) -> Option<u16>
 impl<R: Actor, J: GroupRun<R>> Group<R, J> {
     /// Letters of the tray arrive, and messages that are earlier than the limit are handled, `turn` at most, as long as there are any; behind each of them
     /// arrive the letters that it brought.
-    fn run_early<G: Gate>(&mut self, turn: u32, limit: Time, gate: &G) -> Result<u64, PoolFault>
+    fn run_turn<G: Gate>(&mut self, turn: u32, limit: Time, gate: &G) -> Result<u64, PoolFault>
         ensures goes { Goes (simulation_of (rules_of R.plain) J.setting) J.owners self.old self.new }
         ensures within { IfOk result (λ count. count ≤ turn) }
         ensures idle { IfOk result (λ count. (count ≡ turn) ⊎ IsIdleBefore (simulation_of (rules_of R.plain) J.setting) J.owners limit self.new) }
@@ -59,7 +59,7 @@ impl<R: Actor, J: GroupRun<R>> Group<R, J> {
     {
         self.arrive_all()?;
         for run in 0..turn {
-            if !self.run_next(limit, gate)? {
+            if !self.run_one(limit, gate)? {
                 return Ok(u64::from(run));
             }
             self.arrive_all()?;
@@ -84,7 +84,7 @@ impl<R: Actor, J: GroupRun<R>> Group<R, J> {
     /// The first message is handled, if there is one that is earlier than the limit, and the gate is told of it, if it hears. The answer is whether there
     /// was one.
     #[inline(always)]
-    fn run_next<G: Gate>(&mut self, limit: Time, gate: &G) -> Result<bool, PoolFault>
+    fn run_one<G: Gate>(&mut self, limit: Time, gate: &G) -> Result<bool, PoolFault>
         ensures goes { Goes (simulation_of (rules_of R.plain) J.setting) J.owners self.old self.new }
         ensures idle { result ≡ Ok false → IsIdleBefore (simulation_of (rules_of R.plain) J.setting) J.owners limit self.new }
         ensures tray { result ≡ Ok false → self.new.held.flow.tray ≡ self.old.held.flow.tray }
@@ -128,15 +128,15 @@ impl<R: Actor, J: GroupRun<R>> Group<R, J> {
         ensures faults { IfErr result (λ fault. (fault ≡ OutOfMemory) ⊎ (fault ≡ Exhausted)) }
     {
         match self.run_in_order(limit)? {
-            Early::Ran => Ok(true),
-            Early::Idle => Ok(false),
-            Early::Late => self.run_late(limit),
+            InOrder::Ran => Ok(true),
+            InOrder::Idle => Ok(false),
+            InOrder::Late => self.run_next(limit),
         }
     }
 
     /// The first message is handled, where it is earlier than the limit and comes after all that the group has done.
     #[inline(always)]
-    fn run_in_order(&mut self, limit: Time) -> Result<Early, PoolFault>
+    fn run_in_order(&mut self, limit: Time) -> Result<InOrder, PoolFault>
         ensures goes { Goes (simulation_of (rules_of R.plain) J.setting) J.owners self.old self.new }
         ensures idle { result ≡ Ok Idle → IsIdleBefore (simulation_of (rules_of R.plain) J.setting) J.owners limit self.new }
         ensures tray { (result ≡ Ok Idle) ⊎ (result ≡ Ok Late) → self.new.held.flow.tray ≡ self.old.held.flow.tray }
@@ -144,8 +144,8 @@ impl<R: Actor, J: GroupRun<R>> Group<R, J> {
         ensures faults { IfErr result (λ fault. (fault ≡ OutOfMemory) ⊎ (fault ≡ Exhausted)) }
     {
         actor_law::<R>();
-        match self.hand.run_early(limit) {
-            Ok(early) => Ok(early),
+        match self.hand.run_in_order(limit) {
+            Ok(outcome) => Ok(outcome),
             Err(HandFault::Exhausted) => Err(PoolFault::Exhausted),
             Err(HandFault::OutOfMemory) => Err(PoolFault::OutOfMemory),
         }
@@ -153,7 +153,7 @@ impl<R: Actor, J: GroupRun<R>> Group<R, J> {
 
     /// The first message that is not done is handled, if there is one that is earlier than the limit, whether other members have done later events or not.
     /// The answer is whether there was one.
-    fn run_late(&mut self, limit: Time) -> Result<bool, PoolFault>
+    fn run_next(&mut self, limit: Time) -> Result<bool, PoolFault>
         ensures goes { Goes (simulation_of (rules_of R.plain) J.setting) J.owners self.old self.new }
         ensures idle { result ≡ Ok false → IsIdleBefore (simulation_of (rules_of R.plain) J.setting) J.owners limit self.new }
         ensures tray { result ≡ Ok false → self.new.held.flow.tray ≡ self.old.held.flow.tray }
@@ -194,7 +194,7 @@ impl<R: Actor, J: GroupRun<R>> Group<R, J> {
     }
 
     /// All done events that are earlier than the moment, which is the GVT seen, are committed. No letter waits in the tray.
-    fn commit(&mut self, moment: Time) -> Result<(), PoolFault>
+    fn commit_below(&mut self, moment: Time) -> Result<(), PoolFault>
         requires tray { self.old.held.flow.tray ≡ [] }
         requires seen { moment ≡ self.old.seen }
         ensures goes { Goes (simulation_of (rules_of R.plain) J.setting) J.owners self.old self.new }
@@ -205,7 +205,7 @@ impl<R: Actor, J: GroupRun<R>> Group<R, J> {
         ensures memory { IfErr result (λ fault. fault ≡ OutOfMemory) }
     {
         actor_law::<R>();
-        match self.hand.commit(moment) {
+        match self.hand.commit_below(moment) {
             Ok(()) => Ok(()),
             Err(_fault) => Err(PoolFault::OutOfMemory),
         }

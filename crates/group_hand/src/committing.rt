@@ -96,7 +96,7 @@ impl Letters {
     }
 
     /// The oldest done events, so many, are committed: they are forgotten, and their rows go to the end of `sealed`. A refusal changes nothing.
-    pub(crate) fn commit<K: Copy>(
+    pub(crate) fn commit_first<K: Copy>(
         &mut self,
         done: &mut DoneEvents<K>,
         sealed: &mut Rows,

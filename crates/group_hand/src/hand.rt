@@ -12,8 +12,8 @@ ghost use Rattle.group_hand.specs.declared.fault.HandFault.TheVariants.{OutOfMem
 use crate::done_events::DoneEvents;
 use crate::fault::HandFault;
 use crate::letters::Letters;
+use crate::rollback::Undoing;
 use crate::rows::Rows;
-use crate::undoing::Undoing;
 use reverse::{Actor, Outbound, actor_rules_law};
 use std::alloc::Global;
 use std::marker::Model;
@@ -98,7 +98,7 @@ impl<R: Actor> Hand<R> {
     /// The done events that are earlier than the moment, in ns, are committed, the oldest first, up to one that counts other than once, or after which
     /// the first message of the queue does not come. Their rows are sealed. A refusal leaves all as it was.
     /// The list is in message order, so each look is at its front.
-    pub fn commit(&mut self, moment: Time) -> Result<(), HandFault>
+    pub fn commit_below(&mut self, moment: Time) -> Result<(), HandFault>
         ensures did { CommitsTold (rules_of R.plain) R.is_value moment self.old self.new }
         ensures sealed { OnOk result ((ds : List (DoneEvent R.Record)) × (self.old.done ≡ ds ++ self.new.done)
             × (self.new.rows ≡ record self.old.rows { all = self.old.rows.all ++ rows_in ds }) × All (λ m. m.time < moment) (messages_of ds)) }
@@ -111,7 +111,10 @@ impl<R: Actor> Hand<R> {
         actor_rules_law::<R>();
         let first = self.letters.first();
         let count = self.letters.count_early(&self.done, moment, &first);
-        match self.letters.commit(&mut self.done, &mut self.rows, count) {
+        match self
+            .letters
+            .commit_first(&mut self.done, &mut self.rows, count)
+        {
             Ok(()) => Ok(()),
             Err(_fault) => Err(HandFault::OutOfMemory),
         }

@@ -5,33 +5,33 @@
 //! Each call does steps of the law of virtual time, which join the block as words.
 #![tactic(auto)]
 
-mod arrive;
-mod arriving;
 mod block;
 mod committing;
 mod delivering;
 mod done_events;
-mod early;
+mod emptying_tray;
 mod fault;
 mod front;
 mod hand;
 mod handing;
-mod late;
+mod in_order;
 mod laws;
 mod letters;
 mod members;
 mod newest;
 mod next;
 mod oldest;
+mod out_of_order;
 mod queue;
+mod rollback;
 mod rows;
 mod run;
+mod settling;
 mod trail;
 mod tray;
-mod undoing;
 
 pub use block::{Did, Words};
-pub use early::Early;
 pub use fault::HandFault;
 pub use hand::Hand;
+pub use in_order::InOrder;
 pub use laws::hand_law;

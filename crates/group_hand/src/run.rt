@@ -12,16 +12,16 @@ ghost use Rattle.group_hand.specs.Handling.{IsHandled};
 ghost use Rattle.group_hand.specs.Hands.{DoesTold, IsAsBefore, StandsForGroup};
 ghost use Rattle.group_hand.specs.Undoing.{HasRoomFor};
 ghost use Rattle.group_hand.specs.declared.fault.HandFault.TheVariants.{Exhausted};
-ghost use Rattle.group_hand.specs.declared.early.Early.TheVariants.{Ran, Idle, Late};
+ghost use Rattle.group_hand.specs.declared.in_order.InOrder.TheVariants.{Ran, Idle, Late};
 ghost use Rattle.reverse.specs.declared.sends.TheConstants.{MOST_SENT};
 
 use crate::done_events::DoneEvents;
-use crate::early::{Early, early_of, handle_first};
 use crate::fault::HandFault;
 use crate::hand::Hand;
-use crate::late::handle_late;
+use crate::in_order::{InOrder, handle_in_order, in_order_of};
 use crate::letters::Letters;
 use crate::members::has_numbers;
+use crate::out_of_order::handle_out_of_order;
 use reverse::{Actor, MOST_SENT, actor_rules_law};
 use std::alloc::AllocError;
 use vlink::Time;
@@ -36,7 +36,7 @@ impl<R: Actor> Hand<R> {
     ///
     /// `Exhausted`: its receiver, if it is a member, has not enough numbers left for what one event can send. `OutOfMemory`: a growth was refused.
     /// Either leaves all as it was.
-    pub fn run_early(&mut self, limit: Time) -> Result<Early, HandFault>
+    pub fn run_in_order(&mut self, limit: Time) -> Result<InOrder, HandFault>
         ensures did { DoesTold (rules_of R.plain) R.is_value self.old self.new }
         ensures idle { result ≡ Ok Idle → All (λ m. limit ≤ m.time) self.old.flow.queue }
         ensures late { result ≡ Ok Late → (m : Message) × (is_after message_order (newest_of (messages_of self.old.done)) m ≡ false)
@@ -56,23 +56,23 @@ impl<R: Actor> Hand<R> {
             return Err(HandFault::OutOfMemory);
         };
         let Some(message) = self.letters.pop() else {
-            return Ok(Early::Idle);
+            return Ok(InOrder::Idle);
         };
-        let early = early_of(&self.members, &self.done, &message, limit);
-        match early {
-            Ok(Early::Ran) => {
-                handle_first(
+        let outcome = in_order_of(&self.members, &self.done, &message, limit);
+        match outcome {
+            Ok(InOrder::Ran) => {
+                handle_in_order(
                     &mut self.members,
                     &mut self.done,
                     &mut self.letters,
                     &mut self.out,
                     &message,
                 );
-                Ok(Early::Ran)
+                Ok(InOrder::Ran)
             }
             _ => {
                 self.letters.wait_again(&message);
-                early
+                outcome
             }
         }
     }
@@ -95,11 +95,11 @@ impl<R: Actor> Hand<R> {
         ensures unchanged { OnErr result (IsAsBefore self.old self.new) }
     {
         actor_rules_law::<R>();
-        match self.run_early(limit)? {
-            Early::Ran => Ok(true),
-            Early::Idle => Ok(false),
-            Early::Late => {
-                self.run_late()?;
+        match self.run_in_order(limit)? {
+            InOrder::Ran => Ok(true),
+            InOrder::Idle => Ok(false),
+            InOrder::Late => {
+                self.run_out_of_order()?;
                 Ok(true)
             }
         }
@@ -110,7 +110,7 @@ impl<R: Actor> Hand<R> {
     ///
     /// `Exhausted`: it is not done, and its receiver, if it is a member, has not enough numbers left for what one event can send. `OutOfMemory`: a
     /// growth was refused. Either leaves all as it was.
-    pub(crate) fn run_late(&mut self) -> Result<(), HandFault>
+    pub(crate) fn run_out_of_order(&mut self) -> Result<(), HandFault>
         requires { (m : Message) × Contains self.old.flow.queue m }
         ensures did { DoesTold (rules_of R.plain) R.is_value self.old self.new }
         ensures ran { OnOk result ((x : Setting R) (v : World Message R) → StandsForGroup (rules_of R.plain) R.is_value x v self.old →
@@ -137,7 +137,7 @@ impl<R: Actor> Hand<R> {
         else {
             return Err(HandFault::OutOfMemory);
         };
-        handle_late(
+        handle_out_of_order(
             &mut self.members,
             &mut self.done,
             &mut self.undoing.aside,

@@ -20,7 +20,7 @@ use Rattle.antimessages.proofs.tally.Tally.TheSendSync as tally
 use Rattle.gvt.proofs.floors.Floors.TheSendSync as floors
 use Rattle.group_hand.proofs.done_events.DoneEvents.TheSendSync as done_events
 use Rattle.group_hand.proofs.queue.Queue.TheSendSync as queue
-use Rattle.group_hand.proofs.undoing.Undoing.TheSendSync as undoing
+use Rattle.group_hand.proofs.rollback.Undoing.TheSendSync as undoing
 use Rattle.group_hand.specs.contracts.block.Words as Words
 use Rattle.group_hand.specs.contracts.block.Words.TheInside as WordsIn
 use Rattle.group_hand.specs.contracts.hand.Hand as Hand

@@ -2,7 +2,7 @@
 //!
 //! `hand:3` opens a group of processes 0 to 2 of five. `+10:1` and `-10:1:7:4` deliver a letter for the moment 10 to process 1: its sign, and behind
 //! further colons its sender, 9 where none is named, and its number, 0 where none is named. `arrive`, `run:50` and `commit:20` are the calls
-//! `arrive_all`, `run_next` and `commit`; `exact` is `count_done`, and tells the floor; `gone:20` lets rows go that are earlier than 20; `before:20`
+//! `arrive_all`, `run_next` and `commit_below`; `exact` is `count_done`, and tells the floor; `gone:20` lets rows go that are earlier than 20; `before:20`
 //! tells whether some event is done before 20, and the oldest moment of one; `steps` tells for how many steps all blocks so far stood; and `next`,
 //! `floor`, `abroad`, `rows` and `states` tell what can be seen. Behind its answer each word tells its block, up to a full stop: a letter for what was
 //! done, and the process. `R`: a message was handled; `H` and `T`: what was sent home arrived at once, or waits; `A`: the front of the tray arrived;
@@ -86,7 +86,7 @@ fn do_steps(hand: &mut Hand<Passing>, told: &mut String, word: &str) -> Result<(
     let at = moment(number(rest));
     match call {
         "arrive" => hand.arrive_all(),
-        "commit" => hand.commit(at),
+        "commit" => hand.commit_below(at),
         "run" => tell_run(hand.run_next(at), told),
         "exact" => hand.count_done(),
         "gone" => hand.let_rows_go(at),

@@ -4,13 +4,13 @@ use Rattle.group_hand.specs.DoneEvents.{messages_of}
 use Rattle.group_exchange.proofs.Going.{goes-both, goes-seen, idle-late, works-some}
 use Rattle.group_exchange.proofs.working.work.Goals as goal
 
-pub returns-in_err-commit-clause-some : goal.returns-in_err-commit-clause-some
-returns-in_err-commit-clause-some g c =
-    works-some _ _ _ _ (goes-both _ _ _ _ _ c.run_early.ensures.goes c.commit.ensures.goes) c.from_residual-in_err-commit.result (search rules)
+pub returns-in_err-commit_below-clause-some : goal.returns-in_err-commit_below-clause-some
+returns-in_err-commit_below-clause-some g c =
+    works-some _ _ _ _ (goes-both _ _ _ _ _ c.run_turn.ensures.goes c.commit_below.ensures.goes) c.from_residual-in_err-commit_below.result (search rules)
 
 pub returns-clause-ok : goal.returns-clause-ok
 returns-clause-ok g c =
-    let went = goes-both _ _ _ _ _ c.run_early.ensures.goes c.commit.ensures.goes in
+    let went = goes-both _ _ _ _ _ c.run_turn.ensures.goes c.commit_below.ensures.goes in
     let seen = ap (λ z. z.seen) c.group.view_is in
     let asked = c.args.group.now.seen + c.args.window in
     record {
@@ -19,12 +19,12 @@ returns-clause-ok g c =
       within = c.in_ok-count.ensures.within;
       idle = elim c.in_ok-count.ensures.idle [
         | inl all ↦ inl all
-        | inr late ↦ inr (idle-late asked c.of-reach.result.ahead c.group.inside.end g.J.GroupRun.setting.until c.run_early.new.self.held.flow.queue c.commit.new.self.held.flow.queue
-            (c.of-reach.ensures.ahead ∙ ap (λ s. min (s + c.args.window) c.group.inside.end) seen) c.group.invariant.4 c.commit.ensures.queue late c.commit.ensures.in_time)
+        | inr late ↦ inr (idle-late asked c.of-reach.result.ahead c.group.inside.end g.J.GroupRun.setting.until c.run_turn.new.self.held.flow.queue c.commit_below.new.self.held.flow.queue
+            (c.of-reach.ensures.ahead ∙ ap (λ s. min (s + c.args.window) c.group.inside.end) seen) c.group.invariant.4 c.commit_below.ensures.queue late c.commit_below.ensures.in_time)
       ];
-      arrived = c.commit.ensures.tray ∙ c.in_ok-count.ensures.arrived;
-      committed_below = subst (λ t. All (λ (m : Message). t ≤ m.time) (messages_of c.commit.new.self.held.done)) (goes-seen _ _ _ _ c.run_early.ensures.goes) c.in_ok-commit.ensures.below;
+      arrived = c.commit_below.ensures.tray ∙ c.in_ok-count.ensures.arrived;
+      committed_below = subst (λ t. All (λ (m : Message). t ≤ m.time) (messages_of c.commit_below.new.self.held.done)) (goes-seen _ _ _ _ c.run_turn.ensures.goes) c.in_ok-commit_below.ensures.below;
     }
 
-pub commit-requires-clause-seen : goal.commit-requires-clause-seen
-commit-requires-clause-seen g c = c.of-reach.ensures.good ∙ (ap (λ z. z.seen) c.group.view_is ∙ sym (goes-seen _ _ _ _ c.run_early.ensures.goes))
+pub commit_below-requires-clause-seen : goal.commit_below-requires-clause-seen
+commit_below-requires-clause-seen g c = c.of-reach.ensures.good ∙ (ap (λ z. z.seen) c.group.view_is ∙ sym (goes-seen _ _ _ _ c.run_turn.ensures.goes))

@@ -5,7 +5,7 @@ use Rattle.group_exchange.proofs.Going.{goes-both}
 use Rattle.group_exchange.proofs.group.Group.run_first.Goals as goal
 
 pub returns-in-Late-clause-goes : goal.returns-in-Late-clause-goes
-returns-in-Late-clause-goes g c = goes-both _ _ _ _ _ c.run_in_order.ensures.goes c.run_late.ensures.goes
+returns-in-Late-clause-goes g c = goes-both _ _ _ _ _ c.run_in_order.ensures.goes c.run_next.ensures.goes
 
 pub returns-in-Ran-clause-goes : goal.returns-in-Ran-clause-goes
 returns-in-Ran-clause-goes g c = c.run_in_order.ensures.goes
@@ -20,16 +20,16 @@ pub returns-in-Idle-clause-faults : goal.returns-in-Idle-clause-faults
 returns-in-Idle-clause-faults g c = tt
 
 pub returns-in-Late-clause-idle : goal.returns-in-Late-clause-idle
-returns-in-Late-clause-idle g c = c.run_late.ensures.idle
+returns-in-Late-clause-idle g c = c.run_next.ensures.idle
 
 pub returns-in-Late-clause-short : goal.returns-in-Late-clause-short
-returns-in-Late-clause-short g c = c.run_late.ensures.short
+returns-in-Late-clause-short g c = c.run_next.ensures.short
 
 pub returns-in-Late-clause-faults : goal.returns-in-Late-clause-faults
-returns-in-Late-clause-faults g c = c.run_late.ensures.faults
+returns-in-Late-clause-faults g c = c.run_next.ensures.faults
 
 pub returns-in-Late-clause-tray : goal.returns-in-Late-clause-tray
-returns-in-Late-clause-tray g c = λ e. c.run_late.ensures.tray e ∙ c.in_ok-run_in_order.ensures.tray (inr (λ j. Ok (c.in-Late.is j)))
+returns-in-Late-clause-tray g c = λ e. c.run_next.ensures.tray e ∙ c.in_ok-run_in_order.ensures.tray (inr (λ j. Ok (c.in-Late.is j)))
 
 pub returns-in-Idle-clause-idle : goal.returns-in-Idle-clause-idle
 returns-in-Idle-clause-idle g c = λ _. c.in_ok-run_in_order.ensures.idle (λ j. Ok (c.in-Idle.is j))

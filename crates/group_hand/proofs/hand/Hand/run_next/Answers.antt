@@ -10,51 +10,51 @@ use Rattle.group_hand.proofs.Still.{as-both, exhausted-again, handled-soon, on-e
 use Rattle.group_hand.proofs.hand.Hand.run_next.Goals as goal
 use Rattle.reverse.specs.declared.sends.TheConstants.{MOST_SENT}
 
-pub returns-in_err-run_late-in-Late-clause-did : goal.returns-in_err-run_late-in-Late-clause-did
-returns-in_err-run_late-in-Late-clause-did g c =
-    does-both (rules_of g.R.Reversible.plain) g.R.Reversible.is_value c.args.self.now c.run_early.new.self c.run_late.new.self [] [] [] c.run_early.ensures.did c.run_late.ensures.did
+pub returns-in_err-run_out_of_order-in-Late-clause-did : goal.returns-in_err-run_out_of_order-in-Late-clause-did
+returns-in_err-run_out_of_order-in-Late-clause-did g c =
+    does-both (rules_of g.R.Reversible.plain) g.R.Reversible.is_value c.args.self.now c.run_in_order.new.self c.run_out_of_order.new.self [] [] [] c.run_in_order.ensures.did c.run_out_of_order.ensures.did
 
-pub returns-in_ok-run_late-in-Late-clause-did : goal.returns-in_ok-run_late-in-Late-clause-did
-returns-in_ok-run_late-in-Late-clause-did g c =
-    does-both (rules_of g.R.Reversible.plain) g.R.Reversible.is_value c.args.self.now c.run_early.new.self c.run_late.new.self [] [] [] c.run_early.ensures.did c.run_late.ensures.did
+pub returns-in_ok-run_out_of_order-in-Late-clause-did : goal.returns-in_ok-run_out_of_order-in-Late-clause-did
+returns-in_ok-run_out_of_order-in-Late-clause-did g c =
+    does-both (rules_of g.R.Reversible.plain) g.R.Reversible.is_value c.args.self.now c.run_in_order.new.self c.run_out_of_order.new.self [] [] [] c.run_in_order.ensures.did c.run_out_of_order.ensures.did
 
-pub returns-in_err-run_late-in-Late-clause-unchanged : goal.returns-in_err-run_late-in-Late-clause-unchanged
-returns-in_err-run_late-in-Late-clause-unchanged g c =
-    on-err c.from_residual-in_err-run_late-in-Late.result _
-    (as-both c.args.self.now c.run_early.new.self c.run_late.new.self (c.in_ok-run_early.ensures.still (λ j. Ok (c.in-Late.is j))) c.in_err-run_late-in-Late.ensures.unchanged)
+pub returns-in_err-run_out_of_order-in-Late-clause-unchanged : goal.returns-in_err-run_out_of_order-in-Late-clause-unchanged
+returns-in_err-run_out_of_order-in-Late-clause-unchanged g c =
+    on-err c.from_residual-in_err-run_out_of_order-in-Late.result _
+    (as-both c.args.self.now c.run_in_order.new.self c.run_out_of_order.new.self (c.in_ok-run_in_order.ensures.still (λ j. Ok (c.in-Late.is j))) c.in_err-run_out_of_order-in-Late.ensures.unchanged)
 
-pub returns-in_err-run_late-in-Late-clause-exhausted : goal.returns-in_err-run_late-in-Late-clause-exhausted
-returns-in_err-run_late-in-Late-clause-exhausted g c = λ e.
-    exhausted-again c.args.self.now c.run_early.new.self (λ s. greatest_number < g.R.Reversible.plain.counter s + MOST_SENT)
-    (c.in_ok-run_early.ensures.still (λ j. Ok (c.in-Late.is j))) (c.run_late.ensures.exhausted (search rules))
+pub returns-in_err-run_out_of_order-in-Late-clause-exhausted : goal.returns-in_err-run_out_of_order-in-Late-clause-exhausted
+returns-in_err-run_out_of_order-in-Late-clause-exhausted g c = λ e.
+    exhausted-again c.args.self.now c.run_in_order.new.self (λ s. greatest_number < g.R.Reversible.plain.counter s + MOST_SENT)
+    (c.in_ok-run_in_order.ensures.still (λ j. Ok (c.in-Late.is j))) (c.run_out_of_order.ensures.exhausted (search rules))
 
-pub run_late-requires : goal.run_late-requires
-run_late-requires g c =
-    let k = c.in_ok-run_early.ensures.soon (λ j. Ok (c.in-Late.is j)) in
-    (k.0, Contains-permutation c.args.self.now.flow.queue c.run_early.new.self.flow.queue k.0 (c.in_ok-run_early.ensures.still (λ j. Ok (c.in-Late.is j))).queue k.1)
+pub run_out_of_order-requires : goal.run_out_of_order-requires
+run_out_of_order-requires g c =
+    let k = c.in_ok-run_in_order.ensures.soon (λ j. Ok (c.in-Late.is j)) in
+    (k.0, Contains-permutation c.args.self.now.flow.queue c.run_in_order.new.self.flow.queue k.0 (c.in_ok-run_in_order.ensures.still (λ j. Ok (c.in-Late.is j))).queue k.1)
 
-pub returns-in_ok-run_late-in-Late-clause-ran : goal.returns-in_ok-run_late-in-Late-clause-ran
-returns-in_ok-run_late-in-Late-clause-ran g c = λ _ x v stands.
+pub returns-in_ok-run_out_of_order-in-Late-clause-ran : goal.returns-in_ok-run_out_of_order-in-Late-clause-ran
+returns-in_ok-run_out_of_order-in-Late-clause-ran g c = λ _ x v stands.
     let plain = g.R.Reversible.plain in
     let V = g.R.Reversible.is_value in
     let O = c.actor_rules_law.ensures.order in
     let old = c.args.self.now in
-    let mid = c.run_early.new.self in
-    let still = c.in_ok-run_early.ensures.still (λ j. Ok (c.in-Late.is j)) in
-    handled-soon O c.args.limit old mid c.run_late.new.self still (c.in_ok-run_early.ensures.soon (λ j. Ok (c.in-Late.is j)))
-    (c.in_ok-run_late-in-Late.ensures.ran x v (stands-still plain V O c.actor_rules_law.ensures.undoes old mid still x v stands))
+    let mid = c.run_in_order.new.self in
+    let still = c.in_ok-run_in_order.ensures.still (λ j. Ok (c.in-Late.is j)) in
+    handled-soon O c.args.limit old mid c.run_out_of_order.new.self still (c.in_ok-run_in_order.ensures.soon (λ j. Ok (c.in-Late.is j)))
+    (c.in_ok-run_out_of_order-in-Late.ensures.ran x v (stands-still plain V O c.actor_rules_law.ensures.undoes old mid still x v stands))
 
-pub returns-in_err-run_early-clause-idle : goal.returns-in_err-run_early-clause-idle
-returns-in_err-run_early-clause-idle g c = λ e. not-err false _ c.from_residual.result e (err_from_is_err_and c.from_residual.result c.from_residual.ensures.1).1
+pub returns-in_err-run_in_order-clause-idle : goal.returns-in_err-run_in_order-clause-idle
+returns-in_err-run_in_order-clause-idle g c = λ e. not-err false _ c.from_residual.result e (err_from_is_err_and c.from_residual.result c.from_residual.ensures.1).1
 
-pub returns-in_err-run_early-clause-still : goal.returns-in_err-run_early-clause-still
-returns-in_err-run_early-clause-still g c = λ e. not-err false _ c.from_residual.result e (err_from_is_err_and c.from_residual.result c.from_residual.ensures.1).1
+pub returns-in_err-run_in_order-clause-still : goal.returns-in_err-run_in_order-clause-still
+returns-in_err-run_in_order-clause-still g c = λ e. not-err false _ c.from_residual.result e (err_from_is_err_and c.from_residual.result c.from_residual.ensures.1).1
 
-pub returns-in_err-run_early-clause-ran : goal.returns-in_err-run_early-clause-ran
-returns-in_err-run_early-clause-ran g c = λ e. not-err true _ c.from_residual.result e (err_from_is_err_and c.from_residual.result c.from_residual.ensures.1).1
+pub returns-in_err-run_in_order-clause-ran : goal.returns-in_err-run_in_order-clause-ran
+returns-in_err-run_in_order-clause-ran g c = λ e. not-err true _ c.from_residual.result e (err_from_is_err_and c.from_residual.result c.from_residual.ensures.1).1
 
-pub returns-in_err-run_early-clause-unchanged : goal.returns-in_err-run_early-clause-unchanged
-returns-in_err-run_early-clause-unchanged g c = on-err c.from_residual.result _ c.in_err-run_early.ensures.unchanged
+pub returns-in_err-run_in_order-clause-unchanged : goal.returns-in_err-run_in_order-clause-unchanged
+returns-in_err-run_in_order-clause-unchanged g c = on-err c.from_residual.result _ c.in_err-run_in_order.ensures.unchanged
 
 pub returns-in-Ran-clause-idle : goal.returns-in-Ran-clause-idle
 returns-in-Ran-clause-idle g c = λ e. not-both _ refl e
@@ -77,38 +77,38 @@ returns-in-Idle-clause-exhausted g c = λ e. not-err false Exhausted _ refl e
 pub returns-in-Idle-clause-unchanged : goal.returns-in-Idle-clause-unchanged
 returns-in-Idle-clause-unchanged g c = tt
 
-pub returns-in_err-run_late-in-Late-clause-idle : goal.returns-in_err-run_late-in-Late-clause-idle
-returns-in_err-run_late-in-Late-clause-idle g c = λ e. not-err false _ c.from_residual-in_err-run_late-in-Late.result e (err_from_is_err_and c.from_residual-in_err-run_late-in-Late.result c.from_residual-in_err-run_late-in-Late.ensures.1).1
+pub returns-in_err-run_out_of_order-in-Late-clause-idle : goal.returns-in_err-run_out_of_order-in-Late-clause-idle
+returns-in_err-run_out_of_order-in-Late-clause-idle g c = λ e. not-err false _ c.from_residual-in_err-run_out_of_order-in-Late.result e (err_from_is_err_and c.from_residual-in_err-run_out_of_order-in-Late.result c.from_residual-in_err-run_out_of_order-in-Late.ensures.1).1
 
-pub returns-in_err-run_late-in-Late-clause-still : goal.returns-in_err-run_late-in-Late-clause-still
-returns-in_err-run_late-in-Late-clause-still g c = λ e. not-err false _ c.from_residual-in_err-run_late-in-Late.result e (err_from_is_err_and c.from_residual-in_err-run_late-in-Late.result c.from_residual-in_err-run_late-in-Late.ensures.1).1
+pub returns-in_err-run_out_of_order-in-Late-clause-still : goal.returns-in_err-run_out_of_order-in-Late-clause-still
+returns-in_err-run_out_of_order-in-Late-clause-still g c = λ e. not-err false _ c.from_residual-in_err-run_out_of_order-in-Late.result e (err_from_is_err_and c.from_residual-in_err-run_out_of_order-in-Late.result c.from_residual-in_err-run_out_of_order-in-Late.ensures.1).1
 
-pub returns-in_err-run_late-in-Late-clause-ran : goal.returns-in_err-run_late-in-Late-clause-ran
-returns-in_err-run_late-in-Late-clause-ran g c = λ e. not-err true _ c.from_residual-in_err-run_late-in-Late.result e (err_from_is_err_and c.from_residual-in_err-run_late-in-Late.result c.from_residual-in_err-run_late-in-Late.ensures.1).1
+pub returns-in_err-run_out_of_order-in-Late-clause-ran : goal.returns-in_err-run_out_of_order-in-Late-clause-ran
+returns-in_err-run_out_of_order-in-Late-clause-ran g c = λ e. not-err true _ c.from_residual-in_err-run_out_of_order-in-Late.result e (err_from_is_err_and c.from_residual-in_err-run_out_of_order-in-Late.result c.from_residual-in_err-run_out_of_order-in-Late.ensures.1).1
 
-pub returns-in_ok-run_late-in-Late-clause-idle : goal.returns-in_ok-run_late-in-Late-clause-idle
-returns-in_ok-run_late-in-Late-clause-idle g c = λ e. not-both _ refl e
+pub returns-in_ok-run_out_of_order-in-Late-clause-idle : goal.returns-in_ok-run_out_of_order-in-Late-clause-idle
+returns-in_ok-run_out_of_order-in-Late-clause-idle g c = λ e. not-both _ refl e
 
-pub returns-in_ok-run_late-in-Late-clause-still : goal.returns-in_ok-run_late-in-Late-clause-still
-returns-in_ok-run_late-in-Late-clause-still g c = λ e. not-both _ refl e
+pub returns-in_ok-run_out_of_order-in-Late-clause-still : goal.returns-in_ok-run_out_of_order-in-Late-clause-still
+returns-in_ok-run_out_of_order-in-Late-clause-still g c = λ e. not-both _ refl e
 
-pub returns-in_ok-run_late-in-Late-clause-exhausted : goal.returns-in_ok-run_late-in-Late-clause-exhausted
-returns-in_ok-run_late-in-Late-clause-exhausted g c = λ e. not-err true Exhausted _ refl e
+pub returns-in_ok-run_out_of_order-in-Late-clause-exhausted : goal.returns-in_ok-run_out_of_order-in-Late-clause-exhausted
+returns-in_ok-run_out_of_order-in-Late-clause-exhausted g c = λ e. not-err true Exhausted _ refl e
 
-pub returns-in_ok-run_late-in-Late-clause-unchanged : goal.returns-in_ok-run_late-in-Late-clause-unchanged
-returns-in_ok-run_late-in-Late-clause-unchanged g c = tt
+pub returns-in_ok-run_out_of_order-in-Late-clause-unchanged : goal.returns-in_ok-run_out_of_order-in-Late-clause-unchanged
+returns-in_ok-run_out_of_order-in-Late-clause-unchanged g c = tt
 
 pub returns-in-Idle-clause-did : goal.returns-in-Idle-clause-did
-returns-in-Idle-clause-did g c = c.run_early.ensures.did
+returns-in-Idle-clause-did g c = c.run_in_order.ensures.did
 
 pub returns-in-Ran-clause-did : goal.returns-in-Ran-clause-did
-returns-in-Ran-clause-did g c = c.run_early.ensures.did
+returns-in-Ran-clause-did g c = c.run_in_order.ensures.did
 
 pub returns-in-Idle-clause-idle : goal.returns-in-Idle-clause-idle
-returns-in-Idle-clause-idle g c = λ _. c.in_ok-run_early.ensures.idle (λ j. Ok (c.in-Idle.is j))
+returns-in-Idle-clause-idle g c = λ _. c.in_ok-run_in_order.ensures.idle (λ j. Ok (c.in-Idle.is j))
 
 pub returns-in-Idle-clause-still : goal.returns-in-Idle-clause-still
-returns-in-Idle-clause-still g c = λ _. c.in_ok-run_early.ensures.idle_still (λ j. Ok (c.in-Idle.is j))
+returns-in-Idle-clause-still g c = λ _. c.in_ok-run_in_order.ensures.idle_still (λ j. Ok (c.in-Idle.is j))
 
-pub returns-in_err-run_early-clause-did : goal.returns-in_err-run_early-clause-did
-returns-in_err-run_early-clause-did g c = c.run_early.ensures.did
+pub returns-in_err-run_in_order-clause-did : goal.returns-in_err-run_in_order-clause-did
+returns-in_err-run_in_order-clause-did g c = c.run_in_order.ensures.did

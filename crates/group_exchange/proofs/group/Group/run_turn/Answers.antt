@@ -1,0 +1,77 @@
+use Rattle.std.proofs.Common.{inl, refl, rules}
+use Rattle.journal.proofs.Refused.{err-if-ok, err-on-ok, not-ok, passed-short}
+use Rattle.group_exchange.proofs.Going.{goes-both}
+use Rattle.group_exchange.proofs.group.Group.run_turn.Goals as goal
+
+pub loop-run-init : goal.loop-run-init
+loop-run-init g c = (c.arrive_all.ensures.goes, c.in_ok-arrive_all.ensures.arrived)
+
+pub loop-run-preserved : goal.loop-run-preserved
+loop-run-preserved g c =
+    (goes-both _ _ _ _ _ (goes-both _ _ _ _ _ c.loop-run.invariant.0 c.run_one.ensures.goes) c.arrive_all-in-loop-run.ensures.goes, c.in_ok-arrive_all-2.ensures.arrived)
+
+pub returns-in_err-run_one-clause-goes : goal.returns-in_err-run_one-clause-goes
+returns-in_err-run_one-clause-goes g c = goes-both _ _ _ _ _ c.loop-run.invariant.0 c.run_one.ensures.goes
+
+pub returns-then-not-branch-clause-goes : goal.returns-then-not-branch-clause-goes
+returns-then-not-branch-clause-goes g c = goes-both _ _ _ _ _ c.loop-run.invariant.0 c.run_one.ensures.goes
+
+pub returns-in_err-arrive_all-2-clause-goes : goal.returns-in_err-arrive_all-2-clause-goes
+returns-in_err-arrive_all-2-clause-goes g c = goes-both _ _ _ _ _ (goes-both _ _ _ _ _ c.loop-run.invariant.0 c.run_one.ensures.goes) c.arrive_all-in-loop-run.ensures.goes
+
+pub returns-in_err-arrive_all-clause-goes : goal.returns-in_err-arrive_all-clause-goes
+returns-in_err-arrive_all-clause-goes g c = c.arrive_all.ensures.goes
+
+pub returns-in_err-arrive_all-clause-short : goal.returns-in_err-arrive_all-clause-short
+returns-in_err-arrive_all-clause-short g c = passed-short c.from_residual.result c.from_residual.ensures.1 c.in_err-arrive_all.ensures.memory
+
+pub returns-clause-goes : goal.returns-clause-goes
+returns-clause-goes g c = c.loop-run.invariant.0
+
+pub returns-clause-arrived : goal.returns-clause-arrived
+returns-clause-arrived g c = c.loop-run.invariant.1
+
+pub returns-clause-faults : goal.returns-clause-faults
+returns-clause-faults g c = tt
+
+pub returns-then-not-branch-clause-faults : goal.returns-then-not-branch-clause-faults
+returns-then-not-branch-clause-faults g c = tt
+
+pub returns-in_err-arrive_all-clause-within : goal.returns-in_err-arrive_all-clause-within
+returns-in_err-arrive_all-clause-within g c = err-if-ok _ _ c.from_residual.result c.from_residual.ensures.1
+
+pub returns-in_err-arrive_all-clause-idle : goal.returns-in_err-arrive_all-clause-idle
+returns-in_err-arrive_all-clause-idle g c = err-if-ok _ _ c.from_residual.result c.from_residual.ensures.1
+
+pub returns-in_err-arrive_all-clause-arrived : goal.returns-in_err-arrive_all-clause-arrived
+returns-in_err-arrive_all-clause-arrived g c = err-on-ok _ _ c.from_residual.result c.from_residual.ensures.1
+
+pub returns-in_err-run_one-clause-within : goal.returns-in_err-run_one-clause-within
+returns-in_err-run_one-clause-within g c = err-if-ok _ _ c.from_residual-in_err-run_one.result c.from_residual-in_err-run_one.ensures.1
+
+pub returns-in_err-run_one-clause-idle : goal.returns-in_err-run_one-clause-idle
+returns-in_err-run_one-clause-idle g c = err-if-ok _ _ c.from_residual-in_err-run_one.result c.from_residual-in_err-run_one.ensures.1
+
+pub returns-in_err-run_one-clause-arrived : goal.returns-in_err-run_one-clause-arrived
+returns-in_err-run_one-clause-arrived g c = err-on-ok _ _ c.from_residual-in_err-run_one.result c.from_residual-in_err-run_one.ensures.1
+
+pub returns-in_err-arrive_all-2-clause-within : goal.returns-in_err-arrive_all-2-clause-within
+returns-in_err-arrive_all-2-clause-within g c = err-if-ok _ _ c.from_residual-in_err-arrive_all-2.result c.from_residual-in_err-arrive_all-2.ensures.1
+
+pub returns-in_err-arrive_all-2-clause-idle : goal.returns-in_err-arrive_all-2-clause-idle
+returns-in_err-arrive_all-2-clause-idle g c = err-if-ok _ _ c.from_residual-in_err-arrive_all-2.result c.from_residual-in_err-arrive_all-2.ensures.1
+
+pub returns-in_err-arrive_all-2-clause-arrived : goal.returns-in_err-arrive_all-2-clause-arrived
+returns-in_err-arrive_all-2-clause-arrived g c = err-on-ok _ _ c.from_residual-in_err-arrive_all-2.result c.from_residual-in_err-arrive_all-2.ensures.1
+
+pub returns-in_err-arrive_all-2-clause-short : goal.returns-in_err-arrive_all-2-clause-short
+returns-in_err-arrive_all-2-clause-short g c = passed-short c.from_residual-in_err-arrive_all-2.result c.from_residual-in_err-arrive_all-2.ensures.1 c.in_err-arrive_all-2.ensures.memory
+
+pub returns-then-not-branch-clause-short : goal.returns-then-not-branch-clause-short
+returns-then-not-branch-clause-short g c = λ e. not-ok _ _ _ refl e
+
+pub returns-clause-short : goal.returns-clause-short
+returns-clause-short g c = λ e. not-ok _ _ _ refl e
+
+pub returns-clause-idle : goal.returns-clause-idle
+returns-clause-idle g c = inl (search rules)

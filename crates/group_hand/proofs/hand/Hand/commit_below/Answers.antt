@@ -1,0 +1,132 @@
+use Rattle.std.proofs.Common.{ℕ, ◌≡◌, ◌<◌, ◌++◌, All, IsPermutation, List, take, drop, IfSome, slice_get, refl, sym, ap, ◌∙◌, subst}
+use Rattle.std.proofs.lemmas.List.{take-append-drop, take-map}
+use Rattle.std.proofs.lemmas.List.Elements.{All-weaker}
+use Rattle.reverse.specs.Rules.{rules_of}
+use Rattle.group_hand.specs.declared.block.Did.{Did}
+use Rattle.group_hand.specs.Flow.{Flow}
+use Rattle.group_hand.specs.Hands.{IsAsBefore}
+use Rattle.group_hand.specs.Undoing.{CameTo}
+use Rattle.group_hand.specs.Passing.{held}
+use Rattle.group_hand.specs.DoneEvents.{messages_of}
+use Rattle.group_hand.specs.Sealing.{CanCommit, Stays, rows_in}
+use Rattle.group_hand.proofs.Answering.{no-err, no-ok, where-ok}
+use Rattle.group_hand.proofs.Still.{as-first, as-both, as-roomy, first-again, on-err, told-after, waits-after}
+use Rattle.group_hand.proofs.Came.{dropped-came}
+use Rattle.group_hand.proofs.Forgetting.{of-messages, oldest-then}
+use Rattle.group_hand.proofs.Sealed.{commits-nothing, commits-both, commits-many}
+use Rattle.group_hand.proofs.hand.Hand.commit_below.Given.{Over}
+use Rattle.group_hand.proofs.hand.Hand.commit_below.Goals.{After-first-first, in-Ok, in-Err}
+use Rattle.group_hand.proofs.hand.Hand.commit_below.Goals as goal
+
+pub count_early-count-requires : goal.count_early-count-requires
+count_early-count-requires g c =
+    first-again c.first-first.result c.self.inside.letters.queue c.first-first.new.self.queue c.first-first.ensures.same
+    c.first-first.ensures.among c.first-first.ensures.first c.first-first.ensures.none
+
+-- after a look at the first message
+looked : (g : Over) (c : After-first-first g) → IsAsBefore c.args.self.now (held c.self.inside.members.items c.self.inside.done.events c.self.inside.rows c.first-first.new.self)
+looked g c =
+    subst (λ h. IsAsBefore h (held c.self.inside.members.items c.self.inside.done.events c.self.inside.rows c.first-first.new.self)) c.self.view_is
+    (as-first c.self.inside.members.items c.self.inside.done.events c.self.inside.rows c.self.inside.letters c.first-first.new.self c.first-first.ensures.same c.first-first.ensures.others)
+
+-- and then room was made
+refused : (g : Over) (c : After-first-first g) (done : _) (rows : _) (flow : _) → done ≡ c.self.inside.done.events → rows ≡ c.self.inside.rows →
+    flow ≡ record c.first-first.new.self { room = flow.room } → IsAsBefore c.args.self.now (held c.self.inside.members.items done rows flow)
+refused g c done rows flow d r e =
+    subst (λ z. IsAsBefore c.args.self.now (held c.self.inside.members.items done z flow)) (sym r)
+    (as-both c.args.self.now (held c.self.inside.members.items c.self.inside.done.events c.self.inside.rows c.first-first.new.self)
+    (held c.self.inside.members.items done c.self.inside.rows flow) (looked g c)
+    (as-roomy c.self.inside.members.items c.self.inside.done.events done c.self.inside.rows c.first-first.new.self flow d e))
+
+-- what became of the letters, whatever joined the block
+changed : (g : Over) (c : After-first-first g) (now : Flow) (ws : List Did) → now ≡ record c.first-first.new.self { words = ws; room = now.room } →
+    now ≡ record c.args.self.now.flow { queue = now.queue; words = now.words; room = now.room }
+changed g c now ws e =
+    told-after c.self.inside.letters c.first-first.new.self now ws c.first-first.ensures.others e ∙
+    (λ j. record (c.self.view_is j).flow { queue = now.queue; words = now.words; room = now.room })
+
+waiting : (g : Over) (c : After-first-first g) (now : Flow) (ws : List Did) → now ≡ record c.first-first.new.self { words = ws; room = now.room } → IsPermutation c.args.self.now.flow.queue now.queue
+waiting g c now ws e =
+    subst (λ h. IsPermutation h.flow.queue now.queue) c.self.view_is (waits-after c.self.inside.letters c.first-first.new.self now ws c.first-first.ensures.same e)
+
+pub returns-clause-did : goal.returns-clause-did
+returns-clause-did g c =
+    let r = rules_of g.R.Reversible.plain in
+    let V = g.R.Reversible.is_value in
+    let n = c.count_early-count.result in
+    let events = c.self.inside.done.events in
+    let mid = held c.self.inside.members.items events c.self.inside.rows c.first-first.new.self in
+    let new = held c.self.inside.members.items c.commit_first.new.done.events c.commit_first.new.sealed c.commit_first.new.self in
+    let at = (goal.at.returns-clause-did g c).After-first-first in
+    elim c.match-commit_first.branch [
+      | in-Ok w ↦
+          commits-both r V c.args.moment c.args.self.now mid new
+          (commits-nothing g.R.Reversible.plain V c.actor_rules_law.ensures.order c.actor_rules_law.ensures.undoes c.args.moment c.args.self.now mid (looked g at))
+          (commits-many g.R.Reversible.plain V c.actor_rules_law.ensures.order c.actor_rules_law.ensures.undoes c.args.moment (take n events) mid new (drop n events) refl (sym (take-append-drop n events))
+          w.in-Ok.ensures.events w.in-Ok.ensures.rows w.in-Ok.ensures.told
+          (of-messages (CanCommit c.args.moment c.first-first.new.self) n events c.count_early-count.ensures.early))
+      | in-Err w ↦
+          commits-nothing g.R.Reversible.plain V c.actor_rules_law.ensures.order c.actor_rules_law.ensures.undoes c.args.moment c.args.self.now new
+          (refused g at c.commit_first.new.done.events c.commit_first.new.sealed c.commit_first.new.self w.in-Err.ensures.events_stay w.in-Err.ensures.rows_stay w.in-Err.ensures.letters_stay)
+    ]
+
+pub returns-clause-unchanged : goal.returns-clause-unchanged
+returns-clause-unchanged g c =
+    let at = (goal.at.returns-clause-unchanged g c).After-first-first in
+    elim c.match-commit_first.branch [
+      | in-Ok w ↦ no-err _ _ _ w.result-is
+      | in-Err w ↦ on-err _ _ (refused g at c.commit_first.new.done.events c.commit_first.new.sealed c.commit_first.new.self w.in-Err.ensures.events_stay w.in-Err.ensures.rows_stay w.in-Err.ensures.letters_stay)
+    ]
+
+pub returns-clause-left : goal.returns-clause-left
+returns-clause-left g c =
+    elim c.match-commit_first.branch [
+      | in-Ok w ↦ where-ok _ _ w.result-is
+          (subst (λ ds. IfSome (slice_get (messages_of ds) 0) (Stays c.args.moment c.commit_first.new.self)) (sym w.in-Ok.ensures.events)
+          (subst (λ f. IfSome (slice_get (messages_of (drop c.count_early-count.result c.self.inside.done.events)) 0) (Stays c.args.moment f)) (sym w.in-Ok.ensures.told)
+          (oldest-then (Stays c.args.moment c.first-first.new.self) c.count_early-count.result c.self.inside.done.events c.count_early-count.ensures.left)))
+      | in-Err w ↦ no-ok _ _ _ w.result-is
+    ]
+
+pub invariant_of-self : goal.invariant_of-self
+invariant_of-self g c = (
+  elim c.match-commit_first.branch [
+    | in-Ok w ↦ subst (λ ds. (p : ℕ) → CameTo (rules_of g.R.Reversible.plain) g.R.Reversible.is_value c.self.inside.members.items ds p) (sym w.in-Ok.ensures.events)
+        (dropped-came (rules_of g.R.Reversible.plain) c.actor_rules_law.ensures.order g.R.Reversible.is_value c.self.inside.members.items c.count_early-count.result c.self.inside.done.events c.self.invariant.0)
+    | in-Err w ↦ subst (λ ds. (p : ℕ) → CameTo (rules_of g.R.Reversible.plain) g.R.Reversible.is_value c.self.inside.members.items ds p) (sym w.in-Err.ensures.events_stay) c.self.invariant.0
+  ],
+  c.self.invariant.1,
+  c.self.invariant.2,
+)
+
+pub returns-clause-sealed : goal.returns-clause-sealed
+returns-clause-sealed g c =
+    let n = c.count_early-count.result in
+    let events = c.self.inside.done.events in
+    let early : All (λ m. m.time < c.args.moment) (take n (messages_of events)) =
+    All-weaker (CanCommit c.args.moment c.first-first.new.self) (λ m. m.time < c.args.moment) (λ m k. k.early) (take n (messages_of events)) c.count_early-count.ensures.early in
+    elim c.match-commit_first.branch [
+      | in-Ok w ↦ where-ok _ _ w.result-is (
+        take n events,
+        ap (λ h. h.done) (sym c.self.view_is) ∙ (sym (take-append-drop n events) ∙ ap (λ ds. take n events ++ ds) (sym w.in-Ok.ensures.events)),
+        w.in-Ok.ensures.rows ∙ ap (λ h. record h.rows { all = h.rows.all ++ rows_in (take n events) }) c.self.view_is,
+        subst (λ ms. All (λ m. m.time < c.args.moment) ms) (take-map (λ d. d.message) n events) early,
+      )
+      | in-Err w ↦ no-ok _ _ _ w.result-is
+    ]
+
+pub returns-clause-queue : goal.returns-clause-queue
+returns-clause-queue g c =
+    let at = (goal.at.returns-clause-queue g c).After-first-first in
+    elim c.match-commit_first.branch [
+      | in-Ok w ↦ waiting g at c.commit_first.new.self _ w.in-Ok.ensures.told
+      | in-Err w ↦ waiting g at c.commit_first.new.self c.first-first.new.self.words w.in-Err.ensures.letters_stay
+    ]
+
+pub returns-clause-flow : goal.returns-clause-flow
+returns-clause-flow g c =
+    let at = (goal.at.returns-clause-flow g c).After-first-first in
+    elim c.match-commit_first.branch [
+      | in-Ok w ↦ changed g at c.commit_first.new.self _ w.in-Ok.ensures.told
+      | in-Err w ↦ changed g at c.commit_first.new.self c.first-first.new.self.words w.in-Err.ensures.letters_stay
+    ]

@@ -1,0 +1,284 @@
+use Rattle.std.proofs.Common.{◌≡◌, ◌≢◌, ℕ, ◌<◌, ◌≤◌, List, [], ◌∷◌, ◌++◌, Some, Ok, false, All, Contains, slice_get, subst, sym, ap, ◌∙◌, refl, rules, arith}
+use Rattle.std.proofs.lemmas.List.{with_items_is}
+use Rattle.std.proofs.lemmas.List.Elements.{All-weaker, All-nil}
+use Rattle.vlink.specs.declared.message.Message.{Message}
+use Rattle.vlink.specs.Order.{message_order}
+use Rattle.virtual_time.specs.Law.{IsAscending, IsOrder}
+use Rattle.virtual_time.proofs.Order.{not_less-time}
+use Rattle.reverse.specs.Rules.{is_before, rules_of}
+use Rattle.reverse.specs.declared.sends.TheConstants.{MOST_SENT}
+use Rattle.antimessages.specs.Counting.{is_after, newest_of}
+use Rattle.group_hand.specs.DoneEvents.{messages_of}
+use Rattle.group_hand.specs.Hands.{DoesSent, IsAsBefore}
+use Rattle.group_hand.specs.Passing.{held}
+use Rattle.group_hand.specs.declared.in_order.InOrder.TheVariants.{Ran, Idle, Late}
+use Rattle.group_hand.specs.declared.fault.HandFault.TheVariants.{Exhausted}
+use Rattle.group_hand.proofs.Answering.{not-both-faults, not-err, not-idle-late, not-idle-ran, not-ran-late}
+use Rattle.group_hand.proofs.NewestDone.{after-none}
+use Rattle.group_hand.proofs.Still.{as-both, as-empty, as-put_back, as-roomy, on-err, still, took-first}
+use Rattle.group_hand.proofs.Telling.{does-both}
+use Rattle.group_hand.proofs.Came.{came-alike}
+use Rattle.group_hand.proofs.Rooms.{room-still, some-room}
+use Rattle.group_hand.proofs.hand.Hand.run_in_order.Given.{Over}
+use Rattle.group_hand.proofs.hand.Hand.run_in_order.Goals.{After-make_room, After-wait_again, In-Some}
+use Rattle.group_hand.proofs.hand.Hand.run_in_order.Goals as goal
+
+-- where the first message is not earlier than the limit, none is
+all-late : IsOrder message_order → (limit : ℕ) (m : Message) (queue : List Message) → All (λ x. is_before x m ≡ false) queue → limit ≤ m.time → All (λ x. limit ≤ x.time) queue
+all-late O limit m queue first late =
+    All-weaker (λ x. is_before x m ≡ false) (λ x. limit ≤ x.time) (λ x b. let e = not_less-time message_order O x m b in omega (arith, late)) queue first
+
+-- after room was made
+roomy : (g : Over) (c : After-make_room g) → IsAsBefore c.args.self.now (held c.self.inside.members.items c.make_room.new.done.events c.self.inside.rows c.make_room.new.letters)
+roomy g c =
+    subst (λ h. IsAsBefore h (held c.self.inside.members.items c.make_room.new.done.events c.self.inside.rows c.make_room.new.letters)) c.self.view_is
+    (as-roomy c.self.inside.members.items c.self.inside.done.events c.make_room.new.done.events c.self.inside.rows c.self.inside.letters c.make_room.new.letters c.make_room.ensures.done c.make_room.ensures.letters)
+
+pub returns-in_default-clause-did : goal.returns-in_default-clause-did
+returns-in_default-clause-did g c =
+    still g.R.Reversible.plain g.R.Reversible.is_value c.actor_rules_law.ensures.order c.actor_rules_law.ensures.undoes c.args.self.now
+    (held c.self.inside.members.items c.make_room.new.done.events c.self.inside.rows c.make_room.new.letters) (roomy g (goal.at.returns-in_default-clause-did g c).After-make_room)
+
+pub returns-in_default-pop-clause-did : goal.returns-in_default-pop-clause-did
+returns-in_default-pop-clause-did g c =
+    let members = c.self.inside.members.items in
+    let events = c.make_room.new.done.events in
+    let rows = c.self.inside.rows in
+    still g.R.Reversible.plain g.R.Reversible.is_value c.actor_rules_law.ensures.order c.actor_rules_law.ensures.undoes c.args.self.now (held members events rows c.pop.new.self)
+    (as-both c.args.self.now (held members events rows c.make_room.new.letters) (held members events rows c.pop.new.self) (roomy g (goal.at.returns-in_default-pop-clause-did g c).After-make_room)
+    (as-empty members events rows c.make_room.new.letters c.pop.new.self c.in_default-pop.ensures.none c.in_default-pop.ensures.empty c.pop.ensures.others))
+
+-- the first message waits again
+back : (g : Over) (c : After-wait_again g) (before : IsAsBefore c.args.self.now (held c.self.inside.members.items c.make_room.new.done.events c.self.inside.rows c.make_room.new.letters)) →
+    IsAsBefore c.args.self.now (held c.self.inside.members.items c.make_room.new.done.events c.self.inside.rows c.wait_again.new.self)
+back g c before =
+    let members = c.self.inside.members.items in
+    let events = c.make_room.new.done.events in
+    let rows = c.self.inside.rows in
+    as-both c.args.self.now (held members events rows c.make_room.new.letters) (held members events rows c.wait_again.new.self) before
+    (as-put_back members events rows c.make_room.new.letters c.pop.new.self c.wait_again.new.self c.in-Some.message c.in-Some.ensures.taken c.wait_again.ensures.waits c.wait_again.ensures.others)
+
+-- it is the first of the queue
+first : (g : Over) (c : In-Some g) → Contains c.args.self.now.flow.queue c.in-Some.message × All (λ x. is_before x c.in-Some.message ≡ false) c.args.self.now.flow.queue
+first g c =
+    subst (λ (q : List Message). Contains q c.in-Some.message × All (λ x. is_before x c.in-Some.message ≡ false) q)
+    (ap (λ z. z.queue) c.make_room.ensures.letters ∙ ap (λ h. h.flow.queue) c.self.view_is)
+    (took-first c.in-Some.message c.make_room.new.letters c.pop.new.self c.in-Some.ensures.taken)
+
+pub returns-in_default-outcome-clause-did : goal.returns-in_default-outcome-clause-did
+returns-in_default-outcome-clause-did g c =
+    let at = goal.at.returns-in_default-outcome-clause-did g c in
+    still g.R.Reversible.plain g.R.Reversible.is_value c.actor_rules_law.ensures.order c.actor_rules_law.ensures.undoes c.args.self.now
+    (held c.self.inside.members.items c.make_room.new.done.events c.self.inside.rows c.wait_again.new.self) (back g at.After-wait_again (roomy g at.After-make_room))
+
+pub returns-in_default-outcome-clause-late : goal.returns-in_default-outcome-clause-late
+returns-in_default-outcome-clause-late g c = λ e.
+    let k = first g (goal.at.returns-in_default-outcome-clause-late g c).In-Some in
+    let b = rw e at c.in_order_of-outcome.ensures in (
+      c.in-Some.message,
+      subst (λ ds. is_after message_order (newest_of (messages_of ds)) c.in-Some.message ≡ false) (c.make_room.ensures.done ∙ ap (λ h. h.done) c.self.view_is) b.1,
+      k.0,
+      k.1,
+    )
+
+pub returns-in_default-outcome-clause-exhausted : goal.returns-in_default-outcome-clause-exhausted
+returns-in_default-outcome-clause-exhausted g c = λ e.
+    let k = first g (goal.at.returns-in_default-outcome-clause-exhausted g c).In-Some in
+    let b = rw e at c.in_order_of-outcome.ensures in (
+      c.in-Some.message,
+      k.0,
+      k.1,
+      subst (λ ds. IsAscending message_order (messages_of ds) → All (λ x. x ≢ c.in-Some.message) (messages_of ds)) (c.make_room.ensures.done ∙ ap (λ h. h.done) c.self.view_is)
+          (λ up. after-none c.actor_rules_law.ensures.order c.in-Some.message (messages_of c.make_room.new.done.events) up b.1),
+      λ s i. b.2 s (subst (λ ms. slice_get ms c.in-Some.message.receiver ≡ Some (Some s)) (sym c.deref.ensures.value)
+          (subst (λ h. slice_get h.members c.in-Some.message.receiver ≡ Some (Some s)) (sym c.self.view_is) i)),
+    )
+
+pub returns-in_default-outcome-clause-unchanged : goal.returns-in_default-outcome-clause-unchanged
+returns-in_default-outcome-clause-unchanged g c =
+    let at = goal.at.returns-in_default-outcome-clause-unchanged g c in
+    on-err c.in_order_of-outcome.result _ (back g at.After-wait_again (roomy g at.After-make_room))
+
+pub returns-in_default-outcome-clause-still : goal.returns-in_default-outcome-clause-still
+returns-in_default-outcome-clause-still g c = λ e.
+    let at = goal.at.returns-in_default-outcome-clause-still g c in
+    back g at.After-wait_again (roomy g at.After-make_room)
+
+pub returns-in_default-pop-clause-idle_still : goal.returns-in_default-pop-clause-idle_still
+returns-in_default-pop-clause-idle_still g c = λ _.
+    let members = c.self.inside.members.items in
+    let events = c.make_room.new.done.events in
+    let rows = c.self.inside.rows in
+    as-both c.args.self.now (held members events rows c.make_room.new.letters) (held members events rows c.pop.new.self) (roomy g (goal.at.returns-in_default-pop-clause-idle_still g c).After-make_room)
+    (as-empty members events rows c.make_room.new.letters c.pop.new.self c.in_default-pop.ensures.none c.in_default-pop.ensures.empty c.pop.ensures.others)
+
+pub returns-in_default-outcome-clause-idle_still : goal.returns-in_default-outcome-clause-idle_still
+returns-in_default-outcome-clause-idle_still g c = λ e.
+    let at = goal.at.returns-in_default-outcome-clause-idle_still g c in
+    back g at.After-wait_again (roomy g at.After-make_room)
+
+pub returns-in_default-outcome-clause-soon : goal.returns-in_default-outcome-clause-soon
+returns-in_default-outcome-clause-soon g c = λ e.
+    let k = first g (goal.at.returns-in_default-outcome-clause-soon g c).In-Some in
+    let b = rw e at c.in_order_of-outcome.ensures in
+    (c.in-Some.message, k.0, b.0)
+
+pub returns-in-Ok-Ran-clause-ran : goal.returns-in-Ok-Ran-clause-ran
+returns-in-Ok-Ran-clause-ran g c = λ _.
+    let q = c.args.self.now.flow.queue in
+    let k = first g (goal.at.returns-in-Ok-Ran-clause-ran g c).In-Some in
+    let d = c.handle_in_order.ensures.done in
+    let e : c.in_order_of-outcome.result ≡ Ok Ran = search rules in
+    let b = rw e at c.in_order_of-outcome.ensures in
+    let w = subst (λ (m : Message). Contains q m × All (λ x. is_before x m ≡ false) q × (m.time < c.args.limit)) (sym d.2) (k.0, k.1, b.0) in
+    (d.0, d.1 ∙ ap (λ z. z ++ d.0 ∷ []) (c.make_room.ensures.done ∙ ap (λ h. h.done) c.self.view_is), w.0, w.1, w.2)
+
+-- nothing was answered, and the fault is want of memory
+pub returns-in_default-clause-idle : goal.returns-in_default-clause-idle
+returns-in_default-clause-idle g c = λ e. not-err Idle _ _ e refl
+
+pub returns-in_default-clause-late : goal.returns-in_default-clause-late
+returns-in_default-clause-late g c = λ e. not-err Late _ _ e refl
+
+pub returns-in_default-clause-still : goal.returns-in_default-clause-still
+returns-in_default-clause-still g c = λ e. not-err Late _ _ e refl
+
+pub returns-in_default-clause-idle_still : goal.returns-in_default-clause-idle_still
+returns-in_default-clause-idle_still g c = λ e. not-err Idle _ _ e refl
+
+pub returns-in_default-clause-ran : goal.returns-in_default-clause-ran
+returns-in_default-clause-ran g c = λ e. not-err Ran _ _ e refl
+
+pub returns-in_default-clause-soon : goal.returns-in_default-clause-soon
+returns-in_default-clause-soon g c = λ e. not-err Late _ _ e refl
+
+pub returns-in_default-clause-exhausted : goal.returns-in_default-clause-exhausted
+returns-in_default-clause-exhausted g c = λ e. not-both-faults _ refl e
+
+pub returns-in_default-clause-unchanged : goal.returns-in_default-clause-unchanged
+returns-in_default-clause-unchanged g c = roomy g (goal.at.returns-in_default-clause-unchanged g c).After-make_room
+
+pub returns-in_default-pop-clause-late : goal.returns-in_default-pop-clause-late
+returns-in_default-pop-clause-late g c = λ e. not-idle-late _ refl e
+
+pub returns-in_default-pop-clause-still : goal.returns-in_default-pop-clause-still
+returns-in_default-pop-clause-still g c = λ e. not-idle-late _ refl e
+
+pub returns-in_default-pop-clause-soon : goal.returns-in_default-pop-clause-soon
+returns-in_default-pop-clause-soon g c = λ e. not-idle-late _ refl e
+
+pub returns-in_default-pop-clause-ran : goal.returns-in_default-pop-clause-ran
+returns-in_default-pop-clause-ran g c = λ e. not-idle-ran _ refl e
+
+pub returns-in_default-pop-clause-exhausted : goal.returns-in_default-pop-clause-exhausted
+returns-in_default-pop-clause-exhausted g c = λ e. not-err Idle Exhausted _ refl e
+
+pub returns-in_default-pop-clause-unchanged : goal.returns-in_default-pop-clause-unchanged
+returns-in_default-pop-clause-unchanged g c = tt
+
+pub returns-in-Ok-Ran-clause-late : goal.returns-in-Ok-Ran-clause-late
+returns-in-Ok-Ran-clause-late g c = λ e. not-ran-late _ refl e
+
+pub returns-in-Ok-Ran-clause-still : goal.returns-in-Ok-Ran-clause-still
+returns-in-Ok-Ran-clause-still g c = λ e. not-ran-late _ refl e
+
+pub returns-in-Ok-Ran-clause-soon : goal.returns-in-Ok-Ran-clause-soon
+returns-in-Ok-Ran-clause-soon g c = λ e. not-ran-late _ refl e
+
+pub returns-in-Ok-Ran-clause-idle : goal.returns-in-Ok-Ran-clause-idle
+returns-in-Ok-Ran-clause-idle g c = λ e. not-idle-ran _ e refl
+
+pub returns-in-Ok-Ran-clause-idle_still : goal.returns-in-Ok-Ran-clause-idle_still
+returns-in-Ok-Ran-clause-idle_still g c = λ e. not-idle-ran _ e refl
+
+pub returns-in-Ok-Ran-clause-exhausted : goal.returns-in-Ok-Ran-clause-exhausted
+returns-in-Ok-Ran-clause-exhausted g c = λ e. not-err Ran Exhausted _ refl e
+
+pub returns-in-Ok-Ran-clause-unchanged : goal.returns-in-Ok-Ran-clause-unchanged
+returns-in-Ok-Ran-clause-unchanged g c = tt
+
+pub returns-in_default-outcome-clause-idle : goal.returns-in_default-outcome-clause-idle
+returns-in_default-outcome-clause-idle g c = λ e.
+    let k = first g (goal.at.returns-in_default-outcome-clause-idle g c).In-Some in
+    all-late c.actor_rules_law.ensures.order c.args.limit c.in-Some.message c.args.self.now.flow.queue k.1 (rw e at c.in_order_of-outcome.ensures)
+
+pub returns-in-Ok-Ran-clause-did : goal.returns-in-Ok-Ran-clause-did
+returns-in-Ok-Ran-clause-did g c =
+    let r = rules_of g.R.Reversible.plain in
+    let V = g.R.Reversible.is_value in
+    let rows = c.self.inside.rows in
+    let mid = held c.self.inside.members.items c.make_room.new.done.events rows c.make_room.new.letters in
+    let new = held c.handle_in_order.new.members c.handle_in_order.new.done.events rows c.handle_in_order.new.letters in
+    subst (λ ms. DoesSent r V c.args.self.now [] (held ms c.handle_in_order.new.done.events rows c.handle_in_order.new.letters) [])
+    (sym (with_items_is c.self.inside.members c.handle_in_order.new.members (c.handle_in_order.ensures.len ∙ c.deref_mut.ensures.len)))
+    (does-both r V c.args.self.now mid new [] [] []
+    (still g.R.Reversible.plain V c.actor_rules_law.ensures.order c.actor_rules_law.ensures.undoes c.args.self.now mid (roomy g (goal.at.returns-in-Ok-Ran-clause-did g c).After-make_room))
+    (subst (λ ms. DoesSent r V (held ms c.make_room.new.done.events rows c.make_room.new.letters) [] new []) c.deref_mut.ensures.value
+    (c.handle_in_order.ensures.did rows c.make_room.new.letters c.in-Some.ensures.taken)))
+
+third : {A B C : Type 0} → A × B × C → C
+third x = x.2
+
+pub handle_in_order-requires-clause-early : goal.handle_in_order-requires-clause-early
+handle_in_order-requires-clause-early g c =
+    let e : c.in_order_of-outcome.result ≡ Ok Ran = search rules in
+    let b = rw e at c.in_order_of-outcome.ensures in
+    b.1
+
+pub handle_in_order-requires-clause-able : goal.handle_in_order-requires-clause-able
+handle_in_order-requires-clause-able g c =
+    let e : c.in_order_of-outcome.result ≡ Ok Ran = search rules in
+    let a = third (rw e at c.in_order_of-outcome.ensures) in
+    (a.0, subst (λ ms. slice_get ms c.in-Some.message.receiver ≡ Some (Some a.0)) (c.deref.ensures.value ∙ sym c.deref_mut.ensures.value) a.1, a.2)
+
+-- what holds of the group is kept
+pub invariant_of-self : goal.invariant_of-self
+invariant_of-self g c = (
+  came-alike (rules_of g.R.Reversible.plain) g.R.Reversible.is_value c.self.inside.members.items _ c.self.inside.done.events _ refl c.make_room.ensures.done c.self.invariant.0,
+  c.self.invariant.1,
+  c.self.invariant.2,
+)
+
+pub invariant_of-self-in_default-pop : goal.invariant_of-self-in_default-pop
+invariant_of-self-in_default-pop g c = (
+  came-alike (rules_of g.R.Reversible.plain) g.R.Reversible.is_value c.self.inside.members.items _ c.self.inside.done.events _ refl c.make_room.ensures.done c.self.invariant.0,
+  c.self.invariant.1,
+  c.self.invariant.2,
+)
+
+pub invariant_of-self-in_default-outcome : goal.invariant_of-self-in_default-outcome
+invariant_of-self-in_default-outcome g c = (
+  came-alike (rules_of g.R.Reversible.plain) g.R.Reversible.is_value c.self.inside.members.items _ c.self.inside.done.events _ refl c.make_room.ensures.done c.self.invariant.0,
+  c.self.invariant.1,
+  c.self.invariant.2,
+)
+
+pub invariant_of-self-in-Ran-1 : goal.invariant_of-self-in-Ran-1
+invariant_of-self-in-Ran-1 g c = (
+  came-alike (rules_of g.R.Reversible.plain) g.R.Reversible.is_value c.handle_in_order.new.members _ c.handle_in_order.new.done.events _
+      (with_items_is c.self.inside.members c.handle_in_order.new.members (c.handle_in_order.ensures.len ∙ c.deref_mut.ensures.len)) refl
+      (c.handle_in_order.ensures.came
+      (came-alike (rules_of g.R.Reversible.plain) g.R.Reversible.is_value c.self.inside.members.items _ c.self.inside.done.events _ c.deref_mut.ensures.value c.make_room.ensures.done c.self.invariant.0)),
+  c.self.invariant.1,
+  c.self.invariant.2,
+)
+
+pub handle_in_order-requires-clause-events : goal.handle_in_order-requires-clause-events
+handle_in_order-requires-clause-events g c = c.in-Ok.ensures.events
+
+pub handle_in_order-requires-clause-sends : goal.handle_in_order-requires-clause-sends
+handle_in_order-requires-clause-sends g c = c.in-Ok.ensures.sends
+
+pub handle_in_order-requires-clause-rows : goal.handle_in_order-requires-clause-rows
+handle_in_order-requires-clause-rows g c = c.in-Ok.ensures.rows
+
+pub handle_in_order-requires-clause-room : goal.handle_in_order-requires-clause-room
+handle_in_order-requires-clause-room g c = room-still _ _ _ c.in-Ok.ensures.room c.pop.ensures.room
+
+pub wait_again-requires : goal.wait_again-requires
+wait_again-requires g c = some-room MOST_SENT _ _ c.in-Ok.ensures.room c.pop.ensures.room
+
+pub returns-in_default-pop-clause-idle : goal.returns-in_default-pop-clause-idle
+returns-in_default-pop-clause-idle g c = λ _.
+    subst (λ (q : List Message). All (λ m. c.args.limit ≤ m.time) q)
+    (sym c.in_default-pop.ensures.none ∙ (ap (λ z. z.queue) c.make_room.ensures.letters ∙ ap (λ h. h.flow.queue) c.self.view_is)) (All-nil (λ (m : Message). c.args.limit ≤ m.time))

@@ -1,0 +1,129 @@
+//! Letters that were taken arrive, one after another.
+ghost use Rattle.std.specs.Prelude.{◌≡◌, ◌+◌, ◌<◌, ◌≤◌, true, false, Ok, OnOk, OnErr, IfErr, IfSome, IsPermutation, length, vec_len, vec_capacity};
+ghost use Rattle.reverse.specs.Rules.{rules_of};
+ghost use Rattle.group_hand.specs.Hands.{DoesTold, IsAsBefore, IsQuiet};
+ghost use Rattle.group_hand.specs.Undoing.{HasRoomFor, sent_in};
+ghost use Rattle.group_hand.specs.declared.fault.HandFault.TheVariants.{OutOfMemory};
+
+use crate::done_events::DoneEvents;
+use crate::fault::HandFault;
+use crate::hand::Hand;
+use crate::letters::Letters;
+use crate::rollback::Undoing;
+use crate::settling::arrive;
+use reverse::{Actor, actor_rules_law};
+use std::alloc::AllocError;
+use std::collections::VecDeque;
+use vlink::Letter;
+
+/// For so many letters at most an empty tray keeps room.
+const MOST_KEPT: usize = 4096;
+
+impl<R: Actor> Hand<R> {
+    /// Whether no letter waits to arrive.
+    #[inline(always)]
+    fn is_quiet(&self) -> bool
+        ensures { result ≡ true → IsQuiet self.now }
+    {
+        self.letters.tray.is_empty()
+    }
+
+    /// All letters that were taken arrive, and what is taken back by that within the group arrives too. A refusal stops between two letters.
+    #[inline(always)]
+    pub fn arrive_all(&mut self) -> Result<(), HandFault>
+        ensures did { DoesTold (rules_of R.plain) R.is_value self.old self.new }
+        ensures quiet { OnOk result (IsQuiet self.new) }
+        ensures memory { IfErr result (λ fault. fault ≡ OutOfMemory) }
+    {
+        actor_rules_law::<R>();
+        if self.is_quiet() {
+            return Ok(());
+        }
+        'letters: while self.arrive_front()? {}
+        self.sort_many();
+        Ok(())
+    }
+
+    /// Where many messages wait in no order, they are put in order.
+    fn sort_many(&mut self)
+        ensures { IsAsBefore self.old self.new }
+    {
+        self.letters.sort_many();
+    }
+
+    /// The front of the tray arrives, if there is one. The answer is whether there was. A refusal leaves all as it was.
+    fn arrive_front(&mut self) -> Result<bool, HandFault>
+        ensures did { DoesTold (rules_of R.plain) R.is_value self.old self.new }
+        ensures quiet { result ≡ Ok false → IsQuiet self.new }
+        ensures fewer { result ≡ Ok true → length self.new.flow.tray + sent_in self.new.done < length self.old.flow.tray + sent_in self.old.done }
+        ensures unchanged { OnErr result (IsAsBefore self.old self.new) }
+        ensures memory { IfErr result (λ fault. fault ≡ OutOfMemory) }
+    {
+        actor_rules_law::<R>();
+        let Some(letter) = self.letters.front() else {
+            return Ok(false);
+        };
+        let Ok(()) = make_room(&self.done, &mut self.undoing, &mut self.letters) else {
+            return Err(HandFault::OutOfMemory);
+        };
+        match arrive(
+            &mut self.members,
+            &mut self.done,
+            &mut self.undoing,
+            &mut self.letters,
+            &letter,
+        ) {
+            Ok(()) => Ok(true),
+            Err(_fault) => Err(HandFault::OutOfMemory),
+        }
+    }
+}
+
+impl Letters {
+    /// Where many messages wait in no order, they are put in order. The room of a tray that was emptied of many letters is given back.
+    fn sort_many(&mut self)
+        ensures queue { IsPermutation self.old.queue self.new.queue }
+        ensures others { self.new ≡ record self.old { queue = self.new.queue; room = self.new.room } }
+    {
+        self.room = 0;
+        self.queue.sort_many();
+        give_back(&mut self.tray);
+    }
+}
+
+/// Room that the tray does not need is given back, where there is much of it: the offers of a run come by it at the start, and so many letters do
+/// not come again.
+fn give_back(tray: &mut VecDeque<Letter>)
+    ensures { tray.new.items ≡ tray.old.items }
+{
+    if tray.capacity() > MOST_KEPT {
+        tray.shrink_to_fit();
+    }
+}
+
+/// Makes room for all that comes of a letter that arrives, whatever is undone by it.
+fn make_room<K: Copy>(
+    done: &DoneEvents<K>,
+    undoing: &mut Undoing<K>,
+    letters: &mut Letters,
+) -> Result<(), AllocError>
+    ensures room { OnOk result (length done.now.events + sent_in done.now.events + 2 ≤ letters.new.room) }
+    ensures space { OnOk result (HasRoomFor done.now.events undoing.new.aside) }
+    ensures sends { OnOk result (vec_len undoing.new.back + sent_in done.now.events ≤ vec_capacity undoing.new.back) }
+    ensures aside { undoing.new.aside.events ≡ undoing.old.aside.events }
+    ensures back { undoing.new.back.items ≡ undoing.old.back.items }
+    ensures letters { letters.new ≡ record letters.old { room = letters.new.room } }
+{
+    let Some(room) = room_for(done.len(), done.sent_count()) else {
+        return Err(AllocError);
+    };
+    letters.reserve(room)?;
+    undoing.reserve_for(done)
+}
+
+/// For how many letters and words there has to be room where so many events, which sent so many messages, can be undone: none where no number tells.
+fn room_for(events: usize, sent: usize) -> Option<usize>
+    ensures { IfSome result (λ n. n ≡ events + sent + 2) }
+{
+    events.checked_add(sent)?.checked_add(2)
+}

@@ -1,0 +1,127 @@
+//! The first message of the queue is handled where other members have done later events, which stay done.
+ghost use Rattle.std.specs.Prelude.{◌≡◌, ◌≢◌, ℕ, ◌⊎◌, ◌+◌, ◌<◌, ◌≤◌, ◌++◌, [], ◌∷◌, true, false, All, Contains, List, Option, Some, length, map, slice_get};
+ghost use Rattle.vlink.specs.declared.message.Message.{Message};
+ghost use Rattle.vlink.specs.Numbering.{greatest_number};
+ghost use Rattle.vlink.specs.Order.{message_order};
+ghost use Rattle.virtual_time.specs.Law.{IsAscending, plus_of};
+ghost use Rattle.reverse.specs.Rules.{rules_of, is_before};
+ghost use Rattle.group_hand.specs.Arriving.{WentOn};
+ghost use Rattle.group_hand.specs.DoneEvents.{DoneEvent, messages_of};
+ghost use Rattle.group_hand.specs.Flow.{WasTaken, WentAbroad};
+ghost use Rattle.group_hand.specs.Handling.{HasLater, SetAside, StopsAt};
+ghost use Rattle.group_hand.specs.Hands.{DoesSent};
+ghost use Rattle.group_hand.specs.Passing.{held};
+ghost use Rattle.group_hand.specs.Rows.{Sealed};
+ghost use Rattle.group_hand.specs.Undoing.{CameTo, HasRoomFor};
+ghost use Rattle.reverse.specs.declared.sends.TheConstants.{MOST_SENT};
+
+use crate::block::Did;
+use crate::done_events::DoneEvents;
+use crate::letters::Letters;
+use crate::members::{act, is_ours};
+use crate::rollback::bring_back;
+use reverse::{Actor, Outbound, actor_rules_law};
+use vlink::{Message, Sign, message_order_law, order_law};
+
+impl Letters {
+    /// A message that was just sent goes on: to others; or its letter is taken, and waits in the tray.
+    pub(crate) fn pass_later(&mut self, message: &Message, is_home: bool)
+        requires { 0 < self.old.room }
+        ensures abroad { is_home ≡ false → WentAbroad message.now self.old self.new }
+        ensures home { is_home ≡ true → WasTaken message.now self.old self.new }
+        ensures room { self.old.room ≤ self.new.room + 1 }
+    {
+        if is_home {
+            self.hold(message, Sign::Plus);
+        } else {
+            self.post(message, Sign::Plus);
+        }
+    }
+}
+
+/// What an event sent goes on, and what is for members waits in the tray. There is room for it.
+fn send_later<S>(members: &[Option<S>], letters: &mut Letters, messages: &[Message])
+    requires { length messages.now ≤ letters.old.room }
+    ensures went { WentOn members.now (map plus_of messages.now) letters.old letters.new }
+    ensures queue { letters.new.queue ≡ letters.old.queue }
+    ensures extra { letters.new.extra ≡ letters.old.extra }
+{
+    for place in 0..messages.len() {
+        let message = &messages[place];
+        letters.pass_later(message, is_ours(members, message.receiver));
+    }
+}
+
+/// The newest event is set aside, if it does not come before the message and is of another process than its receiver. The answer is whether it was.
+fn set_newest_aside<K: Copy>(
+    done: &mut DoneEvents<K>,
+    aside: &mut DoneEvents<K>,
+    message: &Message,
+) -> bool
+    requires space { HasRoomFor done.old.events aside.old }
+    ensures aside { (all : List (DoneEvent K)) → SetAside message_order message.now all done.old.events aside.old.events → SetAside message_order message.now all done.new.events aside.new.events }
+    ensures space { HasRoomFor done.new.events aside.new }
+    ensures again { (more : List (DoneEvent K)) → HasRoomFor (more ++ aside.old.events) done.old → HasRoomFor (more ++ aside.new.events) done.new }
+    ensures fewer { result ≡ true → length done.new.events + 1 ≡ length done.old.events }
+    ensures stops { result ≡ false → StopsAt message_order message.now done.new.events }
+{
+    if done.is_before(message) || done.newest_is_for(message.receiver) {
+        return false;
+    }
+    done.move_newest(aside);
+    true
+}
+
+/// The newest events are set aside, up to one that comes before the message or is of its receiver.
+fn set_aside<K: Copy>(done: &mut DoneEvents<K>, aside: &mut DoneEvents<K>, message: &Message)
+    requires empty { aside.old.events ≡ [] }
+    requires space { HasRoomFor done.old.events aside.old }
+    ensures aside { SetAside message_order message.now done.old.events done.new.events aside.new.events }
+    ensures again { (more : List (DoneEvent K)) → HasRoomFor more done.old → HasRoomFor (more ++ aside.new.events) done.new }
+    ensures stops { StopsAt message_order message.now done.new.events }
+{
+    'events: while set_newest_aside(done, aside, message) {}
+}
+
+/// The message, which is the first of the queue and not done, and whose receiver is a member with numbers left, is handled. Later events of other
+/// members stay behind its own. There is room for all that comes of it.
+pub(crate) fn handle_out_of_order<R: Actor>(
+    members: &mut [Option<R>],
+    done: &mut DoneEvents<R::Record>,
+    aside: &mut DoneEvents<R::Record>,
+    letters: &mut Letters,
+    out: &mut Outbound,
+    message: &Message,
+)
+    requires among { Contains letters.old.queue message.now }
+    requires first { All (λ x. is_before x message.now ≡ false) letters.old.queue }
+    requires not_done { IsAscending message_order (messages_of done.old.events) → All (λ x. x ≢ message.now) (messages_of done.old.events) }
+    requires able { (s : R) × (slice_get members.old message.now.receiver ≡ Some (Some s)) × (R.plain.counter s + MOST_SENT ≤ greatest_number) }
+    requires came { (p : ℕ) → CameTo (rules_of R.plain) R.is_value members.old done.old.events p }
+    requires empty { aside.old.events ≡ [] }
+    requires space { HasRoomFor done.old.events aside.old }
+    requires room { MOST_SENT + 1 ≤ letters.old.room }
+    requires events { 1 ≤ done.old.events_room }
+    requires sends { MOST_SENT ≤ done.old.sends_room }
+    requires rows { 2 ≤ done.old.rows_room }
+    ensures len { length members.new ≡ length members.old }
+    ensures did { (rows : Sealed) → DoesSent (rules_of R.plain) R.is_value (held members.old done.old.events rows letters.old) [] (held members.new done.new.events rows letters.new) [] }
+    ensures came { (p : ℕ) → CameTo (rules_of R.plain) R.is_value members.new done.new.events p }
+    ensures empty { aside.new.events ≡ [] }
+    ensures handled { (length done.new.events ≡ length done.old.events + 1) ⊎ HasLater message_order message.now done.old.events }
+{
+    actor_rules_law::<R>();
+    set_aside(done, aside, message);
+    if !done.is_before(message) {
+        bring_back(done, aside);
+        return;
+    }
+    letters.take_first(message);
+    let kept = act(members, message, out);
+    done.push_reserved(message, kept, out.messages(), out.notes());
+    letters.tell(Did::Ran {
+        process: message.receiver,
+    });
+    send_later(members, letters, out.messages());
+    bring_back(done, aside);
+}
