@@ -20,9 +20,9 @@ import stopped_threads  # noqa: E402
 from afdx import PROGRAM  # noqa: E402
 
 # How long a worker stands still, in s, and how long a run may take in all.
-STILL, LONGEST = 20, 120
-# Some 3 s of work for one thread, so that a worker is at its work when it is stopped.
-NETWORK = ["--end-systems", "60", "--virtual-links", "1500", "--until", "1500000000"]
+STILL, LONGEST = 20, 300
+# Some 2 s of work for one thread, so that a worker is at its work when it is stopped.
+NETWORK = ["--end-systems", "60", "--virtual-links", "1500", "--until", "800000000"]
 PACE = ["--workers", "2", "--groups", "2"]
 
 
@@ -68,9 +68,9 @@ class StandingStill(unittest.TestCase):
             self.assertIsNone(run.poll(), "the run has ended")
             time.sleep(0.001)
         time.sleep(after)
-        thread = max(stopped_threads.threads_of(run), default=None)
-        self.assertTrue(thread and stopped_threads.stop(thread), "the run has ended")
-        return run, thread
+        threads = stopped_threads.threads_of(run)
+        self.assertTrue(threads and stopped_threads.stop(threads[-1]), "the run has ended")
+        return run, threads[-1]
 
     def test_a_run_of_which_one_thread_stands_still_ends(self):
         begin = time.monotonic()
