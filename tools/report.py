@@ -634,9 +634,10 @@ class Page:
         )
 
     def transmit_jitter(self):
-        """The lines by which end systems send, and what the standard allows there."""
+        """The lines by which end systems send, and what the standard allows there: where something is known of their jitter,
+        or where the description alone breaks the rule."""
         of = self.given.transmit
-        if not of.users:
+        if not of.users or not (of.is_measured or of.is_bounded or of.broken()):
             return ""
         self.rows["transmit"] = of.columns()
         columns = [column("line", "line", "line"), count_column("users", "virtual links", unit="number")]

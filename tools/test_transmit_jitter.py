@@ -93,6 +93,11 @@ class OnThePage(unittest.TestCase):
                 self.assertEqual((status, data["transmit"]), (0, wanted))
                 self.assertEqual('data-name="transmit jitter too long"' in page, count == 69)
                 self.assertIn('<section id="transmit">', page)
+                # By the tables alone the page has it where the rule is broken.
+                with contextlib.redirect_stderr(io.StringIO()):
+                    self.assertEqual(report.main([path("net.toml"), path("tables.csv"), "-o", path("page.html")]), 0)
+                with open(path("page.html"), encoding="utf-8") as file:
+                    self.assertEqual('<section id="transmit">' in file.read(), count == 69)
 
 
 if __name__ == "__main__":
