@@ -54,14 +54,14 @@ fn act<A: Actor>(actors: &mut [A], message: &Message, out: &mut Outbound) -> boo
 }
 
 /// The first waiting message, if there is one, is handled by its receiver: what it sends waits, and `recorder` takes a row of each note.
-/// `out` is room for what it sends and notes, and `message` for the message itself. The answer is whether there was one.
+/// `out` is room for what it sends and notes, and `moment` gets the moment of it. The answer is whether there was one.
 #[inline(always)]
 fn handle_first<A: Actor, R: Recorder>(
     actors: &mut [A],
     waiting: &mut Waiting,
     recorder: &mut R,
     out: &mut Outbound,
-    message: &mut Message,
+    moment: &mut Time,
 ) -> Result<bool, SimFault>
     requires { (rows : List Row) × R.has_taken recorder.old rows × IsRunning (rules_of A.plain) actors.old waiting.old rows }
     ensures handled { result ≡ Ok true → (rows : List Row) → R.has_taken recorder.old rows → AtEach (rules_of A.plain) actors.old waiting.old rows
@@ -79,14 +79,15 @@ fn handle_first<A: Actor, R: Recorder>(
     ensures left { OnErr result ((rows : List Row) → R.has_taken recorder.old rows → AtEach (rules_of A.plain) actors.old waiting.old rows
         (λ f n. AreOnTheWay f actors.new)) }
 {
-    if !waiting.pop(message) {
+    let Some(message) = waiting.pop() else {
         return Ok(false);
-    }
-    if !act(actors, message, out) {
+    };
+    *moment = message.time;
+    if !act(actors, &message, out) {
         return Err(SimFault::Exhausted);
     }
     waiting.push_all(out.messages())?;
-    record(recorder, message, out.notes())?;
+    record(recorder, &message, out.notes())?;
     Ok(true)
 }
 
@@ -120,12 +121,12 @@ pub fn handle_all<A: Actor, R: Recorder, W: Watch>(
     ensures watched { W.becomes watch.old watch.new }
 {
     let mut out = Outbound::new(0, Time::default(), 0);
-    let mut message = Message::default();
+    let mut moment = Time::default();
     let mut unseen = 0;
-    'events: while handle_first(actors, waiting, recorder, &mut out, &mut message)? {
-        unseen = show_event(watch, message.time, unseen);
+    'events: while handle_first(actors, waiting, recorder, &mut out, &mut moment)? {
+        unseen = show_event(watch, moment, unseen);
     }
-    watch.look(message.time, unseen);
+    watch.look(moment, unseen);
     Ok(())
 }
 

@@ -14,43 +14,43 @@ use Rattle.actor_run.proofs.running.handle_first.Goals as goal
 use Rattle.actor_run.proofs.running.handle_first.Given.{Over}
 use Rattle.actor_run.proofs.running.handle_first.Goals.{After-messages}
 
-pub returns-then-not-pop-clause-over : goal.returns-then-not-pop-clause-over
-returns-then-not-pop-clause-over g c = λ e rows taken x L n h.
+pub returns-in_default-clause-over : goal.returns-in_default-clause-over
+returns-in_default-clause-over g c = λ e rows taken x L n h.
     let f = simulation_of (rules_of g.A.Reversible.plain) x in (
       taken,
-      subst (λ (heap : List Message). StandsAt f n c.args.actors.now heap rows) (sym (c.if-not-pop.ensures.unchanged refl)) h,
-      over f L n _ _ _ h (c.if-not-pop.ensures.none refl),
+      subst (λ (heap : List Message). StandsAt f n c.args.actors.now heap rows) (sym c.in_default.ensures.unchanged) h,
+      over f L n _ _ _ h c.in_default.ensures.none,
     )
 
 pub act-requires : goal.act-requires
 act-requires g c =
-    let one = c.if-not-pop.ensures.one refl in
-    let first = c.if-not-pop.ensures.first refl in
+    let one = c.in-Some.ensures.one in
+    let first = c.in-Some.ensures.first in
     let now = c.requires.2 in
     let f = simulation_of (rules_of g.A.Reversible.plain) now.0 in
-    receiver_within f now.1 now.2 _ _ _ now.3 c.pop.new.message c.pop.new.self one first
+    receiver_within f now.1 now.2 _ _ _ now.3 c.in-Some.message c.pop.new.self one first
 
 pub returns-then-not-act-clause-exhausted : goal.returns-then-not-act-clause-exhausted
 returns-then-not-act-clause-exhausted g c =
-    let one = c.if-not-pop.ensures.one refl in
-    let first = c.if-not-pop.ensures.first refl in
+    let one = c.in-Some.ensures.one in
+    let first = c.in-Some.ensures.first in
     λ e rows taken x L n h.
     let f = simulation_of (rules_of g.A.Reversible.plain) x in (
-      c.pop.new.message,
-      is_next f L n _ _ _ h c.pop.new.message c.pop.new.self one first,
-      c.if-not-act.ensures.exhausted refl _ (receiver_is f L n _ _ _ h c.pop.new.message c.pop.new.self one first),
+      c.in-Some.message,
+      is_next f L n _ _ _ h c.in-Some.message c.pop.new.self one first,
+      c.if-not-act.ensures.exhausted refl _ (receiver_is f L n _ _ _ h c.in-Some.message c.pop.new.self one first),
     )
 
 -- after the receiver has acted, the actors stand as they do after one event more, and it had numbers left
 cut-off : (g : Over) (c : After-messages g) (rows : List Row) → AtEach (rules_of g.A.Reversible.plain) c.args.actors.now c.args.waiting.now rows
     (λ f n. IsCutOffAt f n c.act.new.actors)
 cut-off g c rows x L n h =
-    let one = c.if-not-pop.ensures.one refl in
-    let first = c.if-not-pop.ensures.first refl in
+    let one = c.in-Some.ensures.one in
+    let first = c.in-Some.ensures.first in
     let f = simulation_of (rules_of g.A.Reversible.plain) x in
-    let r = receiver_is f L n _ _ _ h c.pop.new.message c.pop.new.self one first in (
-      has-numbers f L n _ _ _ h c.pop.new.message c.pop.new.self one first (c.if-not-act.ensures.numbers refl _ r),
-      states_after f L n _ _ _ h c.pop.new.message c.pop.new.self one first c.act.new.actors (c.if-not-act.ensures.state refl _ r),
+    let r = receiver_is f L n _ _ _ h c.in-Some.message c.pop.new.self one first in (
+      has-numbers f L n _ _ _ h c.in-Some.message c.pop.new.self one first (c.if-not-act.ensures.numbers refl _ r),
+      states_after f L n _ _ _ h c.in-Some.message c.pop.new.self one first c.act.new.actors (c.if-not-act.ensures.state refl _ r),
     )
 
 pub returns-in_err-push_all-clause-left : goal.returns-in_err-push_all-clause-left
@@ -66,15 +66,15 @@ record-requires g c = (c.requires.0, c.requires.1)
 
 pub returns-clause-handled : goal.returns-clause-handled
 returns-clause-handled g c =
-    let one = c.if-not-pop.ensures.one refl in
-    let first = c.if-not-pop.ensures.first refl in
+    let one = c.in-Some.ensures.one in
+    let first = c.in-Some.ensures.first in
     λ e rows taken x L n h.
     let f = simulation_of (rules_of g.A.Reversible.plain) x in
-    let r = receiver_is f L n _ _ _ h c.pop.new.message c.pop.new.self one first in
-    let later = rows ++ rows_of message_order c.pop.new.message c.notes.result.now in (
+    let r = receiver_is f L n _ _ _ h c.in-Some.message c.pop.new.self one first in
+    let later = rows ++ rows_of message_order c.in-Some.message c.notes.result.now in (
       later,
       c.in_ok-record.ensures.taken rows taken,
-      handled f L n _ _ _ h c.pop.new.message c.pop.new.self one first
+      handled f L n _ _ _ h c.in-Some.message c.pop.new.self one first
           c.act.new.actors c.messages.result.now c.notes.result.now c.push_all.new.self later
           (c.if-not-act.ensures.state refl _ r)
           (c.messages.ensures.messages ∙ c.if-not-act.ensures.messages refl _ r)
@@ -85,17 +85,17 @@ returns-clause-handled g c =
 
 pub returns-clause-smaller : goal.returns-clause-smaller
 returns-clause-smaller g c =
-    let one = c.if-not-pop.ensures.one refl in
+    let one = c.in-Some.ensures.one in
     λ e.
-    load-falls GREATEST_NS c.pop.new.message _ c.pop.new.self c.act.new.out.messages _ one
+    load-falls GREATEST_NS c.in-Some.message _ c.pop.new.self c.act.new.out.messages _ one
     (subst (λ (sent : List Message). IsPermutation (c.pop.new.self ++ sent) c.push_all.new.self) c.messages.ensures.messages c.in_ok-push_all.ensures.more)
     (c.if-not-act.ensures.later refl) (c.if-not-act.ensures.in_limits refl)
     (let a = c.messages.ensures.few in let b = ap length c.messages.ensures.messages in omega arith)
 
-pub returns-then-not-pop-clause-used_up : goal.returns-then-not-pop-clause-used_up
-returns-then-not-pop-clause-used_up g c = λ rows taken x L n h z.
+pub returns-in_default-clause-used_up : goal.returns-in_default-clause-used_up
+returns-in_default-clause-used_up g c = λ rows taken x L n h z.
     let f = simulation_of (rules_of g.A.Reversible.plain) x in
-    absurd (over-numbers f L n _ _ _ h (c.if-not-pop.ensures.none refl) z)
+    absurd (over-numbers f L n _ _ _ h c.in_default.ensures.none z)
 
 pub returns-in_err-push_all-clause-used_up : goal.returns-in_err-push_all-clause-used_up
 returns-in_err-push_all-clause-used_up g c = λ rows taken x L n h z.
