@@ -14,13 +14,16 @@ pub struct Place {
 }
 
 /// What is wrong with a key of a row, in the order in which it is told.
-#[derive(Clone, Copy)]
+#[derive(Clone, Copy, Debug, Error)]
 pub enum KeyFault {
     /// It is absent, and the row has to have it.
+    #[error("missing")]
     Missing,
     /// Its value is of another type.
+    #[error("wrong kind")]
     WrongKind,
     /// Its value is of the type, and outside the limit.
+    #[error("out of limit")]
     OutOfLimit,
 }
 
