@@ -25,10 +25,10 @@ asks_progress (ordered.Replay o) = false
 
 -- a line of progress of the order on this network
 abbrev pub IsLineOf : Order → Plan → List ℕ → Type 0
-IsLineOf (ordered.Check o) plan line = IsProgressLine plan.until line
-IsLineOf (ordered.Seq o) plan line = IsProgressLine plan.until line
-IsLineOf (ordered.Run o) plan line = IsWorkersLine plan line
-IsLineOf (ordered.Replay o) plan line = IsProgressLine plan.until line
+IsLineOf (ordered.Check o) plan = IsProgressLine plan.until
+IsLineOf (ordered.Seq o) plan = IsProgressLine plan.until
+IsLineOf (ordered.Run o) plan = IsWorkersLine plan
+IsLineOf (ordered.Replay o) plan = IsProgressLine plan.until
 
 -- the host was `old` before, and is `new` after
 module _ {S F O E : Type 0} (outside : Outside S F O E) (old new : S) where

@@ -42,9 +42,10 @@ pub fn tell_groups<E: Sink>(alloc: Global, groups: u16, workers: u8, asked: Aske
     if !asked.is_asked {
         return;
     }
-    if let Ok(line) = groups_line(alloc, groups, workers) {
-        say(line.as_str(), errors);
-    }
+    let Ok(line) = groups_line(alloc, groups, workers) else {
+        return;
+    };
+    say(line.as_str(), errors);
 }
 
 /// The line that tells of so many groups and workers.

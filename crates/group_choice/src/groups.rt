@@ -68,8 +68,10 @@ fn in_turn(alloc: Global, processes: u16, groups: u16) -> Result<Vec<u16>, Alloc
     ensures within { IfOk result (λ places. All (λ group. group < groups) places.items) }
 {
     let mut places = Vec::with_capacity(alloc, usize::from(processes))?;
+    let mut next: u16 = 0;
     for process in 0..processes {
-        places.push(process % groups)?;
+        places.push(next)?;
+        next = if next + 1 < groups { next + 1 } else { 0 };
     }
     Ok(places)
 }

@@ -2,4 +2,4 @@ use Rattle.std.proofs.Common.{◌≡◌, ◌<◌, All, length}
 use Rattle.group_choice.proofs.groups.in_turn.Given as goal
 
 abbrev pub invariant-loop-process : goal.invariant-loop-process
-invariant-loop-process l = (length l.places.items ≡ l.process) × All (λ group. group < l.groups) l.places.items
+invariant-loop-process l = (length l.places.items ≡ l.process) × All (λ group. group < l.groups) l.places.items × (l.next < l.groups)
