@@ -14,6 +14,9 @@ use vlink::Time;
 /// the oldest first, until `n` are, none is left, or the signed count of one is not 1. The answer is how many. An event at `gvt` itself
 /// is not committed. A refusal commits none.
 ///
+/// This call is kept for users of single processes, who commit several events at one go. No command goes over it: `actor_world` and
+/// `process_exchange` commit one event after another by `Process::seal_oldest`.
+///
 /// - `committed`: the part for which the process stands, after so many times its oldest done event was committed.
 /// - `answer`: how many, for each part for which the process stood.
 /// - `one`, `one_part`: of one event at most, whether there was one, and what became of the part.

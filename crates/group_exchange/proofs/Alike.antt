@@ -10,7 +10,7 @@ use Rattle.virtual_time.specs.declared.step.Step.{Step}
 use Rattle.virtual_time.specs.declared.step.Step.TheVariants.{Take, Arrive, Run, Post, Gvt, Commit}
 use Rattle.virtual_time.proofs.Kept.{put_elim₂}
 use Rattle.virtual_time.proofs.Groups.{step-does, effect-gvt}
-use Rattle.virtual_time.proofs.GroupJournal.{done-alike}
+use Rattle.virtual_time.proofs.GroupSteps.{done-alike}
 use Rattle.reverse.specs.Setting.{Setting}
 use Rattle.group_hand.specs.Hands.{Held, IsMember, StandsForGroup, is_held, is_ours}
 use Rattle.group_exchange.specs.Keeps.{AreAsIn}

@@ -10,7 +10,7 @@ use Rattle.virtual_time.specs.Law.{Rules, Order, IsOrder, Simulation, Laws, Worl
 use Rattle.virtual_time.specs.declared.step.Step.{Step}
 use Rattle.virtual_time.specs.declared.step.Step.TheVariants.{Take, Arrive, Run, Post, Gvt, Commit}
 use Rattle.virtual_time.proofs.Groups.{blocks}
-use Rattle.virtual_time.proofs.GroupJournal.{run-done}
+use Rattle.virtual_time.proofs.GroupSteps.{run-done}
 use Rattle.virtual_time.proofs.Journal.{run-then}
 use Rattle.virtual_time.proofs.Letters.{named-head, pluses-append, minuses-append, received-mine}
 use Rattle.reverse.specs.Setting.{Setting, simulation_of}

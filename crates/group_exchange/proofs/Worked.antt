@@ -5,7 +5,7 @@ use Rattle.vlink.specs.declared.note.Note.{Note}
 use Rattle.virtual_time.specs.Law.{Rules, Simulation, Laws, World, AreBy, AreDone, IsSafeGroup, done_by, in_hand, step}
 use Rattle.virtual_time.specs.declared.step.Step.{Step}
 use Rattle.virtual_time.proofs.Groups.{step-does}
-use Rattle.virtual_time.proofs.GroupJournal.{run-done}
+use Rattle.virtual_time.proofs.GroupSteps.{run-done}
 use Rattle.virtual_time.proofs.SafeGroup.{group-safe}
 use Rattle.reverse.specs.Setting.{Setting, simulation_of}
 use Rattle.group_hand.specs.declared.block.Did.{Did}

@@ -23,17 +23,17 @@ ghost use Rattle.virtual_time.specs.Simulation.{Simulation, Laws, made, put};
 ghost use Rattle.virtual_time.specs.OneThread.{IsBelow, one, events};
 ghost use Rattle.virtual_time.specs.Letters.{IsNamed};
 ghost use Rattle.virtual_time.specs.declared.letter.Letter.{Letter};
-ghost use Rattle.virtual_time.specs.Part.{Part, floor_of, opened, undo_all};
+ghost use Rattle.virtual_time.specs.Part.{Part, opened, undo_all};
 ghost use Rattle.virtual_time.specs.World.{World, start, step, run, gvt_over, is_enabled};
 ghost use Rattle.virtual_time.specs.declared.step.Step.{Step};
-ghost use Rattle.virtual_time.specs.declared.step.Step.TheVariants.{Take, Post};
+ghost use Rattle.virtual_time.specs.declared.step.Step.TheVariants.{Take};
 ghost use Rattle.virtual_time.specs.Safe.{Safe, history, CountLaw, NothingBefore, IsFinished, IsWhole};
 ghost use Rattle.virtual_time.specs.Own.{Act, acted, local, own};
 ghost use Rattle.virtual_time.specs.Own.Act.{Emptying, Moves};
 ghost use Rattle.virtual_time.specs.Well.{IsWell, SendsKept};
 ghost use Rattle.virtual_time.specs.SafePart.{IsSafePart, MayAct};
 ghost use Rattle.virtual_time.specs.Journal.{Entry, Posted, Published, steps_of, acts_of, own_in, reach, after_own, AreEnabled, fetched, delivered_block};
-ghost use Rattle.virtual_time.specs.Groups.{AreBy, AreDone, CanTell, IsAmong, IsSafeGroup, GroupDeed, after_told, all_steps, behind, done_by, group_after, in_hand, joined, told_steps, waiting_in};
+ghost use Rattle.virtual_time.specs.Groups.{AreBy, AreDone, IsSafeGroup, behind, done_by, in_hand, joined, waiting_in};
 ghost use Rattle.virtual_time.specs.declared.moved.Move.{Move};
 ghost use Rattle.virtual_time.specs.declared.moved.Move.TheVariants.{Ran};
 
@@ -163,24 +163,12 @@ pub fn journal_law<M, S, K, N>()
 ///
 /// - `blocks`: what a group did in hand is done by the same steps in the world, each Take behind the letters that wait there: its processes
 ///   and their floors are those in hand, and what it sent and did not take comes behind the mail of each process, also of those elsewhere.
-/// - `told`: the steps for which the entries of a journal stand lead to the world after these entries.
-/// - `alone`: after an entry of its own each process of the group is what its own entries make of the opening states.
-/// - `others`: all other processes stay as they were.
-/// - `settled`: the floor of each process that posts at the end of a block is what that has in hand then.
 /// - `apart`: a block of some processes leaves the floors of all others, and the others themselves.
 /// - `safe`: a group of which each process is safe below the GVT that it saw, and of which no letter is earlier, stays so at each step.
 pub fn group_law<M, S, K, N>()
     ensures blocks { (f : Simulation M S K N) (ours : ℕ → Bool) (seen : ℕ) (block : List Step) (w : World M S) → seen ≤ w.gvt →
         AreBy ours block → AreDone f block (in_hand f seen w) →
         run f (map (behind (waiting_in f w)) block) w ≡ joined f ours (run f block (in_hand f seen w)) w }
-    ensures told { (f : Simulation M S K N) (entries : List (GroupDeed M)) (w : World M S) → run f (all_steps f entries w) w ≡ after_told f entries w }
-    ensures alone { (f : Simulation M S K N) (ours : ℕ → Bool) (seen : ℕ) (entries : List (GroupDeed M)) (e : GroupDeed M) (w : World M S) → CanTell f ours seen e w →
-        ((p : ℕ) → ours p ≡ true → w.parts p ≡ group_after f entries (λ q. opened (f.opening q)) p) → (p : ℕ) → ours p ≡ true →
-        (run f (told_steps f e w) w).parts p ≡ group_after f (entries ++ e ∷ []) (λ q. opened (f.opening q)) p }
-    ensures others { (f : Simulation M S K N) (ours : ℕ → Bool) (seen : ℕ) (e : GroupDeed M) (w : World M S) → CanTell f ours seen e w →
-        (p : ℕ) → ours p ≡ false → (run f (told_steps f e w) w).parts p ≡ w.parts p }
-    ensures settled { (f : Simulation M S K N) (posting : List ℕ) (v : World M S) (p : ℕ) → IsAmong p posting →
-        (done_by f (map (λ q. Post q) posting) v).floors p ≡ floor_of f.rules.order f.until ((done_by f (map (λ q. Post q) posting) v).parts p) }
     ensures apart { (f : Simulation M S K N) (theirs : ℕ → Bool) (block : List Step) (v : World M S) → AreBy theirs block → (p : ℕ) → theirs p ≡ false →
         ((done_by f block v).floors p ≡ v.floors p) × ((done_by f block v).parts p ≡ v.parts p) }
     ensures safe { (f : Simulation M S K N) → Laws f → (ours : ℕ → Bool) (seen : ℕ) (block : List Step) (v : World M S) → IsSafeGroup f ours seen v →
