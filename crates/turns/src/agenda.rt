@@ -56,9 +56,9 @@ impl<R: TurnRun> Agenda<R> {
         self.own.len()
     }
 
-    /// A round begins: the groups that are due are listed, the one that is furthest behind first. What the deque does not take stands behind them.
-    pub(crate) fn begin_round(&mut self, moments: &Moments) {
-        let due = self.put_in_order(moments);
+    /// A round begins: the groups that are due before the limit, in ns, are listed, the one that is furthest behind first. What the deque does not take stands behind them.
+    pub(crate) fn begin_round(&mut self, moments: &Moments, limit_ns: u64) {
+        let due = self.put_in_order(moments, limit_ns);
         self.listed = 0;
         for place in 0..due {
             if !self.list(place) {
@@ -69,8 +69,7 @@ impl<R: TurnRun> Agenda<R> {
     }
 
     /// Puts the groups in the order of their moments. The answer is how many of them are due.
-    fn put_in_order(&mut self, moments: &Moments) -> usize {
-        let limit_ns = moments.limit_ns();
+    fn put_in_order(&mut self, moments: &Moments, limit_ns: u64) -> usize {
         let mut due: usize = 0;
         for own in self.own.iter_mut() {
             own.first_ns = moments.first_ns(usize::from(own.hint.group));

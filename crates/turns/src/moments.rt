@@ -149,6 +149,20 @@ impl Moments {
         self.gvt_ns() > self.until_ns || self.stop.load(Ordering::SeqCst)
     }
 
+    /// The group, other than those of this worker, that is furthest behind, if it has something to do before this moment, in ns.
+    pub(crate) fn furthest_behind(&self, worker: usize, limit_ns: u64) -> Option<usize> {
+        let mut least_ns = limit_ns;
+        let mut behind = None;
+        for group in 0..self.groups() {
+            let first_ns = self.first_ns(group);
+            if first_ns < least_ns && !self.is_of(group, worker) {
+                least_ns = first_ns;
+                behind = Some(group);
+            }
+        }
+        behind
+    }
+
     /// Before which moment events are due now, in ns: `LEAD_NS` behind the least moment of all groups. The only group has none to wait for.
     pub(crate) fn limit_ns(&self) -> u64 {
         if self.moments.len() == 1 {
@@ -172,20 +186,6 @@ impl Moments {
     /// Whether the group has something to do before this moment, in ns.
     pub(crate) fn is_due(&self, group: usize, limit_ns: u64) -> bool {
         self.first_ns(group) < limit_ns
-    }
-
-    /// Of the other workers the one whose groups are furthest behind, if there is one.
-    pub(crate) fn furthest_behind(&self, worker: usize) -> Option<usize> {
-        let mut least_ns = u64::MAX;
-        let mut behind = None;
-        for group in 0..self.groups() {
-            let first_ns = self.first_ns(group);
-            if first_ns < least_ns && !self.is_of(group, worker) {
-                least_ns = first_ns;
-                behind = self.owner(group);
-            }
-        }
-        behind
     }
 
     /// Whether nothing but GVT is to come for this worker: no group has an event before the end, or one of its own would be due but for the window.

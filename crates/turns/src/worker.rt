@@ -85,11 +85,13 @@ impl<'s, G: Drop, K: Tasks<G>, T: Wait> Worker<'s, G, K, T> {
     /// others. The answer is whether a message was handled.
     fn own_turns(&mut self) -> Result<bool, K::Fault> {
         let common = self.common;
-        self.agenda.begin_round(&common.signals.moments);
+        let moments = &common.signals.moments;
+        let limit_ns = moments.limit_ns();
+        self.agenda.begin_round(moments, limit_ns);
         let mut has_worked = false;
         for place in 0..self.agenda.groups() {
             if let Some(group) = self.agenda.next(place) {
-                if self.turn_of(group, true)? {
+                if self.turn_of(group, limit_ns, true)? {
                     has_worked = true;
                 }
             }
@@ -110,11 +112,12 @@ impl<'s, G: Drop, K: Tasks<G>, T: Wait> Worker<'s, G, K, T> {
         let common = self.common;
         let moments = &common.signals.moments;
         let limit_ns = moments.limit_ns();
-        if let Some(worker) = moments.furthest_behind(self.agenda.worker) {
-            if let Some(group) = self.stealers.steal(worker) {
-                if self.help(group, limit_ns)? {
-                    return Ok(true);
-                }
+        let Some(behind) = moments.furthest_behind(self.agenda.worker, limit_ns) else {
+            return Ok(false);
+        };
+        if let Some(group) = self.stolen(behind) {
+            if self.help(group, limit_ns)? {
+                return Ok(true);
             }
         }
         for group in 0..moments.groups() {
@@ -125,23 +128,31 @@ impl<'s, G: Drop, K: Tasks<G>, T: Wait> Worker<'s, G, K, T> {
         Ok(false)
     }
 
+    /// The group that the worker of this group lists first, and has not come to, if there is one.
+    fn stolen(&self, group: usize) -> Option<usize> {
+        let worker = self.common.signals.moments.owner(group)?;
+        self.stealers.steal(worker)
+    }
+
     /// A turn for a group of another worker, if it has something to do before the limit, in ns. The answer is whether a message was handled.
     fn help(&mut self, group: usize, limit_ns: u64) -> Result<bool, K::Fault> {
         let common = self.common;
-        if !common.signals.moments.is_due(group, limit_ns) || !self.turn_of(group, false)? {
+        if !common.signals.moments.is_due(group, limit_ns)
+            || !self.turn_of(group, limit_ns, false)?
+        {
             return Ok(false);
         }
         self.looks.help();
         Ok(true)
     }
 
-    /// A turn for a group, unless another thread has it. The answer is whether a message was handled.
-    fn turn_of(&mut self, group: usize, is_own: bool) -> Result<bool, K::Fault> {
+    /// A turn for a group, unless another thread has it. Events before the limit, in ns, are due. The answer is whether a message was handled.
+    fn turn_of(&mut self, group: usize, limit_ns: u64, is_own: bool) -> Result<bool, K::Fault> {
         let common = self.common;
         let Some(mut seat) = common.seats.try_take(group) else {
             return Ok(false);
         };
-        let worked = self.turn(&mut seat, is_own);
+        let worked = self.turn(&mut seat, limit_ns, is_own);
         drop(seat);
         if !is_own {
             // Its worker may have gone to rest while the group was not to be had.
@@ -151,10 +162,9 @@ impl<'s, G: Drop, K: Tasks<G>, T: Wait> Worker<'s, G, K, T> {
     }
 
     /// A turn for a group. It meets the others first, if it has to, and at the end, if it has letters for them. The answer is whether a message was handled.
-    fn turn(&mut self, seat: &mut Seat<G>, is_own: bool) -> Result<bool, K::Fault> {
+    fn turn(&mut self, seat: &mut Seat<G>, limit_ns: u64, is_own: bool) -> Result<bool, K::Fault> {
         let common = self.common;
         let moments = &common.signals.moments;
-        let limit_ns = moments.limit_ns();
         let report = common.tasks.report(seat);
         if report.is_to_meet(moments, limit_ns, common.window_ns, self.looks.vain()) {
             self.meet(seat)?;
