@@ -1,0 +1,9 @@
+pub mod Frames
+pub mod Port
+pub mod Delays
+pub mod Sublists
+pub mod Pacing
+pub mod Arrivals
+pub mod Mixtures
+pub mod Certificate
+pub mod Waits
