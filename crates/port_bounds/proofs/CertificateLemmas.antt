@@ -1,15 +1,14 @@
 -- Why a certificate that passes the check is kept.
-use Rattle.std.proofs.Common.{◌≡◌, ℕ, ◌+◌, ◌-◌, ◌*◌, ◌<◌, ◌≤◌, List, [], ◌∷◌, ◌++◌, Option, Some, None, arith, refl, ap}
-use Rattle.std.specs.Prelude.{⊤}
+use Rattle.std.proofs.Common.{◌≡◌, ℕ, ◌+◌, ◌-◌, ◌*◌, ◌<◌, ◌≤◌, List, [], ◌∷◌, None, arith, refl, ap}
 use Rattle.std.proofs.Math.Nat.{le_of_mul-le-mul_left}
 use Rattle.std.proofs.lemmas.Nat.{mul-le}
-use Rattle.port_bounds.specs.Frames.{PutFrame}
+use Rattle.port_bounds.specs.Sublists.{Every}
 use Rattle.port_bounds.specs.Port.{Event, Start, high_starts, highs_of, idle, low_starts, lows_of}
-use Rattle.port_bounds.specs.Port.Event.{High, Low, Free}
 use Rattle.port_bounds.specs.Delays.{AreHighInTime, AreLowInTime}
 use Rattle.port_bounds.specs.Mixtures.{groups_burst, groups_rate}
-use Rattle.port_bounds.specs.Certificate.{AreAtLeast, AreSentWithin, AreStartedWithin, Certificate, IsCertified, IsGiven, IsKept}
+use Rattle.port_bounds.specs.Certificate.{AreSentWithin, AreStartedWithin, Certificate, IsCertified, IsGiven, IsKept}
 use Rattle.port_bounds.proofs.MixtureLemmas.{mixture}
+use Rattle.port_bounds.proofs.StartLemmas.{low-put}
 use Rattle.port_bounds.proofs.HighLemmas as high
 use Rattle.port_bounds.proofs.LowLemmas as low
 
@@ -23,26 +22,6 @@ sent k burst delay p h (s ∷ ss) t =
     let b : k * (s.at + s.put.cost) ≤ k * (s.put.at + delay) = omega arith in
     (le_of_mul-le-mul_left b p, sent k burst delay p h ss t.1)
 
--- the low frames that start cost at least that
-abbrev IsEachAtLeast : ℕ → List Start → Type 0
-IsEachAtLeast least [] = ⊤
-IsEachAtLeast least (s ∷ ss) = (least ≤ s.put.cost) × IsEachAtLeast least ss
-
-least-push : (least : ℕ) (xs : List PutFrame) (x : PutFrame) → AreAtLeast least xs → least ≤ x.cost → AreAtLeast least (xs ++ x ∷ [])
-least-push least [] x h c = (c, tt)
-least-push least (y ∷ ys) x h c = (h.0, least-push least ys x h.1 c)
-
-costs : (least : ℕ) (es : List Event) (until : Option ℕ) (highs lows : List PutFrame) → AreAtLeast least lows → AreAtLeast least (lows_of es) →
-    IsEachAtLeast least (low_starts (record { until = until; high = highs; low = lows }) es)
-costs least [] until highs lows h k = tt
-costs least (High x ∷ es) None highs lows h k = costs least es (Some (x.at + x.cost)) highs lows h k
-costs least (High x ∷ es) (Some u) highs lows h k = costs least es (Some u) (highs ++ x ∷ []) lows h k
-costs least (Low x ∷ es) None highs lows h k = (k.0, costs least es (Some (x.at + x.cost)) highs lows h k.1)
-costs least (Low x ∷ es) (Some u) highs lows h k = costs least es (Some u) highs (lows ++ x ∷ []) (least-push least lows x h k.0) k.1
-costs least (Free t ∷ es) until (x ∷ highs) lows h k = costs least es (Some (t + x.cost)) highs lows h k
-costs least (Free t ∷ es) until [] (x ∷ lows) h k = (h.0, costs least es (Some (t + x.cost)) [] lows h.1 k)
-costs least (Free t ∷ es) until [] [] h k = costs least es None [] [] tt k
-
 -- the arithmetic of one low start
 started_at : (k r q burst delay least s a c : ℕ) → k ≡ q + r → 1 ≤ q → burst ≤ q * delay + k * least → least ≤ c → k * (s + c) + r * a ≤ k * a + (r * s + burst) → s ≤ a + delay
 started_at k r q burst delay least s a c e p h l t =
@@ -52,7 +31,7 @@ started_at k r q burst delay least s a c e p h l t =
     let b : q * s ≤ q * (a + delay) = omega arith in
     le_of_mul-le-mul_left b p
 
-started : (k r burst delay least : ℕ) → r < k → burst ≤ (k - r) * delay + k * least → (ss : List Start) → IsEachAtLeast least ss → AreLowInTime k burst r ss → AreStartedWithin delay ss
+started : (k r burst delay least : ℕ) → r < k → burst ≤ (k - r) * delay + k * least → (ss : List Start) → Every (λ s. least ≤ s.put.cost) ss → AreLowInTime k burst r ss → AreStartedWithin delay ss
 started k r burst delay least p h [] c t = tt
 started k r burst delay least p h (s ∷ ss) c t =
     (started_at k r (k - r) burst delay least s.at s.put.at s.put.cost (omega arith) (omega arith) h c.0 t.0, started k r burst delay least p h ss c.1 t.1)
@@ -73,6 +52,6 @@ kept c es ok g =
     record {
       high = sent (c.whole * c.scale) _ c.high_delay p ok.highs (high_starts idle es)
           (high.are_in_time (c.whole * c.scale) (groups_burst c.whole c.high) (groups_rate c.whole c.high) c.most slow (highs_of es) highs es 0 None [] [] (refl, refl, high.opening es) tt g.low_most g.served);
-      low = started (c.whole * c.scale) (groups_rate c.whole c.high) _ c.low_delay c.least ok.some ok.lows (low_starts idle es) (costs c.least es None [] [] tt g.low_least) low_bounds.0;
+      low = started (c.whole * c.scale) (groups_rate c.whole c.high) _ c.low_delay c.least ok.some ok.lows (low_starts idle es) (low-put (λ x. c.least ≤ x.cost) es None [] [] tt g.low_least) low_bounds.0;
       waiting = fewer (c.whole * c.scale) _ c.waiting _ p ok.waits low_bounds.1;
     }

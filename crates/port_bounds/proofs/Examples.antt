@@ -3,7 +3,7 @@ use Rattle.std.proofs.Common.{◌≡◌, ℕ, List, [], ◌∷◌, refl, arith}
 use Rattle.vlink.specs.declared.frame.Frame.{Frame}
 use Rattle.vlink.specs.declared.frame.Net.TheVariants.{A}
 use Rattle.port_bounds.specs.Frames.{PutFrame}
-use Rattle.port_bounds.specs.Port.{Event, IsServed, Start, high_starts, idle, low_starts}
+use Rattle.port_bounds.specs.Port.{Event, IsServed, high_starts, idle, low_starts}
 use Rattle.port_bounds.specs.Port.Event.{High, Low, Free}
 
 abbrev frame : Frame

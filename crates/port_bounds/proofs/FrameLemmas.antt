@@ -1,5 +1,5 @@
 -- Lists of frames that are put, with their costs and moments.
-use Rattle.std.proofs.Common.{◌≡◌, ℕ, ◌+◌, ◌≤◌, List, [], ◌∷◌, ◌++◌, Option, Some, None, arith, refl, append_assoc}
+use Rattle.std.proofs.Common.{◌≡◌, ℕ, ◌+◌, ◌≤◌, List, [], ◌∷◌, ◌++◌, Some, None, arith, append_assoc}
 use Rattle.port_bounds.specs.Frames.{PutFrame, cost_of, IsBetween}
 
 pub cost-append : (xs ys : List PutFrame) → cost_of (xs ++ ys) ≡ cost_of xs + cost_of ys

@@ -1,11 +1,12 @@
 -- Why a high frame waits for its burst and one low frame.
-use Rattle.std.proofs.Common.{◌≡◌, ℕ, ◌+◌, ◌-◌, ◌*◌, ◌≤◌, List, [], ◌∷◌, ◌++◌, Option, Some, None, arith, refl, ap, sym, ◌∙◌, subst, mul-add}
+use Rattle.std.proofs.Common.{◌≡◌, ℕ, ◌+◌, ◌-◌, ◌*◌, ◌≤◌, List, [], ◌∷◌, ◌++◌, Option, Some, None, arith, refl, ap, sym, ◌∙◌, mul-add}
 use Rattle.std.proofs.lemmas.Nat.{mul-le}
 use Rattle.port_bounds.specs.Frames.{PutFrame, IsWithin, cost_of}
 use Rattle.port_bounds.specs.Port.{Port, Event, IsServed, high_starts, highs_of, lows_of}
 use Rattle.port_bounds.specs.Port.Event.{High, Low, Free}
 use Rattle.port_bounds.specs.Delays.{AreHighInTime, AreAtMost}
 use Rattle.port_bounds.proofs.FrameLemmas.{between-last, cost-append, cons_none, none_some}
+use Rattle.port_bounds.proofs.StartLemmas.{every-push}
 use Rattle.port_bounds.proofs.ShareLemmas.{IsPast, IsShare, share-first, share-head, share-later, share-next, share-none, share-over, share-push}
 
 -- the arithmetic of one start: x is put at a and starts at s, and since b at most one low frame and those that are gone were served
@@ -16,10 +17,6 @@ in_time scale burst rate most b a gone cost s r h e k =
     let whole : scale * (a - b) + scale * b ≡ scale * a = sym (mul-add scale (a - b) b) ∙ ap (λ (n : ℕ). scale * n) (omega arith) in
     let start : scale * s ≤ scale * ((b + most) + gone) = mul-le scale s scale ((b + most) + gone) (omega arith) e in
     omega arith
-
-most-push : (most : ℕ) (xs : List PutFrame) (x : PutFrame) → AreAtMost most xs → x.cost ≤ most → AreAtMost most (xs ++ x ∷ [])
-most-push most [] x h c = (c, tt)
-most-push most (y ∷ ys) x h c = (h.0, most-push most ys x h.1 c)
 
 -- high frames have waited or been served since one was put that found none; before it at most one low frame was in transmission
 pub record IsPeriod (all : List PutFrame) (most : ℕ) (rest : List PutFrame) (until now : ℕ) (high : List PutFrame) : Type 0 where
@@ -106,7 +103,7 @@ module _ (scale burst rate most : ℕ) (slow : rate ≤ scale) (all : List PutFr
   are_in_time (High x ∷ es) now (Some u) high low st c d h = are_in_time es x.at (Some u) (high ++ x ∷ []) low (kept (highs_of es) x u now high h.0 st) c d h.2
   are_in_time (Low x ∷ es) now None [] low st c d h = are_in_time es x.at (Some (x.at + x.cost)) [] low (quiet (highs_of es) x.at x d.0 st.2) c d.1 h.2
   are_in_time (Low x ∷ es) now None (y ∷ ys) low st c d h = absurd (cons_none y ys st.0)
-  are_in_time (Low x ∷ es) now (Some u) high low st c d h = are_in_time es x.at (Some u) high (low ++ x ∷ []) (later (highs_of es) u now x.at high h.0 st) (most-push most low x c d.0) d.1 h.2
+  are_in_time (Low x ∷ es) now (Some u) high low st c d h = are_in_time es x.at (Some u) high (low ++ x ∷ []) (later (highs_of es) u now x.at high h.0 st) (every-push (λ y. y.cost ≤ most) low x c d.0) d.1 h.2
   are_in_time (Free t ∷ es) now None high low st c d h = absurd (none_some t h.1)
   are_in_time (Free t ∷ es) now (Some u) (x ∷ high) low st c d h =
       let e : u ≡ t = let s = h.1 in cc in

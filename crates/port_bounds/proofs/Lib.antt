@@ -1,5 +1,6 @@
 pub mod FrameLemmas
 pub mod ShareLemmas
+pub mod StartLemmas
 pub mod HighLemmas
 pub mod LowLemmas
 pub mod SublistLemmas

@@ -1,7 +1,7 @@
 -- The frames of one priority while the port is busy: those before, those that have started since, those that wait, and those to come.
-use Rattle.std.proofs.Common.{◌≡◌, ℕ, ◌+◌, ◌-◌, ◌*◌, ◌≤◌, List, [], ◌∷◌, ◌++◌, arith, refl, ap, sym, ◌∙◌, subst, append_assoc}
+use Rattle.std.proofs.Common.{◌≡◌, ℕ, ◌+◌, ◌-◌, ◌*◌, ◌≤◌, List, [], ◌∷◌, ◌++◌, arith, ap, sym, ◌∙◌, subst, append_assoc}
 use Rattle.port_bounds.specs.Frames.{PutFrame, IsBetween, IsWithin, cost_of}
-use Rattle.port_bounds.proofs.FrameLemmas.{cost-append, between-push, between-front, between-last, between-later, moved, gone_on, cut}
+use Rattle.port_bounds.proofs.FrameLemmas.{cost-append, between-push, between-front, between-later, moved, gone_on, cut}
 
 -- of all frames of a priority `gone` have started since the moment `began`, `waiting` wait, and `rest` is still to be put
 pub record IsShare (all rest : List PutFrame) (began now : ℕ) (gone waiting : List PutFrame) : Type 0 where

@@ -1,5 +1,5 @@
 -- Some of a list.
-use Rattle.std.proofs.Common.{◌≡◌, ◌⊎◌, inl, inr, List, [], ◌∷◌, ◌++◌, refl, ◌∙◌}
+use Rattle.std.proofs.Common.{inl, inr, List, [], ◌∷◌, ◌++◌, refl, ◌∙◌}
 use Rattle.port_bounds.specs.Sublists.{IsSublist}
 
 module _ {X : Type 0} where

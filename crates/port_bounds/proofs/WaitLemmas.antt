@@ -1,6 +1,6 @@
 -- Why a regulator holds a frame no longer than jitter and BAG are beyond the period.
-use Rattle.std.proofs.Common.{◌≡◌, ℕ, ◌+◌, ◌-◌, ◌≤◌, max, List, [], ◌∷◌, Option, Some, None, arith}
-use Rattle.port_bounds.specs.Waits.{Offer, AreOffered, AreReleasedWithin, earliest}
+use Rattle.std.proofs.Common.{ℕ, ◌+◌, ◌-◌, ◌≤◌, max, List, [], ◌∷◌, Some, None, arith}
+use Rattle.port_bounds.specs.Waits.{Offer, AreOffered, AreReleasedWithin}
 
 -- a release is at most the jitter behind what was due
 held : (bag period jitter first last : ℕ) (os : List Offer) → bag ≤ period → last + period ≤ first + jitter → AreOffered period jitter first os → AreReleasedWithin bag (jitter + bag - period) (Some last) os

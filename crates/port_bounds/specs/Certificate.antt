@@ -1,6 +1,7 @@
 -- What is checked of a port, in whole numbers, and what then holds of each frame there. Who found the numbers plays no part.
-use Rattle.std.specs.Prelude.{ℕ, ◌+◌, ◌-◌, ◌*◌, ◌<◌, ◌≤◌, List, [], ◌∷◌, ⊤}
+use Rattle.std.specs.Prelude.{ℕ, ◌+◌, ◌-◌, ◌*◌, ◌<◌, ◌≤◌, List}
 use Rattle.port_bounds.specs.Frames.{PutFrame, cost_of}
+use Rattle.port_bounds.specs.Sublists.{Every}
 use Rattle.port_bounds.specs.Port.{Event, Start, IsServed, after, high_starts, highs_of, idle, low_starts, lows_of}
 use Rattle.port_bounds.specs.Delays.{AreAtMost}
 use Rattle.port_bounds.specs.Mixtures.{Group, AreByLines, AreGroupsWithin, groups_burst, groups_rate}
@@ -31,8 +32,7 @@ pub record IsCertified (c : Certificate) : Type 0 where
 
 -- no frame costs less than this
 abbrev pub AreAtLeast : ℕ → List PutFrame → Type 0
-AreAtLeast least [] = ⊤
-AreAtLeast least (x ∷ xs) = (least ≤ x.cost) × AreAtLeast least xs
+AreAtLeast least xs = Every (λ x. least ≤ x.cost) xs
 
 -- what comes to the port is what the certificate says
 pub record IsGiven (c : Certificate) (es : List Event) : Type 0 where
@@ -46,12 +46,10 @@ pub record IsGiven (c : Certificate) (es : List Event) : Type 0 where
 
 -- each frame has left so soon after it was put; each has started so soon
 abbrev pub AreSentWithin : ℕ → List Start → Type 0
-AreSentWithin delay [] = ⊤
-AreSentWithin delay (s ∷ ss) = (s.at + s.put.cost ≤ s.put.at + delay) × AreSentWithin delay ss
+AreSentWithin delay ss = Every (λ s. s.at + s.put.cost ≤ s.put.at + delay) ss
 
 abbrev pub AreStartedWithin : ℕ → List Start → Type 0
-AreStartedWithin delay [] = ⊤
-AreStartedWithin delay (s ∷ ss) = (s.at ≤ s.put.at + delay) × AreStartedWithin delay ss
+AreStartedWithin delay ss = Every (λ s. s.at ≤ s.put.at + delay) ss
 
 -- each frame starts in time, and no more waits
 pub record IsKept (c : Certificate) (es : List Event) : Type 0 where

@@ -1,20 +1,19 @@
 -- How long frames wait at a port, and how much waits, where what comes has an arrival curve.
-use Rattle.std.specs.Prelude.{ℕ, ◌+◌, ◌*◌, ◌≤◌, List, [], ◌∷◌, ⊤}
+use Rattle.std.specs.Prelude.{ℕ, ◌+◌, ◌*◌, ◌≤◌, List}
 use Rattle.port_bounds.specs.Frames.{PutFrame, IsWithin, cost_of}
+use Rattle.port_bounds.specs.Sublists.{Every}
 use Rattle.port_bounds.specs.Port.{Event, Start, IsServed, after, high_starts, highs_of, idle, low_starts, lows_of}
 
 -- no frame costs more than this
 abbrev pub AreAtMost : ℕ → List PutFrame → Type 0
-AreAtMost most [] = ⊤
-AreAtMost most (x ∷ xs) = (x.cost ≤ most) × AreAtMost most xs
+AreAtMost most xs = Every (λ x. x.cost ≤ most) xs
 
 -- a high frame has left, with its gap, once the port has worked off the burst after it was put: (at + cost) - put.at <= burst / scale
 abbrev pub IsHighInTime : ℕ → ℕ → Start → Type 0
 IsHighInTime scale burst s = scale * (s.at + s.put.cost) ≤ scale * s.put.at + burst
 
 abbrev pub AreHighInTime : ℕ → ℕ → List Start → Type 0
-AreHighInTime scale burst [] = ⊤
-AreHighInTime scale burst (s ∷ ss) = IsHighInTime scale burst s × AreHighInTime scale burst ss
+AreHighInTime scale burst ss = Every (IsHighInTime scale burst) ss
 
 -- high frames wait for their burst, and for one low frame in transmission
 abbrev pub AreHighBounded : Type 0
@@ -28,8 +27,7 @@ abbrev pub IsLowInTime : ℕ → ℕ → ℕ → Start → Type 0
 IsLowInTime scale burst rate s = scale * (s.at + s.put.cost) + rate * s.put.at ≤ scale * s.put.at + (rate * s.at + burst)
 
 abbrev pub AreLowInTime : ℕ → ℕ → ℕ → List Start → Type 0
-AreLowInTime scale burst rate [] = ⊤
-AreLowInTime scale burst rate (s ∷ ss) = IsLowInTime scale burst rate s × AreLowInTime scale burst rate ss
+AreLowInTime scale burst rate ss = Every (IsLowInTime scale burst rate) ss
 
 -- low frames wait for both bursts
 abbrev pub AreLowBounded : Type 0

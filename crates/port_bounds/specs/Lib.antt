@@ -1,7 +1,8 @@
 pub mod Frames
-pub mod Port
-pub mod Delays
 pub mod Sublists
+pub mod Port
+pub mod Starts
+pub mod Delays
 pub mod Pacing
 pub mod Arrivals
 pub mod Mixtures

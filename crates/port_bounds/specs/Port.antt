@@ -59,7 +59,7 @@ outcome p (High x) = put_high x p.until p.high p.low
 outcome p (Low x) = put_low x p.until p.high p.low
 outcome p (Free t) = free t p.high p.low
 
--- the starts of these events, from a port on, of high frames and of low ones; and the port after them
+-- the starts of these events, from a port on, of high frames and of low ones
 abbrev pub high_starts : Port → List Event → List Start
 high_starts p [] = []
 high_starts p (e ∷ es) = (outcome p e).high ++ high_starts (outcome p e).port es
@@ -68,6 +68,12 @@ abbrev pub low_starts : Port → List Event → List Start
 low_starts p [] = []
 low_starts p (e ∷ es) = (outcome p e).low ++ low_starts (outcome p e).port es
 
+-- all of them, in their order
+abbrev pub starts_of : Port → List Event → List Start
+starts_of p [] = []
+starts_of p (e ∷ es) = ((outcome p e).high ++ (outcome p e).low) ++ starts_of (outcome p e).port es
+
+-- the port after these events
 abbrev pub after : Port → List Event → Port
 after p [] = p
 after p (e ∷ es) = after (outcome p e).port es
