@@ -1,7 +1,6 @@
 -- Why an output port does what the port of which bounds are known does.
-use Rattle.std.proofs.Common.{◌≡◌, ℕ, ◌+◌, Bool, true, false, cond, List, [], ◌∷◌, ◌++◌, map, Option, Some, None, is_some, append_assoc, refl, sym, ap, ◌∙◌, subst}
+use Rattle.std.proofs.Common.{◌≡◌, ℕ, Bool, true, false, cond, List, [], ◌∷◌, ◌++◌, map, Option, Some, None, is_some, append_assoc, refl, sym, ap, ◌∙◌, subst}
 use Rattle.std.proofs.lemmas.List.{map-append}
-use Rattle.vlink.specs.Wire.{busy_for}
 use Rattle.vlink.specs.declared.frame.Frame.{Frame}
 use Rattle.output_port.specs.declared.event.Priority.{Priority}
 use Rattle.output_port.specs.declared.event.Priority.TheVariants as priority
@@ -10,9 +9,8 @@ use Rattle.output_port.specs.declared.event.PortEvent.TheVariants as event
 use Rattle.output_port.specs.Port as real
 use Rattle.output_port.specs.Port.{PortState, port, may_wait}
 use Rattle.port_bounds.specs.Frames.{PutFrame}
-use Rattle.port_bounds.specs.Port.{Event, Port, Start, after, outcome}
-use Rattle.port_bounds.specs.Port.Event.{High, Low, Free}
-use Rattle.element_bounds.specs.PortTrace.{FrameStart, IsSamePort, PortEventAt, frames_of, put_at, put_event, seen_as, started_by, started_of, starts_of, state_after, trace_of}
+use Rattle.port_bounds.specs.Port.{Event, Port, Start, after, outcome, starts_of}
+use Rattle.element_bounds.specs.PortTrace.{FrameStart, IsSamePort, PortEventAt, frames_of, put_at, seen_as, started_by, started_of, state_after, trace_of}
 
 -- a start, as it is told of a real port
 abbrev told : Start → FrameStart
@@ -96,8 +94,7 @@ same byte_ns p a (e ∷ es) s =
     let now = seen_as byte_ns e.at e.line e.event (port.out p e.event) in
     let later = trace_of byte_ns (port.after p e.event) es in
     let one = step byte_ns e.at e.line p a e.event s in
-    let rest = same byte_ns (port.after p e.event) (after a now) es one.same in
-    (
+    let rest = same byte_ns (port.after p e.event) (after a now) es one.same in (
       subst (IsSamePort (state_after (port.after p e.event) es)) (sym (after-append a now later)) rest.0,
       ap (λ z. z ++ started_of (port.after p e.event) es) one.starts_same ∙ (ap (λ z. map told (starts_of a now) ++ z) rest.1 ∙
           (sym (map-append told (starts_of a now) (starts_of (after a now) later)) ∙ ap (map told) (sym (starts-append a now later)))),

@@ -10,7 +10,7 @@ use Rattle.output_port.specs.declared.event.PortAnswer.{PortAnswer}
 use Rattle.output_port.specs.declared.event.PortAnswer.TheVariants.{Started, Kept, Dropped, Idle, Nothing}
 use Rattle.output_port.specs.Port.{PortState, port}
 use Rattle.port_bounds.specs.Frames.{PutFrame}
-use Rattle.port_bounds.specs.Port.{Event, Outcome, Port, Start, after, outcome}
+use Rattle.port_bounds.specs.Port.{Event, Port, after, starts_of}
 use Rattle.port_bounds.specs.Port.Event.{High, Low, Free}
 
 -- an event of a port, when it comes, and by which line the frame came that is put
@@ -66,11 +66,6 @@ started_by t Nothing = []
 abbrev pub started_of : PortState → List PortEventAt → List FrameStart
 started_of p [] = []
 started_of p (e ∷ es) = started_by e.at (port.out p e.event) ++ started_of (port.after p e.event) es
-
--- and those that a port of which bounds are known starts
-abbrev pub starts_of : Port → List Event → List Start
-starts_of p [] = []
-starts_of p (e ∷ es) = ((outcome p e).high ++ (outcome p e).low) ++ starts_of (outcome p e).port es
 
 abbrev pub frames_of : List PutFrame → List Frame
 frames_of xs = map (λ x. x.frame) xs

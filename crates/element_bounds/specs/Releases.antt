@@ -1,5 +1,5 @@
 -- When a regulator releases frames, from whatever state and whatever is asked of it.
-use Rattle.std.specs.Prelude.{ℕ, List}
+use Rattle.std.specs.Prelude.{List}
 use Rattle.bag_regulator.specs.declared.event.RegEvent.{RegEvent}
 use Rattle.bag_regulator.specs.Regulator.{Regulator}
 use Rattle.bag_regulator.specs.Spacing.{IsSpaced, releases_of}
