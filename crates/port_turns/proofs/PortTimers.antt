@@ -1,4 +1,4 @@
--- A port keeps its timer.
+-- Why PortFree is a timer of its node: what is sent of it, and when.
 use Rattle.std.proofs.Common.{◌≡◌, ℕ, ◌+◌, ◌<◌, ◌≤◌, ◌==◌, ◌⊎◌, inl, inr, Bool, true, false, not, cond, nat_le, List, [], ◌∷◌, filter, Option, None, Some, is_some, refl, sym, ap, ◌∙◌, subst, arith, eqb-true, eq-eqb, ne_eqb, leb-true, leb-false}
 use Rattle.std.proofs.lemmas.Bool.{cases_lt, both_ways}
 use Rattle.vlink.specs.declared.message.Message.{Message}
@@ -99,6 +99,7 @@ module _ (p q : ℕ) where
           test false = refl
       go false e false k rest = rest s k
 
+-- both are true, or neither
 alike : Bool → Bool → Bool
 alike true b = b
 alike false b = not b
@@ -107,8 +108,9 @@ module _ (x : Setting NodeState) (p q : ℕ) (inside : p < x.processes) (N : IsO
   abbrev f : Simulation Message NodeState NodeRecord Note
   f = simulation_of (rules_of node) x
 
-  is : NodeState → Option ℕ → Bool
-  is s g = alike (is_busy_in s.equipment q) (is_some g)
+  -- the timer is set while the port is busy
+  fits : NodeState → Option ℕ → Bool
+  fits s g = alike (is_busy_in s.equipment q) (is_some g)
 
   number-is : (r : ℕ) → r < x.processes → (s : NodeState) → IsReached f r s → s.sender.number ≡ r
   number-is r i s h = ap (λ (z : NodeState). z.sender.number) h.1 ∙ (number-stays (x.opening r) h.0 ∙ N.number r i)
@@ -123,8 +125,9 @@ module _ (x : Setting NodeState) (p q : ℕ) (inside : p < x.processes) (N : IsO
   abbrev TurnAt : NodeState → Message → Type 0
   TurnAt s m = Turn p (is_free q m.body) (is_busy_in s.equipment q) (is_busy_in (handled p m s.equipment).equipment q) (frees q (handled p m s.equipment).reply.wishes)
 
-  busy-some : (s : NodeState) (g : Option ℕ) → is s g ≡ true → is_busy_in s.equipment q ≡ is_some g
-  unfolding is alike
+  -- what that says as an equation
+  busy-some : (s : NodeState) (g : Option ℕ) → fits s g ≡ true → is_busy_in s.equipment q ≡ is_some g
+  unfolding fits alike
   busy-some s g h = go (is_busy_in s.equipment q) (is_some g) h
     where
       go : (a b : Bool) → alike a b ≡ true → a ≡ b
@@ -141,12 +144,9 @@ module _ (x : Setting NodeState) (p q : ℕ) (inside : p < x.processes) (N : IsO
   free-mine : (m : Message) → m.receiver ≡ p → is_timer p q m ≡ is_free q m.body
   free-mine m r = rw (eq-eqb m.receiver p r) refl
 
-  -- at the number of the process
-  at-number : {X : Type 0} (F : ℕ → X) (s : NodeState) → s.sender.number ≡ p → F s.sender.number ≡ F p
-  at-number F s e = ap F e
-
-  keeps : (s : NodeState) (g : Option ℕ) (m : Message) → s.sender.number ≡ p → is s g ≡ true → is (after s m) (set_after s g m) ≡ true
-  unfolding is
+  -- an event keeps that
+  keeps : (s : NodeState) (g : Option ℕ) (m : Message) → s.sender.number ≡ p → fits s g ≡ true → fits (after s m) (set_after s g m) ≡ true
+  unfolding fits
   keeps s g m n h =
       subst (λ r. alike (is_busy_in (handled r m s.equipment).equipment q) (is_some (set_after s g m)) ≡ true) (sym n) (alike-refl _ _ (go (node-turn p q m s.equipment)))
     where
@@ -165,6 +165,7 @@ module _ (x : Setting NodeState) (p q : ℕ) (inside : p < x.processes) (N : IsO
   sends-at : (s : NodeState) (m : Message) → s.sender.number ≡ p → f.rules.sends s m ≡ ms_of s m
   sends-at s m n = ap (λ r. sent s.sender (handled r m s.equipment).reply.wishes) n
 
+  -- while the port is busy, other messages leave the timer set, and send none
   goes_on : (s : NodeState) (g : Option ℕ) (m : Message) (u : ℕ) → is_busy_in s.equipment q ≡ true → is_free q m.body ≡ false → g ≡ Some u →
       (set_after s g m ≡ Some u) × (filter (is_timer p q) (ms_of s m) ≡ [])
   goes_on s g m u b free a = go (node-turn p q m s.equipment)
@@ -174,9 +175,10 @@ module _ (x : Setting NodeState) (p q : ℕ) (inside : p < x.processes) (N : IsO
       go (Starts w y r e z) = absurd (elim z [ inl k ↦ both_ways _ free k | inr k ↦ both_ways _ k b ])
       go (Stops y e w) = absurd (both_ways _ free y)
 
-  asks : (s : NodeState) (g : Option ℕ) (m : Message) → s.sender.until ≡ x.until → ((is_free q m.body ≡ true) × (is_busy_in s.equipment q ≡ true)) ⊎ ((is_free q m.body ≡ false) × (is_busy_in s.equipment q ≡ false)) →
+  -- PortFree at a busy port, or another message at an idle one, may start a frame, and so set the timer
+  sets : (s : NodeState) (g : Option ℕ) (m : Message) → s.sender.until ≡ x.until → ((is_free q m.body ≡ true) × (is_busy_in s.equipment q ≡ true)) ⊎ ((is_free q m.body ≡ false) × (is_busy_in s.equipment q ≡ false)) →
       IsSet f p (is_timer p q) (port_alarm p q) (ms_of s m) (set_after s g m)
-  asks s g m end why = go (node-turn p q m s.equipment)
+  sets s g m end why = go (node-turn p q m s.equipment)
     where
       not_busy : is_busy_in (handled p m s.equipment).equipment q ≡ is_busy_in s.equipment q → (is_free q m.body ≡ false) ⊎ (is_busy_in s.equipment q ≡ false) → is_busy_in (handled p m s.equipment).equipment q ≡ false
       not_busy e z = elim why [ inl k ↦ absurd (elim z [ inl j ↦ both_ways _ j k.0 | inr j ↦ both_ways _ j k.1 ]) | inr k ↦ e ∙ k.1 ]
@@ -191,8 +193,8 @@ module _ (x : Setting NodeState) (p q : ℕ) (inside : p < x.processes) (N : IsO
       go (Starts w y r e z) = started w y r (elim (cases_lt x.until w.time) [ inl k ↦ inr k | inr k ↦ inl k ])
       go (Stops y e w) = Off (rw (w, e) refl) (sent-none p q s.sender _ w)
 
-  timer : IsTimer f p (is_timer p q) (port_alarm p q) is
-  unfolding is alike
+  timer : IsTimer f p (is_timer p q) (port_alarm p q) fits
+  unfolding fits alike
   timer = record {
     opens = rw N.idle refl;
     off = refl;
@@ -203,10 +205,10 @@ module _ (x : Setting NodeState) (p q : ℕ) (inside : p < x.processes) (N : IsO
         (on.0, ap (filter (is_timer p q)) (sends-at s m n) ∙ on.1);
     begins = λ s g m h i r free a.
         subst (λ ms. IsSet f p (is_timer p q) (port_alarm p q) ms (set_after s g m)) (sym (sends-at s m (number-is p inside s h)))
-        (asks s g m (until-is s h) (inr (sym (free-mine m r) ∙ free, busy-some s g i ∙ ap is_some a)));
+        (sets s g m (until-is s h) (inr (sym (free-mine m r) ∙ free, busy-some s g i ∙ ap is_some a)));
     again = λ s g m h i r free on_time.
         subst (λ ms. IsSet f p (is_timer p q) (port_alarm p q) ms (set_after s g m)) (sym (sends-at s m (number-is p inside s h)))
-        (asks s g m (until-is s h) (inl (sym (free-mine m r) ∙ free, busy-some s g i ∙ ap is_some (on_time.at_moment free))));
+        (sets s g m (until-is s h) (inl (sym (free-mine m r) ∙ free, busy-some s g i ∙ ap is_some (on_time.at_moment free))));
     to_itself = λ m e. to m e;
     by_none = λ r i d s h m. none r d s m (number-is r i s h);
     not_offered = N.not_offered;
@@ -229,4 +231,4 @@ module _ (x : Setting NodeState) (p q : ℕ) (inside : p < x.processes) (N : IsO
           go (Stops y e w) = sent-none p q s.sender _ w
 
   pub are_ports_on_time : Laws f → (n : ℕ) → AreOnTime f p (is_timer p q) (port_alarm p q) (x.opening p) None (events f n p)
-  are_ports_on_time L n = are_on_time f L p inside (is_timer p q) (port_alarm p q) is timer n
+  are_ports_on_time L n = are_on_time f L p inside (is_timer p q) (port_alarm p q) fits timer n

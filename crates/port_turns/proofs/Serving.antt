@@ -1,6 +1,5 @@
 -- Why the port of which bounds are known is served in the one-thread run.
 use Rattle.std.proofs.Common.{◌≡◌, ℕ, ◌+◌, ◌≤◌, Bool, true, false, cond, List, [], ◌∷◌, ◌++◌, Option, Some, None, is_some, refl, sym, ap, ◌∙◌, subst, arith}
-use Rattle.std.specs.Prelude.{⊤}
 use Rattle.vlink.specs.Wire.{busy_for}
 use Rattle.vlink.specs.declared.frame.Frame.{Frame}
 use Rattle.output_port.specs.declared.event.Priority.{Priority}
@@ -10,6 +9,8 @@ use Rattle.output_port.specs.declared.event.PortEvent.TheVariants.{Put, Free}
 use Rattle.output_port.specs.Port as real
 use Rattle.output_port.specs.Port.{PortState, port, may_wait}
 use Rattle.port_bounds.specs.Frames.{PutFrame}
+use Rattle.port_bounds.specs.Sublists.{Every}
+use Rattle.port_bounds.proofs.StartLemmas.{every-push}
 use Rattle.port_bounds.specs.Port as bounded
 use Rattle.port_bounds.specs.Port.{Event, IsBy, IsServed, Port, after}
 use Rattle.element_bounds.specs.PortTrace.{IsSamePort, frames_of, put_at, seen_as}
@@ -18,14 +19,9 @@ use Rattle.nodes.specs.rules.Ports.{answered}
 use Rattle.port_turns.specs.PortTimer.{frees, set_by}
 use Rattle.port_turns.proofs.Turns.{frees-start}
 
--- a frame costs what it keeps the line busy
+-- each frame costs the time for which it keeps the line busy
 abbrev pub AreCosted : ℕ → List PutFrame → Type 0
-AreCosted byte_ns [] = ⊤
-AreCosted byte_ns (x ∷ xs) = (x.cost ≡ busy_for x.frame.size byte_ns) × AreCosted byte_ns xs
-
-costed-push : (byte_ns : ℕ) (xs : List PutFrame) (x : PutFrame) → AreCosted byte_ns xs → x.cost ≡ busy_for x.frame.size byte_ns → AreCosted byte_ns (xs ++ x ∷ [])
-costed-push byte_ns [] x h k = (k, tt)
-costed-push byte_ns (y ∷ ys) x h k = (h.0, costed-push byte_ns ys x h.1 k)
+AreCosted byte_ns xs = Every (λ x. x.cost ≡ busy_for x.frame.size byte_ns) xs
 
 -- from an earlier moment on
 pub served-sooner : (a : Port) (now t : ℕ) (es : List Event) → now ≤ t → IsServed a t es → IsServed a now es
@@ -55,8 +51,8 @@ module _ (n t q line : ℕ) (ahead : LineAhead) (g : Option ℕ) where
 
   keep : (p : PortState) (u : ℕ) (hs ls : List PutFrame) (frame : Frame) (r : Priority) → p.busy ≡ true → g ≡ Some u → t ≤ u → AreCosted ahead.byte_ns hs → AreCosted ahead.byte_ns ls →
       Goes (as_port (Some u) hs ls) (Put frame r) (real.keeping p frame r)
-  keep p u hs ls frame priority.High b s l c d = record { set = stays p.busy u b s; high = costed-push ahead.byte_ns hs (put_at ahead.byte_ns t line frame) c refl; low = d; served = λ now tr k h. (k, l, h) }
-  keep p u hs ls frame priority.Low b s l c d = record { set = stays p.busy u b s; high = c; low = costed-push ahead.byte_ns ls (put_at ahead.byte_ns t line frame) d refl; served = λ now tr k h. (k, l, h) }
+  keep p u hs ls frame priority.High b s l c d = record { set = stays p.busy u b s; high = every-push (λ x. x.cost ≡ busy_for x.frame.size ahead.byte_ns) hs (put_at ahead.byte_ns t line frame) c refl; low = d; served = λ now tr k h. (k, l, h) }
+  keep p u hs ls frame priority.Low b s l c d = record { set = stays p.busy u b s; high = c; low = every-push (λ x. x.cost ≡ busy_for x.frame.size ahead.byte_ns) ls (put_at ahead.byte_ns t line frame) d refl; served = λ now tr k h. (k, l, h) }
 
   put-goes : (p : PortState) (until : Option ℕ) (hs ls : List PutFrame) (frame : Frame) (r : Priority) → p.busy ≡ is_some until → g ≡ until → IsBy t until → AreCosted ahead.byte_ns hs → AreCosted ahead.byte_ns ls →
       Goes (as_port until hs ls) (Put frame r) (real.put p frame r)
