@@ -1,0 +1,3 @@
+pub mod ReleaseLemmas
+pub mod PassageLemmas
+pub mod TraceLemmas

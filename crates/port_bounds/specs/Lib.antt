@@ -1,0 +1,10 @@
+pub mod Frames
+pub mod Sublists
+pub mod Port
+pub mod Starts
+pub mod Delays
+pub mod Pacing
+pub mod Arrivals
+pub mod Mixtures
+pub mod Certificate
+pub mod Waits

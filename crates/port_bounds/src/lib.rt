@@ -1,0 +1,14 @@
+//! Worst-case bounds of an output port: how long a frame waits there, and how much waits, from what can come to it. No product code.
+#![tactic(auto)]
+
+mod arrivals;
+mod certificate;
+mod delays;
+mod starts;
+mod waits;
+
+pub use arrivals::arrivals_law;
+pub use certificate::certificate_law;
+pub use delays::delays_law;
+pub use starts::starts_law;
+pub use waits::waits_law;

@@ -1,0 +1,16 @@
+pub mod Turns
+pub mod Senders
+pub mod Asking
+pub mod Sending
+pub mod NodeTurns
+pub mod PortTimers
+pub mod Found
+pub mod Later
+pub mod Rising
+pub mod Judging
+pub mod Putting
+pub mod Puts
+pub mod Releasing
+pub mod Serving
+pub mod PortRuns
+pub mod Traces

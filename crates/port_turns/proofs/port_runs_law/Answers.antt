@@ -1,0 +1,9 @@
+use Rattle.port_turns.proofs.PortRuns.{are_ports_served}
+use Rattle.port_turns.proofs.Traces.{traces-paced}
+use Rattle.port_turns.proofs.port_runs_law.Goals as goal
+
+pub returns-clause-served : goal.returns-clause-served
+returns-clause-served c = λ x L p q inside N outlet is same n. are_ports_served x p q L inside N outlet is same n
+
+pub returns-clause-paced : goal.returns-clause-paced
+returns-clause-paced c = traces-paced

@@ -1,0 +1,72 @@
+-- What happens at a port of a node in a run, and what it is for the port of which bounds are known.
+use Rattle.std.specs.Prelude.{◌≡◌, ℕ, ◌<◌, ◌≤◌, List, [], ◌∷◌, ◌++◌, Option, Some, None}
+use Rattle.std.specs.Option.{option_map_or}
+use Rattle.vlink.specs.declared.message.Message.{Message}
+use Rattle.vlink.specs.declared.message.Body.{Body}
+use Rattle.vlink.specs.declared.message.Body.TheVariants.{Offer, Release, PortFree, Arrive, Enqueue, Carry}
+use Rattle.output_port.specs.declared.event.PortEvent.{PortEvent}
+use Rattle.reverse.specs.Rules.{rules_of}
+use Rattle.reverse.specs.Setting.{Setting, simulation_of}
+use Rattle.virtual_time.specs.Law.{Laws, events}
+use Rattle.policer.specs.declared.account.Measure.TheVariants.{Frames}
+use Rattle.output_port.specs.Port.{PortState}
+use Rattle.output_port.specs.declared.event.Priority.{Priority}
+use Rattle.output_port.specs.declared.event.Priority.TheVariants.{High, Low}
+use Rattle.port_bounds.specs.Frames.{PutFrame}
+use Rattle.port_bounds.specs.Pacing.{IsPaced}
+use Rattle.port_bounds.specs.Arrivals.{is_of_link, moments_at}
+use Rattle.port_bounds.specs.Port.{Event, IsServed, highs_of, idle, lows_of}
+use Rattle.element_bounds.specs.PortTrace.{PortEventAt, IsSamePort, trace_of}
+use Rattle.nodes.specs.declared.equipment.Equipment.{Equipment}
+use Rattle.nodes.specs.declared.equipment.Equipment.TheVariants.{EndSystem, Switch, Line}
+use Rattle.nodes.specs.declared.ports.Outlet.{Outlet}
+use Rattle.nodes.specs.declared.transit.Transit.{Transit}
+use Rattle.nodes.specs.rules.Switch.{SwitchState, transit_at}
+use Rattle.nodes.specs.rules.Node.{NodeState, after}
+use Rattle.nodes.specs.undoing.Node.{node}
+use Rattle.port_turns.specs.PortEvents.{asks, outlet_in}
+use Rattle.port_turns.specs.PortTimer.{IsOfNodes}
+use Rattle.port_turns.specs.SwitchPuts.{IsThrough}
+
+-- the input port of a switch by which a frame came that is put; an end system's frames all come by one
+abbrev pub input_in : Body → SwitchState → ℕ
+input_in (Offer vl size sub) s = 0
+input_in (Release vl) s = 0
+input_in (PortFree p) s = 0
+input_in (Arrive p frame) s = 0
+input_in (Enqueue p frame) s = option_map_or (λ found. found.entry.input) (transit_at s frame.vl) 0
+input_in (Carry frame) s = 0
+
+abbrev pub input_of : Body → Equipment → ℕ
+input_of b (EndSystem s) = 0
+input_of b (Switch s) = input_in b s
+input_of b (Line s) = 0
+
+abbrev pub asked_at : ℕ → ℕ → Option PortEvent → List PortEventAt
+asked_at t line None = []
+asked_at t line (Some e) = record { at = t; line = line; event = e } ∷ []
+
+-- what is asked of port q while a node handles these messages, from the state s on
+abbrev pub port_events : ℕ → NodeState → List Message → List PortEventAt
+port_events q s [] = []
+port_events q s (m ∷ ms) = asked_at m.time (input_of m.body s.equipment) (asks q m s.equipment) ++ port_events q (after s m) ms
+
+-- the frames of a priority that are put
+abbrev pub puts_with : Priority → List Event → List PutFrame
+puts_with High es = highs_of es
+puts_with Low es = lows_of es
+
+-- in the one-thread run the port of which bounds are known is served: moments do not fall, and it is freed when its frame has left
+abbrev pub ArePortsServed : Type 0
+ArePortsServed =
+    (x : Setting NodeState) → Laws (simulation_of (rules_of node) x) → (p q : ℕ) → p < x.processes → IsOfNodes x p q →
+    (outlet : Outlet) → outlet_in (x.opening p).equipment q ≡ Some outlet → IsSamePort outlet.port idle → (n : ℕ) →
+    IsServed idle 0 (trace_of outlet.ahead.byte_ns outlet.port (port_events q (x.opening p) (events (simulation_of (rules_of node) x) n p)))
+
+-- and of each priority the frames of a virtual link that are put to a port of a switch are paced as its account there says, where that counts frames
+abbrev pub AreTracesPaced : Type 0
+AreTracesPaced =
+    (x : Setting NodeState) → Laws (simulation_of (rules_of node) x) → (p q v : ℕ) → p < x.processes → (transit : Transit) → IsThrough x p q v transit →
+    transit.account.measure ≡ Frames → 1 ≤ transit.account.smax → (byte_ns : ℕ) (port : PortState) (priority : Priority) (n : ℕ) →
+    IsPaced transit.account.bag transit.account.jitter
+    (moments_at (is_of_link v) (puts_with priority (trace_of byte_ns port (port_events q (x.opening p) (events (simulation_of (rules_of node) x) n p)))))
