@@ -243,7 +243,7 @@ class Drawing:
         wide, high = self.width + 8, self.height
         shown = wide * min(1.25, max(1, self.WIDTH / wide))
         return (
-            f'<svg id="drawing" class="net" viewBox="-4 0 {wide:.0f} {high:.0f}" role="img" '
+            f'<svg id="drawing" class="net" viewBox="-4 0 {wide:.0f} {high:.0f}" role="group" '
             f'style="width:{shown:.0f}px;min-width:{min(shown, max(760, wide * 0.7)):.0f}px" '
             'aria-label="the network with the load of each line">' + "".join(self.out) + "</svg>"
         )

@@ -239,6 +239,11 @@ thead th { border-bottom: 2px solid #9ca3af; }
 .lost { color: #b42318; font-weight: 600; } .late { color: #9a5b00; }
 details table { margin: .5rem 0 1rem; font-size: .93em; } summary { cursor: pointer; }
 footer { margin-top: 2rem; color: #6b7280; font-size: .9em; }
+@media screen and (prefers-color-scheme: dark) {
+:root { color-scheme: dark; } body { color: #dde4ea; background: #10161c; } .tile { border-color: #3c4c5c; }
+th, td { border-color: #2d3844; } thead th { border-color: #46535f; } footer { color: #9aa8b5; }
+.bad b, .lost { color: #ff8087; } .good b { color: #63cfa0; } .late { color: #f0b955; }
+}
 """
 
 

@@ -157,7 +157,7 @@ class EachOutage(Here):
         page = Rows(read(os.path.join(self.output, "outages.html")))
         text = " ".join(page.all)
         self.assertIn("was out in turn, the whole run, with the seed", text)
-        self.assertIn("is no bound on what can happen. They are by stand-in 1.", text)
+        self.assertIn("is no bound on what can happen. They are by stand-in 1, not proved, SHA-256 ", text)
         self.assertEqual(page.rows[0], ["out", "frames more lost end to end", "destinations that lose", "destinations later", "latest by"])
         # A row that holds a table of its own ends where that begins.
         names = [row[0] for row in page.rows if row and row[0].startswith(("link", "switch"))]

@@ -599,6 +599,64 @@ class InTheBrowser(unittest.TestCase):
                 self.assertEqual(whole, sorted(whole, reverse=down))
                 self.assertEqual((len(whole), few), (24, whole[:10]))
 
+    def test_keys_reach_the_lines_of_the_drawing(self):
+        path, tables = example("cockpit")
+        self.made(path, tables)
+        script = """
+            const found = [...drawing.querySelectorAll("[data-line]")], told = found.map(it => [it.tabIndex, it.getAttribute("role")]);
+            const choices = ["Enter", " ", "x"].map((key, i) => {
+              location.hash = "";
+              found[i].focus();
+              document.activeElement.dispatchEvent(new KeyboardEvent("keydown", {key, bubbles: true}));
+              return decodeURIComponent(location.hash) === "#line-" + found[i].dataset.line;
+            });
+            document.documentElement.dataset.told = JSON.stringify([told, choices]);
+        """
+        told, choices = json.loads(self.browser.open(self.page, script).words["data-told"])
+        net = report.Network(path)
+        self.assertEqual(told, [[0, "button"]] * len(net.mbit))
+        self.assertEqual(choices, [True, True, False])
+
+    def test_dark_where_the_system_is(self):
+        """By the colours of the page, of a part of it and of its text: light on dark, or dark on light."""
+        path, tables = example("cockpit")
+        self.made(path, tables)
+        script = """
+            const of = (where, key) => getComputedStyle(document.querySelector(where))[key];
+            document.documentElement.dataset.told = JSON.stringify([of("body", "backgroundColor"), of("section", "backgroundColor"),
+              of("#drawing .es rect", "fill"), of("th", "backgroundColor"), of("body", "color"), of("#drawing text.name", "fill")]);
+        """
+        other = Browser(self.folder)
+        other.command.append("--blink-settings=preferredColorScheme=0")
+        for browser, is_dark in ((self.browser, False), (other, True)):
+            told = json.loads(browser.open(self.page, script).words["data-told"])
+            light = [sum(map(int, re.findall(r"\d+", it)[:3])) > 380 for it in told]
+            self.assertEqual(light[:4], [not is_dark] * 4)
+            self.assertEqual(light[4], is_dark)
+
+    def test_latencies_fit_a_window_of_1400_pixels(self):
+        """With limits, bounds and seeds, and latencies of some ms."""
+        path = os.path.join(self.folder, "cockpit.toml")
+        shutil.copy(example("cockpit")[0], path)
+        limits, bounds, merged = (os.path.join(self.folder, name) for name in ("limits.csv", "bounds.csv", "merged.csv"))
+        subprocess.run([sys.executable, os.path.join(HERE, "bounds.py"), path, "-o", bounds], check=True)
+        lines = read(example("cockpit")[1]).splitlines()
+        with open(merged, "w") as out:
+            out.writelines(line + (",seed" if i == 0 else ",1007") + "\n" for i, line in enumerate(lines))
+        with open(limits, "w") as out:
+            out.writelines(f"{vl},{where},99000000\n" for vl, where in report.Network(path).destinations)
+        self.made(path, merged, "--limits", limits, "--bounds", bounds)
+        script = """
+            for (const key of ["least", "mean", "greatest", "spread", "limit", "bound", "margin", "jitter", "policing"])
+              ends[key] = ends[key].map(ns => 1234567 + ns % 1000000);
+            new Grid(data.grids.find(it => it.name === "latencies"), element("grid-latencies"));
+            const table = element("latencies");
+            document.documentElement.dataset.told = JSON.stringify([table.scrollWidth, table.parentElement.clientWidth]);
+        """
+        wide, room = json.loads(self.browser.open(self.page, script, wide=1400).words["data-told"])
+        self.assertLessEqual(wide, room)
+        self.assertGreater(room, 1200)
+
     def test_the_network_of_a_trial(self):
         """Thirty virtual links on both networks, and an outage on A: copies are lost, and no frame is."""
         path = trial(os.path.join(self.folder, "trial.toml"))

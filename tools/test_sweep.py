@@ -86,7 +86,7 @@ class Sweeps(Here):
         self.assertIn(f"virtual link 103 at FMC1: effect {effect} ns, seeds {spread} ns", out)
         self.assertEqual(page.count("<title>link.1.mbit=10:"), len(afdx.Network(COCKPIT).destinations))
         self.assertNotIn("http", page)
-        self.assertIn(" They are by stand-in 1.</footer>", page)
+        self.assertIn(" They are by stand-in 1, not proved, SHA-256 ", page)
 
     def test_one_seed_has_no_spread(self):
         status, out, _ = self.call(N1, "--set", "vl.1.size=64,70", "--set", "vl.1.smax=100", "--seeds", "1")

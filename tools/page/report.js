@@ -73,7 +73,7 @@ const histogram = (i, wide = 504, high = 30) => {
 };
 const heat = (count, top) => {
   const part = 0.15 + 0.85 * Math.log(1 + count) / Math.log(1 + top);
-  return `style="background:rgba(178,34,34,${part.toFixed(2)});color:${part > 0.6 ? "#fff" : "#3b0d0d"}"`;
+  return `style="background:rgba(178,34,34,${part.toFixed(2)});color:${part > 0.6 ? "#fff" : "var(--heat)"}"`;
 };
 
 // ---- looks of columns: how a value is shown, and whether it is a number ----
@@ -488,10 +488,16 @@ list.addEventListener("keydown", event => {
 });
 document.addEventListener("keydown", event => { if (event.key === "Escape") list.hidden = true; });
 document.addEventListener("click", event => { if (!event.target.closest(".find")) list.hidden = true; });
-drawing?.addEventListener("click", event => {
+const pick = event => {
   const line = event.target.closest("[data-line]"), node = event.target.closest("[data-node]");
   if (line) location.hash = "line-" + encodeURIComponent(line.dataset.line);
   else if (node) { find.value = node.dataset.node; find.focus(); search(); event.stopPropagation(); }
+};
+drawing?.addEventListener("click", pick);
+// The tabulator goes from line to line, and Enter or the space bar does what a click does.
+shapes.line.forEach(it => { it.setAttribute("tabindex", "0"); it.setAttribute("role", "button"); });
+drawing?.addEventListener("keydown", event => {
+  if (event.key === "Enter" || event.key === " ") { pick(event); event.preventDefault(); }
 });
 
 // ---- begin ----
