@@ -177,6 +177,40 @@ def peak_of_frames(hops, speed, most):
     return found
 
 
+def come_whole(hops, t):
+    """The frames that can come by t, counted whole, in parts of a byte."""
+    return sum((1 + (t + hop.spread) // hop.link.vl.bag_ns) * hop.link.amount for hop in hops) * PARTS
+
+
+def wait_of_frames(low, high, speed, frame, most, at_once):
+    """The longest wait for its start of a low frame of so many parts of a byte, where high frames go first and frames are
+    counted whole, in whole ns; `most` where it is not less. `at_once` is how much can come at once, low and high. A frame that comes at t starts at x at the latest, where x is
+    the first moment by which the port could have sent the low ones before it and the high ones that came until x. Where
+    all is sent before the next low frame comes, what comes then waits no longer than what came before."""
+    came, first = at_once
+    if (came - frame + first) // speed >= most:
+        return most
+    due = [(hop.link.vl.bag_ns - hop.spread % hop.link.vl.bag_ns, i) for i, hop in enumerate(low)]
+    heapq.heapify(due)
+    found = t = 0
+    while True:
+        x, work = 0, came - frame + first
+        while work > x * speed:
+            x = work // speed
+            if x - t >= most:
+                return most
+            again = came - frame + come_whole(high, x)
+            if again == work:
+                break
+            work = again
+        found = max(found, x - t)
+        t, i = due[0]
+        if t >= LONGEST_BAG_NS or came + come_whole(high, t - 1) <= t * speed:
+            return found
+        heapq.heapreplace(due, (t + low[i].link.vl.bag_ns, i))
+        came += low[i].link.amount * PARTS
+
+
 class BehindHigh:
     """Low frames at a port where high frames go first.
 
@@ -363,8 +397,13 @@ class Port:
         if high[-1].slope + low[-1].slope > self.speed:
             return None
         behind = BehindHigh(high, low, self.speed)
-        amounts = {hop.link.amount for _, hops in self.groups[False] for hop in hops}
-        return {amount: behind.longest(amount * PARTS) for amount in amounts}
+        ahead, after = ([hop for _, hops in self.groups[high] for hop in hops] for high in (True, False))
+        found = {amount: behind.longest(amount * PARTS) for amount in {hop.link.amount for hop in after}}
+        if any(hop.spread is None for hop in self.hops):
+            return found
+        at_once = come_whole(after, 0), come_whole(ahead, 0)
+        wait = lambda amount, most: wait_of_frames(after, ahead, self.speed, amount * PARTS, most, at_once)
+        return {amount: wait(amount, most) for amount, most in found.items()}
 
     def set_delays(self, high, delay):
         """Sets the delays of a priority. One that is longer than any run, or does not come to rest, has no end."""

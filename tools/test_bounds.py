@@ -91,7 +91,8 @@ class ByHand(unittest.TestCase):
 
     def test_priorities(self):
         """High ones of 64 and of 100 bytes, a low one of 1518. A high frame may find the low one on the line, and waits
-        for the other high one. The low one waits for both, and for what of them comes in the meantime."""
+        for the other high one. The low one waits for both: no whole one more of them comes in the meantime. A rate would
+        count a part of one."""
         high = {"priority": "high"}
         found = network(
             [virtual_link(1, way("E1", "A", "E4"), **high), virtual_link(2, way("E2", "A", "E4"), size=100, **high)]
@@ -102,8 +103,8 @@ class ByHand(unittest.TestCase):
         # In x ns there come busy(64) + busy(100) of high frames at once, and so much in each ms.
         both = busy(64) + busy(100)
         x = Fraction(both) / (1 - Fraction(both, MS))
-        third = last_bit(1518) + TO_SWITCH + floor(x) + last_bit(1518) + TO_END
-        self.assertEqual((first, second, third), (160360, 163240, 276950))
+        third = last_bit(1518) + TO_SWITCH + both + last_bit(1518) + TO_END
+        self.assertEqual((first, second, third, floor(x) - both), (160360, 163240, 276680, 270))
         self.assertEqual(found.latencies, {(1, "E4"): (first, ""), (2, "E4"): (second, ""), (3, "E4"): (third, "")})
 
     def test_an_end_system_has_one_priority(self):
@@ -163,6 +164,29 @@ class ByHand(unittest.TestCase):
             self.assertEqual(bounds.peak_of_frames(hops, speed, excess * speed - 1), excess * speed - 1)
             hops[0].spread = None
             self.assertEqual(bounds.peak_of_frames(hops, speed, 5), 5)
+
+    def test_whole_low_frames_behind_high_ones_by_hand(self):
+        """Low frames of 1000 bytes, 81,600 ns, behind high ones of 500, 41,600 ns, each in 1 ms. Twelve high ones with a
+        spread of 0.6 ms take 499,200 ns at once, and so they do again from 0.4 ms on: so a low frame waits for both, and for
+        the low one before it. With no spread it waits for one of each alone. Two low ones with a spread of 0.95 ms bring two
+        more frames 50 us later: the last of the four waits for a high one and the three before it, less 50 us."""
+        high_frame, low_frame = 520 * BYTE, 1020 * BYTE
+        for highs, high_spread, low_spread, longest in (
+            (12, 600_000, 0, 24 * high_frame + low_frame),
+            (12, 0, 0, 12 * high_frame + low_frame),
+            (1, 0, 0, high_frame + low_frame),
+            (1, 0, 950_000, high_frame + 3 * low_frame - 50_000),
+        ):
+            with self.subTest(highs=highs, high=high_spread, low=low_spread):
+                of = lambda count, first, size: [virtual_link(i, way("E1", "A", "E2"), size=size) for i in range(first, first + count)]
+                hops = network([*of(highs, 0, 500), *of(2, 100, 1000)]).ports["E1>A"].hops
+                high, low = hops[:highs], hops[highs:]
+                for hop in hops:
+                    hop.spread = high_spread if hop in high else low_spread
+                at_once = bounds.come_whole(low, 0), bounds.come_whole(high, 0)
+                wait = lambda most: bounds.wait_of_frames(low, high, bounds.PARTS // BYTE, low_frame // BYTE * bounds.PARTS, most, at_once)
+                self.assertEqual((wait(10**9), wait(longest + 1), wait(longest)), (longest, longest, longest))
+                self.assertEqual(wait(longest - 1), longest - 1)
 
     def test_a_slow_line_brings_less(self):
         """As above, but the first line has 10 Mbit/s: a byte takes ten times the time, so it brings one frame in 67,200
