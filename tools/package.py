@@ -27,7 +27,7 @@ from program import ROOT, NoProgram
 # Tools for who changes the program, and what tests alone read: they need its sources.
 ONLY_IN_A_CLONE = (
     "cited_lemmas.py", "drawn.py", "gate.py", "package.py", "reading_list.py", "refuse_memory.py", "row_files.py", "run_tests.py",
-    "threaded_runs.py",
+    "stopped_threads.py", "threaded_runs.py", "turn_groups.py", "turn_model.py",
 )
 OF_A_TOOL = re.compile(r"tools/(?!test_)\w+\.(py|lua)|tools/page/.*")
 PYTHON = "/usr/bin/python3"

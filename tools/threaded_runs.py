@@ -15,7 +15,7 @@ gives them, and half 1 to 64. `afdxsim run` must then end with status 0, and its
 the run is finished, that nothing was refused and that nothing was not enabled.
 
 Each run with an odd number is over several groups of several members: its network is larger (4 to 12 end systems, 2 to 4
-switches on each network, 8 to 40 virtual links, so 32 processes and more), it has at least two workers, and from two groups
+switches on each network, 8 to 40 virtual links, so 28 processes and more), it has at least two workers, and from two groups
 to half as many as there are end systems and switches. Each group has one of these at least, and the lines that lead to it.
 All of these runs write their journals. One that handles more events than it commits has rolled back. In one of five of them
 the last worker stands still from its birth (by `ptrace`) until all others have ended: then these have given its groups their
