@@ -52,6 +52,7 @@ import record
 import runs
 import sweep
 import tried_runs
+import watch
 from afdx import GREATEST_SEED, PROGRAM, whole
 from files import Fault, text_of
 from folder import Folder
@@ -185,6 +186,7 @@ class Progress:
     def __init__(self, count, of="runs"):
         self.count, self.of, self.begin = count, of, time.monotonic()
         self.shown, self.last = sys.stderr.isatty(), 0.0
+        watch.stop()
         self.lock, self.done, self.worst, self.far = threading.Lock(), 0, None, None
 
     def listen(self, maker):

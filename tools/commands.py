@@ -14,6 +14,7 @@ import explain
 import files
 import output_sizes
 import program
+import watch
 from by_rt import tell
 from program import HERE, NoProgram
 
@@ -391,7 +392,9 @@ def tool_command(file, *words):
 
 def explained(net):
     """Tells on error output what is wrong with a description or hardly meant, and answers the status."""
-    found = subprocess.run(tool_command("explain.py", net), stdin=subprocess.DEVNULL, capture_output=True, text=True)
+    with watch.Watch("afdx"):
+        watch.stage(f"explains {files.printable(net)}")
+        found = subprocess.run(tool_command("explain.py", net), stdin=subprocess.DEVNULL, capture_output=True, text=True)
     sys.stderr.write(found.stderr)
     for line in found.stdout.splitlines():
         if not line.endswith(": accepted"):

@@ -10,7 +10,7 @@ import argparse
 import difflib
 import re
 import sys
-from collections import namedtuple
+from collections import Counter, namedtuple
 
 import afdx
 import files
@@ -39,6 +39,8 @@ what is told, in this order:
             a BAG longer than the run
             with --bounds, of the worst case: accounts that may refuse frames, destinations to which neither network
             brings each frame, copies that may be further apart than SkewMax, ports that are too small
+
+Of more than ten warnings of one kind the first three are told, and how many more there are; --all tells each.
 
 status: 0 where the description is accepted, with or without warnings; 1 where it has a fault; 2 where a word is wrong or
 the file cannot be read.
@@ -71,8 +73,10 @@ RULES = {
     6: "a node has the same predecessor in all paths",
 }
 
-# A fault, or with the number 0 a warning. `who` is the row and what in it, for a reader.
-Finding = namedtuple("Finding", "number place line who text")
+# A fault, or with the number 0 a warning. `who` is the row and what in it, for a reader; `kind` what all warnings of one kind say.
+Finding = namedtuple("Finding", "number place line who text kind", defaults=[""])
+# Of more warnings of one kind so many are told, and how many more there are.
+MOST_OF_A_KIND, TOLD_OF_A_KIND = 10, 3
 
 
 def answer(finding):
@@ -607,7 +611,7 @@ class Warnings:
         for i, outage in enumerate(net.outages, 1):
             if outage.from_ns > net.until_ns:
                 text = f"is {outage.from_ns}, and the run ends at {net.until_ns}: the line is never out"
-                self.add("outage", i, "from_ns", f"outage {outage.line}", text)
+                self.add("outage", i, "from_ns", f"outage {outage.line}", text, "an outage begins after the end of the run")
         for vl in net.vls.values():
             self.virtual_link(vl)
         for i, link in enumerate(net.links, 1):
@@ -624,12 +628,13 @@ class Warnings:
                 name = line.split(">")[0]
                 of = f"{known.users} virtual link{'' if known.users == 1 else 's'}"
                 text = f"has {of} on {line}: 40 us and a frame of each take {known.sum_ns} ns, and ARINC 664 Part 7 "
-                self.add("node", rows[name], None, f"end system {name}", text + f"allows {transmit_jitter.MOST_NS} ns of transmit jitter")
+                text += f"allows {transmit_jitter.MOST_NS} ns of transmit jitter"
+                self.add("node", rows[name], None, f"end system {name}", text, "the transmit jitter of an end system may be more than ARINC 664 Part 7 allows")
 
-    def add(self, section, row, key, name, text):
+    def add(self, section, row, key, name, text, kind):
         line = self.net.description.line(section, row, key)
         who = f"{name} ({section} row {row})" + (f", {key}" if key else "")
-        self.findings.append(Finding(0, afdx.Place(section, row, key), line, who, text))
+        self.findings.append(Finding(0, afdx.Place(section, row, key), line, who, text, kind))
 
     def load(self, i, link, line):
         load = self.net.load[line]
@@ -637,23 +642,25 @@ class Warnings:
             tenths = round(load * 10)
             text = f"gets {tenths // 10}.{tenths % 10} percent of the {link.mbit} Mbit/s of {line}: "
             late = "frames are lost or late there, whatever the moments" if load > 100 else "frames wait long there"
-            self.add("link", i, None, f"link {link.a}-{link.b}", text + late)
+            kind = f"a line gets more than {100 if load > 100 else 75} percent of what it carries"
+            self.add("link", i, None, f"link {link.a}-{link.b}", text + late, kind)
 
     def virtual_link(self, vl):
-        net, add = self.net, lambda key, text: self.add("vl", vl.row, key, f"virtual link {vl.id}", text)
+        net, add = self.net, lambda key, text, kind: self.add("vl", vl.row, key, f"virtual link {vl.id}", text, kind)
         if vl.size > vl.smax:
             text = f"is {vl.size}, above smax, which is {vl.smax}: every frame is dropped at the first switch (too_long)"
-            add("size", text)
+            add("size", text, "size is above smax")
         if vl.period_ns < vl.bag_ns:
             text = f"is {vl.period_ns}, below the BAG of {vl.bag_ns} ns: frames wait in the regulator, and are dropped "
-            add("period_ns", text + "once as many wait as depth says (queue_full)")
+            add("period_ns", text + "once as many wait as depth says (queue_full)", "the period is below the BAG")
         else:
             self.wait(vl, add)
         if vl.bag_ns > net.until_ns:
-            add("bag_ms", f"is longer than the run, which ends at {net.until_ns} ns: one frame leaves at most")
+            add("bag_ms", f"is longer than the run, which ends at {net.until_ns} ns: one frame leaves at most", "the BAG is longer than the run")
         drawn = afdx.offers(net.seed, vl.id, vl.offset_ns, vl.period_ns, vl.jitter_ns, net.until_ns)
         if next(drawn, None) is None:
-            add("offset_ns", f"is {vl.offset_ns}: nothing is offered before the end, which is at {net.until_ns} ns")
+            text = f"is {vl.offset_ns}: nothing is offered before the end, which is at {net.until_ns} ns"
+            add("offset_ns", text, "nothing is offered before the end")
         self.networks(vl, add)
 
     @staticmethod
@@ -663,9 +670,11 @@ class Warnings:
 
         most, depth = -(-vl.jitter_ns // vl.period_ns), vl.depth * vl.sub
         if most > depth:
-            add("jitter_ns", f"is {vl.jitter_ns}: {most} frames may wait in the regulator, and it holds {depth} (queue_full)")
+            text = f"is {vl.jitter_ns}: {most} frames may wait in the regulator, and it holds {depth} (queue_full)"
+            add("jitter_ns", text, "more frames may wait in the regulator than it holds")
         elif (wait := bounds.longest_wait(vl)) > vl.bag_ns:
-            add("jitter_ns", f"is {vl.jitter_ns}: up to {wait} ns of a latency, which begins at the offer, are the regulator's")
+            text = f"is {vl.jitter_ns}: up to {wait} ns of a latency, which begins at the offer, are the regulator's"
+            add("jitter_ns", text, "much of a latency may be the regulator's")
 
     def networks(self, vl, add):
         """Destinations without a second copy, where the description has two networks."""
@@ -673,12 +682,13 @@ class Warnings:
             return
         for key, other in (("a", "b"), ("b", "a")):
             if not vl.paths[key.upper()]:
-                add(key, f"is empty: no destination has a second copy, by network {key.upper()}")
+                add(key, f"is empty: no destination has a second copy, by network {key.upper()}", f"there is no path on network {key.upper()}")
                 continue
             alone = [where for where, nets in vl.destinations.items() if nets == {key}]
             if alone and vl.paths[other.upper()]:
                 names = ", ".join(alone[:4]) + (" .." if len(alone) > 4 else "")
-                add(other, f"has no path to {names}: reached by network {key.upper()} alone, without a second copy")
+                text = f"has no path to {names}: reached by network {key.upper()} alone, without a second copy"
+                add(other, text, f"destinations are reached by network {key.upper()} alone")
 
 
 class WorstCase(Warnings):
@@ -702,28 +712,28 @@ class WorstCase(Warnings):
         for vl, found in places.items():
             tell(self.net.vls[vl], sorted(found, key=self.net.process.get))
 
-    def tell(self, vl, key, text):
-        self.add("vl", vl.row, key, f"virtual link {vl.id}", text)
+    def tell(self, vl, key, text, kind):
+        self.add("vl", vl.row, key, f"virtual link {vl.id}", text, f"in the worst case {kind}")
 
     def refusing(self, vl, places):
         told = [f"{where} ({ns_or_none(self.bounds.accounts[vl.id, where].jitter_ns)})" for where in places]
         text = f"is {vl.policing_ns}, and in the worst case frames come closer than a BAG by more than that at {few(told)}: "
-        self.tell(vl, "policing_jitter_ns", text + "the accounts there may refuse them (policed)")
+        self.tell(vl, "policing_jitter_ns", text + "the accounts there may refuse them (policed)", "accounts may refuse frames")
 
     def not_sure(self, vl, places):
         networks = "neither network brings" if all(vl.paths.values()) else "its network does not bring"
-        self.tell(vl, None, f"{networks} each frame to {few(places)} in the worst case")
+        self.tell(vl, None, f"{networks} each frame to {few(places)} in the worst case", "no network brings each frame")
 
     def twice(self, vl, places):
         told = [f"{where} ({ns_or_none(self.bounds.of[vl.id, where].skew_ns)})" for where in places]
         text = f"is {vl.skew_ns}, and in the worst case the copies of a frame are further apart at {few(told)}: "
-        self.tell(vl, "skew_max_ns", text + "the second one would be delivered too")
+        self.tell(vl, "skew_max_ns", text + "the second one would be delivered too", "copies are further apart than SkewMax")
 
     def too_small(self, line):
         most, name = self.bounds.waiting[line].most, line.split(">")[0]
         waits = "there is no bound on the bytes that may wait" if most is None else f"in the worst case {most} bytes wait"
         text = f"is {self.bounds.holds(line)}, and {waits} before {line}: frames may be lost there (port_full)"
-        self.add("node", self.rows[name], "port_bytes", f"node {name}", text)
+        self.add("node", self.rows[name], "port_bytes", f"node {name}", text, "in the worst case a port is too small")
 
 
 def ns_or_none(number):
@@ -737,8 +747,22 @@ def few(texts, most=4):
 # ---- words of the command line ----
 
 
-def explain(path, bounds=None):
-    """What is told of a file, faults or warnings, and the status. `bounds` names a file of bounds."""
+def told_of(path, warnings, tells_all):
+    """The lines of warnings, and what there is to say of how many they are. Of many of one kind the first ones are told."""
+    kinds = Counter(it.kind for it in warnings)
+    many = {} if tells_all else {kind: count for kind, count in kinds.items() if count > MOST_OF_A_KIND}
+    lines, seen = [], Counter()
+    for it in warnings:
+        seen[it.kind] += 1
+        if it.kind not in many or seen[it.kind] <= TOLD_OF_A_KIND:
+            lines.append(line_of(path, it))
+    lines += (f"{path}: warning: {kind}: {count - TOLD_OF_A_KIND:,} more (--all)" for kind, count in many.items())
+    more = f" of {counted(kinds, 'kind')}" if many else ""
+    return lines, f", {counted(warnings, 'warning')}{more}" if warnings else ""
+
+
+def explain(path, bounds=None, tells_all=False):
+    """What is told of a file, faults or warnings, and the status. `bounds` names a file of bounds; `tells_all`: each warning."""
     try:
         text = afdx.text_of(path)
     except Fault as fault:
@@ -760,8 +784,8 @@ def explain(path, bounds=None):
             import limits
 
             warnings += WorstCase(net, limits.Bounds(bounds, net)).findings
-        lines = [line_of(path, finding) for finding in warnings]
-        lines.append(f"{path}: accepted" + (f", {counted(warnings, 'warning')}" if warnings else ""))
+        lines, count = told_of(path, warnings, tells_all)
+        lines.append(f"{path}: accepted{count}")
     return "".join(line + "\n" for line in lines), 1 if found else 0
 
 
@@ -776,8 +800,10 @@ def main(arguments=None):
     )
     parser.add_argument("net", metavar="NET", help="the description (TOML)")
     parser.add_argument("--bounds", metavar="FILE", help="warns of the worst case too: the bounds that tools/bounds.py printed for NET")
+    says = f"prints each warning; else of more than {MOST_OF_A_KIND} of one kind the first {TOLD_OF_A_KIND}, and how many more there are"
+    parser.add_argument("--all", action="store_true", help=says)
     words = parser.parse_args(arguments)
-    told, status = explain(words.net, words.bounds)
+    told, status = explain(words.net, words.bounds, words.all)
     files.write_out(told)
     return status
 

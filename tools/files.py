@@ -21,6 +21,8 @@ import sys
 import tempfile
 import threading
 
+import watch
+
 # The statuses of a tool beside 0, and beside 1, of which each tool says what it means.
 BAD = 2
 BEHIND_A_SIGNAL = 128
@@ -208,6 +210,7 @@ def standard_output():
 
 def text_of(path):
     """The text of a file."""
+    watch.stage(f"reads {printable(path)}")
     try:
         with open(path, "rb") as file:
             KNOWN.note(KNOWN.read, path, os.fstat(file.fileno()))
@@ -271,6 +274,7 @@ def write_pieces(path, pieces):
 
 def write_bytes(path, content):
     """Writes a file of bytes, or of pieces of them."""
+    watch.stage(f"writes {printable(path)}")
     try:
         found = os.stat(path)
     except FileNotFoundError:
@@ -354,6 +358,7 @@ def write_out(text):
     if sys.stdout is None:
         raise Fault(STANDARD_OUTPUT, None, "cannot be written: it is closed")
     judge([], prints=True)
+    watch.clear()
     with output():
         sys.stdout.write(text)
         sys.stdout.flush()
@@ -442,7 +447,7 @@ def tool(main):
         global KNOWN
         before, KNOWN = KNOWN, Known()
         try:
-            with signals_taken():
+            with signals_taken(), watch.Watch(name):
                 status, said = status_of(main, arguments)
         except Interrupted as late:
             status, said = why(late)
@@ -499,6 +504,7 @@ def settle_streams():
 
 def tell(name, said):
     """Says something on error output, if there is one."""
+    watch.clear()
     if sys.stderr is not None:
         with contextlib.suppress(OSError):
             print(f"{name}: {said}", file=sys.stderr, flush=True)

@@ -285,7 +285,7 @@ class WithAStandIn(Here):
         os.mkdir(kept)
         self.stand_in(f"if seed == 44:\n    open({began!r}, 'w').close()\n    time.sleep(100)")
         command = [sys.executable, os.path.join(HERE, "campaign.py"), N1, "--seeds", "9", "--jobs", "1"]
-        command += ["--program", self.program, "-o", self.output]
+        command += ["--program", self.program, "-o", self.output, "--replace"]
         before = signal.signal(signal.SIGINT, outside)
         try:
             run = subprocess.Popen(

@@ -441,6 +441,26 @@ class Explained(unittest.TestCase):
         status, lines = self.told(text=BAD.encode() + b"# \xff\n")
         self.assertEqual((status, lines[0]), (1, "26: no TOML: the file is not UTF-8 [afdxsim: description: 1 Syntax]"))
 
+    def test_many_warnings_of_one_kind(self):
+        """Of more than ten the first three are told, and how many more there are; of others each, and of all each with --all."""
+        head, link = BAD.split("[[vl]]")
+        rows = [link.replace("id = 120\n", f"id = {i}\n").replace("period_ns = 8_000_000", "period_ns = 7_999_999") for i in range(1, 31)]
+        for count, told in ((10, 10), (11, 3), (30, 3)):
+            text = "[[vl]]".join([head, *rows[:count]]).replace("size = 128", "size = 129", 2)
+            path = os.path.join(self.enterContext(tempfile.TemporaryDirectory()), "net.toml")
+            with open(path, "w", encoding="utf-8") as out:
+                out.write(text)
+            lines = explain.explain(path)[0].splitlines()
+            of_kind = [line for line in lines if "below the BAG of" in line]
+            self.assertEqual(len(of_kind), told)
+            each = explain.explain(path, tells_all=True)[0].splitlines()
+            self.assertEqual([line for line in each if "below the BAG of" in line][:told], of_kind)
+            self.assertEqual(len([line for line in each if ": warning: " in line]), int(each[-1].split(", ")[1].split(" ")[0]))
+            rest = [line for line in lines if line.endswith(" more (--all)")]
+            kind = f"{path}: warning: the period is below the BAG: {count - 3} more (--all)"
+            self.assertEqual(kind in rest, count > 10)
+            self.assertIn(" kinds" if count > 10 else " warnings", lines[-1])
+
     def test_warnings(self):
         vl = "virtual link 120 (vl row 1)"
         self.assertEqual(self.told(), (0, ["accepted"]))
