@@ -9,8 +9,9 @@ DIR/merged.csv has the tables of all runs together, in the form in which the pro
 more: the seed that gave the greatest latency of a line, or the most losses. tools/report.py makes a page of it. Counts
 and sums are added and leasts and greatests taken, exactly; so the merged tables do not depend on --jobs.
 DIR/campaign.json says of what description, seeds and program they are, and lists the files of DIR with their checksums.
-DIR/greatest.csv has of the greatest latencies of the runs the least, the mean and the greatest. With --histograms latencies are
-counted in bins of less than 0.1 percent (DIR/histograms.csv), and percentiles of the frames of all runs stand in DIR/greatest.csv.
+DIR/greatest.csv has of the greatest latencies of the runs the least, the mean and the greatest. With --histograms
+latencies are counted in bins of less than 0.1 percent (DIR/histograms.csv), and percentiles of the frames of all runs
+stand in DIR/greatest.csv.
 
 With --set a key of the description has several values in turn, or several keys each combination of theirs. DIR/sweep.csv
 and the page DIR/sweep.html tell what the values do, beside what the seeds do.

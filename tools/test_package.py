@@ -4,6 +4,7 @@ import contextlib
 import glob
 import json
 import os
+import re
 import shutil
 import subprocess
 import tempfile
@@ -255,10 +256,10 @@ class Used:
         self.assertEqual(found.returncode, 0, found.stderr)
         version = found.stdout.splitlines()
         self.assertEqual(version[0], f"afdxsim {program.version(TOP)}")
-        self.assertRegex(version[1], "^program: .*, proved, commit [0-9a-f]{8}, " + KIT)
+        self.assertRegex(version[1], "^program: .*, proved, commit [0-9a-f]{8}, " + re.escape(test_commands.TOLD))
         found = self.run_there("afdx", "seq", f"{self.examples}/cockpit.toml")
         self.assertEqual(found.stdout, TABLES)
-        self.assertRegex(found.stderr, r"^afdx: afdxsim [0-9.]+, proved, commit [0-9a-f]{8}, " + KIT + "\n$")
+        self.assertRegex(found.stderr, r"^afdx: afdxsim [0-9.]+, proved, commit [0-9a-f]{8}, " + re.escape(test_commands.TOLD) + "\n$")
 
     def test_all_that_a_user_does_goes_well(self):
         self.does(DONE)
