@@ -13,6 +13,7 @@ HERE = os.path.dirname(os.path.abspath(__file__))
 sys.path.insert(0, HERE)
 
 import afdx  # noqa: E402
+import latency_counts  # noqa: E402
 import reckoning  # noqa: E402
 import traces  # noqa: E402
 from files import Interrupted  # noqa: E402
@@ -21,7 +22,7 @@ from test_campaign import N1, Here, read  # noqa: E402
 
 
 def noting(path, make):
-    """The same `__init__`, which notes in a file which process calls it."""
+    """The same function, which notes in a file which process calls it."""
 
     @functools.wraps(make)
     def noted(*given):
@@ -44,7 +45,8 @@ class WhoReads(Here):
                 path, tables, trace = self.file("readers", ""), afdx.Tables, traces.Trace
                 with mock.patch.object(tables, "__init__", noting(path, tables.__init__)):
                     with mock.patch.object(trace, "__init__", noting(path, trace.__init__)):
-                        self.assertEqual(self.call(N1, *words.split(), "--jobs", "2")[0], 0)
+                        with mock.patch.object(latency_counts, "of_trace", noting(path, latency_counts.of_trace)):
+                            self.assertEqual(self.call(N1, *words.split(), "--jobs", "2")[0], 0)
                 readers = read(path).split()
                 self.assertNotIn(str(os.getpid()), readers)
                 self.assertEqual(len(readers), len(readers) if reads is None else reads)

@@ -42,6 +42,13 @@ impl Handled {
             count: Cell::new(0),
         }
     }
+
+    // How many messages were handled since this was asked last: a call that is made again answers those of its refused try too.
+    fn take(&self) -> u64 {
+        let count = self.count.get();
+        self.count.set(0);
+        count
+    }
 }
 
 impl Gate for Handled {
@@ -85,9 +92,8 @@ fn act_on<J: NetworkRun>(
     match name_in(word) {
         "collect" if !group.has_block() => collect(group, exchange),
         "work" => {
-            let before = handled.count.get();
             work(group, long_at(word, 2), number_at(word, 3), handled)?;
-            Ok(handled.count.get().saturating_sub(before))
+            Ok(handled.take())
         }
         "post" => {
             post(group, exchange)?;
