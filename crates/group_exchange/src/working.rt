@@ -57,19 +57,19 @@ impl<R: Actor, J: GroupRun<R>> Group<R, J> {
         ensures short { result ≡ Err Exhausted → IsShort (simulation_of (rules_of R.plain) J.setting) J.owners self.new }
         ensures faults { IfErr result (λ fault. (fault ≡ OutOfMemory) ⊎ (fault ≡ Exhausted)) }
     {
-        self.arrive_all()?;
+        self.empty_tray()?;
         for run in 0..turn {
             if !self.run_one(limit, gate)? {
                 return Ok(u64::from(run));
             }
-            self.arrive_all()?;
+            self.empty_tray()?;
         }
         Ok(u64::from(turn))
     }
 
     /// All letters of the tray arrive.
     #[inline(always)]
-    fn arrive_all(&mut self) -> Result<(), PoolFault>
+    fn empty_tray(&mut self) -> Result<(), PoolFault>
         ensures goes { Goes (simulation_of (rules_of R.plain) J.setting) J.owners self.old self.new }
         ensures arrived { OnOk result (self.new.held.flow.tray ≡ []) }
         ensures memory { IfErr result (λ fault. fault ≡ OutOfMemory) }

@@ -4,11 +4,11 @@ use Rattle.group_exchange.proofs.Going.{goes-both}
 use Rattle.group_exchange.proofs.group.Group.run_turn.Goals as goal
 
 pub loop-run-init : goal.loop-run-init
-loop-run-init g c = (c.arrive_all.ensures.goes, c.in_ok-arrive_all.ensures.arrived)
+loop-run-init g c = (c.empty_tray.ensures.goes, c.in_ok-empty_tray.ensures.arrived)
 
 pub loop-run-preserved : goal.loop-run-preserved
 loop-run-preserved g c =
-    (goes-both _ _ _ _ _ (goes-both _ _ _ _ _ c.loop-run.invariant.0 c.run_one.ensures.goes) c.arrive_all-in-loop-run.ensures.goes, c.in_ok-arrive_all-2.ensures.arrived)
+    (goes-both _ _ _ _ _ (goes-both _ _ _ _ _ c.loop-run.invariant.0 c.run_one.ensures.goes) c.empty_tray-in-loop-run.ensures.goes, c.in_ok-empty_tray-2.ensures.arrived)
 
 pub returns-in_err-run_one-clause-goes : goal.returns-in_err-run_one-clause-goes
 returns-in_err-run_one-clause-goes g c = goes-both _ _ _ _ _ c.loop-run.invariant.0 c.run_one.ensures.goes
@@ -16,14 +16,14 @@ returns-in_err-run_one-clause-goes g c = goes-both _ _ _ _ _ c.loop-run.invarian
 pub returns-then-not-branch-clause-goes : goal.returns-then-not-branch-clause-goes
 returns-then-not-branch-clause-goes g c = goes-both _ _ _ _ _ c.loop-run.invariant.0 c.run_one.ensures.goes
 
-pub returns-in_err-arrive_all-2-clause-goes : goal.returns-in_err-arrive_all-2-clause-goes
-returns-in_err-arrive_all-2-clause-goes g c = goes-both _ _ _ _ _ (goes-both _ _ _ _ _ c.loop-run.invariant.0 c.run_one.ensures.goes) c.arrive_all-in-loop-run.ensures.goes
+pub returns-in_err-empty_tray-2-clause-goes : goal.returns-in_err-empty_tray-2-clause-goes
+returns-in_err-empty_tray-2-clause-goes g c = goes-both _ _ _ _ _ (goes-both _ _ _ _ _ c.loop-run.invariant.0 c.run_one.ensures.goes) c.empty_tray-in-loop-run.ensures.goes
 
-pub returns-in_err-arrive_all-clause-goes : goal.returns-in_err-arrive_all-clause-goes
-returns-in_err-arrive_all-clause-goes g c = c.arrive_all.ensures.goes
+pub returns-in_err-empty_tray-clause-goes : goal.returns-in_err-empty_tray-clause-goes
+returns-in_err-empty_tray-clause-goes g c = c.empty_tray.ensures.goes
 
-pub returns-in_err-arrive_all-clause-short : goal.returns-in_err-arrive_all-clause-short
-returns-in_err-arrive_all-clause-short g c = passed-short c.from_residual.result c.from_residual.ensures.1 c.in_err-arrive_all.ensures.memory
+pub returns-in_err-empty_tray-clause-short : goal.returns-in_err-empty_tray-clause-short
+returns-in_err-empty_tray-clause-short g c = passed-short c.from_residual.result c.from_residual.ensures.1 c.in_err-empty_tray.ensures.memory
 
 pub returns-clause-goes : goal.returns-clause-goes
 returns-clause-goes g c = c.loop-run.invariant.0
@@ -37,14 +37,14 @@ returns-clause-faults g c = tt
 pub returns-then-not-branch-clause-faults : goal.returns-then-not-branch-clause-faults
 returns-then-not-branch-clause-faults g c = tt
 
-pub returns-in_err-arrive_all-clause-within : goal.returns-in_err-arrive_all-clause-within
-returns-in_err-arrive_all-clause-within g c = err-if-ok _ _ c.from_residual.result c.from_residual.ensures.1
+pub returns-in_err-empty_tray-clause-within : goal.returns-in_err-empty_tray-clause-within
+returns-in_err-empty_tray-clause-within g c = err-if-ok _ _ c.from_residual.result c.from_residual.ensures.1
 
-pub returns-in_err-arrive_all-clause-idle : goal.returns-in_err-arrive_all-clause-idle
-returns-in_err-arrive_all-clause-idle g c = err-if-ok _ _ c.from_residual.result c.from_residual.ensures.1
+pub returns-in_err-empty_tray-clause-idle : goal.returns-in_err-empty_tray-clause-idle
+returns-in_err-empty_tray-clause-idle g c = err-if-ok _ _ c.from_residual.result c.from_residual.ensures.1
 
-pub returns-in_err-arrive_all-clause-arrived : goal.returns-in_err-arrive_all-clause-arrived
-returns-in_err-arrive_all-clause-arrived g c = err-on-ok _ _ c.from_residual.result c.from_residual.ensures.1
+pub returns-in_err-empty_tray-clause-arrived : goal.returns-in_err-empty_tray-clause-arrived
+returns-in_err-empty_tray-clause-arrived g c = err-on-ok _ _ c.from_residual.result c.from_residual.ensures.1
 
 pub returns-in_err-run_one-clause-within : goal.returns-in_err-run_one-clause-within
 returns-in_err-run_one-clause-within g c = err-if-ok _ _ c.from_residual-in_err-run_one.result c.from_residual-in_err-run_one.ensures.1
@@ -55,17 +55,17 @@ returns-in_err-run_one-clause-idle g c = err-if-ok _ _ c.from_residual-in_err-ru
 pub returns-in_err-run_one-clause-arrived : goal.returns-in_err-run_one-clause-arrived
 returns-in_err-run_one-clause-arrived g c = err-on-ok _ _ c.from_residual-in_err-run_one.result c.from_residual-in_err-run_one.ensures.1
 
-pub returns-in_err-arrive_all-2-clause-within : goal.returns-in_err-arrive_all-2-clause-within
-returns-in_err-arrive_all-2-clause-within g c = err-if-ok _ _ c.from_residual-in_err-arrive_all-2.result c.from_residual-in_err-arrive_all-2.ensures.1
+pub returns-in_err-empty_tray-2-clause-within : goal.returns-in_err-empty_tray-2-clause-within
+returns-in_err-empty_tray-2-clause-within g c = err-if-ok _ _ c.from_residual-in_err-empty_tray-2.result c.from_residual-in_err-empty_tray-2.ensures.1
 
-pub returns-in_err-arrive_all-2-clause-idle : goal.returns-in_err-arrive_all-2-clause-idle
-returns-in_err-arrive_all-2-clause-idle g c = err-if-ok _ _ c.from_residual-in_err-arrive_all-2.result c.from_residual-in_err-arrive_all-2.ensures.1
+pub returns-in_err-empty_tray-2-clause-idle : goal.returns-in_err-empty_tray-2-clause-idle
+returns-in_err-empty_tray-2-clause-idle g c = err-if-ok _ _ c.from_residual-in_err-empty_tray-2.result c.from_residual-in_err-empty_tray-2.ensures.1
 
-pub returns-in_err-arrive_all-2-clause-arrived : goal.returns-in_err-arrive_all-2-clause-arrived
-returns-in_err-arrive_all-2-clause-arrived g c = err-on-ok _ _ c.from_residual-in_err-arrive_all-2.result c.from_residual-in_err-arrive_all-2.ensures.1
+pub returns-in_err-empty_tray-2-clause-arrived : goal.returns-in_err-empty_tray-2-clause-arrived
+returns-in_err-empty_tray-2-clause-arrived g c = err-on-ok _ _ c.from_residual-in_err-empty_tray-2.result c.from_residual-in_err-empty_tray-2.ensures.1
 
-pub returns-in_err-arrive_all-2-clause-short : goal.returns-in_err-arrive_all-2-clause-short
-returns-in_err-arrive_all-2-clause-short g c = passed-short c.from_residual-in_err-arrive_all-2.result c.from_residual-in_err-arrive_all-2.ensures.1 c.in_err-arrive_all-2.ensures.memory
+pub returns-in_err-empty_tray-2-clause-short : goal.returns-in_err-empty_tray-2-clause-short
+returns-in_err-empty_tray-2-clause-short g c = passed-short c.from_residual-in_err-empty_tray-2.result c.from_residual-in_err-empty_tray-2.ensures.1 c.in_err-empty_tray-2.ensures.memory
 
 pub returns-then-not-branch-clause-short : goal.returns-then-not-branch-clause-short
 returns-then-not-branch-clause-short g c = λ e. not-ok _ _ _ refl e

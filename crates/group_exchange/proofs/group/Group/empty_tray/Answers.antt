@@ -1,7 +1,7 @@
 use Rattle.std.proofs.Common.{sym, ◌∙◌}
 use Rattle.group_exchange.proofs.RowsKept.{rows-does}
 use Rattle.group_exchange.proofs.Told.{does}
-use Rattle.group_exchange.proofs.group.Group.arrive_all.Goals as goal
+use Rattle.group_exchange.proofs.group.Group.empty_tray.Goals as goal
 
 pub invariant_of-self : goal.invariant_of-self
 invariant_of-self g c =
