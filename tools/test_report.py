@@ -294,7 +294,7 @@ class Browser:
 
     def run(self, *words):
         """Runs the browser. On a machine that has no time for it it may hang as it begins, so it is tried thrice."""
-        for seconds in (100, 100, 300):
+        for seconds in (100, 300, 900):
             try:
                 return subprocess.run([*self.command, *words], capture_output=True, timeout=seconds, check=True)
             except subprocess.TimeoutExpired as fault:
