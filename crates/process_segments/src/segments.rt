@@ -8,9 +8,9 @@ ghost use Rattle.process_segments.specs.Segments.{IsIntervalSealed, IsNextSegmen
 
 use crate::network_run::Of;
 use journal::PoolFault;
+use network_runs::{NetworkRun, interval_at};
 use nodes::Node;
 use process_exchange::Held;
-use run_rows::{NetworkRun, interval_at};
 use std::alloc::{AllocError, Global};
 use trace_tables::{Segment, cut};
 use vlink::Time;

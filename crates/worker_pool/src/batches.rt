@@ -3,7 +3,8 @@ ghost use Rattle.std.specs.Prelude.{◌≡◌};
 
 use crossbeam_channel::Receiver;
 use network::Network;
-use run_rows::{Counted, NetworkRun, RunBatch, TraceRun, Writing};
+use network_runs::NetworkRun;
+use run_rows::{Counted, RunBatch, TraceRun, Writing};
 use std::sync::Wait;
 use trace_tables::Sink;
 

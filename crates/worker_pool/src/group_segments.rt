@@ -5,7 +5,7 @@ ghost use Rattle.trace_segments.specs.Words.{cut};
 ghost use Rattle.worker_pool.specs.Segments.{IsGroupIntervalSealed, IsGroupSegmentOfRun, IsNextGroupSegment};
 
 use crate::network_run::{NetworkGroup, NetworkRun};
-use run_rows::interval_at;
+use network_runs::interval_at;
 use std::alloc::{AllocError, Global};
 use trace_tables::{Segment, cut};
 use vlink::Time;

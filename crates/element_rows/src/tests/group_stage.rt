@@ -8,8 +8,8 @@ use crate::tests::stage::{Stage, name_in, tell_step};
 use crate::tests::words::{long_at, number_at, short_at};
 use group_exchange::{Group, GroupExchange, GroupRun, collect, post, publish, work};
 use journal::{Gate, PoolFault};
+use network_runs::NetworkRun;
 use nodes::Node;
-use run_rows::NetworkRun;
 use std::cell::Cell;
 use std::marker::PhantomData;
 

@@ -11,10 +11,10 @@ ghost use Rattle.std.specs.Prelude.{◌≡◌, true};
 
 use crate::tests::words::{long_at, number_at, short_at, tell, tell_number, tell_numbers};
 use journal::{Gate, PoolFault};
+use network_runs::NetworkRun;
 use nodes::Node;
 use process_exchange::{Exchange, Held, collect, post, publish, work};
 use process_segments::Of;
-use run_rows::NetworkRun;
 use std::cell::Cell;
 use vlink::Step;
 

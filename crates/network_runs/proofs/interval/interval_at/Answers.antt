@@ -1,8 +1,8 @@
 use Rattle.std.proofs.Common.{◌/◌, ◌∙◌, sym, ap, arith}
 use Rattle.trace_segments.specs.Words.{cut}
 use Rattle.trace_segments.proofs.IntervalLemmas.{cut-inside}
-use Rattle.run_rows.proofs.Beginnings.{begins-one}
-use Rattle.run_rows.proofs.interval.interval_at.Goals as goal
+use Rattle.network_runs.proofs.Beginnings.{begins-one}
+use Rattle.network_runs.proofs.interval.interval_at.Goals as goal
 
 pub returns-then-ns-clause-none : goal.returns-then-ns-clause-none
 returns-then-ns-clause-none c = λ k inside at. let begin = cut-inside c.args.until k inside in absurd (omega arith)

@@ -22,7 +22,7 @@ pub trait NetworkRun {
 
 impl NetworkRun for Brand {
     ghost use Rattle.std.specs.Prelude.{[], false};
-    ghost use Rattle.run_rows.specs.Traces.{empty_plan};
+    ghost use Rattle.network_runs.specs.Empty.{empty_plan};
 
     ghost plan = { empty_plan };
 
