@@ -1,4 +1,4 @@
-//! Of which run of a network an exchange and its processes are.
+//! The run of a network to which an exchange and its processes belong.
 use network_runs::NetworkRun;
 use nodes::Node;
 use process_exchange::ActorRun;
