@@ -6,7 +6,7 @@ ghost use Rattle.trace_segments.specs.Words.{cut, HasInterval};
 use trace_segments::{cut, width};
 use vlink::Time;
 
-/// The number of the interval that begins at this moment, in ns, if one does.
+/// Returns the number of the interval that begins at this moment (ns), if an interval begins there.
 pub fn interval_at(until: Time, moment: Time) -> Option<u64>
     requires { until < GREATEST_NS }
     ensures some { IfSome result (λ k. HasInterval until k × (moment ≡ cut until k)) }

@@ -1,8 +1,8 @@
-//! Of which run of a network something is.
+//! The run of a network to which a value belongs.
 use std::marker::Brand;
 
-/// A run of a network, known by its type: which network it is of, whether its journal is kept, which marks it has,
-/// and which groups. It has no bytes, and who calls at `Brand` picks all of them.
+/// A run of a network, known by its type: its network, whether its journal is kept, its marks and its groups. It takes no bytes. The caller
+/// at `Brand` chooses all of them.
 pub trait NetworkRun {
     ghost use Rattle.std.specs.Prelude.{ℕ, Bool, List};
     ghost use Rattle.network.specs.Words.{Plan};
