@@ -1,9 +1,11 @@
 //! What a run is told by: tables of latencies and of drops, and their text. The names of the trace too, so that a user has one door.
 #![tactic(auto)]
 
+mod cells;
 mod deliveries;
 mod destination;
 mod drops;
+mod duplicates;
 mod latencies;
 mod laws;
 mod loss;

@@ -4,17 +4,17 @@ ghost use Rattle.vlink.specs.Letters.{Row};
 ghost use Rattle.trace_tables.specs.SoFar.{AreInTables, IsSoFar};
 ghost use Rattle.trace_tables.specs.Tables.{tables_of};
 
-use crate::deliveries::{add_latency, no_deliveries};
-use crate::destination::Destination;
+use crate::cells::Cells;
+use crate::deliveries::deliveries_of;
 use crate::drops::add_known_loss;
-use crate::latencies::Latencies;
+use crate::duplicates::add_duplicates;
 use crate::loss::Loss;
 use crate::tables::Tables;
 use network::Network;
 use std::alloc::{AllocError, Global};
 use std::collections::BTreeMap;
 use std::marker::Model;
-use vlink::{Message, Note, Row};
+use vlink::{Cause, Message, Note, Row};
 
 /// So many rows are counted at most before all have come. What comes behind them is kept, so that no count of rows passes 64 bits.
 const MOST: u64 = 1 << 63;
@@ -26,7 +26,7 @@ const MOST: u64 = 1 << 63;
 /// Clauses see what is counted, of how many rows, and the rows that are kept: none before 2^63 are counted. Latencies are in ns.
 #[derive(Drop)]
 pub struct TablesSoFar {
-    latencies: BTreeMap<Destination, Latencies>,
+    cells: Cells,
     drops: BTreeMap<Loss, u64>,
     counted: u64,
     rest: Vec<Row>,
@@ -37,30 +37,31 @@ impl Model for TablesSoFar {
 
     ghost Value = { SoFarLists };
 
-    ghost view = { λ t. record { latencies = t.latencies.entries; drops = t.drops.entries; counted = t.counted; rest = t.rest.items } };
+    ghost view = { λ t. record { cells = t.cells; drops = t.drops.entries; counted = t.counted; rest = t.rest.items } };
 }
 
 /// A row is counted.
 #[inline(always)]
 fn count_row(
-    latencies: &mut BTreeMap<Destination, Latencies>,
+    cells: &mut Cells,
     drops: &mut BTreeMap<Loss, u64>,
     network: &Network,
     row: &Row,
 ) -> Result<(), AllocError>
-    requires { (earlier : List Row) × AreInTables network.now earlier latencies.old.entries drops.old.entries × (length earlier < 2 ^ 64 - 1) }
-    ensures { OnOk result ((earlier : List Row) → AreInTables network.now earlier latencies.old.entries drops.old.entries
-        → AreInTables network.now (earlier ++ row.now ∷ []) latencies.new.entries drops.new.entries) }
+    requires { (earlier : List Row) × AreInTables network.now earlier cells.old drops.old.entries × (length earlier < 2 ^ 64 - 1) }
+    ensures { OnOk result ((earlier : List Row) → AreInTables network.now earlier cells.old drops.old.entries
+        → AreInTables network.now (earlier ++ row.now ∷ []) cells.new drops.new.entries) }
 {
-    let _rising = network.vl_count();
     match row.note {
         Note::Delivered { vl, latency } => {
-            let place = usize::from(row.place);
-            add_latency(latencies, Destination { vl, place }, latency);
+            cells.add_latency(network, vl, row.place, latency);
             Ok(())
         }
         Note::Dropped { vl, cause, .. } => {
             let place = row.place;
+            if cause == Cause::Duplicate && cells.add_duplicate(network, vl, place) {
+                return Ok(());
+            }
             add_known_loss(drops, network, Loss { vl, place, cause })
         }
     }
@@ -68,17 +69,17 @@ fn count_row(
 
 /// Each of the rows is counted.
 fn count_each(
-    latencies: &mut BTreeMap<Destination, Latencies>,
+    cells: &mut Cells,
     drops: &mut BTreeMap<Loss, u64>,
     network: &Network,
     rows: &[Row],
 ) -> Result<(), AllocError>
-    requires { (earlier : List Row) × AreInTables network.now earlier latencies.old.entries drops.old.entries × (length earlier + length rows.now < 2 ^ 64) }
-    ensures { OnOk result ((earlier : List Row) → AreInTables network.now earlier latencies.old.entries drops.old.entries
-        → AreInTables network.now (earlier ++ rows.now) latencies.new.entries drops.new.entries) }
+    requires { (earlier : List Row) × AreInTables network.now earlier cells.old drops.old.entries × (length earlier + length rows.now < 2 ^ 64) }
+    ensures { OnOk result ((earlier : List Row) → AreInTables network.now earlier cells.old drops.old.entries
+        → AreInTables network.now (earlier ++ rows.now) cells.new drops.new.entries) }
 {
     for row in rows {
-        count_row(latencies, drops, network, row)?;
+        count_row(cells, drops, network, row)?;
     }
     Ok(())
 }
@@ -103,7 +104,7 @@ impl TablesSoFar {
         ensures { IfOk result (λ tables. IsSoFar network.now tables []) }
     {
         Ok(TablesSoFar {
-            latencies: no_deliveries(alloc, network)?,
+            cells: Cells::none(alloc, network)?,
             drops: BTreeMap::new(alloc),
             counted: 0,
             rest: Vec::new(alloc),
@@ -121,7 +122,7 @@ impl TablesSoFar {
         if !self.rest.is_empty() || rows.len() as u64 > MOST - self.counted {
             return self.rest.extend_from_slice(rows);
         }
-        count_each(&mut self.latencies, &mut self.drops, network, rows)?;
+        count_each(&mut self.cells, &mut self.drops, network, rows)?;
         self.counted += rows.len() as u64;
         Ok(())
     }
@@ -148,7 +149,7 @@ impl TablesSoFar {
             place: message.receiver,
             note: *note,
         };
-        count_row(&mut self.latencies, &mut self.drops, network, &row)?;
+        count_row(&mut self.cells, &mut self.drops, network, &row)?;
         self.counted += 1;
         Ok(())
     }
@@ -159,12 +160,14 @@ impl TablesSoFar {
         ensures { IfOk result (λ tables. (rows : List Row) → IsSoFar network.now self rows → tables ≡ tables_of network.now rows) }
     {
         let TablesSoFar {
-            mut latencies,
+            mut cells,
             mut drops,
             rest,
             ..
         } = self;
-        count_each(&mut latencies, &mut drops, network, rest.as_slice())?;
+        count_each(&mut cells, &mut drops, network, rest.as_slice())?;
+        let latencies = deliveries_of(&cells, network)?;
+        add_duplicates(&mut drops, network, &cells)?;
         Ok(Tables::new(latencies, drops))
     }
 }
