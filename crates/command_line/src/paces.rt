@@ -1,5 +1,4 @@
-//! The numbers that set the pace of a run.
-//! The usual numbers are not clap's defaults, so that a default is a clause of our own.
+//! The numbers that set the pace of a run. The defaults are not clap's, so that each default is a clause of our own.
 ghost use Rattle.std.specs.Prelude.{◌≡◌, codes, false};
 ghost use Rattle.clap.specs.Words.{rule_of};
 ghost use Rattle.vlink.specs.declared.time.TheConstants.{LATEST_NS};
@@ -12,15 +11,15 @@ use vlink::LATEST_NS;
 
 /// The greatest number of threads.
 pub(crate) const MOST_WORKERS: u64 = 64;
-/// The number of threads where the words name none.
+/// The default number of threads.
 pub(crate) const USUAL_WORKERS: u64 = 4;
 /// The greatest number of groups of processes.
 pub(crate) const MOST_GROUPS: u64 = 64;
 /// The greatest number of events in a turn.
 pub(crate) const MOST_TURN: u64 = 256;
-/// The number of events in a turn where the words name none.
+/// The default number of events in a turn.
 pub(crate) const USUAL_TURN: u64 = 16;
-/// The window, in ns, where the words name none.
+/// The default window, in ns.
 pub(crate) const USUAL_WINDOW_NS: u64 = 1_000_000;
 
 /// `--workers N`.
