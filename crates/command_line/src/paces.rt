@@ -32,7 +32,7 @@ pub(crate) fn workers<'a>(alloc: Global) -> Arg<'a>
         "workers",
         "N",
         value_parser!(u64).range(1..=MOST_WORKERS as i64),
-        "How many threads simulate: 1 to 64 [default: 4]. There are never more than groups of processes. More than one pays where many events fall within some 8 us of simulated time and few frames go between the groups",
+        "Number of threads: 1 to 64 [default: 4], and never more than groups of processes. Use more than one if many events fall within some 8 us of simulated time and few frames go between the groups",
     )
 }
 
@@ -46,7 +46,7 @@ pub(crate) fn groups<'a>(alloc: Global) -> Arg<'a>
         "groups",
         "N",
         value_parser!(u64).range(1..=MOST_GROUPS as i64),
-        "How many groups of processes there are: 1 to 64, and never more than processes [default: as many as workers, but no more than cores, and one where more are not worth the letters between them; each process, where there are at most 16]. The tables do not depend on it",
+        "Number of groups of processes: 1 to 64, and never more than processes [default: each process alone, if there are at most 16; otherwise as many as workers, but no more than cores, and one if more are not worth the messages between them]. The tables do not depend on it",
     )
 }
 
@@ -60,7 +60,7 @@ pub(crate) fn turn<'a>(alloc: Global) -> Arg<'a>
         "turn",
         "N",
         value_parser!(u64).range(1..=MOST_TURN as i64),
-        "How many events a group of processes handles at most in one turn: 1 to 256 [default: 16]. Between turns letters go out and come in",
+        "The most events that a group of processes handles in one turn: 1 to 256 [default: 16]. Between turns it sends and receives messages",
     )
 }
 
