@@ -26,7 +26,7 @@ from program import ROOT, NoProgram
 
 # Tools for who changes the program, and what tests alone read: they need its sources.
 ONLY_IN_A_CLONE = (
-    "cited_lemmas.py", "drawn.py", "gate.py", "package.py", "reading_list.py", "refuse_memory.py", "row_files.py", "run_tests.py",
+    "cited_lemmas.py", "drawn.py", "gate.py", "package.py", "qualification.py", "reading_list.py", "refuse_memory.py", "row_files.py", "run_tests.py",
     "stopped_threads.py", "threaded_runs.py", "turn_groups.py", "turn_model.py",
 )
 OF_A_TOOL = re.compile(r"tools/(?!test_)\w+\.(py|lua)|tools/page/.*")
@@ -182,6 +182,19 @@ def zipped(text):
     return gzip.compress(text.encode(), 9, mtime=0)
 
 
+LIBRARY, DOCUMENTS = "/usr/lib/afdxsim", "/usr/share/doc/afdxsim"
+
+
+def for_package(text):
+    """A document with the commands of the package, where it has those of a clone: in lines of commands, and in back quotes."""
+    def renamed(found):
+        code = found[0].replace("./afdx", "afdx")
+        code = re.sub(r"(?<![\w./])tools/", f"{LIBRARY}/tools/", code)
+        return re.sub(r"(?<![\w./])examples/", f"{DOCUMENTS}/examples/", code)
+
+    return re.sub(r"^    .*$|`[^`\n]+`", renamed, text, flags=re.MULTILINE)
+
+
 def fill(tree, path, record, begin, root=ROOT):
     """Puts into the tree what the package has."""
     told = json.dumps(record, indent=1, sort_keys=True) + "\n"
@@ -199,8 +212,12 @@ def fill(tree, path, record, begin, root=ROOT):
         is_tool = name.startswith("tools/")
         if not name or is_tool and (base in ONLY_IN_A_CLONE or not OF_A_TOOL.fullmatch(name)):
             continue
-        folder = "usr/lib/afdxsim" if is_tool else "usr/share/doc/afdxsim"
-        tree.copy(source, f"{folder}/{name}")
+        place = f"{LIBRARY if is_tool else DOCUMENTS}/{name}".lstrip("/")
+        if name == "README.md":
+            with open(source, encoding="utf-8") as file:
+                tree.write(place, for_package(file.read()))
+        else:
+            tree.copy(source, place)
     for name, text in manuals(path, begin, record["version"], root).items():
         tree.write(f"usr/share/man/man1/{name}.1.gz", zipped(text))
     tree.write("usr/share/bash-completion/completions/afdx", commands.completion_text(is_clone=False))

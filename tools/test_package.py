@@ -64,6 +64,19 @@ def is_elf(path):
         return file.read(4) == b"\x7fELF"
 
 
+class Documents(unittest.TestCase):
+    def test_the_readme_of_a_package_has_its_commands(self):
+        for of_clone, of_package in (
+            ("    ./afdx page examples/cockpit.toml -o c.html\n", "    afdx page /usr/share/doc/afdxsim/examples/cockpit.toml -o c.html\n"),
+            ("Run `./afdx check FILE`, or `tools/bounds.py`.", "Run `afdx check FILE`, or `/usr/lib/afdxsim/tools/bounds.py`."),
+            ("See [examples](examples) and [TOOLS](docs/TOOLS.md).", "See [examples](examples) and [TOOLS](docs/TOOLS.md)."),
+        ):
+            with self.subTest(of_clone=of_clone):
+                self.assertEqual(package.for_package(of_clone), of_package)
+        with open(os.path.join(TOP, "README.md"), encoding="utf-8") as file:
+            self.assertNotIn("./afdx", package.for_package(file.read()))
+
+
 class Package(unittest.TestCase):
     """A clone with few crates and all that a package has, and the package of its commit."""
 
