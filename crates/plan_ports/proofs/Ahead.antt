@@ -69,6 +69,12 @@ has-ahead n q process (first ∷ lines) (suc k) line read from port = go (leaves
     go true later = (record { line = process; byte_ns = first.byte_ns }, refl)
     go false later = later
 
+-- where a list has nothing, it has ended
+pub none-past : {X : Type 0} (xs : List X) (k : ℕ) → slice_get xs k ≡ None → length xs ≤ k
+none-past [] k e = omega arith
+none-past (x ∷ xs) zero e = absurd (none-some x (sym e))
+none-past (x ∷ xs) (suc k) e = let rest = none-past xs k e in omega arith
+
 -- ---- the ports of a node
 
 slot-map : (q : ℕ) (f : ℕ → Option Outlet) (count : ℕ) → q < count → outlet_at (map f (range_with_len 0 count)) q ≡ f q

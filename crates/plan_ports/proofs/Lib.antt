@@ -1,3 +1,5 @@
 mod Ahead
 mod Entries
 mod Offered
+mod OwnPorts
+mod Ways
