@@ -1,16 +1,12 @@
 -- What is found by its number among entries that are made of those virtual links of a network which pass a test.
-use Rattle.std.proofs.Common.{◌≡◌, ℕ, suc, ◌+◌, ◌==◌, ◌⊎◌, Bool, true, false, cond, List, [], ◌∷◌, map, filter, Option, Some, None, inl, inr, refl, ap, sym, ◌∙◌, subst, arith, add-one, slice_get, option_map, option_and_then, eqb-true, eq-eqb, nat_cmp, Less}
+use Rattle.std.proofs.Common.{◌≡◌, ℕ, suc, ◌+◌, ◌==◌, Bool, true, false, cond, List, [], ◌∷◌, map, filter, Option, Some, None, inl, inr, refl, ap, sym, ◌∙◌, subst, arith, add-one, slice_get, option_map, option_and_then, eqb-true, eq-eqb, nat_cmp, Less}
 use Rattle.std.specs.List.{AllByRecursion}
 use Rattle.std.specs.List.Sorted.{IsStrictlySortedBy}
 use Rattle.std.proofs.lemmas.Bool.Decides.{nat_tests}
 use Rattle.std.proofs.lemmas.Option.{none-some, same_Some}
 use Rattle.std.proofs.lemmas.Map.Keys.{sorted_head, sorted_tail}
+use Rattle.network_faults.proofs.MemberLemmas.{Has}
 use Rattle.nodes.specs.rules.Finding.{Found, find, found_at, place_of}
-
--- x is in the list
-abbrev pub Has : {X : Type 0} → List X → X → Type 0
-Has [] x = ⊥
-Has (y ∷ ys) x = (y ≡ x) ⊎ Has ys x
 
 -- the first entry with a number
 abbrev pub entry_of : {Y : Type 0} → (Y → ℕ) → List Y → ℕ → Option Y
@@ -48,25 +44,36 @@ module _ {X Y : Type 0} (id : X → ℕ) (number : Y → ℕ) (f : X → Y) (tes
       go true passes e later = at passes (number (f x) == v) refl (sym (entry-cons number (f x) (map f (filter test xs)) v) ∙ e) later
       go false fails e later = behind (later e)
 
-  -- and each that passes is found, where numbers rise
-  pub made-entry : (xs : List X) (x : X) → IsStrictlySortedBy nat_cmp (map id xs) → Has xs x → test x ≡ true → entry_of number (map f (filter test xs)) (id x) ≡ Some (f x)
-  made-entry [] x rising there passes = absurd there
-  made-entry (first ∷ xs) x rising (inl same) passes =
-      let here : test first ≡ true = ap test same ∙ passes in
-      let is : (number (f first) == id x) ≡ true = eq-eqb _ _ (own first ∙ ap id same) in
-      rw here (entry-cons number (f first) (map f (filter test xs)) (id x) ∙ rw is (ap (λ z. Some (f z)) same))
-  made-entry (first ∷ xs) x rising (inr there) passes =
-      let later = made-entry xs x (sorted_tail nat_cmp (id first) (map id xs) rising) there passes in
-      let less : nat_cmp (id first) (id x) ≡ Less = below xs x (sorted_head nat_cmp (id first) (map id xs) rising) there in
-      let numbered : number (f first) ≡ id first = own first in
-      let other : (number (f first) == id x) ≡ false = grind (arith, nat_tests) in
-      go (test first) other later
-    where
-      below : (xs : List X) (x : X) → AllByRecursion (λ n. nat_cmp (id first) n ≡ Less) (map id xs) → Has xs x → nat_cmp (id first) (id x) ≡ Less
-      below [] x all there = absurd there
-      below (y ∷ ys) x all (inl same) = subst (λ z. nat_cmp (id first) (id z) ≡ Less) same all.0
-      below (y ∷ ys) x all (inr there) = below ys x all.1 there
+-- where numbers rise, those behind the first one have other numbers
+below : {X : Type 0} (id : X → ℕ) (n : ℕ) (xs : List X) (x : X) → AllByRecursion (λ m. nat_cmp n m ≡ Less) (map id xs) → Has xs x → nat_cmp n (id x) ≡ Less
+below id n [] x all there = absurd there
+below id n (y ∷ ys) x all (inl same) = subst (λ z. nat_cmp n (id z) ≡ Less) same all.0
+below id n (y ∷ ys) x all (inr there) = below id n ys x all.1 there
 
-      go : (b : Bool) → (number (f first) == id x) ≡ false → entry_of number (map f (filter test xs)) (id x) ≡ Some (f x) → entry_of number (map f (cond b (first ∷ filter test xs) (filter test xs))) (id x) ≡ Some (f x)
-      go true other later = entry-cons number (f first) (map f (filter test xs)) (id x) ∙ rw other later
-      go false other later = later
+other-number : (n m : ℕ) → nat_cmp n m ≡ Less → (n == m) ≡ false
+other-number n m less = grind (arith, nat_tests)
+
+-- each that passes is found
+pub made-entry : {X Y : Type 0} (id : X → ℕ) (number : Y → ℕ) (f : X → Y) (test : X → Bool) → ((x : X) → number (f x) ≡ id x) → (xs : List X) (x : X) → IsStrictlySortedBy nat_cmp (map id xs) → Has xs x → test x ≡ true
+    → entry_of number (map f (filter test xs)) (id x) ≡ Some (f x)
+made-entry id number f test own [] x rising there passes = absurd there
+made-entry id number f test own (first ∷ xs) x rising (inl same) passes =
+    let here : test first ≡ true = ap test same ∙ passes in
+    let is : (number (f first) == id x) ≡ true = eq-eqb _ _ (own first ∙ ap id same) in
+    rw here (entry-cons number (f first) (map f (filter test xs)) (id x) ∙ rw is (ap (λ z. Some (f z)) same))
+made-entry {X} id number f test own (first ∷ xs) x rising (inr there) passes =
+    let later = made-entry id number f test own xs x (sorted_tail nat_cmp (id first) (map id xs) rising) there passes in
+    let other = ap (λ n. n == id x) (own first) ∙ other-number (id first) (id x) (below id (id first) xs x (sorted_head nat_cmp (id first) (map id xs) rising) there) in
+    go (test first) other later
+  where
+    go : (b : Bool) → (number (f first) == id x) ≡ false → entry_of number (map f (filter test xs)) (id x) ≡ Some (f x) → entry_of number (map f (cond b (first ∷ filter test xs) (filter test xs))) (id x) ≡ Some (f x)
+    go true other later = entry-cons number (f first) (map f (filter test xs)) (id x) ∙ rw other later
+    go false other later = later
+
+-- and each of all
+pub all-entry : {X : Type 0} (id : X → ℕ) (xs : List X) (x : X) → IsStrictlySortedBy nat_cmp (map id xs) → Has xs x → entry_of id xs (id x) ≡ Some x
+all-entry id [] x rising there = absurd there
+all-entry id (first ∷ xs) x rising (inl same) = entry-cons id first xs (id x) ∙ rw (eq-eqb (id first) (id x) (ap id same)) (ap Some same)
+all-entry id (first ∷ xs) x rising (inr there) =
+    let other = other-number (id first) (id x) (below id (id first) xs x (sorted_head nat_cmp (id first) (map id xs) rising) there) in
+    entry-cons id first xs (id x) ∙ rw other (all-entry id xs x (sorted_tail nat_cmp (id first) (map id xs) rising) there)

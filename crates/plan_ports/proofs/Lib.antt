@@ -3,3 +3,4 @@ mod Entries
 mod Offered
 mod OwnPorts
 mod Ways
+mod Linked

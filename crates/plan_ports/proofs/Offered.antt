@@ -5,7 +5,7 @@ use Rattle.std.proofs.lemmas.List.Elements.{All-from_recursion}
 use Rattle.vlink.specs.declared.message.Message.{Message}
 use Rattle.network.specs.Words.{Plan, VlPlan, source_of}
 use Rattle.traffic.specs.Offers.{offer_of, offers_from, offers_of, offers_of_vl, due_count}
-use Rattle.plan_ports.proofs.Entries.{Has}
+use Rattle.network_faults.proofs.MemberLemmas.{Has}
 
 module _ {Y : Type 0} (P : Y → Type 0) where
   joined : (xs ys : List Y) → AllByRecursion P xs → AllByRecursion P ys → AllByRecursion P (xs ++ ys)

@@ -1,18 +1,18 @@
 -- No two lines of an accepted network leave a node by one port, and no two come to a node by one.
-use Rattle.std.proofs.Common.{◌≡◌, ℕ, zero, suc, ◌+◌, ◌-◌, ◌<◌, ◌≤◌, ◌==◌, ◌&&◌, ◌||◌, Bool, true, false, cond, nat_lt, List, [], ◌∷◌, ◌++◌, length, count_by, Option, Some, None, inl, inr, refl, ap, sym, ◌∙◌, subst, arith, slice_get, eqb-true, eq-eqb}
+use Rattle.std.proofs.Common.{◌≡◌, ℕ, zero, suc, ◌+◌, ◌<◌, ◌≤◌, ◌==◌, ◌&&◌, ◌||◌, Bool, true, false, cond, nat_lt, List, [], ◌∷◌, ◌++◌, length, count_by, Option, Some, None, inl, inr, refl, ap, sym, ◌∙◌, subst, arith, slice_get, eq-eqb}
 use Rattle.std.specs.List.{AllByRecursion, list_any}
 use Rattle.std.proofs.lemmas.Bool.{cases_lt, false≢true}
 use Rattle.std.proofs.lemmas.Bool.Decides.{nat_tests}
 use Rattle.std.proofs.lemmas.List.Folds.{list_any-append}
 use Rattle.std.proofs.lemmas.List.Sums.{sum_by-append}
-use Rattle.std.proofs.lemmas.Option.{none-some, same_Some, slice_get_within}
+use Rattle.std.proofs.lemmas.Option.{none-some, same_Some}
 use Rattle.vlink.specs.declared.frame.Net.{Net}
 use Rattle.vlink.specs.declared.frame.Net.TheVariants.{A, B}
 use Rattle.network_rows.specs.declared.rows.NodeKind.{NodeKind}
 use Rattle.network_rows.specs.declared.rows.NodeKind.TheVariants.{EndSystem, Switch}
 use Rattle.network.specs.declared.wiring.Link.{Link}
 use Rattle.network.specs.declared.wiring.LinePlan.{LinePlan}
-use Rattle.network.specs.Words.{IsAccepted, NodePlan, Plan, directions, double_names, each, each_after, is_end_kind, is_end_system, is_no_link, is_switch_kind, is_switch_of, leads, lines_of, no_link_at_link, no_link_at_outage, no_link_at_vl, not_links, not_trees, passes, plan_of, port_at, too_many, touches, unknown_names}
+use Rattle.network.specs.Words.{IsAccepted, NodePlan, Plan, directions, double_names, each, each_after, is_end_kind, is_end_system, is_no_link, is_switch_kind, is_switch_of, leads, lines_of, no_link_at_link, no_link_at_outage, no_link_at_vl, not_links, passes, plan_of, port_at, too_many, touches, unknown_names}
 use Rattle.network.specs.Wiring.{is_second}
 use Rattle.network.proofs.BuildLemmas.{BothEnds, behind-none, ends-below, front-none, when-none}
 use Rattle.plan_ports.specs.Outlets.{HaveOwnPorts}
@@ -220,7 +220,7 @@ module _ (nodes : List NodePlan) (out : Bool) where
 
   -- one that is taken is not the port of a later line
   clash : (links : List Link) (n p : ℕ) (b : LinePlan) → taken nodes links n p ≡ true → taken nodes links (end_at out b) (port_by out b) ≡ false → n ≡ end_at out b → p ≡ port_by out b → ⊥
-  clash links n p b yes no end port = false≢true (sym no ∙ ap (λ m. taken nodes links m (port_by out b)) (sym end) ∙ ap (taken nodes links n) (sym port) ∙ yes)
+  clash links n p b has free end port = false≢true (sym free ∙ ap (λ m. taken nodes links m (port_by out b)) (sym end) ∙ ap (taken nodes links n) (sym port) ∙ has)
 
   apart : (earlier links : List Link) → each_after (no_link_at_link nodes) earlier links ≡ [] → AllByRecursion Below links → (i j : ℕ) (a b : LinePlan) → slice_get (each_after (directions nodes) earlier links) i ≡ Some a
       → slice_get (each_after (directions nodes) earlier links) j ≡ Some b → end_at out a ≡ end_at out b → port_by out a ≡ port_by out b → i < j → ⊥

@@ -1,7 +1,6 @@
 -- Each port of a network's nodes leads into a line, and each line is the way from its port to the port to which it leads.
-use Rattle.std.proofs.Common.{◌≡◌, ℕ, zero, suc, ◌+◌, ◌-◌, ◌<◌, ◌≤◌, Bool, true, false, cond, List, [], ◌∷◌, ◌++◌, length, Option, Some, None, refl, ap, sym, ◌∙◌, subst, arith, slice_get, All}
+use Rattle.std.proofs.Common.{◌≡◌, ℕ, ◌-◌, ◌<◌, ◌≤◌, Bool, true, false, cond, List, [], ◌∷◌, ◌++◌, length, Option, Some, None, refl, ap, sym, ◌∙◌, subst, arith, slice_get}
 use Rattle.std.specs.List.{AllByRecursion}
-use Rattle.std.proofs.lemmas.Bool.{false≢true}
 use Rattle.std.proofs.lemmas.List.Elements.{All-from_recursion}
 use Rattle.std.proofs.lemmas.Option.{none-some, same_Some, slice_get_past, slice_get_within}
 use Rattle.vlink.specs.declared.frame.Net.TheVariants.{A}
@@ -15,7 +14,6 @@ use Rattle.network.specs.declared.wiring.LinePlan.{LinePlan}
 use Rattle.network.specs.Words.{Plan, NodePlan, IsAccepted, directions, each_after, is_end_kind, is_end_system, is_switch_of, lines_of, passes, port_at, process_count}
 use Rattle.network.proofs.BuildLemmas.{length-lines, line-read, read-item}
 use Rattle.network.proofs.PortLemmas.{line-within}
-use Rattle.nodes.specs.declared.equipment.Equipment.{Equipment}
 use Rattle.nodes.specs.declared.equipment.Equipment.TheVariants as equipment
 use Rattle.nodes.specs.declared.ports.LineAhead.{LineAhead}
 use Rattle.nodes.specs.declared.ports.Outlet.{Outlet}
@@ -23,9 +21,8 @@ use Rattle.nodes.specs.rules.Line.{LineState}
 use Rattle.nodes.specs.rules.Opening.{equipment_opening, line_ahead_among, line_opening, node_opening, opening, outlet_of, ports_of}
 use Rattle.nodes.specs.rules.Ports.{outlet_at}
 use Rattle.port_turns.specs.PortEvents.{outlet_in}
-use Rattle.seqsim.specs.Networks.{setting_of}
-use Rattle.plan_ports.specs.Outlets.{AllLead, AreWays, HaveOwnPorts, IsLineWay, LeadsInto, line_process}
-use Rattle.plan_ports.proofs.Ahead.{IsAhead, ahead-is, ahead-outlet, has-ahead, none-past, outlet-ahead}
+use Rattle.plan_ports.specs.Outlets.{AllLead, HaveOwnPorts, IsLineWay, LeadsInto, line_process}
+use Rattle.plan_ports.proofs.Ahead.{ahead-is, ahead-outlet, has-ahead, none-past, outlet-ahead}
 
 -- ---- an end system has two ports
 
