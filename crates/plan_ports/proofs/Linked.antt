@@ -1,6 +1,6 @@
 -- What switches and end systems have of virtual links when a run begins.
-use Rattle.std.proofs.Common.{◌≡◌, ℕ, zero, suc, ◌+◌, ◌%◌, ◌==◌, ◌||◌, not, All, Bool, true, false, List, [], ◌∷◌, map, Option, Some, None, inl, inr, refl, ap, sym, ◌∙◌, subst, slice_get, Contains, option_map, nat_cmp, eqb-true}
-use Rattle.std.specs.List.{list_any, range_with_len}
+use Rattle.std.proofs.Common.{◌≡◌, ℕ, zero, suc, ◌+◌, ◌*◌, ◌/◌, ◌%◌, ◌==◌, ◌||◌, not, All, Bool, true, false, List, [], ◌∷◌, map, Option, Some, None, inl, inr, refl, ap, sym, ◌∙◌, subst, slice_get, Contains, option_map, nat_cmp, eqb-true}
+use Rattle.std.specs.List.{AllByRecursion, list_any, range_with_len}
 use Rattle.std.specs.List.Sorted.{IsStrictlySortedBy}
 use Rattle.std.proofs.lemmas.Bool.{false≢true}
 use Rattle.std.proofs.lemmas.Map.Keys.{sorted_from_strictly_increasing}
@@ -11,7 +11,11 @@ use Rattle.network_rows.specs.declared.rows.NodeKind.TheVariants as kind
 use Rattle.port_bounds.specs.Mixtures.{IsAmong}
 use Rattle.network.specs.declared.limits.TheConstants.{GREATEST_PORTS}
 use Rattle.network.specs.declared.wiring.Way.{Way}
-use Rattle.network.specs.Words.{IsAccepted, NodePlan, Plan, VlPlan, comes_in, departures_of, id_of, ids_of, is_end_kind, is_end_system, is_none, leaves, lines_of, passes}
+use Rattle.network.specs.Words.{IsAccepted, NodePlan, Plan, VlPlan, comes_in, departures_of, id_of, ids_of, is_end_kind, is_end_system, is_none, leaves, lines_of, names_of, passes, plan_of, vl_plan}
+use Rattle.network_rows.specs.Within.{IsVlWithin}
+use Rattle.network_rows.specs.declared.rows.VlRow.{VlRow}
+use Rattle.std.proofs.lemmas.List.Elements.{All-contains, All-from_recursion, recursion_from_All}
+use Rattle.std.proofs.lemmas.List.Sorted.{All-permutation}
 use Rattle.network.proofs.RisingLemmas.{ids-rise}
 use Rattle.network_faults.proofs.MemberLemmas.{Has, contains-from_has, flat_map-has, has-flat_map, has-from_contains, has-right}
 use Rattle.network_tables.specs.PortLaws.{IsOutput}
@@ -36,7 +40,7 @@ use Rattle.frame_ring.specs.Queue.{Queue}
 use Rattle.std.proofs.lemmas.List.Elements.{All-map, All-replicate}
 use Rattle.std.specs.Option.{option_map_or}
 use Rattle.port_turns.specs.SwitchPuts.{transit_of}
-use Rattle.plan_ports.specs.Links.{AreOffers, AreRegulatorsEmpty, AreSizes, AreSources, AreTransits, HaveSources, HaveTransits, IsOfferOf, IsSourceOf, IsTransitOf, LeavesBy}
+use Rattle.plan_ports.specs.Links.{AreBags, AreOffers, AreRegulatorsEmpty, AreSizes, AreSources, AreTransits, HaveSources, HaveTransits, IsOfferOf, IsSourceOf, IsTransitOf, LeavesBy}
 use Rattle.plan_ports.proofs.Offered.{all-offered}
 use Rattle.plan_ports.proofs.Entries.{all-entry, entry-made, entry_of, made-entry}
 
@@ -81,6 +85,24 @@ leaves-by plan p q vl is_vl by =
       is_vl = contains-from_has plan.vls vl is_vl;
       way = contains-from_has (departures_of plan p) _ (subst (Has (departures_of plan p)) same (has-flat_map (leaves p (lines_of plan) plan.links) plan.vls vl way is_vl there));
     }
+
+-- ---- BAGs are parts of 128 ms
+
+abbrev HasBags : VlPlan → Type 0
+HasBags vl = (128 / vl.link.bag_ms) * (vl.link.bag_ms * 1000000) ≡ 128000000
+
+one-of : (P : ℕ → Type 0) (n : ℕ) (ms : List ℕ) → AllByRecursion P ms → list_any (λ m. m == n) ms ≡ true → P n
+one-of P n [] all any = absurd (false≢true any)
+one-of P n (m ∷ ms) all any = go (m == n) refl any (one-of P n ms all.1)
+  where
+    go : (b : Bool) → (m == n) ≡ b → (b || list_any (λ k. k == n) ms) ≡ true → (list_any (λ k. k == n) ms ≡ true → P n) → P n
+    go true same there later = subst P (eqb-true m n same) all.0
+    go false apart there later = later there
+
+all-bags : (names : List (List ℕ)) (rows : List VlRow) → AllByRecursion IsVlWithin rows → AllByRecursion HasBags (map (vl_plan names) rows)
+all-bags names [] within = tt
+all-bags names (row ∷ rows) within =
+    (one-of (λ m. (128 / m) * (m * 1000000) ≡ 128000000) row.link.bag_ms (1 ∷ 2 ∷ 4 ∷ 8 ∷ 16 ∷ 32 ∷ 64 ∷ 128 ∷ []) (refl, (refl, (refl, (refl, (refl, (refl, (refl, (refl, tt)))))))) within.0.link.bag_ms, all-bags names rows within.1)
 
 -- ---- switches
 
@@ -210,3 +232,11 @@ module _ (plan : Plan) (accepted : IsAccepted plan) where
 
   pub have-transits : HaveTransits plan
   have-transits p q vl l s e = transit-at p q vl l (slice_get plan.nodes p) refl s e
+
+  -- ---- BAGs
+
+  pub are-bags : AreBags plan
+  are-bags vl there =
+      let rows = accepted.rows in
+      let in_rows : All HasBags (plan_of rows).vls = All-from_recursion HasBags _ (all-bags (names_of rows.nodes) rows.vls (recursion_from_All IsVlWithin rows.vls accepted.within.vls)) in
+      All-contains HasBags plan.vls vl (All-permutation HasBags _ plan.vls accepted.stands.vls in_rows) there
