@@ -1,0 +1,5 @@
+pub mod Invariants
+pub mod PortFrames
+pub mod EndFrames
+pub mod SwitchFrames
+pub mod SizeLemmas

@@ -1,5 +1,5 @@
 -- Each frame of a virtual link has the size that its virtual link has.
-use Rattle.std.specs.Prelude.{◌≡◌, ℕ, ◌<◌, All, List, [], Some, ⊤}
+use Rattle.std.specs.Prelude.{◌≡◌, ℕ, ◌<◌, All, IfSome, [], ⊤}
 use Rattle.vlink.specs.declared.message.Message.{Message}
 use Rattle.vlink.specs.declared.message.Body.{Body}
 use Rattle.vlink.specs.declared.message.Body.TheVariants.{Offer, Release, PortFree, Arrive, Enqueue, Carry}
@@ -11,10 +11,9 @@ use Rattle.port_bounds.specs.Port.{idle}
 use Rattle.element_bounds.specs.PortTrace.{IsSamePort}
 use Rattle.nodes.specs.declared.equipment.Equipment.{Equipment}
 use Rattle.nodes.specs.declared.equipment.Equipment.TheVariants.{EndSystem, Switch, Line}
-use Rattle.nodes.specs.declared.ports.Outlet.{Outlet}
 use Rattle.nodes.specs.rules.Node.{NodeState}
 use Rattle.nodes.specs.undoing.Node.{node}
-use Rattle.port_turns.specs.PortEvents.{outlet_in}
+use Rattle.port_turns.specs.Nodes.{IsOfNodes}
 
 -- the frame has the size of its virtual link
 abbrev pub IsSizedFrame : (ℕ → ℕ) → Frame → Type 0
@@ -35,13 +34,19 @@ HaveEmptyRegulators (EndSystem s) = All (λ source. All (λ list. list.frames �
 HaveEmptyRegulators (Switch s) = ⊤
 HaveEmptyRegulators (Line s) = ⊤
 
+-- each port is idle, and no frame waits there
+abbrev pub HaveIdlePorts : Equipment → Type 0
+HaveIdlePorts (EndSystem s) = All (λ slot. IfSome slot (λ outlet. IsSamePort outlet.port idle)) s.ports
+HaveIdlePorts (Switch s) = All (λ slot. IfSome slot (λ outlet. IsSamePort outlet.port idle)) s.ports
+HaveIdlePorts (Line s) = ⊤
+
 -- at first no frame waits or is in transmission, and each frame that is offered has the size of its virtual link
 pub record OpensEmpty (x : Setting NodeState) (size : ℕ → ℕ) : Type 0 where
   pub regulators : (p : ℕ) → p < x.processes → HaveEmptyRegulators (x.opening p).equipment
-  pub ports : (p q : ℕ) (outlet : Outlet) → p < x.processes → outlet_in (x.opening p).equipment q ≡ Some outlet → IsSamePort outlet.port idle
+  pub ports : (p : ℕ) → p < x.processes → HaveIdlePorts (x.opening p).equipment
   pub offers : All (λ m. IsSized size m.body) x.offers
 
 -- so in the one-thread run each message handled has such a frame, or none
 abbrev pub AreAllSized : Type 0
 AreAllSized =
-    (x : Setting NodeState) → Laws (simulation_of (rules_of node) x) → (size : ℕ → ℕ) → OpensEmpty x size → (n : ℕ) → All (λ m. IsSized size m.body) (one (simulation_of (rules_of node) x) n).handled
+    (x : Setting NodeState) → Laws (simulation_of (rules_of node) x) → IsOfNodes x → (size : ℕ → ℕ) → OpensEmpty x size → (n : ℕ) → All (λ m. IsSized size m.body) (one (simulation_of (rules_of node) x) n).handled
