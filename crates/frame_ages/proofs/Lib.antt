@@ -3,3 +3,4 @@ pub mod PortFrames
 pub mod EndFrames
 pub mod SwitchFrames
 pub mod SizeLemmas
+pub mod PutLemmas

@@ -62,7 +62,7 @@ same-as-first w vl found is = (found.entry, ap (option_map (λ (z : Found Transi
 
 module _ (size : ℕ → ℕ) where
   -- what waits at first
-  none-waits : (s : List Source) → All (λ source. All (λ (list : Queue). list.frames ≡ []) source.regulator.lists) s → All (HasWaiting (OfLink size)) s
+  pub none-waits : (s : List Source) → All (λ source. All (λ (list : Queue). list.frames ≡ []) source.regulator.lists) s → All (HasWaiting (OfLink size)) s
   none-waits s h = All-weaker (λ source. All (λ (list : Queue). list.frames ≡ []) source.regulator.lists) (HasWaiting (OfLink size))
       (λ source k. All-weaker (λ (list : Queue). list.frames ≡ []) (λ (list : Queue). All (OfLink size source.end.vl.0) list.frames)
       (λ list e. subst (All (OfLink size source.end.vl.0)) (sym e) (All-nil (OfLink size source.end.vl.0))) source.regulator.lists k) s h

@@ -3,8 +3,6 @@ use Rattle.std.specs.Prelude.{◌≡◌, ℕ, ◌+◌, ◌*◌, ◌<◌, ◌≤�
 use Rattle.vlink.specs.Wire.{busy_for}
 use Rattle.vlink.specs.declared.frame.Net.TheVariants.{A, B}
 use Rattle.bag_regulator.specs.Regulator.{Regulator}
-use Rattle.policer.specs.Account.{Policing}
-use Rattle.policer.specs.declared.account.Measure.TheVariants.{Frames}
 use Rattle.output_port.specs.declared.event.Priority.{Priority}
 use Rattle.output_port.specs.declared.event.Priority.TheVariants.{High, Low}
 use Rattle.reverse.specs.Rules.{rules_of}
@@ -14,7 +12,8 @@ use Rattle.port_bounds.specs.Certificate.{Certificate, IsCertified, IsKept}
 use Rattle.port_bounds.specs.Mixtures.{Flow, Group, IsAmong, lines_of, links_of}
 use Rattle.port_bounds.specs.Port.{Event, idle}
 use Rattle.port_bounds.specs.Sublists.{Every}
-use Rattle.element_bounds.specs.PortTrace.{IsSamePort, trace_of}
+use Rattle.element_bounds.specs.Passages.{IsCounting}
+use Rattle.element_bounds.specs.PortTrace.{trace_of}
 use Rattle.nodes.specs.declared.equipment.Equipment.{Equipment}
 use Rattle.nodes.specs.declared.equipment.Equipment.TheVariants.{EndSystem, Switch, Line}
 use Rattle.nodes.specs.declared.ports.Outlet.{Outlet}
@@ -62,11 +61,6 @@ IsThrough (Switch s) q v line priority = IsThroughSwitch s q v line priority
 IsThrough (Line s) q v line priority = ⊥
 
 -- ---- what they can give
-
--- the account bounds how many frames of this size pass: it counts frames, or bytes of which no frame has fewer than the greatest
-pub record IsCounting (account : Policing) (bytes : ℕ) : Type 0 where
-  pub positive : 1 ≤ account.smax
-  pub counts : (account.measure ≡ Frames) ⊎ (account.smax ≤ bytes)
 
 -- how far apart frames of virtual link v come there: a BAG, less the slack
 abbrev pub AreApartBy : Equipment → ℕ → ℕ → ℕ → ℕ → Type 0
