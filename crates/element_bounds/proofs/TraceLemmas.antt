@@ -106,16 +106,17 @@ same byte_ns p a (e ∷ es) s =
 
 -- ---- what holds of each frame that a port is asked to take holds of each in the trace
 
-module _ (P : PutFrame → Type 0) (byte_ns : ℕ) where
+-- P speaks of the priority, too
+module _ (P : Priority → PutFrame → Type 0) (byte_ns : ℕ) where
   abbrev pub OfAsked : ℕ → ℕ → PortEvent → Type 0
-  OfAsked t line (event.Put frame q) = P (put_at byte_ns t line frame)
+  OfAsked t line (event.Put frame q) = P q (put_at byte_ns t line frame)
   OfAsked t line event.Free = ⊤
 
   pub record AllPuts (es : List Event) : Type 0 where
-    pub high : Every P (highs_of es)
-    pub low : Every P (lows_of es)
+    pub high : Every (P priority.High) (highs_of es)
+    pub low : Every (P priority.Low) (lows_of es)
 
-  put-puts : (q : Priority) (x : PutFrame) (es : List Event) → P x → AllPuts es → AllPuts (put_event q x ∷ es)
+  put-puts : (q : Priority) (x : PutFrame) (es : List Event) → P q x → AllPuts es → AllPuts (put_event q x ∷ es)
   put-puts priority.High x es p h = record { high = (p, h.high); low = h.low }
   put-puts priority.Low x es p h = record { high = h.high; low = (p, h.low) }
 

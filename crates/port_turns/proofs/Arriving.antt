@@ -121,14 +121,14 @@ module _ (byte_ns : ℕ) where
 
   all-costed : (p : PortState) (es : List PortEventAt) → Every Costed (starts_of idle (trace_of byte_ns p es))
   all-costed p es =
-      let a = trace-puts (λ x. x.cost ≡ busy_for x.frame.size byte_ns) byte_ns p es (each es) in
+      let a = trace-puts (λ r x. x.cost ≡ busy_for x.frame.size byte_ns) byte_ns p es (each es) in
       all-put (λ x. x.cost ≡ busy_for x.frame.size byte_ns) (trace_of byte_ns p es) None [] [] tt tt a.high a.low
     where
-      put : (t line : ℕ) (e : PortEvent) → trace.OfAsked (λ x. x.cost ≡ busy_for x.frame.size byte_ns) byte_ns t line e
+      put : (t line : ℕ) (e : PortEvent) → trace.OfAsked (λ r x. x.cost ≡ busy_for x.frame.size byte_ns) byte_ns t line e
       put t line (Put frame r) = refl
       put t line Free = tt
 
-      each : (es : List PortEventAt) → Every (λ e. trace.OfAsked (λ x. x.cost ≡ busy_for x.frame.size byte_ns) byte_ns e.at e.line e.event) es
+      each : (es : List PortEventAt) → Every (λ e. trace.OfAsked (λ r x. x.cost ≡ busy_for x.frame.size byte_ns) byte_ns e.at e.line e.event) es
       each [] = tt
       each (e ∷ es) = (put e.at e.line e.event, each es)
 

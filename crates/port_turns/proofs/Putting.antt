@@ -5,17 +5,18 @@ use Rattle.policer.specs.declared.account.Arrival.{Arrival}
 use Rattle.policer.specs.Account.{Policing, account, passes}
 use Rattle.policer.specs.Bound.{IsBetween}
 use Rattle.reverse.specs.Sending.{Wish}
-use Rattle.port_bounds.specs.Sublists.{IsSublist}
+use Rattle.port_bounds.specs.Sublists.{Every, IsSublist}
 use Rattle.port_bounds.specs.Pacing.{AreBetween}
 use Rattle.port_bounds.proofs.PacingLemmas.{ends}
 use Rattle.port_bounds.proofs.SublistLemmas.{sub-trans}
-use Rattle.element_bounds.specs.Passages.{passages_of}
+use Rattle.element_bounds.specs.Passages.{AreAtLeast, passages_of}
 use Rattle.nodes.specs.declared.equipment.Equipment.{Equipment}
 use Rattle.nodes.specs.declared.equipment.Equipment.TheVariants.{EndSystem, Switch, Line}
 use Rattle.nodes.specs.declared.transit.Transit.{Transit}
 use Rattle.nodes.specs.rules.Node.{NodeState, handled, after}
 use Rattle.nodes.specs.laws.SwitchSending.{switch-cases}
 use Rattle.port_turns.specs.SwitchPuts.{is_put, transit_of}
+use Rattle.port_turns.specs.PortRuns.{BringsAtLeast}
 use Rattle.port_turns.proofs.Judging.{Judged, delay_of, node-judges, put_times}
 use Rattle.port_turns.proofs.Judging.Judged.{Quiet, Judges}
 use Rattle.port_turns.proofs.Elsewhere.{all-elsewhere}
@@ -55,9 +56,10 @@ module _ (q v : ℕ) where
     abbrev pub put_by : NodeState → List Message → List ℕ
     put_by s ms = moments_of (wished (is_put q v) p s ms)
 
-    -- frames came to the account from t to u, and these are some of the moments at which they passed, later by the delay
-    pub record HavePassed (t u delay : ℕ) (a : Policing) (times : List ℕ) : Type 0 where
+    -- frames of at least so many bytes came to the account from t to u, and these are some of the moments at which they passed, later by the delay
+    pub record HavePassed (least t u delay : ℕ) (a : Policing) (times : List ℕ) : Type 0 where
       pub arrivals : List Arrival
+      pub sizes : AreAtLeast least arrivals
       pub between : IsBetween t u arrivals
       pub sub : IsSublist times (later delay (passages_of a arrivals))
 
@@ -70,11 +72,11 @@ module _ (q v : ℕ) where
     for-process ws = sub-map (λ (w : Wish). w.time) _ _
         (subst (λ z. IsSublist z (filter (λ w. is_put q v w.body) ws)) (sym (mine-kind (is_put q v) p ws)) (sub-filter (λ (w : Wish). w.receiver == p) (filter (λ w. is_put q v w.body) ws)))
 
-    pub puts-passed : (s : NodeState) (transit : Transit) (ms : List Message) (t u : ℕ) → transit_of s.equipment v ≡ Some transit → AreBetween t u (times_of ms) →
-        HavePassed t u (delay_of s.equipment) transit.account (put_by s ms)
-    puts-passed s transit [] t u h b = record { arrivals = []; between = tt; sub = tt }
-    puts-passed s transit (m ∷ ms) t u h b =
-        go (node-judges s.sender.number q v m s.equipment transit h) (λ now e. subst (λ d. HavePassed m.time u d now.account (put_by (after s m) ms)) (delay-stays s.sender.number m s.equipment) (puts-passed (after s m) now ms m.time u e b.1))
+    pub puts-passed : (least : ℕ) (s : NodeState) (transit : Transit) (ms : List Message) (t u : ℕ) → Every (BringsAtLeast v least) ms → transit_of s.equipment v ≡ Some transit → AreBetween t u (times_of ms) →
+        HavePassed least t u (delay_of s.equipment) transit.account (put_by s ms)
+    puts-passed least s transit [] t u c h b = record { arrivals = []; sizes = tt; between = tt; sub = tt }
+    puts-passed least s transit (m ∷ ms) t u c h b =
+        go (node-judges s.sender.number q v m s.equipment transit h) (λ now e. subst (λ d. HavePassed least m.time u d now.account (put_by (after s m) ms)) (delay-stays s.sender.number m s.equipment) (puts-passed least (after s m) now ms m.time u c.1 e b.1))
       where
         joined : (first rest : List ℕ) → IsSublist (put_times q v (handled s.sender.number m s.equipment).reply.wishes) first → IsSublist (put_by (after s m) ms) rest → IsSublist (put_by s (m ∷ ms)) (first ++ rest)
         joined first rest k l = moments-sub (is_put q v) p s m ms first rest (sub-trans _ _ _ (for-process (handled s.sender.number m s.equipment).reply.wishes) k) l
@@ -84,21 +86,23 @@ module _ (q v : ℕ) where
         passing arrival true ts e = ap (λ z. (z + delay_of s.equipment) ∷ later (delay_of s.equipment) ts) (sym e)
         passing arrival false ts e = refl
 
-        go : Judged m.time (delay_of s.equipment) transit (transit_of (after s m).equipment v) (put_times q v (handled s.sender.number m s.equipment).reply.wishes) →
-            ((now : Transit) → transit_of (after s m).equipment v ≡ Some now → HavePassed m.time u (delay_of s.equipment) now.account (put_by (after s m) ms)) →
-            HavePassed t u (delay_of s.equipment) transit.account (put_by s (m ∷ ms))
+        go : Judged m.time (delay_of s.equipment) v m.body transit (transit_of (after s m).equipment v) (put_times q v (handled s.sender.number m s.equipment).reply.wishes) →
+            ((now : Transit) → transit_of (after s m).equipment v ≡ Some now → HavePassed least m.time u (delay_of s.equipment) now.account (put_by (after s m) ms)) →
+            HavePassed least t u (delay_of s.equipment) transit.account (put_by s (m ∷ ms))
         go (Quiet now none) more =
             let r = more transit now in
             record {
               arrivals = r.arrivals;
+              sizes = r.sizes;
               between = between-sooner t m.time u r.arrivals b.0 r.between;
               sub = joined [] (later (delay_of s.equipment) (passages_of transit.account r.arrivals)) (subst (λ z. IsSublist z []) (sym none) tt) r.sub;
             }
-        go (Judges arrival at now some) more =
+        go (Judges arrival at brought now some) more =
             let r = more (record transit { account = account.after transit.account arrival }) now in
             let last = ends m.time u (times_of ms) b.1 in
             record {
               arrivals = arrival ∷ r.arrivals;
+              sizes = (c.0 arrival.size brought, r.sizes);
               between = (omega (arith, b.0), omega arith, subst (λ z. IsBetween z u r.arrivals) (sym at) r.between);
               sub = subst (IsSublist (put_by s (m ∷ ms))) (passing arrival (passes transit.account arrival) (passages_of (account.after transit.account arrival) r.arrivals) at)
                   (joined (cond (passes transit.account arrival) ((m.time + delay_of s.equipment) ∷ []) []) (later (delay_of s.equipment) (passages_of (account.after transit.account arrival) r.arrivals)) some r.sub);
@@ -107,6 +111,10 @@ module _ (q v : ℕ) where
     -- so the moments of the puts do not fall
     pub puts-from : (s : NodeState) (transit : Transit) (ms : List Message) (u : ℕ) → transit_of s.equipment v ≡ Some transit → AreBetween 0 u (times_of ms) → AreFrom (0 + delay_of s.equipment) (put_by s ms)
     puts-from s transit ms u h b =
-        let r = puts-passed s transit ms 0 u h b in
+        let r = puts-passed 0 s transit ms 0 u (each ms) h b in
         from-sub _ (put_by s ms) (later (delay_of s.equipment) (passages_of transit.account r.arrivals)) r.sub
         (later-from (delay_of s.equipment) 0 (passages_of transit.account r.arrivals) (passages-from transit.account r.arrivals 0 u r.between))
+      where
+        each : (ms : List Message) → Every (BringsAtLeast v 0) ms
+        each [] = tt
+        each (m ∷ ms) = (λ bytes brought. omega arith, each ms)

@@ -209,14 +209,14 @@ module _ (x : Setting NodeState) (L : Laws (simulation_of (rules_of node) x)) (p
       (all-in outlet.ahead.byte_ns j r i input w.latency (events f n r)))))
       (serial-later w.latency None (arrivals_in outlet.ahead.byte_ns j (events f n r)) (arrivals-serial x L p q k r j inside line-inside N outlet l W n)))
     where
-      cost-less : (t line : ℕ) (e : PortEvent) → OfAsked (λ x. x.cost ≤ busy_for x.frame.size outlet.ahead.byte_ns) byte_ns t line e
+      cost-less : (t line : ℕ) (e : PortEvent) → OfAsked (λ r x. x.cost ≤ busy_for x.frame.size outlet.ahead.byte_ns) byte_ns t line e
       cost-less t line (Put frame b) = mul-le (frame.size + 20) byte_ns (frame.size + 20) outlet.ahead.byte_ns (omega arith) slower
       cost-less t line Free = tt
 
-      each : (es : List PortEventAt) → Every (λ e. OfAsked (λ x. x.cost ≤ busy_for x.frame.size outlet.ahead.byte_ns) byte_ns e.at e.line e.event) es
+      each : (es : List PortEventAt) → Every (λ e. OfAsked (λ r x. x.cost ≤ busy_for x.frame.size outlet.ahead.byte_ns) byte_ns e.at e.line e.event) es
       each [] = tt
       each (e ∷ es) = (cost-less e.at e.line e.event, each es)
 
       costs : (c : Priority) → Every (λ x. x.cost ≤ busy_for x.frame.size outlet.ahead.byte_ns) (puts_with c (trace_of byte_ns state (port_events i (x.opening r) (events f n r))))
-      costs priority.High = (trace-puts (λ x. x.cost ≤ busy_for x.frame.size outlet.ahead.byte_ns) byte_ns state (port_events i (x.opening r) (events f n r)) (each (port_events i (x.opening r) (events f n r)))).high
-      costs priority.Low = (trace-puts (λ x. x.cost ≤ busy_for x.frame.size outlet.ahead.byte_ns) byte_ns state (port_events i (x.opening r) (events f n r)) (each (port_events i (x.opening r) (events f n r)))).low
+      costs priority.High = (trace-puts (λ r x. x.cost ≤ busy_for x.frame.size outlet.ahead.byte_ns) byte_ns state (port_events i (x.opening r) (events f n r)) (each (port_events i (x.opening r) (events f n r)))).high
+      costs priority.Low = (trace-puts (λ r x. x.cost ≤ busy_for x.frame.size outlet.ahead.byte_ns) byte_ns state (port_events i (x.opening r) (events f n r)) (each (port_events i (x.opening r) (events f n r)))).low

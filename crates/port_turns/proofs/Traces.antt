@@ -1,21 +1,21 @@
 -- Why the frames of a virtual link in the trace of a port of a switch are paced: they are some of those that are put to it.
-use Rattle.std.proofs.Common.{◌≡◌, ℕ, ◌<◌, ◌≤◌, ◌==◌, ◌&&◌, inl, Bool, true, false, cond, List, [], ◌∷◌, filter, map, Option, Some, None, option_map, refl, eq-eqb}
+use Rattle.std.proofs.Common.{◌≡◌, ℕ, ◌<◌, ◌==◌, ◌&&◌, inl, Bool, true, false, cond, List, [], ◌∷◌, filter, map, Option, Some, None, option_map, refl, eq-eqb}
 use Rattle.std.proofs.lemmas.Option.{none-some}
 use Rattle.vlink.specs.declared.message.Message.{Message}
 use Rattle.vlink.specs.declared.message.Body.{Body}
 use Rattle.vlink.specs.declared.message.Body.TheVariants as body
-use Rattle.policer.specs.declared.account.Measure.TheVariants.{Frames}
 use Rattle.output_port.specs.Port.{PortState}
 use Rattle.output_port.specs.declared.event.Priority.{Priority}
 use Rattle.output_port.specs.declared.event.PortEvent.TheVariants.{Put, Free}
 use Rattle.reverse.specs.Rules.{rules_of}
 use Rattle.reverse.specs.Setting.{Setting, simulation_of}
 use Rattle.virtual_time.specs.Law.{Laws, events, one}
-use Rattle.port_bounds.specs.Sublists.{IsSublist}
+use Rattle.port_bounds.specs.Sublists.{Every, IsSublist}
 use Rattle.port_bounds.specs.Pacing.{IsPaced}
 use Rattle.port_bounds.specs.Arrivals.{is_of_link, moments_at}
 use Rattle.port_bounds.proofs.SublistLemmas.{sub-behind, sub-trans}
 use Rattle.port_bounds.proofs.ArrivalLemmas.{fewer-paced}
+use Rattle.element_bounds.specs.Passages.{IsCounting}
 use Rattle.element_bounds.specs.PortTrace.{trace_of}
 use Rattle.nodes.specs.declared.equipment.Equipment.{Equipment}
 use Rattle.nodes.specs.declared.equipment.Equipment.TheVariants.{EndSystem, Switch, Line}
@@ -27,7 +27,7 @@ use Rattle.nodes.specs.undoing.Node.{node}
 use Rattle.port_turns.specs.SwitchPuts.{is_put, transit_of}
 use Rattle.port_turns.specs.Nodes.{IsOfNodes}
 use Rattle.port_turns.specs.PortEvents.{asks, switch_asks}
-use Rattle.port_turns.specs.PortRuns.{port_events, puts_with}
+use Rattle.port_turns.specs.PortRuns.{BringsAtLeast, port_events, puts_with}
 use Rattle.port_turns.proofs.Judging.{Judged, delay_of, node-judges, put_times}
 use Rattle.port_turns.proofs.Judging.Judged.{Quiet, Judges}
 use Rattle.port_turns.proofs.SentKinds.{as_wish, is_to, moments_of}
@@ -65,9 +65,9 @@ module _ (byte_ns q v : ℕ) where
   stays : (m : Message) (s : NodeState) (transit : Transit) → transit_of s.equipment v ≡ Some transit → (now : Transit) × (transit_of (after s m).equipment v ≡ Some now)
   stays m s transit is = go (node-judges s.sender.number q v m s.equipment transit is)
     where
-      go : Judged m.time (delay_of s.equipment) transit (transit_of (after s m).equipment v) (put_times q v (handled s.sender.number m s.equipment).reply.wishes) → (now : Transit) × (transit_of (after s m).equipment v ≡ Some now)
+      go : Judged m.time (delay_of s.equipment) v m.body transit (transit_of (after s m).equipment v) (put_times q v (handled s.sender.number m s.equipment).reply.wishes) → (now : Transit) × (transit_of (after s m).equipment v ≡ Some now)
       go (Quiet now none) = (transit, now)
-      go (Judges arrival at now some) = (_, now)
+      go (Judges arrival at brought now some) = (_, now)
 
   abbrev put_moments : ℕ → List Message → List ℕ
   put_moments p ms = moments_of (map as_wish (filter (is_to (is_put q v) p) ms))
@@ -87,10 +87,10 @@ module _ (byte_ns q v : ℕ) where
       go false false h rest = rest
 
   pub traces-paced : (x : Setting NodeState) → Laws (simulation_of (rules_of node) x) → IsOfNodes x → (p : ℕ) → p < x.processes → (transit : Transit) → transit_of (x.opening p).equipment v ≡ Some transit →
-      transit.account.measure ≡ Frames → 1 ≤ transit.account.smax → (state : PortState) (k : Priority) (n : ℕ) →
+      (least : ℕ) → IsCounting transit.account least → (state : PortState) (k : Priority) (n : ℕ) → Every (BringsAtLeast v least) (events (simulation_of (rules_of node) x) n p) →
       IsPaced transit.account.bag transit.account.jitter (moments_at (is_of_link v) (puts_with k (trace_of byte_ns state (port_events q (x.opening p) (events (simulation_of (rules_of node) x) n p)))))
-  traces-paced x L N p inside transit goes counted positive state k n =
+  traces-paced x L N p inside transit goes least counting state k n sizes =
       fewer-paced transit.account.bag transit.account.jitter _ _
       (sub-trans _ _ _ (trace-sub v byte_ns q k (x.opening p) state (events (simulation_of (rules_of node) x) n p))
       (puts-sub p (x.opening p) transit (events (simulation_of (rules_of node) x) n p) goes (events-to p (one (simulation_of (rules_of node) x) n).handled)))
-      (puts-paced x L N p q v inside transit goes counted positive n)
+      (puts-paced x L N p q v inside transit goes least counting n sizes)

@@ -9,14 +9,15 @@ use Rattle.reverse.specs.Rules.{rules_of}
 use Rattle.reverse.specs.Setting.{Setting, simulation_of}
 use Rattle.virtual_time.specs.Law.{Laws, events}
 use Rattle.bag_regulator.specs.Regulator.{Regulator}
-use Rattle.policer.specs.declared.account.Measure.TheVariants.{Frames}
 use Rattle.output_port.specs.Port.{PortState}
 use Rattle.output_port.specs.declared.event.Priority.{Priority}
 use Rattle.output_port.specs.declared.event.Priority.TheVariants.{High, Low}
 use Rattle.port_bounds.specs.Frames.{PutFrame}
 use Rattle.port_bounds.specs.Pacing.{IsPaced}
+use Rattle.port_bounds.specs.Sublists.{Every}
 use Rattle.port_bounds.specs.Arrivals.{is_of_link, moments_at}
 use Rattle.port_bounds.specs.Port.{Event, IsServed, highs_of, idle, lows_of}
+use Rattle.element_bounds.specs.Passages.{IsCounting}
 use Rattle.element_bounds.specs.PortTrace.{PortEventAt, IsSamePort, trace_of}
 use Rattle.nodes.specs.declared.equipment.Equipment.{Equipment}
 use Rattle.nodes.specs.declared.equipment.Equipment.TheVariants.{EndSystem, Switch, Line}
@@ -27,7 +28,7 @@ use Rattle.nodes.specs.rules.Node.{NodeState, after, regulator_in}
 use Rattle.nodes.specs.undoing.Node.{node}
 use Rattle.port_turns.specs.PortEvents.{asks, outlet_in}
 use Rattle.port_turns.specs.Nodes.{IsOfNodes}
-use Rattle.port_turns.specs.SwitchPuts.{transit_of}
+use Rattle.port_turns.specs.SwitchPuts.{IsBrought, transit_of}
 
 -- the input port of a switch by which a frame came that is put; an end system's frames all come by one
 abbrev pub input_in : Body → SwitchState → ℕ
@@ -64,11 +65,17 @@ ArePortsServed =
     (outlet : Outlet) → outlet_in (x.opening p).equipment q ≡ Some outlet → IsSamePort outlet.port idle → (n : ℕ) →
     IsServed idle 0 (trace_of outlet.ahead.byte_ns outlet.port (port_events q (x.opening p) (events (simulation_of (rules_of node) x) n p)))
 
--- and of each priority the frames of a virtual link that are put to a port of a switch are paced as its account there says, where that counts frames
+-- each frame of virtual link v that a message brings has at least so many bytes
+abbrev pub BringsAtLeast : ℕ → ℕ → Message → Type 0
+BringsAtLeast v least m = (bytes : ℕ) → IsBrought v bytes m.body → least ≤ bytes
+
+-- and of each priority the frames of a virtual link that are put to a port of a switch are paced as its account there says, where that counts frames,
+-- or bytes of which no frame has fewer than the greatest
 abbrev pub AreTracesPaced : Type 0
 AreTracesPaced =
     (x : Setting NodeState) → Laws (simulation_of (rules_of node) x) → (p q v : ℕ) → p < x.processes → IsOfNodes x → (transit : Transit) → transit_of (x.opening p).equipment v ≡ Some transit →
-    transit.account.measure ≡ Frames → 1 ≤ transit.account.smax → (byte_ns : ℕ) (port : PortState) (priority : Priority) (n : ℕ) →
+    (least : ℕ) → IsCounting transit.account least → (byte_ns : ℕ) (port : PortState) (priority : Priority) (n : ℕ) →
+    Every (BringsAtLeast v least) (events (simulation_of (rules_of node) x) n p) →
     IsPaced transit.account.bag transit.account.jitter
     (moments_at (is_of_link v) (puts_with priority (trace_of byte_ns port (port_events q (x.opening p) (events (simulation_of (rules_of node) x) n p)))))
 

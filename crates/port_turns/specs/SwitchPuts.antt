@@ -1,5 +1,5 @@
 -- Frames of one virtual link that a switch puts to one of its output ports, and the virtual link as it goes through the switch.
-use Rattle.std.specs.Prelude.{ℕ, ◌==◌, ◌&&◌, Bool, false, Option, None, option_map}
+use Rattle.std.specs.Prelude.{◌≡◌, ℕ, ◌==◌, ◌&&◌, Bool, false, Option, None, option_map}
 use Rattle.vlink.specs.declared.message.Body.{Body}
 use Rattle.vlink.specs.declared.message.Body.TheVariants.{Offer, Release, PortFree, Arrive, Enqueue, Carry}
 use Rattle.nodes.specs.declared.equipment.Equipment.{Equipment}
@@ -16,6 +16,15 @@ is_put q v (PortFree p) = false
 is_put q v (Arrive p frame) = false
 is_put q v (Enqueue p frame) = (p == q) && (frame.vl.0 == v)
 is_put q v (Carry frame) = false
+
+-- the message brings a frame of virtual link v with that many bytes
+abbrev pub IsBrought : ℕ → ℕ → Body → Type 0
+IsBrought v bytes (Offer vl size sub) = ⊥
+IsBrought v bytes (Release vl) = ⊥
+IsBrought v bytes (PortFree k) = ⊥
+IsBrought v bytes (Arrive k frame) = (frame.vl.0 ≡ v) × (bytes ≡ frame.size)
+IsBrought v bytes (Enqueue k frame) = ⊥
+IsBrought v bytes (Carry frame) = ⊥
 
 -- the virtual link as it goes through this equipment, if that is a switch through which it goes
 abbrev pub transit_of : Equipment → ℕ → Option Transit

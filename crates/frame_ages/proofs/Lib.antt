@@ -1,0 +1,6 @@
+pub mod Invariants
+pub mod PortFrames
+pub mod EndFrames
+pub mod SwitchFrames
+pub mod SizeLemmas
+pub mod PutLemmas
