@@ -1,6 +1,6 @@
-mod Ahead
-mod Entries
-mod Offered
-mod OwnPorts
-mod Ways
-mod Linked
+pub mod Ahead
+pub mod Entries
+pub mod Offered
+pub mod OwnPorts
+pub mod Ways
+pub mod Linked
