@@ -21,6 +21,9 @@ use Rattle.nodes.specs.rules.Ports.{PortsState, answered, changed, changed_at, o
 use Rattle.nodes.specs.laws.Places.{All-there}
 use Rattle.nodes.specs.laws.Ports.{carrying, freeing}
 
+pub there : (ports : PortsState) (q : ℕ) (outlet : Outlet) → outlet_at ports q ≡ Some outlet → slice_get ports q ≡ Some (Some outlet)
+there ports q outlet is = option_and_then_some (λ o. o) (slice_get ports q) outlet is (λ o read same. read ∙ ap Some same)
+
 module _ (P : Frame → Type 0) where
   -- each frame that waits at the port has P; so has one that is put; and one that starts
   pub record AllWaitAt (p : PortState) : Type 0 where
@@ -78,9 +81,6 @@ module _ (P : Frame → Type 0) where
 
   abbrev pub IsPortWish : Wish → Type 0
   IsPortWish w = IsCarryOf w.body
-
-  there : (ports : PortsState) (q : ℕ) (outlet : Outlet) → outlet_at ports q ≡ Some outlet → slice_get ports q ≡ Some (Some outlet)
-  there ports q outlet is = option_and_then_some (λ o. o) (slice_get ports q) outlet is (λ o read same. read ∙ ap Some same)
 
   at-port : (ports : PortsState) (q : ℕ) (outlet : Outlet) → AllWaitAtPorts ports → outlet_at ports q ≡ Some outlet → AllWaitAt outlet.port
   at-port ports q outlet h is = All-there (λ slot. IfSome slot (λ outlet. AllWaitAt outlet.port)) ports q (Some outlet) h (there ports q outlet is)

@@ -2,7 +2,7 @@
 use Rattle.std.proofs.Common.{◌≡◌, ℕ, ◌+◌, ◌<◌, Bool, true, false, cond, List, [], ◌∷◌, All, IfSome, Option, Some, None, option_map, refl, sym, ap, ◌∙◌, subst}
 use Rattle.std.specs.Prelude.{⊤}
 use Rattle.std.specs.List.{list_any}
-use Rattle.std.proofs.lemmas.Option.{same_Some}
+use Rattle.std.proofs.lemmas.Option.{none-some}
 use Rattle.std.proofs.lemmas.List.Elements.{All-cons, All-head, All-nil, All-tail, All-weaker}
 use Rattle.vlink.specs.declared.frame.Frame.{Frame}
 use Rattle.vlink.specs.declared.frame.VlId.{VlId}
@@ -33,13 +33,15 @@ use Rattle.nodes.specs.rules.Ports.{PortsState}
 use Rattle.nodes.specs.rules.Switch.{SwitchState, outputs_of, switch, transit_at}
 use Rattle.nodes.specs.rules.Node.{NodeState, after, handled, sends}
 use Rattle.nodes.specs.undoing.Node.{node}
+use Rattle.nodes.specs.laws.Places.{All-there}
 use Rattle.nodes.specs.laws.Sent.{IsSentAs, sent-all}
 use Rattle.port_turns.specs.Nodes.{IsOfNodes, is_offer}
+use Rattle.port_turns.specs.PortEvents.{outlet_in}
 use Rattle.port_turns.specs.SwitchPuts.{transit_of}
 use Rattle.port_turns.proofs.Senders.{number-stays}
 use Rattle.port_turns.proofs.Sources.{AllWaitIn, HasWaiting}
 use Rattle.frame_ages.specs.Sizes.{HaveEmptyRegulators, HaveIdlePorts, IsSized, IsSizedFrame, OpensEmpty}
-use Rattle.frame_ages.proofs.PortFrames.{AllWaitAt, AllWaitAtPorts, IsCarryOf, IsPortWish}
+use Rattle.frame_ages.proofs.PortFrames.{there, AllWaitAt, AllWaitAtPorts, IsCarryOf, IsPortWish}
 use Rattle.frame_ages.proofs.EndFrames.{IsFitEnd, OfLink, end-sends, end-state}
 use Rattle.frame_ages.proofs.SwitchFrames.{AllTransits, switch-ports, switch-sends, transits-stay}
 use Rattle.frame_ages.proofs.Invariants.{IsInvariant, all-events, all-handled}
@@ -59,6 +61,12 @@ same-as-stays w v t a h = (h.0, h.1, ap (λ (z : Transit). record z { account = 
 
 pub same-as-first : (w : SwitchState) → AllTransits (SameAs w) (same-as-stays w) w
 same-as-first w vl found is = (found.entry, ap (option_map (λ (z : Found Transit). z.entry)) is, refl)
+
+-- a port that there is is idle at first
+pub idle-at : (e : Equipment) (q : ℕ) (outlet : Outlet) → HaveIdlePorts e → outlet_in e q ≡ Some outlet → IsSamePort outlet.port idle
+idle-at (EndSystem s) q outlet h is = All-there (λ slot. IfSome slot (λ outlet. IsSamePort outlet.port idle)) s.ports q (Some outlet) h (there s.ports q outlet is)
+idle-at (Switch s) q outlet h is = All-there (λ slot. IfSome slot (λ outlet. IsSamePort outlet.port idle)) s.ports q (Some outlet) h (there s.ports q outlet is)
+idle-at (Line s) q outlet h is = absurd (none-some outlet is)
 
 module _ (size : ℕ → ℕ) where
   -- what waits at first

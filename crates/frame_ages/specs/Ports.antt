@@ -1,5 +1,5 @@
 -- What is known of an output port of a node before a run: which virtual links can be put there, what they can give, and a certificate of its bounds.
-use Rattle.std.specs.Prelude.{◌≡◌, ℕ, ◌+◌, ◌*◌, ◌<◌, ◌≤◌, ◌⊎◌, true, List, [], ◌∷◌, Some, ⊤}
+use Rattle.std.specs.Prelude.{◌≡◌, ℕ, ◌+◌, ◌-◌, ◌*◌, ◌<◌, ◌≤◌, ◌⊎◌, true, List, [], ◌∷◌, Some, ⊤}
 use Rattle.vlink.specs.Wire.{busy_for}
 use Rattle.vlink.specs.declared.frame.Net.TheVariants.{A, B}
 use Rattle.bag_regulator.specs.Regulator.{Regulator}
@@ -8,9 +8,10 @@ use Rattle.output_port.specs.declared.event.Priority.TheVariants.{High, Low}
 use Rattle.reverse.specs.Rules.{rules_of}
 use Rattle.reverse.specs.Setting.{Setting, simulation_of}
 use Rattle.virtual_time.specs.Law.{Laws, events}
-use Rattle.port_bounds.specs.Certificate.{Certificate, IsCertified, IsKept}
-use Rattle.port_bounds.specs.Mixtures.{Flow, Group, IsAmong, lines_of, links_of}
-use Rattle.port_bounds.specs.Port.{Event, idle}
+use Rattle.port_bounds.specs.Certificate.{AreSentWithin}
+use Rattle.port_bounds.specs.Frames.{link_of}
+use Rattle.port_bounds.specs.Mixtures.{Flow, Group, IsAmong, groups_burst, groups_rate, lines_of, links_of}
+use Rattle.port_bounds.specs.Port.{Event, high_starts, idle, low_starts}
 use Rattle.port_bounds.specs.Sublists.{Every}
 use Rattle.element_bounds.specs.Passages.{IsCounting}
 use Rattle.element_bounds.specs.PortTrace.{trace_of}
@@ -96,7 +97,7 @@ pub record IsByLine (x : Setting NodeState) (p : ℕ) (size : ℕ → ℕ) (byte
   pub burst : g.burst ≡ scale * most
   pub rate : g.rate ≡ scale
 
--- a group of a certificate: its numbers are those of the line and of its virtual links
+-- a group: its numbers are those of the line and of its virtual links
 pub record IsGroup (x : Setting NodeState) (p : ℕ) (size : ℕ → ℕ) (byte_ns scale whole : ℕ) (g : Group) : Type 0 where
   pub weight : g.weight ≤ whole
   pub by_line : 1 ≤ g.weight → IsByLine x p size byte_ns scale g
@@ -107,27 +108,62 @@ pub record IsListed (v line : ℕ) (groups : List Group) : Type 0 where
   pub line_in : IsAmong line (lines_of groups)
   pub link_in : Every (λ g. line ≡ g.line → IsAmong v (links_of g.flows)) groups
 
-abbrev pub groups_with : Priority → Certificate → List Group
-groups_with High c = c.high
-groups_with Low c = c.low
+-- these groups are what can come to port q of node p with a priority
+pub record AreGroups (x : Setting NodeState) (size : ℕ → ℕ) (p q : ℕ) (outlet : Outlet) (scale whole : ℕ) (priority : Priority) (groups : List Group) : Type 0 where
+  pub each : Every (IsGroup x p size outlet.ahead.byte_ns scale whole) groups
+  pub listed : (v line : ℕ) → IsThrough (x.opening p).equipment q v line priority → IsListed v line groups
 
--- the certificate of port q of node p passes the check, and its numbers are those of the virtual links that can be put there
-pub record IsPort (x : Setting NodeState) (size : ℕ → ℕ) (p q : ℕ) (outlet : Outlet) (c : Certificate) : Type 0 where
-  pub inside : p < x.processes
-  pub is : outlet_in (x.opening p).equipment q ≡ Some outlet
-  pub certified : IsCertified c
-  pub high : Every (IsGroup x p size outlet.ahead.byte_ns c.scale c.whole) c.high
-  pub low : Every (IsGroup x p size outlet.ahead.byte_ns c.scale c.whole) c.low
-  pub listed : (v line : ℕ) (priority : Priority) → IsThrough (x.opening p).equipment q v line priority → IsListed v line (groups_with priority c)
-  pub low_costs : (v line : ℕ) → IsThrough (x.opening p).equipment q v line Low →
-      (c.least ≤ busy_for (size v) outlet.ahead.byte_ns) × (busy_for (size v) outlet.ahead.byte_ns ≤ c.most)
+-- ---- bounds of a port that pass the check; a ns has `whole * scale` units. Divisions may round down, as times are whole
+
+-- a high frame has left, with its gap, within so many ns of its put
+pub record IsHighBound (x : Setting NodeState) (size : ℕ → ℕ) (p q : ℕ) (outlet : Outlet) (delay : ℕ) : Type 0 where
+  pub scale : ℕ
+  pub whole : ℕ
+  pub high : List Group
+  pub high_are : AreGroups x size p q outlet scale whole High high
+  -- no low frame costs more
+  pub most : ℕ
+  pub low_costs : (v line : ℕ) → IsThrough (x.opening p).equipment q v line Low → busy_for (size v) outlet.ahead.byte_ns ≤ most
+  pub rate : groups_rate whole high ≤ whole * scale
+  pub within : groups_burst whole high + (whole * scale) * most < (whole * scale) * (delay + 1)
+
+-- a low frame of virtual link v has started within so many ns of its put
+pub record IsLowBound (x : Setting NodeState) (size : ℕ → ℕ) (p q : ℕ) (outlet : Outlet) (v delay : ℕ) : Type 0 where
+  pub scale : ℕ
+  pub whole : ℕ
+  pub high : List Group
+  pub high_are : AreGroups x size p q outlet scale whole High high
+  pub low : List Group
+  pub low_are : AreGroups x size p q outlet scale whole Low low
+  pub rates : groups_rate whole high + groups_rate whole low ≤ whole * scale
+  pub some : groups_rate whole high < whole * scale
+  pub within : groups_burst whole high + groups_burst whole low < (whole * scale - groups_rate whole high) * (delay + 1) + (whole * scale) * busy_for (size v) outlet.ahead.byte_ns
+
+-- no more bytes wait
+pub record IsWaitingBound (x : Setting NodeState) (size : ℕ → ℕ) (p q : ℕ) (outlet : Outlet) (bytes : ℕ) : Type 0 where
+  pub scale : ℕ
+  pub whole : ℕ
+  pub high : List Group
+  pub high_are : AreGroups x size p q outlet scale whole High high
+  pub low : List Group
+  pub low_are : AreGroups x size p q outlet scale whole Low low
+  pub rates : groups_rate whole high + groups_rate whole low ≤ whole * scale
+  pub within : groups_burst whole high + groups_burst whole low < ((whole * scale) * outlet.ahead.byte_ns) * (bytes + 1)
 
 -- what happens at the port in the first n events of the run
 abbrev pub trace_at : Setting NodeState → ℕ → ℕ → Outlet → ℕ → List Event
 trace_at x p q outlet n = trace_of outlet.ahead.byte_ns outlet.port (port_events q (x.opening p) (events (simulation_of (rules_of node) x) n p))
 
--- so in each one-thread run the port keeps its bounds
-abbrev pub ArePortsKept : Type 0
-ArePortsKept =
+-- so in each one-thread run high frames have left in time
+abbrev pub AreHighsInTime : Type 0
+AreHighsInTime =
     (x : Setting NodeState) → Laws (simulation_of (rules_of node) x) → IsOfNodes x → (size : ℕ → ℕ) → OpensEmpty x size →
-    (p q : ℕ) (outlet : Outlet) (c : Certificate) → IsPort x size p q outlet c → (n : ℕ) → IsKept c (trace_at x p q outlet n)
+    (p q : ℕ) (outlet : Outlet) → p < x.processes → outlet_in (x.opening p).equipment q ≡ Some outlet → (delay : ℕ) → IsHighBound x size p q outlet delay →
+    (n : ℕ) → AreSentWithin delay (high_starts idle (trace_at x p q outlet n))
+
+-- and low frames of each virtual link have started in time
+abbrev pub AreLowsInTime : Type 0
+AreLowsInTime =
+    (x : Setting NodeState) → Laws (simulation_of (rules_of node) x) → IsOfNodes x → (size : ℕ → ℕ) → OpensEmpty x size →
+    (p q : ℕ) (outlet : Outlet) → p < x.processes → outlet_in (x.opening p).equipment q ≡ Some outlet → (v delay : ℕ) → IsLowBound x size p q outlet v delay →
+    (n : ℕ) → Every (λ s. link_of s.put ≡ v → s.at ≤ s.put.at + delay) (low_starts idle (trace_at x p q outlet n))

@@ -1,10 +1,9 @@
 -- The way of a virtual link to a node, port by port, and how long its frames take on it.
-use Rattle.std.specs.Prelude.{◌≡◌, ℕ, ◌+◌, ◌-◌, ◌*◌, ◌<◌, ◌⊎◌, List, [], ◌∷◌, Some}
+use Rattle.std.specs.Prelude.{◌≡◌, ℕ, ◌+◌, ◌*◌, ◌<◌, ◌≤◌, List, [], ◌∷◌, Some}
 use Rattle.vlink.specs.Wire.{last_bit_after}
 use Rattle.output_port.specs.declared.event.Priority.{Priority}
 use Rattle.output_port.specs.declared.event.Priority.TheVariants.{High, Low}
 use Rattle.reverse.specs.Setting.{Setting}
-use Rattle.port_bounds.specs.Certificate.{Certificate}
 use Rattle.nodes.specs.declared.equipment.Equipment.TheVariants.{EndSystem, Switch}
 use Rattle.nodes.specs.declared.ports.Outlet.{Outlet}
 use Rattle.nodes.specs.declared.transit.Transit.{Transit}
@@ -14,9 +13,10 @@ use Rattle.nodes.specs.rules.Switch.{SwitchState}
 use Rattle.nodes.specs.rules.Node.{NodeState}
 use Rattle.port_turns.specs.Arrivals.{IsWay}
 use Rattle.port_turns.specs.SwitchPuts.{transit_of}
-use Rattle.frame_ages.specs.Ports.{IsPort, IsThrough}
+use Rattle.frame_ages.specs.Ports.{IsHighBound, IsLowBound, IsThrough}
 
--- port `from_port` of node `from` leads by line `by` to port `port` of node `to`; a frame comes to it `before` ns after it came to the node, with this priority
+-- port `from_port` of node `from` leads by line `by` to port `port` of node `to`. A frame comes to it `before` ns after it came to the node, with
+-- this priority, and its last bit leaves within `delay` ns
 pub record Hop : Type 0 where
   pub from : ℕ
   pub from_port : ℕ
@@ -27,28 +27,29 @@ pub record Hop : Type 0 where
   pub line : LineState
   pub before : ℕ
   pub priority : Priority
-  pub certificate : Certificate
+  pub delay : ℕ
 
--- how long a frame of that many bytes takes at most from a port to its last bit on the line, in ns
-abbrev pub port_time : Priority → Certificate → ℕ → ℕ → ℕ
-port_time High c bytes byte_ns = c.high_delay - 12 * byte_ns
-port_time Low c bytes byte_ns = c.low_delay + last_bit_after bytes byte_ns
-
--- and from the node before the port to the node behind the line
-abbrev pub hop_time : ℕ → Hop → ℕ
-hop_time bytes h = h.before + (port_time h.priority h.certificate bytes h.outlet.ahead.byte_ns + h.line.propagation)
+-- from the node before the port to the node behind the line, in ns
+abbrev pub hop_time : Hop → ℕ
+hop_time h = h.before + (h.delay + h.line.propagation)
 
 -- over these hops, the last one first
-abbrev pub way_time : ℕ → List Hop → ℕ
-way_time bytes [] = 0
-way_time bytes (h ∷ earlier) = way_time bytes earlier + hop_time bytes h
+abbrev pub way_time : List Hop → ℕ
+way_time [] = 0
+way_time (h ∷ earlier) = way_time earlier + hop_time h
+
+-- the last bit of each frame of virtual link v leaves the port in time: 12 bytes of gap come behind it
+abbrev pub IsInTime : Setting NodeState → (ℕ → ℕ) → ℕ → ℕ → ℕ → Outlet → Priority → ℕ → Type 0
+IsInTime x size v p q outlet High delay = (sent : ℕ) × IsHighBound x size p q outlet sent × (sent ≤ delay + 12 * outlet.ahead.byte_ns)
+IsInTime x size v p q outlet Low delay = (start : ℕ) × IsLowBound x size p q outlet v start × (start + last_bit_after (size v) outlet.ahead.byte_ns ≤ delay)
 
 -- a hop as the tables of the setting have it
-pub record IsHop (x : Setting NodeState) (size : ℕ → ℕ) (h : Hop) : Type 0 where
+pub record IsHop (x : Setting NodeState) (size : ℕ → ℕ) (v : ℕ) (h : Hop) : Type 0 where
+  pub from_inside : h.from < x.processes
   pub by_inside : h.by < x.processes
   pub to_inside : h.to < x.processes
   pub way : IsWay x h.from h.from_port h.by h.to h.port h.outlet h.line
-  pub certified : IsPort x size h.from h.from_port h.outlet h.certificate
+  pub in_time : IsInTime x size v h.from h.from_port h.outlet h.priority h.delay
 
 -- the first hop leaves an end system
 pub record IsFirstHop (x : Setting NodeState) (h : Hop) : Type 0 where
@@ -71,8 +72,8 @@ pub record IsNextHop (x : Setting NodeState) (v : ℕ) (earlier h : Hop) : Type 
 -- virtual link v goes over these hops, the last one first
 abbrev pub IsRoute : Setting NodeState → (ℕ → ℕ) → ℕ → List Hop → Type 0
 IsRoute x size v [] = ⊥
-IsRoute x size v (h ∷ []) = IsHop x size h × IsFirstHop x h
-IsRoute x size v (h ∷ (earlier ∷ rest)) = IsHop x size h × IsNextHop x v earlier h × IsRoute x size v (earlier ∷ rest)
+IsRoute x size v (h ∷ []) = IsHop x size v h × IsFirstHop x h
+IsRoute x size v (h ∷ (earlier ∷ rest)) = IsHop x size v h × IsNextHop x v earlier h × IsRoute x size v (earlier ∷ rest)
 
 -- the node at which they begin
 abbrev pub source_of : List Hop → ℕ
@@ -88,7 +89,7 @@ pub record ComesBy (x : Setting NodeState) (size : ℕ → ℕ) (v source to por
   pub from_source : source_of (hop ∷ earlier) ≡ source
   pub to_there : hop.to ≡ to
   pub to_port : hop.port ≡ port
-  pub within : way_time (size v) (hop ∷ earlier) ≡ most
+  pub within : way_time (hop ∷ earlier) ≡ most
 
 -- it does not come there: the port before the line that leads there does not send it
 pub record ComesNot (x : Setting NodeState) (v to port : ℕ) : Type 0 where

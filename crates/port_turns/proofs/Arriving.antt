@@ -3,6 +3,7 @@ use Rattle.std.proofs.Common.{◌≡◌, ℕ, ◌+◌, ◌*◌, ◌<◌, ◌≤�
 use Rattle.std.specs.Prelude.{⊤}
 use Rattle.std.specs.List.{list_any}
 use Rattle.vlink.specs.Wire.{busy_for, last_bit_after}
+use Rattle.vlink.specs.declared.frame.Frame.{Frame}
 use Rattle.vlink.specs.declared.message.Message.{Message}
 use Rattle.vlink.specs.declared.message.Body.{Body}
 use Rattle.vlink.specs.declared.message.Body.TheVariants.{Offer, Release, PortFree, Arrive, Enqueue, Carry}
@@ -41,7 +42,7 @@ use Rattle.port_turns.proofs.Channels.{come}
 use Rattle.port_turns.proofs.Elsewhere.{all-elsewhere}
 use Rattle.port_turns.proofs.PortRuns.{are_ports_served}
 use Rattle.port_turns.proofs.Rising.{AreTo, events-from, events-to}
-use Rattle.port_turns.proofs.SentKinds.{AreFrom, as_wish, flat, flat-next, flat-sub, from-sooner, from-sub, is_to, mine, moments-times, moments_of, sub-filter, sub-map, wished, wished-sub}
+use Rattle.port_turns.proofs.SentKinds.{every-sub, AreFrom, as_wish, flat, flat-next, flat-sub, from-sooner, from-sub, is_to, mine, moments-times, moments_of, sub-filter, sub-map, wished, wished-sub}
 
 -- ---- what a line makes of the frames that it carries
 
@@ -248,11 +249,26 @@ module _ (x : Setting NodeState) (L : Laws (simulation_of (rules_of node) x)) (p
     not_offered = λ vl size sub. refl;
   }) (0 + l.propagation) arrive-from n
 
-  pub arrivals-serial : (n : ℕ) → IsSerial None (λ put. true) (arrivals_in outlet.ahead.byte_ns j (events f n r))
-  arrivals-serial n =
-      fewer-serial None (λ put. true) (arrivals_in outlet.ahead.byte_ns j (events f n r)) (map (coming outlet.ahead.byte_ns j l.propagation) (map told (starts' n)))
-      (subst (λ z. IsSublist z (map (coming outlet.ahead.byte_ns j l.propagation) (map told (starts' n)))) (sym (arrivals-are outlet.ahead.byte_ns j r (events f n r) (events-to r (one f n).handled)))
+  -- what comes is some of what started, later by its last bit and by the propagation
+  arrivals-sub : (n : ℕ) → IsSublist (arrivals_in outlet.ahead.byte_ns j (events f n r)) (map (coming outlet.ahead.byte_ns j l.propagation) (map told (starts' n)))
+  arrivals-sub n =
+      subst (λ z. IsSublist z (map (coming outlet.ahead.byte_ns j l.propagation) (map told (starts' n)))) (sym (arrivals-are outlet.ahead.byte_ns j r (events f n r) (events-to r (one f n).handled)))
       (subst (IsSublist (flat (arrival_in outlet.ahead.byte_ns j) (map as_wish (filter (is_to (is_arrive j) r) (events f n r)))))
       (come-through outlet.ahead.byte_ns k l j W.to_port (starts n) ∙ ap (map (coming outlet.ahead.byte_ns j l.propagation)) (starts-are n))
-      (flat-sub (arrival_in outlet.ahead.byte_ns j) _ _ (sub-trans _ _ _ (arrive-come n) (sub-trans _ _ _ (arrive-sub n) (flat-sub (through l) _ _ (sub-trans _ _ _ (carry-come n) (carry-sub n))))))))
+      (flat-sub (arrival_in outlet.ahead.byte_ns j) _ _ (sub-trans _ _ _ (arrive-come n) (sub-trans _ _ _ (arrive-sub n) (flat-sub (through l) _ _ (sub-trans _ _ _ (carry-come n) (carry-sub n)))))))
+
+  pub arrivals-serial : (n : ℕ) → IsSerial None (λ put. true) (arrivals_in outlet.ahead.byte_ns j (events f n r))
+  arrivals-serial n =
+      fewer-serial None (λ put. true) (arrivals_in outlet.ahead.byte_ns j (events f n r)) (map (coming outlet.ahead.byte_ns j l.propagation) (map told (starts' n))) (arrivals-sub n)
       (coming-serial outlet.ahead.byte_ns j l.propagation None 0 (starts' n) tt (starts-apart n) (all-costed outlet.ahead.byte_ns outlet.port (asked n)))
+
+  -- what holds of each start, of the moment at which its frame comes, holds of each frame that comes
+  pub arrivals-have : (P : ℕ → Frame → Type 0) (n : ℕ) →
+      Every (λ s. P ((s.at + last_bit_after s.put.frame.size outlet.ahead.byte_ns) + l.propagation) s.put.frame) (starts_of idle (trace_of outlet.ahead.byte_ns outlet.port (port_events q (x.opening p) (events f n p)))) →
+      Every (λ put. P put.at put.frame) (arrivals_in outlet.ahead.byte_ns j (events f n r))
+  arrivals-have P n h = every-sub (λ (put : PutFrame). P put.at put.frame) _ _ (arrivals-sub n) (each (starts' n) h)
+    where
+      each : (ss : List Start) → Every (λ s. P ((s.at + last_bit_after s.put.frame.size outlet.ahead.byte_ns) + l.propagation) s.put.frame) ss →
+          Every (λ put. P put.at put.frame) (map (coming outlet.ahead.byte_ns j l.propagation) (map told ss))
+      each [] k = tt
+      each (s ∷ ss) k = (k.0, each ss k.1)

@@ -11,7 +11,7 @@ use Rattle.vlink.specs.declared.message.Body.TheVariants as body
 use Rattle.reverse.specs.Sending.{Sender, Wish, message_of, sent}
 use Rattle.reverse.specs.Rules.{rules_of}
 use Rattle.virtual_time.specs.Law as law
-use Rattle.port_bounds.specs.Sublists.{IsSublist}
+use Rattle.port_bounds.specs.Sublists.{Every, IsSublist}
 use Rattle.port_bounds.proofs.SublistLemmas.{sub-behind, sub-both, sub-trans}
 use Rattle.nodes.specs.rules.Node.{NodeState, after, handled, sends}
 use Rattle.nodes.specs.undoing.Node.{node}
@@ -38,6 +38,12 @@ sub-map f [] ys h = tt
 sub-map f (x ∷ xs) [] h = absurd h
 sub-map f (x ∷ xs) (y ∷ ys) (inl e) = inl (ap f e.0, sub-map f xs ys e.1)
 sub-map f (x ∷ xs) (y ∷ ys) (inr k) = inr (sub-map f (x ∷ xs) ys k)
+
+pub every-sub : {X : Type 0} (P : X → Type 0) (xs ys : List X) → IsSublist xs ys → Every P ys → Every P xs
+every-sub P [] ys h k = tt
+every-sub P (x ∷ xs) [] h k = absurd h
+every-sub P (x ∷ xs) (y ∷ ys) (inl e) k = (subst P (sym e.0) k.0, every-sub P xs ys e.1 k.1)
+every-sub P (x ∷ xs) (y ∷ ys) (inr h) k = every-sub P (x ∷ xs) ys h k.1
 
 abbrev pub times_of : List Message → List ℕ
 times_of ms = map (λ m. m.time) ms

@@ -5,6 +5,7 @@ use Rattle.std.proofs.lemmas.Nat.{mul-le}
 use Rattle.std.proofs.lemmas.List.{map-append}
 use Rattle.std.proofs.lemmas.List.Elements.{filter-append}
 use Rattle.vlink.specs.Wire.{busy_for}
+use Rattle.vlink.specs.declared.frame.Frame.{Frame}
 use Rattle.vlink.specs.declared.message.Message.{Message}
 use Rattle.vlink.specs.declared.message.Body.{Body}
 use Rattle.vlink.specs.declared.message.Body.TheVariants.{Offer, Release, PortFree, Arrive, Enqueue, Carry}
@@ -44,7 +45,7 @@ use Rattle.port_turns.proofs.Elsewhere.{all-elsewhere}
 use Rattle.port_turns.proofs.Forwarding.{HaveInputs, forward, forward-from, forwards, inputs-stay, is_put_at}
 use Rattle.port_turns.proofs.Rising.{AreTo, events-from, events-to}
 use Rattle.port_turns.proofs.TracePuts.{asked_puts, filter-sub, put_list, trace-asked}
-use Rattle.port_turns.proofs.SentKinds.{AreFrom, as_wish, flat, flat-next, flat-sub, from-sub, is_to, moments-times, moments_of, sub-map, wished}
+use Rattle.port_turns.proofs.SentKinds.{every-sub, AreFrom, as_wish, flat, flat-next, flat-sub, from-sub, is_to, moments-times, moments_of, sub-map, wished}
 
 no : {X : Type 0} → false ≡ true → X
 no h = absurd (let z : ⊥ = cc in z)
@@ -199,14 +200,39 @@ module _ (x : Setting NodeState) (L : Laws (simulation_of (rules_of node) x)) (p
     not_offered = λ vl size sub. refl;
   }) (0 + w.latency) put-from n
 
+  -- of the puts those that came by the line are some of what came, later by the delay
+  puts-sub : (byte_ns : ℕ) (state : PortState) (c : Priority) (n : ℕ) →
+      IsSublist (map (remade outlet.ahead.byte_ns j) (filter (is_by_line j) (puts_with c (trace_of byte_ns state (port_events i (x.opening r) (events f n r)))))) (map (put_later w.latency) (arrivals_in outlet.ahead.byte_ns j (events f n r)))
+  puts-sub byte_ns state c n =
+      sub-trans _ _ _ (sub-map (remade outlet.ahead.byte_ns j) _ _ (filter-sub (is_by_line j) _ _ (trace-asked byte_ns c state (port_events i (x.opening r) (events f n r)))))
+      (sub-trans _ _ _ (all-asked outlet.ahead.byte_ns j r i input byte_ns (x.opening r) w (events f n r) switch-is have (events-to r (one f n).handled))
+      (sub-trans _ _ _ (flat-sub (put_in outlet.ahead.byte_ns j r i input) _ _ (sub-trans _ _ _ (put-come n) (put-sub n)))
+      (all-in outlet.ahead.byte_ns j r i input w.latency (events f n r))))
+
+  -- what holds of each frame that comes, of the moment later by the delay, holds of each of these puts
+  pub puts-have : (P : ℕ → Frame → Type 0) (byte_ns : ℕ) (state : PortState) (c : Priority) (n : ℕ) → Every (λ put. P (put.at + w.latency) put.frame) (arrivals_in outlet.ahead.byte_ns j (events f n r)) →
+      Every (λ put. put.line ≡ j → P put.at put.frame) (puts_with c (trace_of byte_ns state (port_events i (x.opening r) (events f n r))))
+  puts-have P byte_ns state c n h =
+      filtered (puts_with c (trace_of byte_ns state (port_events i (x.opening r) (events f n r))))
+      (every-sub (λ (put : PutFrame). P put.at put.frame) _ _ (puts-sub byte_ns state c n) (later (arrivals_in outlet.ahead.byte_ns j (events f n r)) h))
+    where
+      later : (xs : List PutFrame) → Every (λ put. P (put.at + w.latency) put.frame) xs → Every (λ put. P put.at put.frame) (map (put_later w.latency) xs)
+      later [] k = tt
+      later (x ∷ xs) k = (k.0, later xs k.1)
+
+      filtered : (xs : List PutFrame) → Every (λ put. P put.at put.frame) (map (remade outlet.ahead.byte_ns j) (filter (is_by_line j) xs)) → Every (λ put. put.line ≡ j → P put.at put.frame) xs
+      filtered [] k = tt
+      filtered (x ∷ xs) k = go (x.line == j) refl k (λ h. filtered xs h)
+        where
+          go : (b : Bool) → (x.line == j) ≡ b → Every (λ put. P put.at put.frame) (map (remade outlet.ahead.byte_ns j) (cond b (x ∷ filter (is_by_line j) xs) (filter (is_by_line j) xs))) →
+              (Every (λ put. P put.at put.frame) (map (remade outlet.ahead.byte_ns j) (filter (is_by_line j) xs)) → Every (λ put. put.line ≡ j → P put.at put.frame) xs) → Every (λ put. put.line ≡ j → P put.at put.frame) (x ∷ xs)
+          go true e k rest = (λ line. k.0, rest k.1)
+          go false e k rest = (λ line. no (sym e ∙ eq-eqb x.line j line), rest k)
+
   pub traces-serial : (byte_ns : ℕ) → byte_ns ≤ outlet.ahead.byte_ns → (state : PortState) (c : Priority) (n : ℕ) → IsSerial None (is_by_line j) (puts_with c (trace_of byte_ns state (port_events i (x.opening r) (events f n r))))
   traces-serial byte_ns slower state c n =
       serial-remade outlet.ahead.byte_ns j (is_by_line j) None (puts_with c (trace_of byte_ns state (port_events i (x.opening r) (events f n r)))) (costs c)
-      (fewer-serial None (λ put. true) _ (map (put_later w.latency) (arrivals_in outlet.ahead.byte_ns j (events f n r)))
-      (sub-trans _ _ _ (sub-map (remade outlet.ahead.byte_ns j) _ _ (filter-sub (is_by_line j) _ _ (trace-asked byte_ns c state (port_events i (x.opening r) (events f n r)))))
-      (sub-trans _ _ _ (all-asked outlet.ahead.byte_ns j r i input byte_ns (x.opening r) w (events f n r) switch-is have (events-to r (one f n).handled))
-      (sub-trans _ _ _ (flat-sub (put_in outlet.ahead.byte_ns j r i input) _ _ (sub-trans _ _ _ (put-come n) (put-sub n)))
-      (all-in outlet.ahead.byte_ns j r i input w.latency (events f n r)))))
+      (fewer-serial None (λ put. true) _ (map (put_later w.latency) (arrivals_in outlet.ahead.byte_ns j (events f n r))) (puts-sub byte_ns state c n)
       (serial-later w.latency None (arrivals_in outlet.ahead.byte_ns j (events f n r)) (arrivals-serial x L p q k r j inside line-inside N outlet l W n)))
     where
       cost-less : (t line : ℕ) (e : PortEvent) → OfAsked (λ r x. x.cost ≤ busy_for x.frame.size outlet.ahead.byte_ns) byte_ns t line e
