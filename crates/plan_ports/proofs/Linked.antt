@@ -1,5 +1,5 @@
 -- What switches and end systems have of virtual links when a run begins.
-use Rattle.std.proofs.Common.{◌≡◌, ℕ, zero, suc, ◌+◌, ◌*◌, ◌/◌, ◌%◌, ◌==◌, ◌||◌, not, All, Bool, true, false, List, [], ◌∷◌, map, Option, Some, None, inl, inr, refl, ap, sym, ◌∙◌, subst, slice_get, Contains, option_map, nat_cmp, eqb-true}
+use Rattle.std.proofs.Common.{◌≡◌, ◌≤◌, arith, ℕ, zero, suc, ◌+◌, ◌*◌, ◌/◌, ◌%◌, ◌==◌, ◌||◌, not, All, Bool, true, false, List, [], ◌∷◌, map, Option, Some, None, inl, inr, refl, ap, sym, ◌∙◌, subst, slice_get, Contains, option_map, nat_cmp, eqb-true}
 use Rattle.std.specs.List.{AllByRecursion, list_any, range_with_len}
 use Rattle.std.specs.List.Sorted.{IsStrictlySortedBy}
 use Rattle.std.proofs.lemmas.Bool.{false≢true}
@@ -16,6 +16,7 @@ use Rattle.network_rows.specs.Within.{IsVlWithin}
 use Rattle.network_rows.specs.declared.rows.VlRow.{VlRow}
 use Rattle.std.proofs.lemmas.List.Elements.{All-contains, All-from_recursion, recursion_from_All}
 use Rattle.std.proofs.lemmas.List.Sorted.{All-permutation}
+use Rattle.network.proofs.LimitLemmas.{bounds}
 use Rattle.network.proofs.RisingLemmas.{ids-rise}
 use Rattle.network_faults.proofs.MemberLemmas.{Has, contains-from_has, flat_map-has, has-flat_map, has-from_contains, has-right}
 use Rattle.network_tables.specs.PortLaws.{IsOutput}
@@ -40,7 +41,7 @@ use Rattle.frame_ring.specs.Queue.{Queue}
 use Rattle.std.proofs.lemmas.List.Elements.{All-map, All-replicate}
 use Rattle.std.specs.Option.{option_map_or}
 use Rattle.port_turns.specs.SwitchPuts.{transit_of}
-use Rattle.plan_ports.specs.Links.{AreBags, AreOffers, AreRegulatorsEmpty, AreSizes, AreSources, AreTransits, HaveSources, HaveTransits, IsOfferOf, IsSourceOf, IsTransitOf, LeavesBy}
+use Rattle.plan_ports.specs.Links.{AreBags, AreGreatest, AreOffers, AreRegulatorsEmpty, AreSizes, AreSources, AreTransits, HaveSources, HaveTransits, IsOfferOf, IsSourceOf, IsTransitOf, LeavesBy}
 use Rattle.plan_ports.proofs.Offered.{all-offered}
 use Rattle.plan_ports.proofs.Entries.{all-entry, entry-made, entry_of, made-entry}
 
@@ -98,6 +99,13 @@ one-of P n (m ∷ ms) all any = go (m == n) refl any (one-of P n ms all.1)
     go : (b : Bool) → (m == n) ≡ b → (b || list_any (λ k. k == n) ms) ≡ true → (list_any (λ k. k == n) ms ≡ true → P n) → P n
     go true same there later = subst P (eqb-true m n same) all.0
     go false apart there later = later there
+
+abbrev HasGreatest : VlPlan → Type 0
+HasGreatest vl = 1 ≤ vl.link.smax
+
+all-greatest : (names : List (List ℕ)) (rows : List VlRow) → AllByRecursion IsVlWithin rows → AllByRecursion HasGreatest (map (vl_plan names) rows)
+all-greatest names [] within = tt
+all-greatest names (row ∷ rows) within = (let least = (bounds 64 1518 row.link.smax within.0.link.smax).0 in omega (arith, least), all-greatest names rows within.1)
 
 all-bags : (names : List (List ℕ)) (rows : List VlRow) → AllByRecursion IsVlWithin rows → AllByRecursion HasBags (map (vl_plan names) rows)
 all-bags names [] within = tt
@@ -240,3 +248,9 @@ module _ (plan : Plan) (accepted : IsAccepted plan) where
       let rows = accepted.rows in
       let in_rows : All HasBags (plan_of rows).vls = All-from_recursion HasBags _ (all-bags (names_of rows.nodes) rows.vls (recursion_from_All IsVlWithin rows.vls accepted.within.vls)) in
       All-contains HasBags plan.vls vl (All-permutation HasBags _ plan.vls accepted.stands.vls in_rows) there
+
+  pub are-positive : AreGreatest plan
+  are-positive vl there =
+      let rows = accepted.rows in
+      let in_rows : All HasGreatest (plan_of rows).vls = All-from_recursion HasGreatest _ (all-greatest (names_of rows.nodes) rows.vls (recursion_from_All IsVlWithin rows.vls accepted.within.vls)) in
+      All-contains HasGreatest plan.vls vl (All-permutation HasGreatest _ plan.vls accepted.stands.vls in_rows) there

@@ -1,5 +1,5 @@
 -- The virtual links of a network at its nodes, as they are when a run begins.
-use Rattle.std.specs.Prelude.{◌≡◌, ℕ, ◌*◌, ◌/◌, All, [], Contains, Some, true}
+use Rattle.std.specs.Prelude.{◌≡◌, ℕ, ◌*◌, ◌/◌, ◌≤◌, All, [], Contains, Some, true}
 use Rattle.std.specs.Option.{option_map_or}
 use Rattle.vlink.specs.declared.frame.Net.TheVariants.{A, B}
 use Rattle.vlink.specs.declared.message.Message.{Message}
@@ -31,6 +31,10 @@ AreSizes plan = (vl : VlPlan) → Contains plan.vls vl → size_of plan vl.link.
 -- 128 ms have so many BAGs of it
 abbrev pub AreBags : Plan → Type 0
 AreBags plan = (vl : VlPlan) → Contains plan.vls vl → (128 / vl.link.bag_ms) * (vl.link.bag_ms * 1000000) ≡ 128000000
+
+-- the greatest size of its frames has bytes
+abbrev pub AreGreatest : Plan → Type 0
+AreGreatest plan = (vl : VlPlan) → Contains plan.vls vl → 1 ≤ vl.link.smax
 
 -- a virtual link of the network leaves node p by port q
 pub record LeavesBy (plan : Plan) (p q : ℕ) (vl : VlPlan) : Type 0 where

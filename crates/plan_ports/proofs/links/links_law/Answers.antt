@@ -1,4 +1,4 @@
-use Rattle.plan_ports.proofs.Linked.{all-empty, are-bags, are-sizes, are-sources, are-transits, have-sources, have-transits}
+use Rattle.plan_ports.proofs.Linked.{all-empty, are-bags, are-positive, are-sizes, are-sources, are-transits, have-sources, have-transits}
 use Rattle.plan_ports.proofs.links.links_law.Goals as goal
 
 pub returns : goal.returns
@@ -8,6 +8,7 @@ returns c =
     record {
       sizes = λ vl there. are-sizes plan accepted vl there;
       bags = λ vl there. are-bags plan accepted vl there;
+      greatest = λ vl there. are-positive plan accepted vl there;
       transits = λ p v transit e. are-transits plan accepted p v transit e;
       have_transits = λ p q vl l s e. have-transits plan accepted p q vl l s e;
       sources = λ p v s is found e. are-sources plan accepted p v s is found e;
