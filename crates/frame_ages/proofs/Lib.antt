@@ -4,3 +4,4 @@ pub mod EndFrames
 pub mod SwitchFrames
 pub mod SizeLemmas
 pub mod PutLemmas
+pub mod GivenLemmas
