@@ -5,3 +5,4 @@ pub mod SwitchFrames
 pub mod SizeLemmas
 pub mod PutLemmas
 pub mod GivenLemmas
+pub mod AgeLemmas

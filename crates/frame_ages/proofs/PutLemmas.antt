@@ -154,8 +154,15 @@ module _ (x : Setting NodeState) (L : Laws (simulation_of (rules_of node) x)) (N
   f = simulation_of (rules_of node) x
 
   module _ (byte_ns : ℕ) where
+    -- at an end system it is released as it is put
+    abbrev pub IsFresh : Equipment → PutFrame → Type 0
+    IsFresh (EndSystem s) put = put.frame.released ≡ put.at
+    IsFresh (Switch s) put = ⊤
+    IsFresh (Line s) put = ⊤
+
     -- the frame put is of a virtual link that goes out there, with its size
     pub record IsPutFit (r : Priority) (put : PutFrame) : Type 0 where
+      pub fresh : IsFresh (x.opening p).equipment put
       pub through : IsThrough (x.opening p).equipment q (link_of put) put.line r
       pub sized : put.frame.size ≡ size (link_of put)
       pub cost : put.cost ≡ busy_for put.frame.size byte_ns
@@ -185,6 +192,7 @@ module _ (x : Setting NodeState) (L : Laws (simulation_of (rules_of node) x)) (N
     end-asks t v w (Some (Put frame r)) is sent put =
         let link : frame.vl.0 ≡ v = ap (λ (z : Frame). z.vl.0) put.2 ∙ put.1.0 in
         record {
+          fresh = subst (λ e. IsFresh e (put_at byte_ns t 0 frame)) (sym is) (ap (λ (z : Frame). z.released) put.2);
           through = subst (λ e. IsThrough e q frame.vl.0 0 r) (sym is) (subst (λ z. IsSentBy w q z 0 r) (sym link) sent);
           sized = ap (λ (z : Frame). z.size) put.2 ∙ (put.1.1 ∙ ap size (sym link));
           cost = refl;
@@ -210,6 +218,7 @@ module _ (x : Setting NodeState) (L : Laws (simulation_of (rules_of node) x)) (N
             let goes = subst (λ z. GoesOut z k frame.vl.0) is (out k frame refl) in
             let one : goes.0 ≡ was.0 = same_Some goes.0 was.0 (sym goes.1 ∙ was.1) in
             record {
+              fresh = subst (λ z. IsFresh z (put_at byte_ns t found.entry.input frame)) (sym is) tt;
               through = subst (λ z. IsThrough z q frame.vl.0 found.entry.input found.entry.priority) (sym is) (record {
                 transit = was.0;
                 is = was.1;
