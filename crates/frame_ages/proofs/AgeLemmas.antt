@@ -47,7 +47,7 @@ every-split P [] ys h = (tt, h)
 every-split P (x ∷ xs) ys h = let rest = every-split P xs ys h.1 in ((h.0, rest.0), rest.1)
 
 -- what holds of each high start and of each low one holds of all
-starts-both : (P : Start → Type 0) (a : Port) (es : List Event) → Every P (high_starts a es) → Every P (low_starts a es) → Every P (starts_of a es)
+pub starts-both : (P : Start → Type 0) (a : Port) (es : List Event) → Every P (high_starts a es) → Every P (low_starts a es) → Every P (starts_of a es)
 starts-both P a [] h l = tt
 starts-both P a (e ∷ es) h l =
     let highs = every-split P (outcome a e).high (high_starts (outcome a e).port es) h in

@@ -6,3 +6,5 @@ pub mod SizeLemmas
 pub mod PutLemmas
 pub mod GivenLemmas
 pub mod AgeLemmas
+pub mod NoteLemmas
+pub mod LatencyLemmas
