@@ -1,6 +1,5 @@
 -- How old frames are that come to a node: at most as old as their way takes.
-use Rattle.std.proofs.Common.{◌≡◌, ℕ, ◌+◌, ◌*◌, ◌<◌, ◌≤◌, ◌⊎◌, inl, inr, List, [], ◌∷◌, ◌++◌, Option, Some, None, refl, sym, ap, ◌∙◌, subst, arith}
-use Rattle.std.specs.Prelude.{⊤}
+use Rattle.std.proofs.Common.{◌≡◌, ℕ, ◌+◌, ◌≤◌, List, [], ◌∷◌, ◌++◌, Some, None, refl, sym, ap, ◌∙◌, subst, arith}
 use Rattle.std.proofs.lemmas.Option.{same_Some}
 use Rattle.vlink.specs.Wire.{busy_for, last_bit_after}
 use Rattle.vlink.specs.declared.frame.Frame.{Frame}
@@ -15,27 +14,22 @@ use Rattle.port_bounds.specs.Frames.{PutFrame, link_of}
 use Rattle.port_bounds.specs.Port.{Event, Port, Start, high_starts, idle, low_starts, outcome, starts_of}
 use Rattle.port_bounds.specs.Sublists.{Every}
 use Rattle.port_bounds.proofs.StartLemmas.{high-put, low-put}
-use Rattle.nodes.specs.declared.equipment.Equipment.{Equipment}
-use Rattle.nodes.specs.declared.equipment.Equipment.TheVariants.{EndSystem, Switch, Line}
+use Rattle.nodes.specs.declared.equipment.Equipment.TheVariants.{Switch}
 use Rattle.nodes.specs.declared.node.NodeRecord.{NodeRecord}
 use Rattle.nodes.specs.declared.ports.Outlet.{Outlet}
 use Rattle.nodes.specs.declared.transit.Transit.{Transit}
-use Rattle.nodes.specs.rules.EndSystem.{EndSystemState}
-use Rattle.nodes.specs.rules.Line.{LineState}
-use Rattle.nodes.specs.rules.Switch.{SwitchState}
 use Rattle.nodes.specs.rules.Node.{NodeState}
 use Rattle.nodes.specs.undoing.Node.{node}
-use Rattle.port_turns.specs.Arrivals.{IsWay, arrivals_in}
+use Rattle.port_turns.specs.Arrivals.{arrivals_in}
 use Rattle.port_turns.specs.Nodes.{IsOfNodes}
 use Rattle.port_turns.specs.PortEvents.{outlet_in}
 use Rattle.port_turns.specs.PortRuns.{puts_with}
-use Rattle.port_turns.specs.SwitchPuts.{transit_of}
 use Rattle.port_turns.proofs.Arriving.{arrivals-have}
 use Rattle.port_turns.proofs.SerialPuts.{puts-have}
 use Rattle.frame_ages.specs.Ports.{IsSentBy, IsThrough, IsThroughSwitch, trace_at}
 use Rattle.frame_ages.specs.Sizes.{OpensEmpty}
-use Rattle.frame_ages.specs.Ways.{Hop, IsFirstHop, IsHop, IsInTime, IsNextHop, IsRoute, hop_time, source_of, way_time}
-use Rattle.frame_ages.proofs.GivenLemmas.{cost-is, every-both, every-weaker, fits, highs-in-time, lows-in-time}
+use Rattle.frame_ages.specs.Ways.{Hop, IsFirstHop, IsHop, IsInTime, IsNextHop, IsRoute, source_of, way_time}
+use Rattle.frame_ages.proofs.GivenLemmas.{every-both, every-weaker, fits, highs-in-time, lows-in-time}
 use Rattle.frame_ages.proofs.PutLemmas.{IsFresh, IsPutFit}
 
 every-append : {X : Type 0} (P : X → Type 0) (xs ys : List X) → Every P xs → Every P ys → Every P (xs ++ ys)

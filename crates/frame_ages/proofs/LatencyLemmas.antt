@@ -1,12 +1,9 @@
 -- Why no frame is delivered later than its wait at the end system and its way take.
-use Rattle.std.proofs.Common.{◌≡◌, ℕ, ◌+◌, ◌-◌, ◌<◌, ◌≤◌, ◌==◌, ◌⊎◌, inl, inr, Bool, true, false, cond, List, [], ◌∷◌, ◌++◌, filter, map, All, Option, Some, None, option_map, refl, sym, ap, ◌∙◌, subst, arith, eq-eqb}
-use Rattle.std.specs.Prelude.{⊤, Contains}
+use Rattle.std.proofs.Common.{◌≡◌, ℕ, ◌+◌, ◌≤◌, ◌==◌, ◌⊎◌, inl, inr, Bool, true, false, cond, List, [], ◌∷◌, filter, All, Option, Some, None, option_map, refl, sym, ap, ◌∙◌, subst, arith, eq-eqb}
+use Rattle.std.specs.Prelude.{Contains}
 use Rattle.std.proofs.lemmas.List.Elements.{All-append, All-cons, All-contains, All-head, All-map, All-nil, All-tail, All-weaker}
-use Rattle.vlink.specs.declared.frame.Frame.{Frame}
 use Rattle.vlink.specs.declared.frame.VlId.{VlId}
 use Rattle.vlink.specs.declared.message.Message.{Message}
-use Rattle.vlink.specs.declared.message.Body.{Body}
-use Rattle.vlink.specs.declared.message.Body.TheVariants.{Arrive}
 use Rattle.vlink.specs.declared.note.Note.{Note}
 use Rattle.vlink.specs.declared.note.Note.TheVariants.{Delivered}
 use Rattle.vlink.specs.Letters.{Row}
@@ -15,17 +12,17 @@ use Rattle.output_port.specs.declared.event.Priority.TheVariants.{High, Low}
 use Rattle.output_port.specs.declared.event.PortEvent.{PortEvent}
 use Rattle.reverse.specs.Rules.{rules_of}
 use Rattle.reverse.specs.Setting.{Setting, simulation_of}
-use Rattle.virtual_time.specs.Law.{Laws, Simulation, events, one, rowed, rows_at, rows_of}
+use Rattle.virtual_time.specs.Law.{Laws, Simulation, events, one, rowed, rows_of}
 use Rattle.virtual_time.proofs.OneThread.{right}
 use Rattle.port_bounds.specs.Frames.{PutFrame, link_of}
-use Rattle.port_bounds.specs.Port.{Start, high_starts, idle, low_starts}
+use Rattle.port_bounds.specs.Port.{idle}
 use Rattle.port_bounds.specs.Sublists.{Every}
 use Rattle.port_bounds.proofs.StartLemmas.{high-put, low-put}
 use Rattle.element_bounds.specs.PortTrace.{put_at}
 use Rattle.nodes.specs.declared.equipment.Equipment.{Equipment}
 use Rattle.nodes.specs.declared.node.NodeRecord.{NodeRecord}
 use Rattle.nodes.specs.declared.ports.Outlet.{Outlet}
-use Rattle.nodes.specs.rules.Node.{NodeState, after, handled, notes}
+use Rattle.nodes.specs.rules.Node.{NodeState, after, notes}
 use Rattle.nodes.specs.undoing.Node.{node}
 use Rattle.port_turns.specs.Arrivals.{arrival_in, arrivals_in}
 use Rattle.port_turns.specs.Nodes.{IsOfNodes}
@@ -36,7 +33,7 @@ use Rattle.port_turns.proofs.Asking.{node-asks}
 use Rattle.frame_ages.specs.Latencies.{ComesWithin, IsHeldWithin}
 use Rattle.frame_ages.specs.Ports.{IsThrough, trace_at}
 use Rattle.frame_ages.specs.Sizes.{OpensEmpty}
-use Rattle.frame_ages.specs.Ways.{ComesBy, ComesNot, source_of, way_time}
+use Rattle.frame_ages.specs.Ways.{ComesBy, ComesNot, way_time}
 use Rattle.frame_ages.proofs.AgeLemmas.{IsAged, ages, every-split, starts-both}
 use Rattle.frame_ages.proofs.GivenLemmas.{every-weaker, fits}
 use Rattle.frame_ages.proofs.NoteLemmas.{IsDelivery, delivered-come}
@@ -116,14 +113,15 @@ module _ (x : Setting NodeState) (L : Laws (simulation_of (rules_of node) x)) (N
         go (inl k) =
             let by = k.1 in
             let old = ages x L N size O v (λ frame. frame.released ≤ frame.offered + wait) n by.hop by.earlier by.route
-                (subst (λ z. (q : ℕ) (outlet : Outlet) → outlet_in (x.opening z).equipment q ≡ Some outlet → Every (λ put. link_of put ≡ v → put.frame.released ≤ put.frame.offered + wait) (puts_with Low (trace_at x z q outlet n))) (sym by.from_source)
-                (λ q outlet is. held.holds q outlet is n)) in
-            (by.hop.outlet.ahead.byte_ns,
-            every-weaker (λ put. IsAged x L N size O v (λ frame. frame.released ≤ frame.offered + wait) n (way_time (by.hop ∷ by.earlier)) put.at put.frame) (IsTimely v (wait + most))
-            (λ put a e. let both = a e in let time = by.within in omega (arith, both.0, both.1, k.2))
-            (arrivals_in by.hop.outlet.ahead.byte_ns port (events f n to))
-            (subst (λ z. Every (λ put. IsAged x L N size O v (λ frame. frame.released ≤ frame.offered + wait) n (way_time (by.hop ∷ by.earlier)) put.at put.frame) (arrivals_in by.hop.outlet.ahead.byte_ns z (events f n to))) by.to_port
-            (subst (λ z. Every (λ put. IsAged x L N size O v (λ frame. frame.released ≤ frame.offered + wait) n (way_time (by.hop ∷ by.earlier)) put.at put.frame) (arrivals_in by.hop.outlet.ahead.byte_ns by.hop.port (events f n z))) by.to_there old)))
+            (subst (λ z. (q : ℕ) (outlet : Outlet) → outlet_in (x.opening z).equipment q ≡ Some outlet → Every (λ put. link_of put ≡ v → put.frame.released ≤ put.frame.offered + wait) (puts_with Low (trace_at x z q outlet n))) (sym by.from_source)
+            (λ q outlet is. held.holds q outlet is n)) in (
+              by.hop.outlet.ahead.byte_ns,
+              every-weaker (λ put. IsAged x L N size O v (λ frame. frame.released ≤ frame.offered + wait) n (way_time (by.hop ∷ by.earlier)) put.at put.frame) (IsTimely v (wait + most))
+                  (λ put a e. let both = a e in let time = by.within in omega (arith, both.0, both.1, k.2))
+                  (arrivals_in by.hop.outlet.ahead.byte_ns port (events f n to))
+                  (subst (λ z. Every (λ put. IsAged x L N size O v (λ frame. frame.released ≤ frame.offered + wait) n (way_time (by.hop ∷ by.earlier)) put.at put.frame) (arrivals_in by.hop.outlet.ahead.byte_ns z (events f n to))) by.to_port
+                  (subst (λ z. Every (λ put. IsAged x L N size O v (λ frame. frame.released ≤ frame.offered + wait) n (way_time (by.hop ∷ by.earlier)) put.at put.frame) (arrivals_in by.hop.outlet.ahead.byte_ns by.hop.port (events f n z))) by.to_there old)),
+            )
 
     pub latency-bounded : (row : Row) → Contains (one f n).rows row → row.place ≡ to → (vl : VlId) (latency : ℕ) → vl.0 ≡ v → row.note ≡ Delivered vl latency → latency ≤ wait + most
     latency-bounded row inside place =
