@@ -125,7 +125,7 @@ bytes-bounded a least earlier frames t u some s h between =
     let same = same-after a earlier in
     let n = passed_frames now frames in
     let units : n * (a.smax * a.bag) ≤ passed_units now frames =
-        subst (λ k. n * (a.smax * k) ≤ passed_units now frames) same.bag (subst (λ k. n * (k * now.bag) ≤ passed_units now frames) stays.1 (units-least now least frames (subst (λ k. k ≤ least) (sym stays.1) s) h)) in
+    subst (λ k. n * (a.smax * k) ≤ passed_units now frames) same.bag (subst (λ k. n * (k * now.bag) ≤ passed_units now frames) stays.1 (units-least now least frames (subst (λ k. k ≤ least) (sym stays.1) s) h)) in
     let most : passed_units now frames ≤ cap a + a.smax * (u - t) = rw (stays.0, stays.1) at (passed-le-cap now t u frames between) in
     let all : a.smax * (n * a.bag) ≤ a.smax * (a.bag + a.jitter + (u - t)) = omega arith in
     le_of_mul-le-mul_left all some

@@ -1,6 +1,5 @@
 -- At an end system each frame that is sent has the size of its virtual link, where each that is offered has it.
-use Rattle.std.proofs.Common.{◌≡◌, ℕ, Bool, true, false, cond, List, [], ◌∷◌, All, Option, Some, None, refl, sym, ap, ◌∙◌, subst}
-use Rattle.std.specs.Prelude.{⊤}
+use Rattle.std.proofs.Common.{◌≡◌, ℕ, Bool, true, false, cond, [], All, Option, Some, None, refl, sym, ap, ◌∙◌, subst}
 use Rattle.std.proofs.lemmas.List.Elements.{All-cons, All-nil, All-set, All-weaker}
 use Rattle.vlink.specs.declared.frame.Frame.{Frame}
 use Rattle.vlink.specs.declared.frame.Net.{Net}
@@ -8,7 +7,7 @@ use Rattle.vlink.specs.declared.frame.Net.TheVariants.{A, B}
 use Rattle.vlink.specs.declared.frame.VlId.{VlId}
 use Rattle.vlink.specs.declared.message.Body.{Body}
 use Rattle.vlink.specs.declared.message.Body.TheVariants as body
-use Rattle.vlink.specs.declared.note.Cause.TheVariants.{Duplicate, Integrity, QueueFull, Unknown}
+use Rattle.vlink.specs.declared.note.Cause.TheVariants.{Unknown}
 use Rattle.bag_regulator.specs.Regulator.{regulator}
 use Rattle.bag_regulator.specs.Spacing.{moment_of}
 use Rattle.bag_regulator.specs.declared.event.RegEvent.{RegEvent}

@@ -1,6 +1,5 @@
 -- Why a port keeps its bounds: what comes to it is what they say.
-use Rattle.std.proofs.Common.{◌≡◌, ℕ, ◌+◌, ◌-◌, ◌*◌, ◌<◌, ◌≤◌, ◌==◌, inl, inr, Bool, true, List, [], ◌∷◌, All, Some, None, refl, sym, ap, ◌∙◌, subst, arith, eqb-true}
-use Rattle.std.specs.Prelude.{⊤}
+use Rattle.std.proofs.Common.{◌≡◌, ℕ, ◌+◌, ◌-◌, ◌*◌, ◌<◌, ◌≤◌, inl, inr, Bool, true, List, [], ◌∷◌, All, Some, None, refl, sym, ap, ◌∙◌, subst, arith, eqb-true}
 use Rattle.std.proofs.lemmas.Bool.{cases_lt}
 use Rattle.std.proofs.lemmas.Nat.{mul-le}
 use Rattle.std.proofs.lemmas.List.Elements.{All-head, All-nil, All-tail, All-weaker}
@@ -209,7 +208,8 @@ module _ (x : Setting NodeState) (L : Laws (simulation_of (rules_of node) x)) (N
         flows-within g.flows h.0.flows,
         keyed (is_by_line g.line) link_of (links_of g.flows) (puts r) (every-weaker (λ put. put.line ≡ g.line → IsAmong (link_of put) (links_of g.flows)) (λ put. is_by_line g.line put ≡ true → IsAmong (link_of put) (links_of g.flows))
             (λ put k e. k (eqb-true put.line g.line e)) (puts r) links.0),
-        groups-within groups h.1 links.1)
+        groups-within groups h.1 links.1,
+      )
 
       -- of each frame each group has the virtual link, if it has the line; so each group has those of all frames
       turned : (groups : List Group) (xs : List PutFrame) → Every (λ put. Every (λ g. put.line ≡ g.line → IsAmong (link_of put) (links_of g.flows)) groups) xs →
@@ -217,7 +217,8 @@ module _ (x : Setting NodeState) (L : Laws (simulation_of (rules_of node) x)) (N
       turned [] xs h = tt
       turned (g ∷ groups) xs h = (
         every-weaker (λ put. Every (λ g. put.line ≡ g.line → IsAmong (link_of put) (links_of g.flows)) (g ∷ groups)) (λ put. put.line ≡ g.line → IsAmong (link_of put) (links_of g.flows)) (λ put k. k.0) xs h,
-        turned groups xs (every-weaker (λ put. Every (λ g. put.line ≡ g.line → IsAmong (link_of put) (links_of g.flows)) (g ∷ groups)) (λ put. Every (λ g. put.line ≡ g.line → IsAmong (link_of put) (links_of g.flows)) groups) (λ put k. k.1) xs h))
+        turned groups xs (every-weaker (λ put. Every (λ g. put.line ≡ g.line → IsAmong (link_of put) (links_of g.flows)) (g ∷ groups)) (λ put. Every (λ g. put.line ≡ g.line → IsAmong (link_of put) (links_of g.flows)) groups) (λ put k. k.1) xs h),
+      )
 
       -- all frames of the priority together
       pub all-within : (groups : List Group) → AreGroups x size p q outlet scale whole r groups → IsWithin (whole * scale) (groups_burst whole groups) (groups_rate whole groups) (puts r)
@@ -242,8 +243,8 @@ module _ (x : Setting NodeState) (L : Laws (simulation_of (rules_of node) x)) (N
   lows-in-time v delay h =
       every-weaker (λ s. Fit Low s.put × IsLowInTime (h.whole * h.scale) (groups_burst h.whole h.high + groups_burst h.whole h.low) (groups_rate h.whole h.high) s) (λ s. link_of s.put ≡ v → s.at ≤ s.put.at + delay)
       (λ s k e. start-by (h.whole * h.scale) (groups_rate h.whole h.high) (groups_burst h.whole h.high + groups_burst h.whole h.low) delay (busy_for (size v) byte_ns) s.at s.put.at h.some
-          (subst (λ z. (h.whole * h.scale) * (s.at + z) + groups_rate h.whole h.high * s.put.at ≤ (h.whole * h.scale) * s.put.at + (groups_rate h.whole h.high * s.at + (groups_burst h.whole h.high + groups_burst h.whole h.low)))
-          (cost-is Low s.put k.0 ∙ ap (λ z. busy_for (size z) byte_ns) e) k.1) h.within)
+      (subst (λ z. (h.whole * h.scale) * (s.at + z) + groups_rate h.whole h.high * s.put.at ≤ (h.whole * h.scale) * s.put.at + (groups_rate h.whole h.high * s.at + (groups_burst h.whole h.high + groups_burst h.whole h.low)))
+      (cost-is Low s.put k.0 ∙ ap (λ z. busy_for (size z) byte_ns) e) k.1) h.within)
       (low_starts idle (trace_at x p q outlet n))
       (every-both (λ s. Fit Low s.put) (IsLowInTime (h.whole * h.scale) (groups_burst h.whole h.high + groups_burst h.whole h.low) (groups_rate h.whole h.high)) (low_starts idle (trace_at x p q outlet n))
       (low-put (Fit Low) (trace_at x p q outlet n) None [] [] tt (fits Low))

@@ -5,3 +5,6 @@ pub mod SwitchFrames
 pub mod SizeLemmas
 pub mod PutLemmas
 pub mod GivenLemmas
+pub mod AgeLemmas
+pub mod NoteLemmas
+pub mod LatencyLemmas

@@ -1,5 +1,5 @@
 -- Each frame that is put to a port is of a virtual link that goes out there, and costs what that virtual link's frames cost.
-use Rattle.std.proofs.Common.{◌≡◌, ℕ, ◌<◌, ◌==◌, ◌&&◌, ◌⊎◌, inl, inr, Bool, true, false, cond, List, [], ◌∷◌, ◌++◌, All, Option, Some, None, option_map, refl, sym, ap, ◌∙◌, subst, eqb-true}
+use Rattle.std.proofs.Common.{◌≡◌, ℕ, ◌<◌, ◌==◌, ◌&&◌, inl, inr, Bool, true, false, cond, List, [], ◌∷◌, ◌++◌, All, Option, Some, None, option_map, refl, sym, ap, ◌∙◌, subst, eqb-true}
 use Rattle.std.specs.Prelude.{⊤, slice_set}
 use Rattle.std.specs.Option.{option_map_or}
 use Rattle.std.proofs.lemmas.Bool.{cases_eq}
@@ -8,7 +8,6 @@ use Rattle.std.proofs.lemmas.List.Elements.{All-head, All-tail}
 use Rattle.vlink.specs.Wire.{busy_for}
 use Rattle.vlink.specs.declared.frame.Frame.{Frame}
 use Rattle.vlink.specs.declared.frame.VlId.{VlId}
-use Rattle.vlink.specs.declared.frame.Net.{Net}
 use Rattle.vlink.specs.declared.frame.Net.TheVariants.{A, B}
 use Rattle.vlink.specs.declared.message.Message.{Message}
 use Rattle.vlink.specs.declared.message.Body.{Body}
@@ -21,7 +20,6 @@ use Rattle.bag_regulator.specs.declared.event.RegEvent.TheVariants.{Offer, Relea
 use Rattle.bag_regulator.specs.declared.event.RegAnswer.{RegAnswer}
 use Rattle.bag_regulator.specs.declared.event.RegAnswer.TheVariants as answer
 use Rattle.output_port.specs.declared.event.Priority.{Priority}
-use Rattle.output_port.specs.declared.event.Priority.TheVariants.{High, Low}
 use Rattle.output_port.specs.declared.event.PortEvent.{PortEvent}
 use Rattle.output_port.specs.declared.event.PortEvent.TheVariants.{Put, Free}
 use Rattle.output_port.specs.Port.{PortState}
@@ -32,7 +30,7 @@ use Rattle.virtual_time.specs.Law.{Laws, Simulation, events, one}
 use Rattle.port_bounds.specs.Frames.{PutFrame, link_of}
 use Rattle.port_bounds.specs.Mixtures.{IsAmong}
 use Rattle.port_bounds.specs.Sublists.{Every}
-use Rattle.element_bounds.specs.PortTrace.{PortEventAt, put_at, trace_of}
+use Rattle.element_bounds.specs.PortTrace.{put_at, trace_of}
 use Rattle.element_bounds.proofs.TraceLemmas.{AllPuts, OfAsked, trace-puts}
 use Rattle.nodes.specs.declared.equipment.Equipment.{Equipment}
 use Rattle.nodes.specs.declared.equipment.Equipment.TheVariants.{EndSystem, Switch, Line}
@@ -45,17 +43,16 @@ use Rattle.nodes.specs.rules.EndSystem.{EndSystemState, copy, end_system, is_on,
 use Rattle.nodes.specs.rules.EndSystem as es
 use Rattle.nodes.specs.rules.Finding.{Found, find}
 use Rattle.nodes.specs.rules.Ports.{exists}
-use Rattle.nodes.specs.rules.Switch.{SwitchState, outputs_of, switch, transit_at}
+use Rattle.nodes.specs.rules.Switch.{SwitchState, outputs_of, transit_at}
 use Rattle.nodes.specs.rules.Node.{NodeState, after, handled}
 use Rattle.nodes.specs.undoing.Node.{node}
 use Rattle.port_turns.specs.Nodes.{IsOfNodes}
 use Rattle.port_turns.specs.PortEvents.{asks, copy_asks, end_system_asks, or_else, regulated_asks, switch_asks}
 use Rattle.port_turns.specs.PortRuns.{asked_at, input_of, port_events}
-use Rattle.port_turns.specs.SwitchPuts.{transit_of}
 use Rattle.port_turns.proofs.Found.{found-other, found-set}
 use Rattle.port_turns.proofs.Rising.{AreTo, events-to}
 use Rattle.port_turns.proofs.Sources.{AllWaitIn, IsOfferFit, OfPut, source-keeps, subject}
-use Rattle.frame_ages.specs.Ports.{IsOnPort, IsSentBy, IsThrough, IsThroughSwitch}
+use Rattle.frame_ages.specs.Ports.{IsSentBy, IsThrough}
 use Rattle.frame_ages.specs.Sizes.{HaveEmptyRegulators, IsSized, OpensEmpty}
 use Rattle.frame_ages.proofs.EndFrames.{OfLink}
 use Rattle.frame_ages.proofs.SizeLemmas.{GoesOut, IsFit, IsOut, SameAs, all-fit, none-waits, same-as-first, same-as-stays}
@@ -154,8 +151,15 @@ module _ (x : Setting NodeState) (L : Laws (simulation_of (rules_of node) x)) (N
   f = simulation_of (rules_of node) x
 
   module _ (byte_ns : ℕ) where
+    -- at an end system it is released as it is put
+    abbrev pub IsFresh : Equipment → PutFrame → Type 0
+    IsFresh (EndSystem s) put = put.frame.released ≡ put.at
+    IsFresh (Switch s) put = ⊤
+    IsFresh (Line s) put = ⊤
+
     -- the frame put is of a virtual link that goes out there, with its size
     pub record IsPutFit (r : Priority) (put : PutFrame) : Type 0 where
+      pub fresh : IsFresh (x.opening p).equipment put
       pub through : IsThrough (x.opening p).equipment q (link_of put) put.line r
       pub sized : put.frame.size ≡ size (link_of put)
       pub cost : put.cost ≡ busy_for put.frame.size byte_ns
@@ -185,6 +189,7 @@ module _ (x : Setting NodeState) (L : Laws (simulation_of (rules_of node) x)) (N
     end-asks t v w (Some (Put frame r)) is sent put =
         let link : frame.vl.0 ≡ v = ap (λ (z : Frame). z.vl.0) put.2 ∙ put.1.0 in
         record {
+          fresh = subst (λ e. IsFresh e (put_at byte_ns t 0 frame)) (sym is) (ap (λ (z : Frame). z.released) put.2);
           through = subst (λ e. IsThrough e q frame.vl.0 0 r) (sym is) (subst (λ z. IsSentBy w q z 0 r) (sym link) sent);
           sized = ap (λ (z : Frame). z.size) put.2 ∙ (put.1.1 ∙ ap size (sym link));
           cost = refl;
@@ -210,6 +215,7 @@ module _ (x : Setting NodeState) (L : Laws (simulation_of (rules_of node) x)) (N
             let goes = subst (λ z. GoesOut z k frame.vl.0) is (out k frame refl) in
             let one : goes.0 ≡ was.0 = same_Some goes.0 was.0 (sym goes.1 ∙ was.1) in
             record {
+              fresh = subst (λ z. IsFresh z (put_at byte_ns t found.entry.input frame)) (sym is) tt;
               through = subst (λ z. IsThrough z q frame.vl.0 found.entry.input found.entry.priority) (sym is) (record {
                 transit = was.0;
                 is = was.1;
@@ -236,7 +242,10 @@ module _ (x : Setting NodeState) (L : Laws (simulation_of (rules_of node) x)) (N
     known-stays : (n : ℕ) (m : Message) (e : Equipment) → IsFit x L N size O m → Known e → Known (handled n m e).equipment
     known-stays n m (EndSystem s) fit k = (
       (source-keeps (OfLink size) n m.time q m.body s (offer-fit m.time m.body fit.0) k.0).waiting,
-      k.1, k.2, sources-stay (SameEnd k.1) (same-end-stays k.1) n m.time m.body s k.3)
+      k.1,
+      k.2,
+      sources-stay (SameEnd k.1) (same-end-stays k.1) n m.time m.body s k.3,
+    )
     known-stays n m (Switch s) fit k = (k.0, k.1, transits-stay (SameAs k.0) (same-as-stays k.0) n m.time m.body s k.2)
     known-stays n m (Line s) fit k = tt
 

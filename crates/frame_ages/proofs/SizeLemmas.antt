@@ -5,7 +5,6 @@ use Rattle.std.specs.List.{list_any}
 use Rattle.std.proofs.lemmas.Option.{none-some}
 use Rattle.std.proofs.lemmas.List.Elements.{All-cons, All-head, All-nil, All-tail, All-weaker}
 use Rattle.vlink.specs.declared.frame.Frame.{Frame}
-use Rattle.vlink.specs.declared.frame.VlId.{VlId}
 use Rattle.vlink.specs.declared.message.Message.{Message}
 use Rattle.vlink.specs.declared.message.Body.{Body}
 use Rattle.vlink.specs.declared.message.Body.TheVariants.{Offer, Release, PortFree, Arrive, Enqueue, Carry}
@@ -16,11 +15,10 @@ use Rattle.policer.specs.Account.{Policing}
 use Rattle.reverse.specs.Sending.{Wish, loss}
 use Rattle.reverse.specs.Rules.{rules_of}
 use Rattle.reverse.specs.Setting.{Setting, simulation_of}
-use Rattle.virtual_time.specs.Law.{IsReached, Laws, Simulation, events, one, reached}
+use Rattle.virtual_time.specs.Law.{IsReached, Laws, Simulation, events, one}
 use Rattle.port_bounds.specs.Mixtures.{IsAmong}
 use Rattle.port_bounds.specs.Port.{idle}
 use Rattle.element_bounds.specs.PortTrace.{IsSamePort}
-use Rattle.element_bounds.proofs.WaitingLemmas.{AllWait}
 use Rattle.nodes.specs.declared.equipment.Equipment.{Equipment}
 use Rattle.nodes.specs.declared.equipment.Equipment.TheVariants.{EndSystem, Switch, Line}
 use Rattle.nodes.specs.declared.node.NodeRecord.{NodeRecord}
@@ -30,8 +28,8 @@ use Rattle.nodes.specs.declared.transit.Transit.{Transit}
 use Rattle.nodes.specs.rules.Finding.{Found}
 use Rattle.nodes.specs.rules.Line.{LineState, is_within, line}
 use Rattle.nodes.specs.rules.Ports.{PortsState}
-use Rattle.nodes.specs.rules.Switch.{SwitchState, outputs_of, switch, transit_at}
-use Rattle.nodes.specs.rules.Node.{NodeState, after, handled, sends}
+use Rattle.nodes.specs.rules.Switch.{SwitchState, outputs_of, transit_at}
+use Rattle.nodes.specs.rules.Node.{NodeState, handled}
 use Rattle.nodes.specs.undoing.Node.{node}
 use Rattle.nodes.specs.laws.Places.{All-there}
 use Rattle.nodes.specs.laws.Sent.{IsSentAs, sent-all}
@@ -39,7 +37,7 @@ use Rattle.port_turns.specs.Nodes.{IsOfNodes, is_offer}
 use Rattle.port_turns.specs.PortEvents.{outlet_in}
 use Rattle.port_turns.specs.SwitchPuts.{transit_of}
 use Rattle.port_turns.proofs.Senders.{number-stays}
-use Rattle.port_turns.proofs.Sources.{AllWaitIn, HasWaiting}
+use Rattle.port_turns.proofs.Sources.{HasWaiting}
 use Rattle.frame_ages.specs.Sizes.{HaveEmptyRegulators, HaveIdlePorts, IsSized, IsSizedFrame, OpensEmpty}
 use Rattle.frame_ages.proofs.PortFrames.{there, AllWaitAt, AllWaitAtPorts, IsCarryOf, IsPortWish}
 use Rattle.frame_ages.proofs.EndFrames.{IsFitEnd, OfLink, end-sends, end-state}
@@ -148,7 +146,10 @@ module _ (x : Setting NodeState) (L : Laws (simulation_of (rules_of node) x)) (N
   handled-state p n m (EndSystem s) k h q = end-state size IsFitWish by-port (λ t r vl. (tt, tt)) n m.time m.body s q.0 h
   handled-state p n m (Switch s) k h q = (
     switch-ports size n IsFitWish by-port m.time m.body s (λ frame found c here f i. puts-fit p n (m.time + s.latency) s h.1 k h.2 h.3 frame found c here f i) q.0 h.0,
-    h.1, h.2, transits-stay (SameAs h.1) (same-as-stays h.1) n m.time m.body s h.3)
+    h.1,
+    h.2,
+    transits-stay (SameAs h.1) (same-as-stays h.1) n m.time m.body s h.3,
+  )
   handled-state p n m (Line s) k h q = tt
 
   number : (p : ℕ) → p < x.processes → (s : NodeState) → IsReached f p s → s.sender.number ≡ p

@@ -1,15 +1,14 @@
 -- How late frames are delivered in the one-thread run.
-use Rattle.std.specs.Prelude.{◌≡◌, ℕ, ◌+◌, ◌<◌, ◌≤◌, ◌⊎◌, List, Contains, Some}
+use Rattle.std.specs.Prelude.{◌≡◌, ℕ, ◌+◌, ◌<◌, ◌≤◌, ◌⊎◌, Contains, Some}
 use Rattle.vlink.specs.declared.frame.VlId.{VlId}
 use Rattle.vlink.specs.declared.note.Note.TheVariants.{Delivered}
 use Rattle.vlink.specs.Letters.{Row}
 use Rattle.reverse.specs.Rules.{rules_of}
 use Rattle.reverse.specs.Setting.{Setting, simulation_of}
 use Rattle.virtual_time.specs.Law.{Laws, one}
-use Rattle.port_bounds.specs.Port.{Event, highs_of, lows_of}
-use Rattle.port_bounds.specs.Arrivals.{is_of_link}
+use Rattle.port_bounds.specs.Port.{lows_of}
 use Rattle.port_bounds.specs.Sublists.{Every}
-use Rattle.port_bounds.specs.Frames.{PutFrame, link_of}
+use Rattle.port_bounds.specs.Frames.{link_of}
 use Rattle.nodes.specs.declared.ports.Outlet.{Outlet}
 use Rattle.nodes.specs.rules.Node.{NodeState}
 use Rattle.nodes.specs.undoing.Node.{node}

@@ -1,5 +1,5 @@
 -- What is known of an output port of a node before a run: which virtual links can be put there, what they can give, and a certificate of its bounds.
-use Rattle.std.specs.Prelude.{◌≡◌, ℕ, ◌+◌, ◌-◌, ◌*◌, ◌<◌, ◌≤◌, ◌⊎◌, true, List, [], ◌∷◌, Some, ⊤}
+use Rattle.std.specs.Prelude.{◌≡◌, ℕ, ◌+◌, ◌-◌, ◌*◌, ◌<◌, ◌≤◌, ◌⊎◌, true, List, Some}
 use Rattle.vlink.specs.Wire.{busy_for}
 use Rattle.vlink.specs.declared.frame.Net.TheVariants.{A, B}
 use Rattle.bag_regulator.specs.Regulator.{Regulator}

@@ -1,6 +1,7 @@
 //! How long frames are on their way in the one-thread run of a network. No product code.
 #![tactic(auto)]
 
+ghost use Rattle.frame_ages.specs.Latencies.{AreLatenciesBounded};
 ghost use Rattle.frame_ages.specs.Ports.{AreHighsInTime, AreLowsInTime};
 ghost use Rattle.frame_ages.specs.Sizes.{AreAllSized};
 
@@ -15,4 +16,11 @@ pub fn sizes_law()
 pub fn ports_law()
     ensures high { AreHighsInTime }
     ensures low { AreLowsInTime }
+{}
+
+/// In the one-thread run no frame of a virtual link is delivered at a node later after its offer than its regulator holds it and its way takes:
+/// the sum of the bounds of the ports on the way, the propagation of the lines and the delays of the switches. Where the virtual link goes over both
+/// networks, that is the longer of the two ways.
+pub fn latencies_law()
+    ensures bounded { AreLatenciesBounded }
 {}
