@@ -1,0 +1,5 @@
+mod Passed
+mod NodeKinds
+mod Groups
+mod Lines
+mod Certified
