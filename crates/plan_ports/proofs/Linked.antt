@@ -101,11 +101,11 @@ one-of P n (m ∷ ms) all any = go (m == n) refl any (one-of P n ms all.1)
     go false apart there later = later there
 
 abbrev HasGreatest : VlPlan → Type 0
-HasGreatest vl = 1 ≤ vl.link.smax
+HasGreatest vl = (1 ≤ vl.link.smax) × (vl.link.size ≤ 1518)
 
 all-greatest : (names : List (List ℕ)) (rows : List VlRow) → AllByRecursion IsVlWithin rows → AllByRecursion HasGreatest (map (vl_plan names) rows)
 all-greatest names [] within = tt
-all-greatest names (row ∷ rows) within = (let least = (bounds 64 1518 row.link.smax within.0.link.smax).0 in omega (arith, least), all-greatest names rows within.1)
+all-greatest names (row ∷ rows) within = (((let least = (bounds 64 1518 row.link.smax within.0.link.smax).0 in omega (arith, least)), (bounds 64 1518 row.link.size within.0.link.size).1), all-greatest names rows within.1)
 
 all-bags : (names : List (List ℕ)) (rows : List VlRow) → AllByRecursion IsVlWithin rows → AllByRecursion HasBags (map (vl_plan names) rows)
 all-bags names [] within = tt

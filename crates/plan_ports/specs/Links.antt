@@ -32,9 +32,9 @@ AreSizes plan = (vl : VlPlan) → Contains plan.vls vl → size_of plan vl.link.
 abbrev pub AreBags : Plan → Type 0
 AreBags plan = (vl : VlPlan) → Contains plan.vls vl → (128 / vl.link.bag_ms) * (vl.link.bag_ms * 1000000) ≡ 128000000
 
--- the greatest size of its frames has bytes
+-- its greatest frame has bytes, and no frame has more than 1518
 abbrev pub AreGreatest : Plan → Type 0
-AreGreatest plan = (vl : VlPlan) → Contains plan.vls vl → 1 ≤ vl.link.smax
+AreGreatest plan = (vl : VlPlan) → Contains plan.vls vl → (1 ≤ vl.link.smax) × (vl.link.size ≤ 1518)
 
 -- a virtual link of the network leaves node p by port q
 pub record LeavesBy (plan : Plan) (p q : ℕ) (vl : VlPlan) : Type 0 where

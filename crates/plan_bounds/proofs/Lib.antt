@@ -1,5 +1,0 @@
-mod Passed
-mod NodeKinds
-mod Groups
-mod Lines
-mod Certified
