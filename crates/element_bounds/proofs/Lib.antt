@@ -1,3 +1,4 @@
 pub mod ReleaseLemmas
 pub mod PassageLemmas
 pub mod TraceLemmas
+pub mod WaitingLemmas

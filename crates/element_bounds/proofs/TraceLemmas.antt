@@ -1,16 +1,20 @@
 -- Why an output port does what the port of which bounds are known does.
 use Rattle.std.proofs.Common.{◌≡◌, ℕ, Bool, true, false, cond, List, [], ◌∷◌, ◌++◌, map, Option, Some, None, is_some, append_assoc, refl, sym, ap, ◌∙◌, subst}
+use Rattle.std.specs.Prelude.{⊤}
 use Rattle.std.proofs.lemmas.List.{map-append}
 use Rattle.vlink.specs.declared.frame.Frame.{Frame}
 use Rattle.output_port.specs.declared.event.Priority.{Priority}
 use Rattle.output_port.specs.declared.event.Priority.TheVariants as priority
 use Rattle.output_port.specs.declared.event.PortEvent.{PortEvent}
 use Rattle.output_port.specs.declared.event.PortEvent.TheVariants as event
+use Rattle.output_port.specs.declared.event.PortAnswer.{PortAnswer}
+use Rattle.output_port.specs.declared.event.PortAnswer.TheVariants.{Started, Kept, Dropped, Idle, Nothing}
 use Rattle.output_port.specs.Port as real
 use Rattle.output_port.specs.Port.{PortState, port, may_wait}
 use Rattle.port_bounds.specs.Frames.{PutFrame}
-use Rattle.port_bounds.specs.Port.{Event, Port, Start, after, outcome, starts_of}
-use Rattle.element_bounds.specs.PortTrace.{FrameStart, IsSamePort, PortEventAt, frames_of, put_at, seen_as, started_by, started_of, state_after, trace_of}
+use Rattle.port_bounds.specs.Port.{Event, Port, Start, after, highs_of, lows_of, outcome, starts_of}
+use Rattle.port_bounds.specs.Sublists.{Every}
+use Rattle.element_bounds.specs.PortTrace.{FrameStart, IsSamePort, PortEventAt, frames_of, put_at, put_event, seen_as, started_by, started_of, state_after, trace_of}
 
 -- a start, as it is told of a real port
 abbrev told : Start → FrameStart
@@ -99,3 +103,35 @@ same byte_ns p a (e ∷ es) s =
       ap (λ z. z ++ started_of (port.after p e.event) es) one.starts_same ∙ (ap (λ z. map told (starts_of a now) ++ z) rest.1 ∙
           (sym (map-append told (starts_of a now) (starts_of (after a now) later)) ∙ ap (map told) (sym (starts-append a now later)))),
     )
+
+-- ---- what holds of each frame that a port is asked to take holds of each in the trace
+
+-- P speaks of the priority, too
+module _ (P : Priority → PutFrame → Type 0) (byte_ns : ℕ) where
+  abbrev pub OfAsked : ℕ → ℕ → PortEvent → Type 0
+  OfAsked t line (event.Put frame q) = P q (put_at byte_ns t line frame)
+  OfAsked t line event.Free = ⊤
+
+  pub record AllPuts (es : List Event) : Type 0 where
+    pub high : Every (P priority.High) (highs_of es)
+    pub low : Every (P priority.Low) (lows_of es)
+
+  put-puts : (q : Priority) (x : PutFrame) (es : List Event) → P q x → AllPuts es → AllPuts (put_event q x ∷ es)
+  put-puts priority.High x es p h = record { high = (p, h.high); low = h.low }
+  put-puts priority.Low x es p h = record { high = h.high; low = (p, h.low) }
+
+  seen-puts : (t line : ℕ) (e : PortEvent) (a : PortAnswer) (es : List Event) → OfAsked t line e → AllPuts es → AllPuts (seen_as byte_ns t line e a ++ es)
+  seen-puts t line (event.Put frame q) (Started f) es p h = put-puts q (put_at byte_ns t line frame) es p h
+  seen-puts t line (event.Put frame q) Kept es p h = put-puts q (put_at byte_ns t line frame) es p h
+  seen-puts t line (event.Put frame q) Dropped es p h = h
+  seen-puts t line (event.Put frame q) Idle es p h = h
+  seen-puts t line (event.Put frame q) Nothing es p h = h
+  seen-puts t line event.Free (Started f) es p h = record { high = h.high; low = h.low }
+  seen-puts t line event.Free Idle es p h = record { high = h.high; low = h.low }
+  seen-puts t line event.Free Kept es p h = h
+  seen-puts t line event.Free Dropped es p h = h
+  seen-puts t line event.Free Nothing es p h = h
+
+  pub trace-puts : (p : PortState) (es : List PortEventAt) → Every (λ e. OfAsked e.at e.line e.event) es → AllPuts (trace_of byte_ns p es)
+  trace-puts p [] h = record { high = tt; low = tt }
+  trace-puts p (e ∷ es) h = seen-puts e.at e.line e.event (port.out p e.event) (trace_of byte_ns (port.after p e.event) es) h.0 (trace-puts (port.after p e.event) es h.1)

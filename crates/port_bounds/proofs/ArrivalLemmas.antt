@@ -1,10 +1,11 @@
 -- Why paced frames, and frames that come one after the other, have their curves.
-use Rattle.std.proofs.Common.{◌≡◌, ℕ, ◌+◌, ◌-◌, ◌*◌, ◌≤◌, inl, inr, Bool, true, false, cond, List, [], ◌∷◌, ◌++◌, length, ap, arith, refl, sym, subst, ◌∙◌}
+use Rattle.std.proofs.Common.{◌≡◌, ℕ, ◌+◌, ◌-◌, ◌*◌, ◌≤◌, inl, inr, Bool, true, false, cond, List, [], ◌∷◌, ◌++◌, length, Option, Some, None, ap, arith, refl, sym, subst, ◌∙◌}
 use Rattle.std.proofs.lemmas.Nat.{mul-le}
+use Rattle.std.specs.Prelude.{⊤}
 use Rattle.port_bounds.specs.Frames.{PutFrame, IsBetween}
 use Rattle.port_bounds.specs.Sublists.{IsSublist}
 use Rattle.port_bounds.specs.Pacing.{AreBetween, IsPaced}
-use Rattle.port_bounds.specs.Arrivals.{IsClassWithin, IsEachAtMost, IsSerial, cost_at, moments_at}
+use Rattle.port_bounds.specs.Arrivals.{IsAfter, IsClassWithin, IsEachAtMost, IsSerial, cost_at, moments_at}
 use Rattle.port_bounds.proofs.FrameLemmas.{between-ends}
 use Rattle.port_bounds.proofs.PacingLemmas.{sooner}
 use Rattle.port_bounds.proofs.SublistLemmas.{sub-part, sub-trans}
@@ -58,34 +59,34 @@ paced parts bag jitter most test fs p h = record {
         omega arith
 
 -- some frame came last before a part
-serial-part : (first : ℕ) (test : PutFrame → Bool) (xs ys zs : List PutFrame) → IsSerial first test (xs ++ (ys ++ zs)) → (last : ℕ) × IsSerial last test ys
-serial-part first test (x ∷ xs) ys zs h = serial-part (cond (test x) x.at first) test xs ys zs h.1
+serial-part : (first : Option ℕ) (test : PutFrame → Bool) (xs ys zs : List PutFrame) → IsSerial first test (xs ++ (ys ++ zs)) → (last : Option ℕ) × IsSerial last test ys
+serial-part first test (x ∷ xs) ys zs h = serial-part (cond (test x) (Some x.at) first) test xs ys zs h.1
 serial-part first test [] ys zs h = (first, front first ys h)
   where
-    front : (last : ℕ) (ys : List PutFrame) → IsSerial last test (ys ++ zs) → IsSerial last test ys
+    front : (last : Option ℕ) (ys : List PutFrame) → IsSerial last test (ys ++ zs) → IsSerial last test ys
     front last [] k = tt
-    front last (y ∷ ys) k = (k.0, front (cond (test y) y.at last) ys k.1)
+    front last (y ∷ ys) k = (k.0, front (cond (test y) (Some y.at) last) ys k.1)
 
 -- what comes after a frame that came at `last`, until u
-serial-after : (last : ℕ) (test : PutFrame → Bool) (t u : ℕ) (ys : List PutFrame) → last ≤ t → IsBetween t u ys → IsSerial last test ys → cost_at test ys ≤ u - last
+serial-after : (last : ℕ) (test : PutFrame → Bool) (t u : ℕ) (ys : List PutFrame) → last ≤ t → IsBetween t u ys → IsSerial (Some last) test ys → cost_at test ys ≤ u - last
 serial-after last test t u [] l h s = omega arith
-serial-after last test t u (y ∷ ys) l h s = go (λ (from : ℕ) (a : from ≤ y.at) (k : IsSerial from test ys). serial-after from test y.at u ys a h.1 k) (test y) refl s.1
+serial-after last test t u (y ∷ ys) l h s = go (λ (from : ℕ) (a : from ≤ y.at) (k : IsSerial (Some from) test ys). serial-after from test y.at u ys a h.1 k) (test y) refl s.1
   where
-    go : ((from : ℕ) → from ≤ y.at → IsSerial from test ys → cost_at test ys ≤ u - from) → (b : Bool) → test y ≡ b → IsSerial (cond b y.at last) test ys →
+    go : ((from : ℕ) → from ≤ y.at → IsSerial (Some from) test ys → cost_at test ys ≤ u - from) → (b : Bool) → test y ≡ b → IsSerial (cond b (Some y.at) (Some last)) test ys →
         cond b y.cost 0 + cost_at test ys ≤ u - last
     go r true e k = let n = r y.at (omega arith) k in let c = s.0 e in let z = between-ends y.at u ys h.1 in omega arith
     go r false e k = let a = h.0 in let n = r last (omega arith) k in omega arith
 
-serial-from : (last most : ℕ) (test : PutFrame → Bool) (t u : ℕ) (ys : List PutFrame) → IsBetween t u ys → IsSerial last test ys → IsEachAtMost most test ys → cost_at test ys ≤ most + (u - t)
+serial-from : (last : Option ℕ) (most : ℕ) (test : PutFrame → Bool) (t u : ℕ) (ys : List PutFrame) → IsBetween t u ys → IsSerial last test ys → IsEachAtMost most test ys → cost_at test ys ≤ most + (u - t)
 serial-from last most test t u [] h s m = omega arith
 serial-from last most test t u (y ∷ ys) h s m = go (λ (k : IsSerial last test ys). serial-from last most test y.at u ys h.1 k m.1) (test y) refl s.1
   where
-    go : (IsSerial last test ys → cost_at test ys ≤ most + (u - y.at)) → (b : Bool) → test y ≡ b → IsSerial (cond b y.at last) test ys →
+    go : (IsSerial last test ys → cost_at test ys ≤ most + (u - y.at)) → (b : Bool) → test y ≡ b → IsSerial (cond b (Some y.at) last) test ys →
         cond b y.cost 0 + cost_at test ys ≤ most + (u - t)
     go later true e k = let r = serial-after y.at test y.at u ys (omega arith) h.1 k in let c = m.0 e in let a = h.0 in omega arith
     go later false e k = let r = later k in let a = h.0 in omega arith
 
-pub serial : (scale most first : ℕ) (test : PutFrame → Bool) (fs : List PutFrame) → IsSerial first test fs → IsEachAtMost most test fs →
+pub serial : (scale most : ℕ) (first : Option ℕ) (test : PutFrame → Bool) (fs : List PutFrame) → IsSerial first test fs → IsEachAtMost most test fs →
     IsClassWithin scale (scale * most) scale test fs
 serial scale most first test fs s h = record {
   bounded = λ xs ys zs t u are between.
@@ -97,22 +98,35 @@ serial scale most first test fs s h = record {
 
 -- ---- some of the frames
 
-serial-sooner : (a b : ℕ) (test : PutFrame → Bool) (fs : List PutFrame) → a ≤ b → IsSerial b test fs → IsSerial a test fs
-serial-sooner a b test [] l h = tt
-serial-sooner a b test (x ∷ xs) l h = (λ e. let k = h.0 e in omega arith, go (test x) h.1 (serial-sooner a b test xs l))
+-- a moment, if there is one, is not after b
+abbrev IsNotAfter : Option ℕ → ℕ → Type 0
+IsNotAfter None b = ⊤
+IsNotAfter (Some a) b = a ≤ b
+
+sooner-after : (first : Option ℕ) (b : ℕ) (x : PutFrame) → IsNotAfter first b → IsAfter (Some b) x → IsAfter first x
+sooner-after None b x l h = tt
+sooner-after (Some a) b x l h = omega arith
+
+not-after : (first : Option ℕ) (x : PutFrame) → IsAfter first x → IsNotAfter first x.at
+not-after None x h = tt
+not-after (Some a) x h = omega arith
+
+serial-sooner : (first : Option ℕ) (b : ℕ) (test : PutFrame → Bool) (fs : List PutFrame) → IsNotAfter first b → IsSerial (Some b) test fs → IsSerial first test fs
+serial-sooner first b test [] l h = tt
+serial-sooner first b test (x ∷ xs) l h = (λ e. sooner-after first b x l (h.0 e), go (test x) h.1 (serial-sooner first b test xs l))
   where
-    go : (t : Bool) → IsSerial (cond t x.at b) test xs → (IsSerial b test xs → IsSerial a test xs) → IsSerial (cond t x.at a) test xs
+    go : (t : Bool) → IsSerial (cond t (Some x.at) (Some b)) test xs → (IsSerial (Some b) test xs → IsSerial first test xs) → IsSerial (cond t (Some x.at) first) test xs
     go true k later = k
     go false k later = later k
 
-pub fewer-serial : (first : ℕ) (test : PutFrame → Bool) (some fs : List PutFrame) → IsSublist some fs → IsSerial first test fs → IsSerial first test some
+pub fewer-serial : (first : Option ℕ) (test : PutFrame → Bool) (some fs : List PutFrame) → IsSublist some fs → IsSerial first test fs → IsSerial first test some
 fewer-serial first test [] fs s h = tt
 fewer-serial first test (x ∷ xs) [] s h = absurd s
-fewer-serial first test (x ∷ xs) (y ∷ ys) (inl e) h = subst (λ z. IsSerial first test (z ∷ xs)) (sym e.0) (h.0, fewer-serial (cond (test y) y.at first) test xs ys e.1 h.1)
+fewer-serial first test (x ∷ xs) (y ∷ ys) (inl e) h = subst (λ z. IsSerial first test (z ∷ xs)) (sym e.0) (h.0, fewer-serial (cond (test y) (Some y.at) first) test xs ys e.1 h.1)
 fewer-serial first test (x ∷ xs) (y ∷ ys) (inr k) h = fewer-serial first test (x ∷ xs) ys k (go (test y) refl h.1)
   where
-    go : (t : Bool) → test y ≡ t → IsSerial (cond t y.at first) test ys → IsSerial first test ys
-    go true e r = serial-sooner first y.at test ys (let a = h.0 e in omega arith) r
+    go : (t : Bool) → test y ≡ t → IsSerial (cond t (Some y.at) first) test ys → IsSerial first test ys
+    go true e r = serial-sooner first y.at test ys (not-after first y (h.0 e)) r
     go false e r = r
 
 pub fewer-paced : (bag jitter : ℕ) (some moments : List ℕ) → IsSublist some moments → IsPaced bag jitter moments → IsPaced bag jitter some

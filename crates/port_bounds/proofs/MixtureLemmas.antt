@@ -1,5 +1,5 @@
 -- Why curves of lines and of virtual links bound all that comes.
-use Rattle.std.proofs.Common.{◌≡◌, ℕ, ◌+◌, ◌-◌, ◌*◌, ◌≤◌, ◌==◌, inl, inr, Bool, true, false, cond, List, [], ◌∷◌, ◌++◌, arith, refl, ap, subst, eq-eqb}
+use Rattle.std.proofs.Common.{◌≡◌, ℕ, zero, suc, ◌+◌, ◌-◌, ◌*◌, ◌≤◌, ◌==◌, inl, inr, Bool, true, false, cond, List, [], ◌∷◌, ◌++◌, arith, refl, ap, subst, eq-eqb}
 use Rattle.std.proofs.lemmas.Nat.{mul-le}
 use Rattle.port_bounds.specs.Frames.{PutFrame, IsBetween, IsWithin, cost_of, link_of}
 use Rattle.port_bounds.specs.Arrivals.{cost_at, is_by_line}
@@ -54,14 +54,18 @@ module _ (scale : ℕ) (fs xs ys zs : List PutFrame) (t u : ℕ) (are : fs ≡ x
       omega arith
 
   -- by the line, by the virtual links, and by some of each
-  mixed-within : (whole weight cost lb lr fb fr w : ℕ) → weight ≤ whole → scale * cost ≤ lb + lr * w → scale * cost ≤ fb + fr * w →
+  mixed-within : (whole weight cost lb lr fb fr w : ℕ) → weight ≤ whole → (1 ≤ weight → scale * cost ≤ lb + lr * w) → scale * cost ≤ fb + fr * w →
       (whole * scale) * cost ≤ mixed whole weight lb fb + mixed whole weight lr fr * w
   mixed-within whole weight cost lb lr fb fr w h k l =
-      let a : weight * (scale * cost) ≤ weight * (lb + lr * w) = mul-le weight (scale * cost) weight (lb + lr * w) (omega arith) k in
+      let a : weight * (scale * cost) ≤ weight * (lb + lr * w) = by-weight weight k in
       let b : (whole - weight) * (scale * cost) ≤ (whole - weight) * (fb + fr * w) = mul-le (whole - weight) (scale * cost) (whole - weight) (fb + fr * w) (omega arith) l in
       let c : (weight + (whole - weight)) * (scale * cost) ≡ whole * (scale * cost) = ap (λ (n : ℕ). n * (scale * cost)) (omega arith) in
       sums weight (whole - weight) whole (scale * cost) scale cost lb lr fb fr w refl c a b
     where
+      by-weight : (n : ℕ) → (1 ≤ n → scale * cost ≤ lb + lr * w) → n * (scale * cost) ≤ n * (lb + lr * w)
+      by-weight zero k = omega arith
+      by-weight (suc n) k = mul-le (suc n) (scale * cost) (suc n) (lb + lr * w) (omega arith) (k (omega arith))
+
       sums : (p q whole sc scale cost lb lr fb fr w : ℕ) → sc ≡ scale * cost → (p + q) * sc ≡ whole * sc → p * sc ≤ p * (lb + lr * w) → q * sc ≤ q * (fb + fr * w) →
           (whole * scale) * cost ≤ (p * lb + q * fb) + (p * lr + q * fr) * w
       sums p q whole sc scale cost lb lr fb fr w e c a b = let d : whole * sc ≡ whole * (scale * cost) = ap (λ (n : ℕ). whole * n) e in omega arith
@@ -71,7 +75,7 @@ module _ (scale : ℕ) (fs xs ys zs : List PutFrame) (t u : ℕ) (are : fs ≡ x
   unfolding sum_at
   groups-within whole [] h = omega arith
   groups-within whole (g ∷ groups) h =
-      let line : scale * cost_at (is_by_line g.line) ys ≤ g.burst + g.rate * (u - t) = h.1.bounded xs ys zs t u are between in
+      let line : 1 ≤ g.weight → scale * cost_at (is_by_line g.line) ys ≤ g.burst + g.rate * (u - t) = λ some. (h.1 some).bounded xs ys zs t u are between in
       let flows = flows-within g.flows h.2 in
       let keyed = keyed-part (is_by_line g.line) link_of (links_of g.flows) xs ys zs (subst (AreKeyed (is_by_line g.line) link_of (links_of g.flows)) are h.3) in
       let less : scale * cost_at (is_by_line g.line) ys ≤ scale * sum_at link_of (links_of g.flows) ys = mul-le scale _ scale _ (omega arith) (cover (is_by_line g.line) link_of (links_of g.flows) ys keyed) in

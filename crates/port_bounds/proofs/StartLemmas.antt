@@ -38,6 +38,17 @@ module _ (P : PutFrame → Type 0) where
   low-put (Free t ∷ es) until [] (x ∷ low) h k = (h.0, low-put es (Some (t + x.cost)) [] low h.1 k)
   low-put (Free t ∷ es) until [] [] h k = low-put es None [] [] tt k
 
+  pub all-put : (es : List Event) (until : Option ℕ) (high low : List PutFrame) → Every P high → Every P low → Every P (highs_of es) → Every P (lows_of es) →
+      Every OfStart (starts_of (record { until = until; high = high; low = low }) es)
+  all-put [] until high low h l a b = tt
+  all-put (High x ∷ es) None high low h l a b = (a.0, all-put es (Some (x.at + x.cost)) high low h l a.1 b)
+  all-put (High x ∷ es) (Some u) high low h l a b = all-put es (Some u) (high ++ x ∷ []) low (every-push high x h a.0) l a.1 b
+  all-put (Low x ∷ es) None high low h l a b = (b.0, all-put es (Some (x.at + x.cost)) high low h l a b.1)
+  all-put (Low x ∷ es) (Some u) high low h l a b = all-put es (Some u) high (low ++ x ∷ []) h (every-push low x l b.0) a b.1
+  all-put (Free t ∷ es) until (x ∷ high) low h l a b = (h.0, all-put es (Some (t + x.cost)) high low h.1 l a b)
+  all-put (Free t ∷ es) until [] (x ∷ low) h l a b = (l.0, all-put es (Some (t + x.cost)) [] low tt l.1 a b)
+  all-put (Free t ∷ es) until [] [] h l a b = all-put es None [] [] tt tt a b
+
 apart-sooner : (t u : ℕ) (ss : List Start) → t ≤ u → AreApart u ss → AreApart t ss
 apart-sooner t u [] l h = tt
 apart-sooner t u (s ∷ ss) l h = (omega (arith, h.0), h.1)

@@ -1,5 +1,5 @@
 -- What one virtual link, or one line, can give a port.
-use Rattle.std.specs.Prelude.{◌≡◌, ℕ, ◌+◌, ◌-◌, ◌*◌, ◌≤◌, ◌==◌, Bool, true, if◌then◌else◌, List, [], ◌∷◌, ◌++◌, ⊤}
+use Rattle.std.specs.Prelude.{◌≡◌, ℕ, ◌+◌, ◌-◌, ◌*◌, ◌≤◌, ◌==◌, Bool, true, if◌then◌else◌, List, [], ◌∷◌, ◌++◌, Option, Some, None, ⊤}
 use Rattle.port_bounds.specs.Frames.{PutFrame, IsBetween, link_of}
 use Rattle.port_bounds.specs.Sublists.{IsSublist}
 use Rattle.port_bounds.specs.Pacing.{IsPaced}
@@ -30,10 +30,15 @@ abbrev pub IsEachAtMost : ℕ → (PutFrame → Bool) → List PutFrame → Type
 IsEachAtMost most test [] = ⊤
 IsEachAtMost most test (x ∷ xs) = (test x ≡ true → x.cost ≤ most) × IsEachAtMost most test xs
 
+-- the frame comes at least its own cost after that moment, if there is one
+abbrev pub IsAfter : Option ℕ → PutFrame → Type 0
+IsAfter None x = ⊤
+IsAfter (Some last) x = last + x.cost ≤ x.at
+
 -- each of these frames that passes the test comes at least its own cost after the one before it, which came at `last`
-abbrev pub IsSerial : ℕ → (PutFrame → Bool) → List PutFrame → Type 0
+abbrev pub IsSerial : Option ℕ → (PutFrame → Bool) → List PutFrame → Type 0
 IsSerial last test [] = ⊤
-IsSerial last test (x ∷ xs) = (test x ≡ true → last + x.cost ≤ x.at) × IsSerial (if test x then x.at else last) test xs
+IsSerial last test (x ∷ xs) = (test x ≡ true → IsAfter last x) × IsSerial (if test x then Some x.at else last) test xs
 
 -- the curve of paced frames, in units of which a ns has `parts` times the BAG
 abbrev pub ArePacedWithin : Type 0
@@ -44,9 +49,9 @@ ArePacedWithin =
 -- the curve of frames that come one after the other, by a line that is no faster than the port's own
 abbrev pub AreSerialWithin : Type 0
 AreSerialWithin =
-    (scale most first : ℕ) (test : PutFrame → Bool) (fs : List PutFrame) → IsSerial first test fs → IsEachAtMost most test fs →
+    (scale most : ℕ) (first : Option ℕ) (test : PutFrame → Bool) (fs : List PutFrame) → IsSerial first test fs → IsEachAtMost most test fs →
     IsClassWithin scale (scale * most) scale test fs
 
 -- where some of the frames are lost the others come one after the other, too
 abbrev pub AreFewerSerial : Type 0
-AreFewerSerial = (first : ℕ) (test : PutFrame → Bool) (some fs : List PutFrame) → IsSublist some fs → IsSerial first test fs → IsSerial first test some
+AreFewerSerial = (first : Option ℕ) (test : PutFrame → Bool) (some fs : List PutFrame) → IsSublist some fs → IsSerial first test fs → IsSerial first test some

@@ -62,11 +62,12 @@ abbrev pub AreFlowsWithin : ℕ → List Flow → List PutFrame → Type 0
 AreFlowsWithin scale [] fs = ⊤
 AreFlowsWithin scale (f ∷ flows) fs = IsClassWithin scale f.burst f.rate (is_of_link f.link) fs × AreFlowsWithin scale flows fs
 
--- of each group the weight is at most `whole`, the line and its virtual links have their curves, and only frames of these come by the line
+-- of each group the weight is at most `whole`, its virtual links have their curves, and so has the line if its weight is not 0; and only frames of
+-- these virtual links come by the line
 abbrev pub AreGroupsWithin : ℕ → ℕ → List Group → List PutFrame → Type 0
 AreGroupsWithin scale whole [] fs = ⊤
 AreGroupsWithin scale whole (g ∷ gs) fs =
-    (g.weight ≤ whole) × IsClassWithin scale g.burst g.rate (is_by_line g.line) fs × AreFlowsWithin scale g.flows fs ×
+    (g.weight ≤ whole) × (1 ≤ g.weight → IsClassWithin scale g.burst g.rate (is_by_line g.line) fs) × AreFlowsWithin scale g.flows fs ×
     AreKeyed (is_by_line g.line) link_of (links_of g.flows) fs × AreGroupsWithin scale whole gs fs
 
 -- then all frames together have the curve of the mixture, whatever the weights are

@@ -1,7 +1,7 @@
 -- What is found by its number, once an entry with the same number is set.
 use Rattle.std.proofs.Common.{◌≡◌, ◌≢◌, ℕ, suc, ◌+◌, ◌==◌, Bool, true, false, cond, List, [], ◌∷◌, map, slice_get, slice_set, Option, None, Some, option_map, option_and_then, refl, sym, ap, ◌∙◌, subst, arith, eqb-true}
 use Rattle.std.proofs.Math.Seq.{map-set_same}
-use Rattle.std.proofs.lemmas.Option.{none-some, same_Some, get_or_from_slice_get}
+use Rattle.std.proofs.lemmas.Option.{none-some, same_Some, get_or_from_slice_get, slice_get-map}
 use Rattle.nodes.specs.rules.Finding.{Found, find, found_at, place_of}
 use Rattle.nodes.specs.laws.Places.{found-there, get-set}
 use Rattle.port_turns.proofs.Turns.{get-other}
@@ -18,7 +18,7 @@ place-number (n ∷ numbers) id i h = go (n == id) refl (place_of numbers id) h 
         let at : suc j ≡ i = let s = same_Some (j + 1) i k in omega arith in
         subst (λ j. slice_get (n ∷ numbers) j ≡ Some id) at (later j refl)
 
-module _ {X : Type 0} (number : X → ℕ) (xs : List X) (id : ℕ) (found : Found X) (is : find number xs id ≡ Some found) (y : X) (same : number y ≡ number found.entry) where
+module _ {X : Type 0} (number : X → ℕ) (xs : List X) (id : ℕ) (found : Found X) (is : find number xs id ≡ Some found) where
   placed : place_of (map number xs) id ≡ Some found.place
   placed = go (place_of (map number xs) id) refl is
     where
@@ -33,23 +33,28 @@ module _ {X : Type 0} (number : X → ℕ) (xs : List X) (id : ℕ) (found : Fou
   there : slice_get xs found.place ≡ Some found.entry
   there = found-there number xs id found is
 
-  numbers-stay : map number (slice_set xs found.place y) ≡ map number xs
-  numbers-stay = map-set_same number xs found.place y found.entry (same ∙ ap number (sym (get_or_from_slice_get xs found.place found.entry found.entry there)))
+  -- it has the number
+  pub found-number : number found.entry ≡ id
+  found-number = same_Some (number found.entry) id (sym (slice_get-map number xs found.place ∙ ap (option_map number) there) ∙ place-number (map number xs) id found.place placed)
 
-  -- the entry that is set is found
-  pub found-set : find number (slice_set xs found.place y) id ≡ Some (record { place = found.place; entry = y })
-  found-set =
-      ap (λ ns. option_and_then (found_at (slice_set xs found.place y)) (place_of ns id)) numbers-stay ∙
-      (ap (option_and_then (found_at (slice_set xs found.place y))) placed ∙
-      ap (option_map (λ x. record { place = found.place; entry = x })) (get-set xs found.place found.entry y there))
+  module _ (y : X) (same : number y ≡ number found.entry) where
+    numbers-stay : map number (slice_set xs found.place y) ≡ map number xs
+    numbers-stay = map-set_same number xs found.place y found.entry (same ∙ ap number (sym (get_or_from_slice_get xs found.place found.entry found.entry there)))
 
-  -- and each other number finds what it found
-  pub found-other : (v : ℕ) → v ≢ id → find number (slice_set xs found.place y) v ≡ find number xs v
-  found-other v d = ap (λ ns. option_and_then (found_at (slice_set xs found.place y)) (place_of ns v)) numbers-stay ∙ go (place_of (map number xs) v) refl
-    where
-      not-here : (j : ℕ) → place_of (map number xs) v ≡ Some j → j ≢ found.place
-      not-here j p e = d (same_Some v id (sym (place-number (map number xs) v j p) ∙ (ap (slice_get (map number xs)) e ∙ place-number (map number xs) id found.place placed)))
+    -- the entry that is set is found
+    pub found-set : find number (slice_set xs found.place y) id ≡ Some (record { place = found.place; entry = y })
+    found-set =
+        ap (λ ns. option_and_then (found_at (slice_set xs found.place y)) (place_of ns id)) numbers-stay ∙
+        (ap (option_and_then (found_at (slice_set xs found.place y))) placed ∙
+        ap (option_map (λ x. record { place = found.place; entry = x })) (get-set xs found.place found.entry y there))
 
-      go : (o : Option ℕ) → place_of (map number xs) v ≡ o → option_and_then (found_at (slice_set xs found.place y)) o ≡ option_and_then (found_at xs) o
-      go None p = refl
-      go (Some j) p = ap (option_map (λ x. record { place = j; entry = x })) (get-other xs found.place j y (not-here j p))
+    -- and each other number finds what it found
+    pub found-other : (v : ℕ) → v ≢ id → find number (slice_set xs found.place y) v ≡ find number xs v
+    found-other v d = ap (λ ns. option_and_then (found_at (slice_set xs found.place y)) (place_of ns v)) numbers-stay ∙ go (place_of (map number xs) v) refl
+      where
+        not-here : (j : ℕ) → place_of (map number xs) v ≡ Some j → j ≢ found.place
+        not-here j p e = d (same_Some v id (sym (place-number (map number xs) v j p) ∙ (ap (slice_get (map number xs)) e ∙ place-number (map number xs) id found.place placed)))
+
+        go : (o : Option ℕ) → place_of (map number xs) v ≡ o → option_and_then (found_at (slice_set xs found.place y)) o ≡ option_and_then (found_at xs) o
+        go None p = refl
+        go (Some j) p = ap (option_map (λ x. record { place = j; entry = x })) (get-other xs found.place j y (not-here j p))

@@ -1,15 +1,18 @@
 -- What a message makes of a virtual link at a switch: nothing, or its account judges a frame, and puts it to the outputs if it passes.
-use Rattle.std.proofs.Common.{◌≡◌, ℕ, ◌+◌, ◌<◌, ◌==◌, ◌&&◌, inl, inr, Bool, true, false, cond, nat_lt, List, [], ◌∷◌, map, filter, Option, Some, option_map, slice_set, refl, sym, ap, ◌∙◌, subst, arith, ne_eqb, eq-eqb}
+use Rattle.std.proofs.Common.{◌≡◌, ℕ, ◌+◌, ◌<◌, ◌==◌, ◌&&◌, inl, inr, Bool, true, false, cond, nat_lt, List, [], ◌∷◌, map, filter, Option, None, Some, option_map, slice_set, refl, sym, ap, ◌∙◌, subst, arith, ne_eqb, eq-eqb}
 use Rattle.std.proofs.lemmas.Bool.{cases_eq}
 use Rattle.std.proofs.lemmas.Option.{none-some, same_Some}
 use Rattle.vlink.specs.declared.frame.Frame.{Frame}
 use Rattle.vlink.specs.declared.message.Message.{Message}
 use Rattle.vlink.specs.declared.message.Body.{Body}
+use Rattle.vlink.specs.declared.message.Body.TheVariants.{Offer, Release, PortFree, Arrive, Enqueue, Carry}
 use Rattle.vlink.specs.declared.note.Cause.TheVariants.{Unknown, TooLong}
 use Rattle.policer.specs.declared.account.Arrival.{Arrival}
 use Rattle.policer.specs.declared.account.Verdict.{Verdict}
 use Rattle.policer.specs.declared.account.Verdict.TheVariants as verdict
 use Rattle.policer.specs.Account.{account, passes}
+use Rattle.output_port.specs.declared.event.PortEvent.{PortEvent}
+use Rattle.output_port.specs.declared.event.PortEvent.TheVariants.{Put, Free}
 use Rattle.reverse.specs.Sending.{Wish, loss}
 use Rattle.port_bounds.specs.Sublists.{IsSublist}
 use Rattle.nodes.specs.declared.transit.Transit.{Transit}
@@ -17,11 +20,13 @@ use Rattle.nodes.specs.declared.equipment.Equipment.{Equipment}
 use Rattle.nodes.specs.declared.equipment.Equipment.TheVariants.{EndSystem, Switch, Line}
 use Rattle.nodes.specs.rules.Finding.{Found, find}
 use Rattle.nodes.specs.rules.Outputs.{marked_from}
+use Rattle.nodes.specs.rules.Ports.{exists, reply}
+use Rattle.nodes.specs.rules.Switch as sw
 use Rattle.nodes.specs.rules.Switch.{SwitchState, entered, entered_reply, forwarded, judged, outputs_of, switch, transit_at, transit_number}
 use Rattle.nodes.specs.rules.Node.{handled}
 use Rattle.nodes.specs.laws.Ports.{reply-cases}
-use Rattle.nodes.specs.laws.SwitchSending.{switch-cases, wish_to}
-use Rattle.port_turns.specs.SwitchPuts.{is_put, transit_of}
+use Rattle.nodes.specs.laws.SwitchSending.{wish_to}
+use Rattle.port_turns.specs.SwitchPuts.{IsBrought, is_put, transit_of}
 use Rattle.port_turns.proofs.Found.{found-set, found-other}
 
 -- when frames of the virtual link are put to the port by these wishes
@@ -29,10 +34,10 @@ abbrev pub put_times : ℕ → ℕ → List Wish → List ℕ
 put_times q v ws = map (λ w. w.time) (filter (λ w. is_put q v w.body) ws)
 
 -- nothing changes of the virtual link, or its account judges a frame; what passes is put once at most, after the delay
-pub data Judged (t delay : ℕ) (before : Transit) (now : Option Transit) (times : List ℕ) : Type 0 where
-  Quiet : now ≡ Some before → times ≡ [] → Judged t delay before now times
-  Judges : (arrival : Arrival) → arrival.at ≡ t → now ≡ Some (record before { account = account.after before.account arrival }) →
-      IsSublist times (cond (passes before.account arrival) ((t + delay) ∷ []) []) → Judged t delay before now times
+pub data Judged (t delay v : ℕ) (b : Body) (before : Transit) (now : Option Transit) (times : List ℕ) : Type 0 where
+  Quiet : now ≡ Some before → times ≡ [] → Judged t delay v b before now times
+  Judges : (arrival : Arrival) → arrival.at ≡ t → IsBrought v arrival.size b → now ≡ Some (record before { account = account.after before.account arrival }) →
+      IsSublist times (cond (passes before.account arrival) ((t + delay) ∷ []) []) → Judged t delay v b before now times
 
 module _ (n t q v : ℕ) where
   -- outputs rise, so a port is there once at most
@@ -76,9 +81,9 @@ module _ (n t q v : ℕ) where
       go false c x = refl
 
   -- and one of this one
-  entered-own : (delay at : ℕ) (frame : Frame) (transit : Transit) →
-      Judged t delay transit (Some (entered t at frame transit)) (put_times q v (entered_reply n t delay at frame transit).wishes)
-  entered-own delay at frame transit = go (transit.input == at) (nat_lt transit.smax frame.size)
+  entered-own : (delay at : ℕ) (frame : Frame) (transit : Transit) → frame.vl.0 ≡ v →
+      Judged t delay v (Arrive at frame) transit (Some (entered t at frame transit)) (put_times q v (entered_reply n t delay at frame transit).wishes)
+  entered-own delay at frame transit of = go (transit.input == at) (nat_lt transit.smax frame.size)
     where
       arrival : Arrival
       arrival = record { at = t; size = frame.size }
@@ -87,23 +92,19 @@ module _ (n t q v : ℕ) where
       passing true = once (t + delay) 0 frame transit.outputs
       passing false = tt
 
-      go : (b c : Bool) → Judged t delay transit
+      go : (b c : Bool) → Judged t delay v (Arrive at frame) transit
           (Some (cond b (cond c transit (record transit { account = account.after transit.account (record { at = t; size = frame.size }) })) transit))
           (put_times q v (cond b (cond c (loss TooLong frame) (judged n (t + delay) frame (outputs_of transit) (account.out transit.account (record { at = t; size = frame.size })))) (loss Unknown frame)).wishes)
       go true true = Quiet refl refl
-      go true false = Judges (record { at = t; size = frame.size }) refl refl (passing (passes transit.account (record { at = t; size = frame.size })))
+      go true false = Judges (record { at = t; size = frame.size }) refl (of, refl) refl (passing (passes transit.account (record { at = t; size = frame.size })))
       go false c = Quiet refl refl
 
   abbrev at_switch : SwitchState → Option Transit
   at_switch s = option_map (λ found. found.entry) (find transit_number s.transits v)
 
   switch-judges : (b : Body) (s : SwitchState) (transit : Transit) → at_switch s ≡ Some transit →
-      Judged t s.latency transit (at_switch (switch n t b s).state) (put_times q v (switch n t b s).reply.wishes)
-  switch-judges b s transit is = switch-cases (λ o. Judged t s.latency transit (at_switch o.state) (put_times q v o.reply.wishes)) n t s (record {
-    quiet = λ r h. Quiet is (ap (put_times q v) h);
-    at_ports = λ k e. Quiet is (reply-cases (λ r. put_times q v r.wishes ≡ []) n t k e s.ports (λ r h. ap (put_times q v) h) (λ outlet frame h. refl));
-    takes = λ k frame found h. elim (cases_eq frame.vl.0 v) [ inl e ↦ own k frame found h e | inr d ↦ other k frame found h d ];
-  }) b
+      Judged t s.latency v b transit (at_switch (switch n t b s).state) (put_times q v (switch n t b s).reply.wishes)
+  switch-judges b s transit is = cases b
     where
       same-number : (k : ℕ) (frame : Frame) (x : Transit) → transit_number (entered t k frame x) ≡ transit_number x
       same-number k frame x = go (x.input == k) (nat_lt x.smax frame.size)
@@ -114,19 +115,42 @@ module _ (n t q v : ℕ) where
           go false c = refl
 
       own : (k : ℕ) (frame : Frame) (found : Found Transit) → transit_at s frame.vl ≡ Some found → frame.vl.0 ≡ v →
-          Judged t s.latency transit (option_map (λ found. found.entry) (find transit_number (slice_set s.transits found.place (entered t k frame found.entry)) v)) (put_times q v (entered_reply n t s.latency k frame found.entry).wishes)
+          Judged t s.latency v (Arrive k frame) transit (option_map (λ found. found.entry) (find transit_number (slice_set s.transits found.place (entered t k frame found.entry)) v)) (put_times q v (entered_reply n t s.latency k frame found.entry).wishes)
       own k frame found h e =
           let here : find transit_number s.transits v ≡ Some found = subst (λ i. find transit_number s.transits i ≡ Some found) e h in
           let same : found.entry ≡ transit = same_Some found.entry transit (sym (ap (option_map (λ (f : Found Transit). f.entry)) here) ∙ is) in
           let now = ap (option_map (λ (f : Found Transit). f.entry)) (found-set transit_number s.transits v found here (entered t k frame found.entry) (same-number k frame found.entry)) in
-          subst (λ x. Judged t s.latency x (option_map (λ found. found.entry) (find transit_number (slice_set s.transits found.place (entered t k frame found.entry)) v)) (put_times q v (entered_reply n t s.latency k frame found.entry).wishes)) same
-          (subst (λ o. Judged t s.latency found.entry o (put_times q v (entered_reply n t s.latency k frame found.entry).wishes)) (sym now) (entered-own s.latency k frame found.entry))
+          subst (λ x. Judged t s.latency v (Arrive k frame) x (option_map (λ found. found.entry) (find transit_number (slice_set s.transits found.place (entered t k frame found.entry)) v)) (put_times q v (entered_reply n t s.latency k frame found.entry).wishes)) same
+          (subst (λ o. Judged t s.latency v (Arrive k frame) found.entry o (put_times q v (entered_reply n t s.latency k frame found.entry).wishes)) (sym now) (entered-own s.latency k frame found.entry e))
 
       other : (k : ℕ) (frame : Frame) (found : Found Transit) → transit_at s frame.vl ≡ Some found → (frame.vl.0 ≡ v → ⊥) →
-          Judged t s.latency transit (option_map (λ found. found.entry) (find transit_number (slice_set s.transits found.place (entered t k frame found.entry)) v)) (put_times q v (entered_reply n t s.latency k frame found.entry).wishes)
+          Judged t s.latency v (Arrive k frame) transit (option_map (λ found. found.entry) (find transit_number (slice_set s.transits found.place (entered t k frame found.entry)) v)) (put_times q v (entered_reply n t s.latency k frame found.entry).wishes)
       other k frame found h d = Quiet
           (ap (option_map (λ (f : Found Transit). f.entry)) (found-other transit_number s.transits frame.vl.0 found h (entered t k frame found.entry) (same-number k frame found.entry) v (λ e. d (sym e))) ∙ is)
           (entered-others s.latency k frame found.entry d)
+
+      ports-quiet : (b : Body) (k : ℕ) (e : PortEvent) → Judged t s.latency v b transit (at_switch s) (put_times q v (reply n t k e s.ports).wishes)
+      ports-quiet b k e = Quiet is (reply-cases (λ r. put_times q v r.wishes ≡ []) n t k e s.ports (λ r h. ap (put_times q v) h) (λ outlet frame h. refl))
+
+      cases : (b : Body) → Judged t s.latency v b transit (at_switch (switch n t b s).state) (put_times q v (switch n t b s).reply.wishes)
+      cases (Offer vl size sub) = Quiet is refl
+      cases (Release vl) = Quiet is refl
+      cases (PortFree k) = ports-quiet (PortFree k) k Free
+      cases (Arrive k frame) = go (exists s.ports k) (transit_at s frame.vl) refl
+        where
+          go : (b : Bool) (o : Option (Found Transit)) → transit_at s frame.vl ≡ o →
+              Judged t s.latency v (Arrive k frame) transit (at_switch (cond b (sw.taken_in n t k frame s o) (sw.unmoved s)).state) (put_times q v (cond b (sw.taken_in n t k frame s o) (sw.unmoved s)).reply.wishes)
+          go true None h = Quiet is refl
+          go true (Some found) h = elim (cases_eq frame.vl.0 v) [ inl e ↦ own k frame found h e | inr d ↦ other k frame found h d ]
+          go false o h = Quiet is refl
+      cases (Enqueue k frame) = go (exists s.ports k) (transit_at s frame.vl)
+        where
+          go : (b : Bool) (o : Option (Found Transit)) →
+              Judged t s.latency v (Enqueue k frame) transit (at_switch (cond b (sw.put n t k frame s o) (sw.unmoved s)).state) (put_times q v (cond b (sw.put n t k frame s o) (sw.unmoved s)).reply.wishes)
+          go true None = Quiet is refl
+          go true (Some found) = ports-quiet (Enqueue k frame) k (Put frame found.entry.priority)
+          go false o = Quiet is refl
+      cases (Carry frame) = Quiet is refl
 
 -- how long a frame takes from its arrival to its output ports
 abbrev pub delay_of : Equipment → ℕ
@@ -135,7 +159,7 @@ delay_of (Switch s) = s.latency
 delay_of (Line s) = 0
 
 pub node-judges : (n q v : ℕ) (m : Message) (e : Equipment) (transit : Transit) → transit_of e v ≡ Some transit →
-    Judged m.time (delay_of e) transit (transit_of (handled n m e).equipment v) (put_times q v (handled n m e).reply.wishes)
+    Judged m.time (delay_of e) v m.body transit (transit_of (handled n m e).equipment v) (put_times q v (handled n m e).reply.wishes)
 node-judges n q v m (EndSystem s) transit is = absurd (none-some transit is)
 node-judges n q v m (Switch s) transit is = switch-judges n m.time q v m.body s transit is
 node-judges n q v m (Line s) transit is = absurd (none-some transit is)

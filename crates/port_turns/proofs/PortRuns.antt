@@ -20,11 +20,12 @@ use Rattle.nodes.specs.declared.node.NodeRecord.{NodeRecord}
 use Rattle.nodes.specs.declared.ports.Outlet.{Outlet}
 use Rattle.nodes.specs.rules.Node.{NodeState, after, handled}
 use Rattle.nodes.specs.undoing.Node.{node}
-use Rattle.port_turns.specs.PortTimer.{IsOfNodes, frees, is_busy_in, is_free, is_timer, port_alarm, set_by}
-use Rattle.port_turns.specs.SwitchPuts.{times_of}
+use Rattle.port_turns.specs.PortTimer.{frees, is_busy_in, is_free, is_timer, port_alarm, set_by}
+use Rattle.port_turns.specs.Nodes.{IsOfNodes}
 use Rattle.port_turns.specs.PortEvents.{asks, done_at, outlet_in}
 use Rattle.port_turns.specs.PortRuns.{asked_at, input_of, port_events}
 use Rattle.port_turns.proofs.PortTimers.{are_ports_on_time}
+use Rattle.port_turns.proofs.SentKinds.{times_of}
 use Rattle.port_turns.proofs.Rising.{AreTo, events-between, events-to}
 use Rattle.port_turns.proofs.NodeTurns.{busy-is, freed_by, frees_port, node-after, node-frees, node-kind}
 use Rattle.port_turns.proofs.Serving.{AreCosted, goes, served-sooner}
@@ -106,8 +107,8 @@ module _ (x : Setting NodeState) (p q : ℕ) where
             low = now_goes.low;
           }))
 
-  pub are_ports_served : (L : Laws f) → p < x.processes → IsOfNodes x p q → (outlet : Outlet) → outlet_in (x.opening p).equipment q ≡ Some outlet → IsSamePort outlet.port idle → (n : ℕ) →
+  pub are_ports_served : (L : Laws f) → p < x.processes → IsOfNodes x → (outlet : Outlet) → outlet_in (x.opening p).equipment q ≡ Some outlet → IsSamePort outlet.port idle → (n : ℕ) →
       IsServed idle 0 (trace_of outlet.ahead.byte_ns outlet.port (port_events q (x.opening p) (events f n p)))
   are_ports_served L inside N outlet is same n =
-      run-served (x.opening p) None idle outlet (events f n p) 0 x.until (N.number p inside) (are_ports_on_time x p q inside N L n) (events-between x p L n) (events-to p (one f n).handled)
+      run-served (x.opening p) None idle outlet (events f n p) 0 x.until (N.number p inside) (are_ports_on_time x p q inside N (busy-is q (x.opening p).equipment (Some outlet) is ∙ same.busy) L n) (events-between x p L n) (events-to p (one f n).handled)
       (record { is = is; same = same; set = refl; high = tt; low = tt })

@@ -1,9 +1,9 @@
 -- Why PortFree is a timer of its node: what is sent of it, and when.
-use Rattle.std.proofs.Common.{◌≡◌, ℕ, ◌+◌, ◌<◌, ◌≤◌, ◌==◌, ◌⊎◌, inl, inr, Bool, true, false, not, cond, nat_le, List, [], ◌∷◌, filter, Option, None, Some, is_some, refl, sym, ap, ◌∙◌, subst, arith, eqb-true, eq-eqb, ne_eqb, leb-true, leb-false}
+use Rattle.std.proofs.Common.{◌≡◌, ℕ, ◌<◌, ◌≤◌, ◌==◌, ◌⊎◌, inl, inr, Bool, true, false, not, cond, List, [], ◌∷◌, filter, Option, None, Some, is_some, refl, sym, ap, ◌∙◌, subst, arith, eq-eqb, ne_eqb}
 use Rattle.std.proofs.lemmas.Bool.{cases_lt, both_ways}
 use Rattle.vlink.specs.declared.message.Message.{Message}
 use Rattle.vlink.specs.declared.note.Note.{Note}
-use Rattle.reverse.specs.Sending.{Wish, Sender, sent, message_of}
+use Rattle.reverse.specs.Sending.{Wish, sent}
 use Rattle.reverse.specs.Rules.{rules_of}
 use Rattle.reverse.specs.Setting.{Setting, simulation_of}
 use Rattle.virtual_time.specs.Law.{Simulation, Laws, IsReached, events}
@@ -13,98 +13,30 @@ use Rattle.nodes.specs.undoing.Node.{node}
 use Rattle.timers.specs.Timer.{AreOnTime, IsSet, IsTimer}
 use Rattle.timers.specs.Timer.IsSet.{Off, On, PastEnd}
 use Rattle.timers.proofs.TimerLemmas.{are_on_time}
-use Rattle.port_turns.specs.PortTimer.{is_free, is_timer, frees, is_busy_in, set_by, port_alarm, IsOfNodes}
+use Rattle.port_turns.specs.PortTimer.{is_free, is_timer, frees, is_busy_in, set_by, port_alarm}
+use Rattle.port_turns.specs.Nodes.{IsOfNodes}
+use Rattle.port_turns.proofs.SentKinds.{mine, mine-kind, offers-none, receiver-is, sent-late, sent-none, sent-one}
 use Rattle.port_turns.proofs.Turns.{Turn}
 use Rattle.port_turns.proofs.Turns.Turn.{Stays, Starts, Stops}
 use Rattle.port_turns.proofs.NodeTurns.{node-turn}
 use Rattle.port_turns.proofs.Senders.{number-stays, until-stays}
 
-module _ (p q : ℕ) where
-  abbrev next : Sender → Sender
-  next s = record s { counter = s.counter + 1 }
+-- those of the wishes that free port q, and are for process p
+mine-free : (p q : ℕ) (ws fs : List Wish) → frees q ws ≡ fs → filter (mine (is_free q) p) ws ≡ filter (λ w. w.receiver == p) fs
+mine-free p q ws fs h = mine-kind (is_free q) p ws ∙ ap (filter (λ (w : Wish). w.receiver == p)) h
 
-  -- what is sent of wishes that free no port
-  sent-none : (s : Sender) (ws : List Wish) → frees q ws ≡ [] → filter (is_timer p q) (sent s ws) ≡ []
-  sent-none s [] h = refl
-  sent-none s (w ∷ ws) h = go (is_free q w.body) refl (nat_le w.time s.until) h (λ s k. sent-none s ws k)
-    where
-      go : (b : Bool) → is_free q w.body ≡ b → (c : Bool) → cond b (w ∷ frees q ws) (frees q ws) ≡ [] → ((s : Sender) → frees q ws ≡ [] → filter (is_timer p q) (sent s ws) ≡ []) →
-          filter (is_timer p q) (cond c (message_of s w ∷ sent (next s) ws) (sent s ws)) ≡ []
-      go true e c k rest = absurd (let z : ⊥ = cc in z)
-      go false e true k rest = rw (test (w.receiver == p)) (rest (next s) k)
-        where
-          test : (r : Bool) → cond r (is_free q w.body) false ≡ false
-          test true = e
-          test false = refl
-      go false e false k rest = rest s k
+mine-one : (p q : ℕ) (ws : List Wish) (w : Wish) → frees q ws ≡ w ∷ [] → w.receiver ≡ p → filter (mine (is_free q) p) ws ≡ w ∷ []
+mine-one p q ws w h r = mine-free p q ws (w ∷ []) h ∙ ap (λ b. cond b (w ∷ []) []) (eq-eqb w.receiver p r)
 
-  -- and of those of which one frees the port of the process, where it comes before the end
-  sent-one : (s : Sender) (ws : List Wish) (w : Wish) → frees q ws ≡ w ∷ [] → w.receiver ≡ p → w.time ≤ s.until →
-      (m : Message) × (m.time ≡ w.time) × (filter (is_timer p q) (sent s ws) ≡ m ∷ [])
-  sent-one s [] w h r l = absurd (let z : ⊥ = cc in z)
-  sent-one s (x ∷ ws) w h r l = go (is_free q x.body) refl (nat_le x.time s.until) refl h (λ s k b. sent-one s ws w k r b)
-    where
-      go : (b : Bool) → is_free q x.body ≡ b → (c : Bool) → nat_le x.time s.until ≡ c → cond b (x ∷ frees q ws) (frees q ws) ≡ w ∷ [] →
-          ((s : Sender) → frees q ws ≡ w ∷ [] → w.time ≤ s.until → (m : Message) × (m.time ≡ w.time) × (filter (is_timer p q) (sent s ws) ≡ m ∷ [])) →
-          (m : Message) × (m.time ≡ w.time) × (filter (is_timer p q) (cond c (message_of s x ∷ sent (next s) ws) (sent s ws)) ≡ m ∷ [])
-      go true e true d k rest =
-          let same : x ≡ w = cc in
-          let none : frees q ws ≡ [] = cc in
-          (message_of s x, ap (λ (z : Wish). z.time) same, rw (eq-eqb x.receiver p (ap (λ (z : Wish). z.receiver) same ∙ r), e) (ap (λ z. message_of s x ∷ z) (sent-none (next s) ws none)))
-      go true e false d k rest =
-          let same : x ≡ w = cc in
-          absurd (let a = leb-false x.time s.until d in let b = ap (λ (z : Wish). z.time) same in omega arith)
-      go false e true d k rest = let r = rest (next s) k l in (r.0, r.1, rw (test (x.receiver == p)) r.2)
-        where
-          test : (r : Bool) → cond r (is_free q x.body) false ≡ false
-          test true = e
-          test false = refl
-      go false e false d k rest = rest s k l
-
-  -- or after it
-  sent-never : (s : Sender) (ws : List Wish) (w : Wish) → frees q ws ≡ w ∷ [] → s.until < w.time → filter (is_timer p q) (sent s ws) ≡ []
-  sent-never s [] w h l = absurd (let z : ⊥ = cc in z)
-  sent-never s (x ∷ ws) w h l = go (is_free q x.body) refl (nat_le x.time s.until) refl h (λ s k b. sent-never s ws w k b)
-    where
-      go : (b : Bool) → is_free q x.body ≡ b → (c : Bool) → nat_le x.time s.until ≡ c → cond b (x ∷ frees q ws) (frees q ws) ≡ w ∷ [] →
-          ((s : Sender) → frees q ws ≡ w ∷ [] → s.until < w.time → filter (is_timer p q) (sent s ws) ≡ []) →
-          filter (is_timer p q) (cond c (message_of s x ∷ sent (next s) ws) (sent s ws)) ≡ []
-      go true e true d k rest =
-          let same : x ≡ w = cc in
-          absurd (let a = leb-true x.time s.until d in let b = ap (λ (z : Wish). z.time) same in omega arith)
-      go true e false d k rest = let none : frees q ws ≡ [] = cc in sent-none s ws none
-      go false e true d k rest = rw (test (x.receiver == p)) (rest (next s) k l)
-        where
-          test : (r : Bool) → cond r (is_free q x.body) false ≡ false
-          test true = e
-          test false = refl
-      go false e false d k rest = rest s k l
-
-  -- and where it frees a port of another process
-  sent-other : (s : Sender) (ws : List Wish) (w : Wish) → frees q ws ≡ w ∷ [] → (w.receiver ≡ p → ⊥) → filter (is_timer p q) (sent s ws) ≡ []
-  sent-other s [] w h d = refl
-  sent-other s (x ∷ ws) w h d = go (is_free q x.body) refl (nat_le x.time s.until) h (λ s k. sent-other s ws w k d)
-    where
-      go : (b : Bool) → is_free q x.body ≡ b → (c : Bool) → cond b (x ∷ frees q ws) (frees q ws) ≡ w ∷ [] → ((s : Sender) → frees q ws ≡ w ∷ [] → filter (is_timer p q) (sent s ws) ≡ []) →
-          filter (is_timer p q) (cond c (message_of s x ∷ sent (next s) ws) (sent s ws)) ≡ []
-      go true e true k rest =
-          let same : x ≡ w = cc in
-          let none : frees q ws ≡ [] = cc in
-          rw (ne_eqb x.receiver p (λ z. d (ap (λ (y : Wish). y.receiver) (sym same) ∙ z))) (sent-none (next s) ws none)
-      go true e false k rest = let none : frees q ws ≡ [] = cc in sent-none s ws none
-      go false e true k rest = rw (test (x.receiver == p)) (rest (next s) k)
-        where
-          test : (r : Bool) → cond r (is_free q x.body) false ≡ false
-          test true = e
-          test false = refl
-      go false e false k rest = rest s k
+mine-none : (p q : ℕ) (ws : List Wish) (w : Wish) → frees q ws ≡ w ∷ [] → (w.receiver ≡ p → ⊥) → filter (mine (is_free q) p) ws ≡ []
+mine-none p q ws w h d = mine-free p q ws (w ∷ []) h ∙ ap (λ b. cond b (w ∷ []) []) (ne_eqb w.receiver p d)
 
 -- both are true, or neither
 alike : Bool → Bool → Bool
 alike true b = b
 alike false b = not b
 
-module _ (x : Setting NodeState) (p q : ℕ) (inside : p < x.processes) (N : IsOfNodes x p q) where
+module _ (x : Setting NodeState) (p q : ℕ) (inside : p < x.processes) (N : IsOfNodes x) (idle : is_busy_in (x.opening p).equipment q ≡ false) where
   abbrev f : Simulation Message NodeState NodeRecord Note
   f = simulation_of (rules_of node) x
 
@@ -116,7 +48,7 @@ module _ (x : Setting NodeState) (p q : ℕ) (inside : p < x.processes) (N : IsO
   number-is r i s h = ap (λ (z : NodeState). z.sender.number) h.1 ∙ (number-stays (x.opening r) h.0 ∙ N.number r i)
 
   until-is : (s : NodeState) → IsReached f p s → s.sender.until ≡ x.until
-  until-is s h = ap (λ (z : NodeState). z.sender.until) h.1 ∙ (until-stays (x.opening p) h.0 ∙ N.until)
+  until-is s h = ap (λ (z : NodeState). z.sender.until) h.1 ∙ (until-stays (x.opening p) h.0 ∙ N.until p inside)
 
   -- for which moment the timer is set after an event
   abbrev set_after : NodeState → Option ℕ → Message → Option ℕ
@@ -171,7 +103,7 @@ module _ (x : Setting NodeState) (p q : ℕ) (inside : p < x.processes) (N : IsO
   goes_on s g m u b free a = go (node-turn p q m s.equipment)
     where
       go : TurnAt s m → (set_after s g m ≡ Some u) × (filter (is_timer p q) (ms_of s m) ≡ [])
-      go (Stays e w y) = (rw (w, e ∙ b) a, sent-none p q s.sender _ w)
+      go (Stays e w y) = (rw (w, e ∙ b) a, sent-none (is_free q) p s.sender _ (mine-free p q _ [] w))
       go (Starts w y r e z) = absurd (elim z [ inl k ↦ both_ways _ free k | inr k ↦ both_ways _ k b ])
       go (Stops y e w) = absurd (both_ways _ free y)
 
@@ -185,18 +117,18 @@ module _ (x : Setting NodeState) (p q : ℕ) (inside : p < x.processes) (N : IsO
 
       started : (w : Wish) → frees q (handled p m s.equipment).reply.wishes ≡ w ∷ [] → w.receiver ≡ p → (w.time ≤ x.until) ⊎ (x.until < w.time) →
           IsSet f p (is_timer p q) (port_alarm p q) (ms_of s m) (set_after s g m)
-      started w y r (inl l) = let one = sent-one p q s.sender _ w y r (omega (arith, end)) in On one.0 (rw y (ap Some (sym one.1))) one.2
-      started w y r (inr l) = PastEnd w.time (rw y refl) l (sent-never p q s.sender _ w y (omega (arith, end)))
+      started w y r (inl l) = let one = sent-one (is_free q) p s.sender _ w (mine-one p q _ w y r) (omega (arith, end)) in On one.0 (rw y (ap Some (sym one.1))) one.2
+      started w y r (inr l) = PastEnd w.time (rw y refl) l (sent-late (is_free q) p s.sender _ w (mine-one p q _ w y r) (omega (arith, end)))
 
       go : TurnAt s m → IsSet f p (is_timer p q) (port_alarm p q) (ms_of s m) (set_after s g m)
-      go (Stays e w y) = Off (rw (w, not_busy e y) refl) (sent-none p q s.sender _ w)
+      go (Stays e w y) = Off (rw (w, not_busy e y) refl) (sent-none (is_free q) p s.sender _ (mine-free p q _ [] w))
       go (Starts w y r e z) = started w y r (elim (cases_lt x.until w.time) [ inl k ↦ inr k | inr k ↦ inl k ])
-      go (Stops y e w) = Off (rw (w, e) refl) (sent-none p q s.sender _ w)
+      go (Stops y e w) = Off (rw (w, e) refl) (sent-none (is_free q) p s.sender _ (mine-free p q _ [] w))
 
   timer : IsTimer f p (is_timer p q) (port_alarm p q) fits
   unfolding fits alike
   timer = record {
-    opens = rw N.idle refl;
+    opens = rw idle refl;
     off = refl;
     keeps = λ s g m h i r on_time. keeps s g m (number-is p inside s h) i;
     goes_on = λ s g m u h i r free a.
@@ -209,26 +141,19 @@ module _ (x : Setting NodeState) (p q : ℕ) (inside : p < x.processes) (N : IsO
     again = λ s g m h i r free on_time.
         subst (λ ms. IsSet f p (is_timer p q) (port_alarm p q) ms (set_after s g m)) (sym (sends-at s m (number-is p inside s h)))
         (sets s g m (until-is s h) (inl (sym (free-mine m r) ∙ free, busy-some s g i ∙ ap is_some (on_time.at_moment free))));
-    to_itself = λ m e. to m e;
+    to_itself = receiver-is (is_free q) p;
     by_none = λ r i d s h m. none r d s m (number-is r i s h);
-    not_offered = N.not_offered;
+    not_offered = offers-none (is_free q) p (λ vl size sub. refl) x.offers N.offered;
   }
     where
-      to : (m : Message) → is_timer p q m ≡ true → m.receiver ≡ p
-      to m e = go (m.receiver == p) refl e
-        where
-          go : (b : Bool) → (m.receiver == p) ≡ b → cond b (is_free q m.body) false ≡ true → m.receiver ≡ p
-          go true k e = eqb-true m.receiver p k
-          go false k e = absurd (let z : ⊥ = cc in z)
-
       none : (r : ℕ) → (r ≡ p → ⊥) → (s : NodeState) (m : Message) → s.sender.number ≡ r → filter (is_timer p q) (sends s m) ≡ []
       none r d s m n = go (node-turn s.sender.number q m s.equipment)
         where
           go : Turn s.sender.number (is_free q m.body) (is_busy_in s.equipment q) (is_busy_in (handled s.sender.number m s.equipment).equipment q) (frees q (handled s.sender.number m s.equipment).reply.wishes) →
               filter (is_timer p q) (sends s m) ≡ []
-          go (Stays e w y) = sent-none p q s.sender _ w
-          go (Starts w y c e z) = sent-other p q s.sender _ w y (λ k. d (sym n ∙ (sym c ∙ k)))
-          go (Stops y e w) = sent-none p q s.sender _ w
+          go (Stays e w y) = sent-none (is_free q) p s.sender _ (mine-free p q _ [] w)
+          go (Starts w y c e z) = sent-none (is_free q) p s.sender _ (mine-none p q _ w y (λ k. d (sym n ∙ (sym c ∙ k))))
+          go (Stops y e w) = sent-none (is_free q) p s.sender _ (mine-free p q _ [] w)
 
   pub are_ports_on_time : Laws f → (n : ℕ) → AreOnTime f p (is_timer p q) (port_alarm p q) (x.opening p) None (events f n p)
   are_ports_on_time L n = are_on_time f L p inside (is_timer p q) (port_alarm p q) fits timer n

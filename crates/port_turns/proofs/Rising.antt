@@ -1,16 +1,17 @@
 -- What a process sends of a kind, at moments that do not fall and to one process, ascends in the message order.
-use Rattle.std.proofs.Common.{◌≡◌, ℕ, suc, ◌+◌, ◌<◌, ◌≤◌, ◌==◌, inl, inr, Bool, true, false, cond, nat_le, nat_cmp, Less, Equal, List, [], ◌∷◌, ◌++◌, filter, length, refl, sym, ap, ◌∙◌, subst, arith, eqb-true}
+use Rattle.std.proofs.Common.{◌≡◌, ℕ, suc, ◌<◌, ◌≤◌, ◌==◌, inl, inr, Bool, true, false, cond, nat_cmp, Less, Equal, All, List, [], ◌∷◌, filter, refl, sym, ap, ◌∙◌, subst, arith, eqb-true}
 use Rattle.std.specs.Prelude.{⊤}
 use Rattle.std.specs.Ordering.{is_lt}
 use Rattle.std.proofs.lemmas.Bool.{cases_lt}
 use Rattle.std.proofs.lemmas.Bool.Decides.{nat_tests}
+use Rattle.std.proofs.lemmas.List.Elements.{All-head, All-tail}
 use Rattle.vlink.specs.declared.message.Message.{Message}
+use Rattle.vlink.specs.declared.message.Body.{Body}
 use Rattle.vlink.specs.Order.{message_cmp, message_order}
 use Rattle.vlink.proofs.OrderLemmas.{message_cmp-earlier}
-use Rattle.virtual_time.specs.Law.{IsOrder, IsIn, IsAscending, Laws, events, one}
+use Rattle.virtual_time.specs.Law.{IsOrder, IsIn, IsAscending, IsNumbered, Laws, events, one}
 use Rattle.virtual_time.proofs.Lists.{in-cons, in-filter, in-head}
 use Rattle.virtual_time.proofs.Order.{less-time}
-use Rattle.reverse.specs.Sending.{Wish, Sender, message_of, sent}
 use Rattle.reverse.specs.Rules.{rules_of}
 use Rattle.reverse.specs.Setting.{Setting, simulation_of}
 use Rattle.virtual_time.proofs.Ascending.{ascending-filter}
@@ -18,7 +19,7 @@ use Rattle.virtual_time.proofs.OneThread.{right}
 use Rattle.nodes.specs.rules.Node.{NodeState}
 use Rattle.nodes.specs.undoing.Node.{node}
 use Rattle.port_bounds.specs.Pacing.{AreBetween}
-use Rattle.port_turns.specs.SwitchPuts.{times_of}
+use Rattle.port_turns.proofs.SentKinds.{AreFrom, is_to, receiver-is, times_of}
 
 -- of two messages of one sender to one receiver the earlier one comes first, and at one moment that with the less number
 pub before : (m n : Message) → m.time ≤ n.time → m.receiver ≡ n.receiver → m.sender ≡ n.sender → m.number < n.number → is_lt (message_cmp m n) ≡ true
@@ -57,63 +58,26 @@ module _ (from to : ℕ) where
     rises-ascend O x.time (suc x.number) xs h.4,
   )
 
-  -- the same up to a moment and a number, behind which others follow
-  abbrev pub RisesTo : ℕ → ℕ → ℕ → ℕ → List Message → Type 0
-  RisesTo t k u l [] = (t ≤ u) × (k ≤ l)
-  RisesTo t k u l (m ∷ ms) = (t ≤ m.time) × (k ≤ m.number) × (m.sender ≡ from) × (m.receiver ≡ to) × RisesTo m.time (suc m.number) u l ms
+  rises-sooner : (t k l : ℕ) (ms : List Message) → k ≤ l → Rises t l ms → Rises t k ms
+  rises-sooner t k l [] a h = tt
+  rises-sooner t k l (m ∷ ms) a h = (h.0, omega (arith, h.1), h.2, h.3, h.4)
 
-  rises-sooner : (t k u l : ℕ) (ms : List Message) → t ≤ u → k ≤ l → Rises u l ms → Rises t k ms
-  rises-sooner t k u l [] a b h = tt
-  rises-sooner t k u l (m ∷ ms) a b h = (omega (arith, h.0), omega (arith, h.1), h.2, h.3, h.4)
-
-  pub rises-append : (t k u l : ℕ) (xs ys : List Message) → RisesTo t k u l xs → Rises u l ys → Rises t k (xs ++ ys)
-  rises-append t k u l [] ys h r = rises-sooner t k u l ys h.0 h.1 r
-  rises-append t k u l (x ∷ xs) ys h r = (h.0, h.1, h.2, h.3, rises-append x.time (suc x.number) u l xs ys h.4 r)
-
-  pub rises_to-sooner : (t k t' k' u l : ℕ) (ms : List Message) → t ≤ t' → k ≤ k' → RisesTo t' k' u l ms → RisesTo t k u l ms
-  rises_to-sooner t k t' k' u l [] a b h = (omega (arith, h.0), omega (arith, h.1))
-  rises_to-sooner t k t' k' u l (m ∷ ms) a b h = (omega (arith, h.0), omega (arith, h.1), h.2, h.3, h.4)
-
-  -- what one event sends of a kind, where each of its wishes of the kind is for this moment and this process
-  module _ (is : Message → Bool) (of : Wish → Bool) (u : ℕ) where
-    abbrev pub IsFor : Wish → Type 0
-    IsFor w = of w ≡ true → (w.time ≡ u) × (w.receiver ≡ to)
-
-    abbrev pub AreFor : List Wish → Type 0
-    AreFor [] = ⊤
-    AreFor (w ∷ ws) = IsFor w × AreFor ws
-
-    pub sent-rises : ((s : Sender) (w : Wish) → is (message_of s w) ≡ true → of w ≡ true) → (s : Sender) (ws : List Wish) → s.number ≡ from → AreFor ws →
-        RisesTo u s.counter u (s.counter + length (sent s ws)) (filter is (sent s ws))
-    sent-rises kind s [] n h = (omega arith, omega arith)
-    sent-rises kind s (w ∷ ws) n h = go (nat_le w.time s.until) (sent-rises kind (record s { counter = s.counter + 1 }) ws n h.1) (sent-rises kind s ws n h.1)
-      where
-        ends : (s.counter + 1) + length (sent (record s { counter = s.counter + 1 }) ws) ≡ s.counter + suc (length (sent (record s { counter = s.counter + 1 }) ws))
-        ends = omega arith
-
-        some : RisesTo u (s.counter + 1) u ((s.counter + 1) + length (sent (record s { counter = s.counter + 1 }) ws)) (filter is (sent (record s { counter = s.counter + 1 }) ws)) →
-            (c : Bool) → is (message_of s w) ≡ c →
-            RisesTo u s.counter u (s.counter + suc (length (sent (record s { counter = s.counter + 1 }) ws)))
-            (cond c (message_of s w ∷ filter is (sent (record s { counter = s.counter + 1 }) ws)) (filter is (sent (record s { counter = s.counter + 1 }) ws)))
-        some rest true e =
-            let fit = h.0 (kind s w e) in
-            let at = fit.0 in (
-              omega arith,
-              omega arith,
-              n,
-              fit.1,
-              rises_to-sooner w.time (suc s.counter) u (s.counter + 1) u _ _ (omega arith) (omega arith)
-                  (subst (λ l. RisesTo u (s.counter + 1) u l (filter is (sent (record s { counter = s.counter + 1 }) ws))) ends rest),
-            )
-        some rest false e = rises_to-sooner u s.counter u (s.counter + 1) u _ _ (omega arith) (omega arith)
-            (subst (λ l. RisesTo u (s.counter + 1) u l (filter is (sent (record s { counter = s.counter + 1 }) ws))) ends rest)
-
-        go : (b : Bool) → RisesTo u (s.counter + 1) u ((s.counter + 1) + length (sent (record s { counter = s.counter + 1 }) ws)) (filter is (sent (record s { counter = s.counter + 1 }) ws)) →
-            RisesTo u s.counter u (s.counter + length (sent s ws)) (filter is (sent s ws)) →
-            RisesTo u s.counter u (s.counter + length (cond b (message_of s w ∷ sent (record s { counter = s.counter + 1 }) ws) (sent s ws)))
-            (filter is (cond b (message_of s w ∷ sent (record s { counter = s.counter + 1 }) ws) (sent s ws)))
-        go false rest left_out = left_out
-        go true rest left_out = some rest (is (message_of s w)) refl
+  -- messages that are numbered on and on: those of a kind for the process rise, where their moments do not fall
+  pub kind-rises : (kind : Body → Bool) (t k : ℕ) (ms : List Message) → IsNumbered (λ (m : Message). m.number) k ms → All (λ m. m.sender ≡ from) ms →
+      AreFrom t (times_of (filter (is_to kind to) ms)) → Rises t k (filter (is_to kind to) ms)
+  kind-rises kind t k [] n o b = tt
+  kind-rises kind t k (m ∷ ms) n o b = go (is_to kind to m) refl b (λ t b. kind-rises kind t (suc k) ms n.1 (All-tail (λ m. m.sender ≡ from) m ms o) b)
+    where
+      go : (c : Bool) → is_to kind to m ≡ c → AreFrom t (times_of (cond c (m ∷ filter (is_to kind to) ms) (filter (is_to kind to) ms))) →
+          ((t : ℕ) → AreFrom t (times_of (filter (is_to kind to) ms)) → Rises t (suc k) (filter (is_to kind to) ms)) → Rises t k (cond c (m ∷ filter (is_to kind to) ms) (filter (is_to kind to) ms))
+      go false e b rest = rises-sooner t k (suc k) (filter (is_to kind to) ms) (omega arith) (rest t b)
+      go true e b rest = (
+        b.0,
+        omega (arith, n.0),
+        All-head (λ (m : Message). m.sender ≡ from) m ms o,
+        receiver-is kind to m e,
+        subst (λ z. Rises m.time (suc z) (filter (is_to kind to) ms)) (sym n.0) (rest m.time b.1),
+      )
 
 -- messages that ascend come at moments that do not fall
 pub times-between : (O : IsOrder message_order) (t u : ℕ) (ms : List Message) → IsAscending message_order ms → t ≤ u → ((m : Message) → IsIn message_order m ms → (t ≤ m.time) × (m.time ≤ u)) → AreBetween t u (times_of ms)
@@ -128,6 +92,13 @@ events-between x p L n =
     let r = right (simulation_of (rules_of node) x) L n in
     times-between L.order 0 x.until (events (simulation_of (rules_of node) x) n p) (ascending-filter message_order L.order (λ m. m.receiver == p) (one (simulation_of (rules_of node) x) n).handled r.ascending) (omega arith)
     (λ m i. (omega arith, r.handled_in_time m (in-filter message_order L.order (λ m. m.receiver == p) m (one (simulation_of (rules_of node) x) n).handled i).1))
+
+pub events-from : (x : Setting NodeState) (p : ℕ) → Laws (simulation_of (rules_of node) x) → (n : ℕ) → AreFrom 0 (times_of (events (simulation_of (rules_of node) x) n p))
+events-from x p L n = go 0 (times_of (events (simulation_of (rules_of node) x) n p)) (events-between x p L n)
+  where
+    go : (t : ℕ) (ts : List ℕ) → AreBetween t x.until ts → AreFrom t ts
+    go t [] h = tt
+    go t (a ∷ ts) h = (h.0, go a ts h.1)
 
 -- each of these messages goes to process p
 abbrev pub AreTo : ℕ → List Message → Type 0

@@ -1,5 +1,6 @@
+pub mod Nodes
 pub mod PortTimer
 pub mod SwitchPuts
 pub mod PortEvents
-pub mod Puts
 pub mod PortRuns
+pub mod Arrivals

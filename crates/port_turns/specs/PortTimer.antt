@@ -13,6 +13,7 @@ use Rattle.nodes.specs.rules.Ports.{PortsState, port_at}
 use Rattle.nodes.specs.rules.Node.{NodeState, handled, port_in}
 use Rattle.nodes.specs.undoing.Node.{node}
 use Rattle.timers.specs.Timer.{Alarm, AreOnTime}
+use Rattle.port_turns.specs.Nodes.{IsOfNodes}
 
 -- the message frees port q, whichever process gets it
 abbrev pub is_free : ℕ → Body → Bool
@@ -55,15 +56,8 @@ port_alarm p q = record {
   moment = λ g. g;
 }
 
--- a setting of nodes: each has its process's number, p runs to the end of the run, its port q is idle at first, and no PortFree is offered
-pub record IsOfNodes (x : Setting NodeState) (p q : ℕ) : Type 0 where
-  pub number : (r : ℕ) → r < x.processes → (x.opening r).sender.number ≡ r
-  pub until : (x.opening p).sender.until ≡ x.until
-  pub idle : is_busy_in (x.opening p).equipment q ≡ false
-  pub not_offered : filter (is_timer p q) x.offers ≡ []
-
 -- each PortFree comes at the moment for which it was sent, and while the port is busy nothing comes to the node later than that
 abbrev pub ArePortsOnTime : Type 0
 ArePortsOnTime =
-    (x : Setting NodeState) → Laws (simulation_of (rules_of node) x) → (p q : ℕ) → p < x.processes → IsOfNodes x p q →
-    (n : ℕ) → AreOnTime (simulation_of (rules_of node) x) p (is_timer p q) (port_alarm p q) (x.opening p) None (events (simulation_of (rules_of node) x) n p)
+    (x : Setting NodeState) → Laws (simulation_of (rules_of node) x) → (p q : ℕ) → p < x.processes → IsOfNodes x →
+    is_busy_in (x.opening p).equipment q ≡ false → (n : ℕ) → AreOnTime (simulation_of (rules_of node) x) p (is_timer p q) (port_alarm p q) (x.opening p) None (events (simulation_of (rules_of node) x) n p)

@@ -1,11 +1,10 @@
 //! Ports of end systems and switches in the one-thread run of a network. No product code.
 #![tactic(auto)]
 
+ghost use Rattle.port_turns.specs.Arrivals.{AreArrivalsSerial, AreTracesSerial};
 ghost use Rattle.port_turns.specs.PortEvents.{ArePortsAsked};
-ghost use Rattle.port_turns.specs.PortRuns.{ArePortsServed, AreTracesPaced};
+ghost use Rattle.port_turns.specs.PortRuns.{ArePortsServed, AreSourceTracesPaced, AreTracesPaced};
 ghost use Rattle.port_turns.specs.PortTimer.{ArePortsOnTime};
-ghost use Rattle.port_turns.specs.Puts.{AreSourcePutsPaced};
-ghost use Rattle.port_turns.specs.SwitchPuts.{ArePutsPaced};
 
 /// What a message makes of an output port of a node: it asks at most one thing of the port, and the port does just that.
 pub fn port_events_law()
@@ -20,19 +19,20 @@ pub fn port_timer_law()
 
 /// In the one-thread run what is asked of a port of a node, as the port of `port_bounds` sees it, comes at moments that do not fall, and
 /// that port is freed at just the moment at which its frame has left. So the bounds of `port_bounds` hold of it. At a switch the frames
-/// of each virtual link among them are paced as its account says.
+/// of each virtual link among them are paced as its account says, where that counts frames: n of them from t to u have
+/// n * BAG <= BAG + jitter + (u - t); at its end system they are one BAG apart, from every state in which
+/// regulators hold frames of their own virtual links alone, and whatever messages come.
 pub fn port_runs_law()
     ensures served { ArePortsServed }
     ensures paced { AreTracesPaced }
+    ensures source_paced { AreSourceTracesPaced }
 {}
 
-/// In the one-thread run the frames of a virtual link that are put to an output port of a switch are paced as its account there says, whatever
-/// comes to the switch: n of them from t to u have n * BAG <= BAG + jitter + (u - t). The account counts frames.
-pub fn switch_puts_law()
-    ensures paced { ArePutsPaced }
-{}
-
-/// The frames of a virtual link that its end system puts to an output port are one BAG apart, from every state and whatever messages come.
-pub fn source_puts_law()
-    ensures paced { AreSourcePutsPaced }
+/// In the one-thread run the frames that come to a port by a line come one after the other: each at least the time after the one before it
+/// for which it kept the line busy, with its gap (`serial`). Those of them that a switch puts to one of its ports do so there, too, where the
+/// line behind that port is no slower (`traces`). Frames that an outage takes, or that a switch refuses, leave the others so. One port alone
+/// leads into the line, and one line alone to the port.
+pub fn arrivals_law()
+    ensures serial { AreArrivalsSerial }
+    ensures traces { AreTracesSerial }
 {}

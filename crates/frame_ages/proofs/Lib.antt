@@ -1,0 +1,10 @@
+pub mod Invariants
+pub mod PortFrames
+pub mod EndFrames
+pub mod SwitchFrames
+pub mod SizeLemmas
+pub mod PutLemmas
+pub mod GivenLemmas
+pub mod AgeLemmas
+pub mod NoteLemmas
+pub mod LatencyLemmas

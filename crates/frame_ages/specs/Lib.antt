@@ -1,0 +1,4 @@
+pub mod Ports
+pub mod Ways
+pub mod Sizes
+pub mod Latencies
