@@ -36,6 +36,14 @@ class Rule(NamedTuple):
     against: str = ""
 
 
+class Requirement(NamedTuple):
+    """An operational requirement of the tool: what it does, and the public functions with the clauses that carry it. What no
+    contract carries has the file that does it, and its test."""
+    number: str
+    does: str
+    carried: tuple[str, ...]
+
+
 # Where the clauses of `apply` stand, for each type that implements the trait.
 REVERSIBLE = "reverse/src/reversible.rt", ("state", "answer", "saved")
 
@@ -150,6 +158,23 @@ RULES = (
          "Equal for switches that are configured by these paths. Other configurations cannot be described."),
 )
 
+REQUIREMENTS = (
+    Requirement("TOR-1", "It accepts a description exactly if that has no fault, and otherwise prints the first fault "
+                "([FORMATS.md](FORMATS.md), sections 2 to 4)", ("netdesc/src/reading.rt: read (sound, network, fault)",)),
+    Requirement("TOR-2", "It simulates the accepted network by the rules of [TRAFFIC.md](TRAFFIC.md) (section 2 here)",
+                ("seqsim/src/simulating.rt: run (whole)",)),
+    Requirement("TOR-3", "Its tables count and sum just what happens in that simulation",
+                ("seqsim/src/simulating.rt: run (tables)", "trace_tables/src/tables.rt: Tables::of")),
+    Requirement("TOR-4", "A run by workers that ends without a fault has the tables and the trace of the one-thread run",
+                ("worker_pool/src/running.rt: run (rows, tables, finished)", "worker_pool/src/tracing.rt: run_traced (each, whole, beginning)")),
+    Requirement("TOR-5", "`replay` has the tables of the one-thread run if the journal finishes the run, and states whether it does",
+                ("timewarp/src/journal.rt: replay (safe, whole)",)),
+    Requirement("TOR-6", "A fault has its line and status, and what was written is whole or a beginning ([FORMATS.md](FORMATS.md), section 9)",
+                ("afdxsim/src/perform.rt: perform (status, words, beside, ordered)",)),
+    Requirement("TOR-7", "Evidence names its program: version, commit, SHA-256, logic of the prover, and whether it is proved",
+                ("tools/program.py",)),
+)
+
 # The libraries of the kit that the product is made of, and the crates of Rust that they are ported from.
 LIBRARIES = {
     "arrayvec": "0.7.8", "clap": "clap_builder 4.6.7", "crossbeam_channel": "0.5.17", "crossbeam_deque": "0.8.8", "csv": "1.4.0",
@@ -232,6 +257,18 @@ def faults_of_rule(rule: Rule, top: str = TOP) -> list[str]:
     return [f"rule {rule.number}: {fault}" for fault in found]
 
 
+def faults_of_requirements(top: str = TOP) -> list[str]:
+    """What a line of REQUIREMENTS names that the sources do not have."""
+    found = []
+    for it in REQUIREMENTS:
+        for path, call in map(split, it.carried):
+            is_there = os.path.exists(os.path.join(top, path))
+            if not is_there or call:
+                faults = faults_of_contract(read(os.path.join(top, path)), call) if is_there else ["does not exist"]
+                found += [f"{it.number}: {path}: {fault}" for fault in faults]
+    return found
+
+
 def faults_of_marks(rules: dict[str, str]) -> list[str]:
     """Where RULES and the rules of TRAFFIC differ."""
     named = [rule.number for rule in RULES]
@@ -266,7 +303,7 @@ def check(top: str = TOP) -> list[str]:
     faults += faults_of_marks(rules_of(read(TRAFFIC)))
     for rule in RULES:
         faults += faults_of_rule(rule, top)
-    return faults + faults_of_libraries(top) + calls(top)
+    return faults + faults_of_requirements(top) + faults_of_libraries(top) + calls(top)
 
 
 def code(text: str) -> str:
@@ -276,6 +313,8 @@ def code(text: str) -> str:
 def contract_in_words(reference: str) -> str:
     """The function by its crate, and its clauses."""
     path, call = split(reference)
+    if not call:
+        return code(path) + ", tested"
     of_type, name, clauses = parts_of(call)
     called = "::".join(filter(None, (path.split("/")[1], of_type, name or "apply")))
     return code(called) + (": " + ", ".join(map(code, clauses)) if clauses else "")
@@ -297,6 +336,11 @@ def table_of_rules() -> str:
     return "\n".join(rows)
 
 
+def table_of_requirements() -> str:
+    rows = ["| Requirement | What the tool does | Carried by |", "|---|---|---|"]
+    return "\n".join(rows + [f"| {it.number} | {it.does} | {'; '.join(map(contract_in_words, it.carried))} |" for it in REQUIREMENTS])
+
+
 def table_of_profile() -> str:
     return "\n".join(["| Rule | Against ARINC 664 Part 7 |", "|---|---|"] + [f"| {it.number} | {it.against} |" for it in RULES if it.against])
 
@@ -314,7 +358,7 @@ def known_problems(text: str) -> str:
 
 def parts() -> dict[str, str]:
     return {
-        "rules": table_of_rules(), "profile": table_of_profile(), "libraries": table_of_libraries(),
+        "requirements": table_of_requirements(), "rules": table_of_rules(), "profile": table_of_profile(), "libraries": table_of_libraries(),
         "known problems": known_problems(read(CHANGES)),
     }
 
