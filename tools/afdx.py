@@ -7,6 +7,7 @@ how offers are drawn, and tables. Traces are in tools/traces.py.
 None of this judges a description as the program does: `afdxsim check` does, and tools/explain.py tells all its faults.
 """
 import argparse
+import collections.abc
 import hashlib
 import itertools
 import json
@@ -288,7 +289,8 @@ Link = namedtuple("Link", "a b mbit propagation_ns")
 Outage = namedtuple("Outage", "line from_ns to_ns")
 # Of a virtual link: `row` is its row in the description; `policing_ns` the jitter that its accounts allow; `paths` has
 # the paths of each network as lists of names; `destinations` for each destination the networks (a, b) by which it comes;
-# `lines` the lines that it goes over, each once; `places` the nodes and lines where it may be.
+# `lines` the lines that it goes over, each once; `places` the nodes and lines where it may be, of which it can be asked whether
+# one is there.
 VirtualLink = namedtuple(
     "VirtualLink",
     "id row bag_ns smax priority policing_ns policing skew_ns depth sub size offset_ns period_ns jitter_ns source "
@@ -299,6 +301,45 @@ VirtualLink = namedtuple(
 def lines_of_path(path):
     """The names of the lines between the nodes of a path."""
     return [before + ">" + after for before, after in zip(path, path[1:])]
+
+
+# The networks by which a destination is reached: there are a million destinations and three such sets.
+NETWORKS = {frozenset(it): frozenset(it) for it in ("a", "b", "ab")}
+
+
+class Places:
+    """The nodes and lines where a virtual link may be."""
+
+    __slots__ = ("paths", "lines")
+
+    def __init__(self, paths, lines):
+        self.paths, self.lines = paths, lines
+
+    def __contains__(self, place):
+        return place in self.lines or any(place in path for paths in self.paths.values() for path in paths)
+
+    def __iter__(self):
+        return iter({name for paths in self.paths.values() for path in paths for name in path}.union(self.lines))
+
+
+class Destinations(collections.abc.Set):
+    """Each virtual link by its number with each of its destinations."""
+
+    def __init__(self, vls):
+        self.vls = vls
+
+    @classmethod
+    def _from_iterable(cls, found):
+        return set(found)
+
+    def __contains__(self, key):
+        return type(key) is tuple and key[0] in self.vls and key[1] in self.vls[key[0]].destinations
+
+    def __iter__(self):
+        return ((vl.id, where) for vl in self.vls.values() for where in vl.destinations)
+
+    def __len__(self):
+        return sum(len(vl.destinations) for vl in self.vls.values())
 
 
 class Network:
@@ -314,22 +355,23 @@ class Network:
         self.until_ns, self.seed = self.description.tree["until_ns"], self.description.tree["seed"]
         if self.until_ns < 1:
             self.refuse("top", None, "until_ns", "is less than 1")
-        rows = {section: self.rows(section) for section in SECTIONS}
         self.nodes = {}
-        for i, row in enumerate(rows["node"], 1):
+        for i, row in enumerate(self.rows("node"), 1):
             self.add_node(i, row)
         # For each line its speed in Mbit/s, and its propagation time in ns.
         self.links, self.mbit, self.propagation_ns = [], {}, {}
-        for i, row in enumerate(rows["link"], 1):
+        for i, row in enumerate(self.rows("link"), 1):
             self.add_link(i, row)
         self.process = {name: i for i, name in enumerate([*self.nodes, *self.mbit])}
-        self.outages = [self.outage(i, row) for i, row in enumerate(rows["outage"], 1)]
+        self.outages = [self.outage(i, row) for i, row in enumerate(self.rows("outage"), 1)]
+        # Each line by its two nodes, so that its name is kept once.
+        self.line_of = {tuple(line.split(">")): line for line in self.mbit}
         self.vls = {}
-        for i, row in enumerate(rows["vl"], 1):
+        for i, row in enumerate(self.rows("vl"), 1):
             if row["id"] in self.vls:
                 self.refuse("vl", i, "id", f"{row['id']} was there before")
             self.vls[row["id"]] = self.virtual_link(i, row)
-        self.destinations = {(vl.id, where) for vl in self.vls.values() for where in vl.destinations}
+        self.destinations = Destinations(self.vls)
         self.load, self.users = self.loads()
 
     def refuse(self, section, row, key, text):
@@ -346,16 +388,14 @@ class Network:
         return table[key.name]
 
     def rows(self, section):
-        """The rows of a section as dictionaries; what may be absent has its usual value."""
+        """The rows of a section as dictionaries, one by one; what may be absent has its usual value."""
         rows = self.description.rows(section)
         if type(rows) is not toml_lines.Array:
             self.refuse(section, None, None, "is no list")
-        found = []
         for i, row in enumerate(rows, 1):
             if type(row) is not toml_lines.Table:
                 self.refuse(section, i, None, "is no table")
-            found.append({key.name: self.value(row, section, i, key) for key in KEYS[section]})
-        return found
+            yield {key.name: self.value(row, section, i, key) for key in KEYS[section]}
 
     def add_node(self, i, row):
         if row["name"] in self.nodes:
@@ -394,26 +434,25 @@ class Network:
         return Outage(line, row["from_ns"], row["to_ns"])
 
     def virtual_link(self, i, row):
-        destinations, lines, places = {}, {}, set()
+        destinations, lines = {}, {}
         for key in "ab":
             for way in row[key]:
                 if type(way) is not toml_lines.Array or len(way) < 3 or not all(type(name) is str for name in way):
                     self.refuse("vl", i, key, "has a path that is no list of three names or more")
-                for line in lines_of_path(way):
-                    if line not in self.mbit:
-                        self.refuse("vl", i, key, f"has a path over {line}, which is no line")
+                for here, there in zip(way, way[1:]):
+                    line = self.line_of.get((here, there))
+                    if line is None:
+                        self.refuse("vl", i, key, f"has a path over {here}>{there}, which is no line")
                     lines[line] = None
-                destinations.setdefault(way[-1], set()).add(key)
-                places.update(way)
+                destinations[way[-1]] = NETWORKS[destinations.get(way[-1], frozenset()) | {key}]
         if not destinations:
             self.refuse("vl", i, "a", "has no path")
         self.check_numbers(i, row)
-        source = (row["a"] or row["b"])[0][0]
+        source, paths, lines = (row["a"] or row["b"])[0][0], {"A": row["a"], "B": row["b"]}, list(lines)
         return VirtualLink(
             row["id"], i, row["bag_ms"] * 10**6, row["smax"], row["priority"], row["policing_jitter_ns"],
             row["policing"], row["skew_max_ns"], row["depth"], row["sub"], row["size"], row["offset_ns"],
-            row["period_ns"], row["jitter_ns"], source, {"A": row["a"], "B": row["b"]}, destinations, list(lines),
-            places | set(lines),
+            row["period_ns"], row["jitter_ns"], source, paths, destinations, lines, Places(paths, lines),
         )
 
     def check_numbers(self, i, row):

@@ -13,6 +13,7 @@ What is used of the offers is their size alone, and for wait_ns their period and
 link may send a frame in each BAG.
 """
 import argparse
+import collections.abc
 import heapq
 import os
 import sys
@@ -102,6 +103,9 @@ GAP_BYTES = 12
 
 # What a receiver can tell apart: a number up to 126 steps behind is one that was delivered before.
 MOST_STEPS = 126
+
+# So many lines of bounds.csv are written at once.
+AT_ONCE = 4096
 
 # How often a port is looked at before the bursts that come to it are said to grow without end.
 MOST_ROUNDS = 1000
@@ -266,13 +270,19 @@ class Hop:
     `spread` is by how much its frames may come there closer than a BAG, in ns; `delay` the longest time from the
     arrival of a frame there to its last bit on the line, in ns. None: not known to have an end."""
 
+    # A network of 65,536 virtual links has 1.4 million hops.
+    __slots__ = ("link", "port", "before", "after", "came", "spread", "delay")
+
     def __init__(self, link, port, before):
-        self.link, self.port, self.before, self.after = link, port, before, []
-        # From the start of a frame to its last bit: the least delay.
-        self.least = (link.size + 8) * port.byte_ns
+        self.link, self.port, self.before, self.after = link, port, before, ()
         self.came = self.spread = self.delay = 0
         if before is not None:
-            before.after.append(self)
+            before.after += (self,)
+
+    @property
+    def least(self):
+        """From the start of a frame to its last bit: the least delay."""
+        return (self.link.size + 8) * self.port.byte_ns
 
     def take(self):
         """Takes over what the hop before says. Answers whether it is something new."""
@@ -293,9 +303,12 @@ class Hop:
 
 class Link:
     """What the bounds need of a virtual link: its frames on the line, in bytes, and what it sends in each ns in parts of
-    a byte."""
+    a byte. `hops` has those of the virtual link by line, in the order of its paths."""
+
+    __slots__ = ("vl", "size", "amount", "rate", "is_high", "wait", "hops", "ends")
 
     def __init__(self, vl):
+        self.hops, self.ends = {}, {}
         self.vl, self.size = vl, vl.size
         self.amount = vl.size + afdx.BYTES_BETWEEN_FRAMES
         self.rate = self.amount * (PARTS // vl.bag_ns)
@@ -378,7 +391,9 @@ class Port:
             longest = self.longest_first(high, blocking, True)
             self.set_delays(True, lambda hop: longest)
             starts = self.longest_behind(high, low)
-            self.set_delays(False, lambda hop: starts and starts[hop.link.amount] + hop.least)
+            # Of one size all are alike: the bytes behind the last bit are no part of the delay.
+            delays = starts and {amount: start + (amount - GAP_BYTES) * self.byte_ns for amount, start in starts.items()}
+            self.set_delays(False, lambda hop: delays and delays[hop.link.amount])
         else:
             longest = self.longest_first(low, 0, False)
             self.set_delays(False, lambda hop: longest)
@@ -450,8 +465,29 @@ def frames_of(amount, least, greatest):
 # ---- the network ----
 
 
+class OnDemand(collections.abc.Mapping):
+    """A mapping whose values are worked out when they are asked for; the last one is kept. `keys` gives the keys in order, and `make`
+    makes the value of one, or raises KeyError."""
+
+    def __init__(self, keys, make):
+        self.keys_in_order, self.make, self.last = keys, make, (None, None)
+
+    def __getitem__(self, key):
+        if self.last[0] != key:
+            self.last = key, self.make(*key)
+        return self.last[1]
+
+    def __iter__(self):
+        return self.keys_in_order()
+
+    def __len__(self):
+        return sum(1 for _ in self.keys_in_order())
+
+
 class Way:
     """The way of a virtual link on one network to one destination."""
+
+    __slots__ = ("least", "longest", "why", "is_sure")
 
     def __init__(self, hops):
         link = hops[0].link
@@ -475,8 +511,7 @@ class Bounds:
     or None and why; `ports` the ports by line."""
 
     def __init__(self, net):
-        # `hops` has those of each virtual link by line, and `at` one by which it leaves a switch.
-        self.net, self.ports, self.ways, self.hops, self.at = net, {}, {}, {}, {}
+        self.net, self.ports = net, {}
         self.links = {vl.id: Link(vl) for vl in net.vls.values()}
         for link in self.links.values():
             self.add(link)
@@ -487,35 +522,70 @@ class Bounds:
             port.most = port.waiting()
             if port.most is None or any(hop.delay is None for hop in port.hops):
                 port.why = self.why(port)
-        # For each virtual link and destination the way on each network, of those that frames go to the end.
-        self.by_network = {
-            (vl, where): {side: Way(hops) for side, hops in ways.items()}
-            for (vl, where), ways in self.ways.items()
-            if self.links[vl].size <= self.links[vl].vl.smax
-        }
-        self.latencies = {key: self.latency(*key) for key in sorted(net.destinations, key=self.order)}
+        # The hops of each virtual link by line. For each virtual link and destination the way on each network, of those that frames
+        # go to the end, and the bound. All that is kept of the last two is in the hops.
+        self.hops = OnDemand(self.keys_of_hops, lambda vl, line: self.links[vl].hops[line])
+        self.by_network = OnDemand(self.keys_of_ways, self.ways)
+        self.latencies = OnDemand(self.keys, self.latency)
 
     def order(self, key):
         vl, where = key
         return vl, self.net.process[where]
 
+    def keys(self):
+        """Each virtual link and destination, in the order of tables."""
+        return self.in_order_of_tables(lambda link: link.vl.destinations)
+
+    def keys_of_ways(self):
+        return self.in_order_of_tables(lambda link: link.vl.destinations if link.size <= link.vl.smax else ())
+
+    def keys_of_hops(self):
+        return self.in_order_of_tables(lambda link: link.hops)
+
+    def in_order_of_tables(self, places_of):
+        """Each virtual link by its number with each of some places."""
+        for number in sorted(self.links):
+            for place in sorted(places_of(self.links[number]), key=self.net.process.get):
+                yield number, place
+
     def add(self, link):
         """Adds a virtual link to the ports of its paths. A frame that is longer than smax comes to the first switch."""
-        hops = {}
         for side, paths in link.vl.paths.items():
             for path in paths:
-                way, before = [], None
-                for line in afdx.lines_of_path(path):
+                before = None
+                for here, there in zip(path, path[1:]):
                     if before is not None and link.size > link.vl.smax:
                         break
-                    if line not in hops:
+                    line = self.net.line_of[here, there]
+                    hop = link.hops.get(line)
+                    if hop is None:
                         port = self.ports.get(line) or self.ports.setdefault(line, Port(self.net, line))
-                        hops[line] = Hop(link, port, before)
-                        port.hops.append(hops[line])
-                        self.hops[link.vl.id, line] = self.at[link.vl.id, port.node.name] = hops[line]
-                    before = hops[line]
-                    way.append(before)
-                self.ways.setdefault((link.vl.id, path[-1]), {})[side] = way
+                        hop = link.hops[line] = Hop(link, port, before)
+                        port.hops.append(hop)
+                    before = hop
+                link.ends[path[-1]] = link.ends.get(path[-1], ()) + ((side, before),)
+
+    def ways(self, vl, where):
+        """The way of a virtual link to a destination on each network."""
+        link = self.links[vl]
+        if link.size > link.vl.smax:
+            raise KeyError((vl, where))
+        found = {}
+        for side, hop in link.ends[where]:
+            hops = []
+            while hop is not None:
+                hops.append(hop)
+                hop = hop.before
+            found[side] = Way(hops[::-1])
+        return found
+
+    def leaves(self, vl, switch):
+        """A hop by which a virtual link leaves a switch; None where it does not."""
+        found = None
+        for hop in self.links[vl].hops.values():
+            if hop.port.node.name == switch:
+                found = hop
+        return found
 
     def settle(self):
         """Looks at each port until no spread changes. It begins with none, and each look makes delays and spreads longer
@@ -564,6 +634,8 @@ class Bounds:
     def latency(self, vl, where):
         """The bound from the offer on in ns, or None, and then why."""
         link = self.links[vl]
+        if where not in link.vl.destinations:
+            raise KeyError((vl, where))
         if link.size > link.vl.smax:
             return None, "no frame arrives: size is above smax"
         ways = list(self.by_network[vl, where].values())
@@ -593,7 +665,7 @@ class Bounds:
     def jitter(self, vl, switch):
         """By how much frames may come to a switch closer than a BAG in ns, counted from any earlier one; None where it has
         no bound, or where the switch passes no frame on."""
-        hop = self.at.get((vl, switch))
+        hop = self.leaves(vl, switch)
         return hop and hop.came
 
     def skew(self, vl, where):
@@ -630,7 +702,7 @@ class Bounds:
 
     def accounts(self):
         """Each virtual link and switch whose account frames come to, in the order of tables."""
-        return sorted((key for key, hop in self.at.items() if hop.before is not None), key=self.order)
+        return self.in_order_of_tables(lambda link: {hop.port.node.name for hop in link.hops.values() if hop.before is not None})
 
     def may_refuse(self, vl, switch):
         return not self.links[vl].is_never_refused(self.jitter(vl, switch))
@@ -656,8 +728,7 @@ class Bounds:
             row = {"vl": vl, "where": switch, "jitter_ns": said(self.jitter(vl, switch))}
             row["policing_jitter_ns"] = self.links[vl].vl.policing_ns
             yield row | {"warning": "may_refuse" if self.may_refuse(vl, switch) else ""}
-        for vl, line in sorted(self.hops, key=self.order):
-            hop = self.hops[vl, line]
+        for (vl, line), hop in self.hops.items():
             yield {"vl": vl, "where": line, "delay_ns": said(hop.delay), "why": hop.port.why if hop.delay is None else ""}
         transmit = transmit_jitter.TransmitJitter(self.net, bound=lambda vl, line: self.hops[vl, line].delay)
         for line in sorted(self.ports, key=self.net.process.get):
@@ -670,10 +741,19 @@ class Bounds:
                 warnings += ["transmit_jitter"] if transmit.is_broken(line) else []
             yield row | {"why": port.why if port.most is None else "", "warning": " ".join(warnings)}
 
+    def pieces(self):
+        """The text of bounds.csv, in pieces of which no two need be in memory."""
+        behind = f",{afdx.checksum(self.net.text)},{program.tool('bounds.py').cell()}\n"
+        lines = [",".join(COLUMNS) + "\n"]
+        for row in self.rows():
+            lines.append(",".join([str(row.get(column, "")) for column in COLUMNS[:-2]]) + behind)
+            if len(lines) == AT_ONCE:
+                yield "".join(lines)
+                lines = []
+        yield "".join(lines)
+
     def text(self):
-        behind = [afdx.checksum(self.net.text), program.tool("bounds.py").cell()]
-        lines = [COLUMNS] + [[row.get(column, "") for column in COLUMNS[:-2]] + behind for row in self.rows()]
-        return "".join(",".join(map(str, line)) + "\n" for line in lines)
+        return "".join(self.pieces())
 
 
 def long_rows(rows):
@@ -742,17 +822,18 @@ def main(arguments=None):
     if words.fit:
         return write_fitted(net, words.fit)
     found = Bounds(net)
-    text = long_form.text_of(long_rows(found.rows())) if words.json else found.text()
-    texts = {words.output: text} if words.output else {}
+    margins = limits.margins_of(limits.limits_of(words.limits, net), bounds=found) if words.limits else []
+    files.judge(list(filter(None, [words.output, words.junit])), prints=not words.output or bool(words.limits))
+    pieces = [long_form.text_of(long_rows(found.rows()))] if words.json else found.pieces()
+    if words.output:
+        files.write_pieces(words.output, (piece.encode("utf-8", "backslashreplace") for piece in pieces))
+    elif not words.limits:
+        for piece in pieces:
+            files.write_out(piece)
     if not words.limits:
-        files.write_all(texts)
-        if not words.output:
-            files.write_out(text)
         return 0
-    margins = limits.margins_of(limits.limits_of(words.limits, net), bounds=found)
     if words.junit:
-        texts[words.junit] = limits.junit_text(margins, words.strict, os.path.basename(words.net))
-    files.write_all(texts, prints=True)
+        files.write_whole(words.junit, limits.junit_text(margins, words.strict, os.path.basename(words.net)))
     files.write_out(limits.margins_text(margins))
     return 1 if limits.has_failed(margins, words.strict) else 0
 

@@ -113,7 +113,7 @@ class OnTheWay:
 
     def switches(self):
         switches = {node.name for node in self.net.nodes.values() if node.kind == "switch"}
-        in_order = lambda vl: sorted(vl.places & switches, key=self.net.process.get)
+        in_order = lambda vl: sorted(switches.intersection(vl.places), key=self.net.process.get)
         places = [(vl.id, name) for vl in self.net.vls.values() for name in in_order(vl)]
         return self.columns(["jitter"], places, ["vl", "where"]) | {"allowed": [self.net.vls[vl].policing_ns for vl, _ in places]}
 

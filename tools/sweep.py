@@ -93,8 +93,11 @@ def combinations_of(description, settings):
     for number, values in enumerate(itertools.product(*(it.values for it in settings)), 1):
         tree = copy.deepcopy(description.tree)
         for it, place, value in zip(settings, places, values):
-            tree[it.section][place - 1][it.key.name] = value
-            tree[it.section][place - 1].lines.setdefault(it.key.name, description.line(it.section, place))
+            row = tree[it.section][place - 1]
+            if it.key.name in row:
+                row[it.key.name] = value
+            else:
+                row.put(it.key.name, value, description.line(it.section, place))
         text = " ".join(f"{name}={value}" for name, value in zip(names, values))
         changed = afdx.Description(description.path, description.text, tree)
         fault = min(explain.Judge(changed).findings, key=explain.rank, default=None)

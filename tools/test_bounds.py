@@ -512,6 +512,21 @@ class Command(unittest.TestCase):
             self.assertGreater(len(latencies), 5000)
             self.assertNotIn("none", [line.split(",")[2] for line in latencies])
 
+    def test_memory(self):
+        """2,000 virtual links with 6 destinations each take less than 70 MB, that of the interpreter included; so 65,536 take
+        less than 1 GB."""
+        with tempfile.TemporaryDirectory() as folder:
+            path = os.path.join(folder, "net.toml")
+            words = [sys.executable, os.path.join(HERE, "large_network.py"), "--virtual-links", "2000"]
+            with open(path, "w", encoding="utf-8") as out:
+                subprocess.run(words, stdout=out, stderr=subprocess.DEVNULL, check=True)
+            words = [sys.executable, os.path.join(HERE, "bounds.py"), path, "-o", os.path.join(folder, "bounds.csv")]
+            run = subprocess.Popen(words, stdout=subprocess.DEVNULL)
+            _, status, used = os.wait4(run.pid, 0)
+            run.returncode = os.waitstatus_to_exitcode(status)
+            self.assertEqual(run.returncode, 0)
+            self.assertLess(used.ru_maxrss * 1024, 70_000_000)
+
     def test_help_says_what_it_is(self):
         status, said, _ = self.call("--help")
         self.assertEqual(status, 0)

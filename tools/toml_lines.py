@@ -11,7 +11,10 @@ the parts of a key.
 
 It reads some 3 MB of a description a second.
 """
+import collections.abc
 import re
+import sys
+from array import array
 
 DEEPEST = 80
 
@@ -52,19 +55,67 @@ class BadToml(Exception):
 
 
 class Table(dict):
-    """A table, and the lines of its keys. What made it, a header, a dotted key or a value, tells what may be added."""
+    """A table, and the lines of its keys. What made it, a header, a dotted key or a value, tells what may be added. The lines are
+    numbers in the order of the keys, of which none is ever taken out: a network of 65,536 virtual links has a million of them."""
+
+    __slots__ = ("line", "origin", "numbers")
 
     def __init__(self, line, origin):
         super().__init__()
-        self.line, self.origin, self.lines = line, origin, {}
+        self.line, self.origin, self.numbers = line, origin, array("I")
+
+    @property
+    def lines(self):
+        return Lines(self)
+
+    def put(self, key, value, line):
+        """Adds a key with its value and its line."""
+        self[key] = value
+        self.numbers.append(line)
+
+
+class Lines(collections.abc.Mapping):
+    """The line of each key of a table."""
+
+    __slots__ = ("table",)
+
+    def __init__(self, table):
+        self.table = table
+
+    def __getitem__(self, key):
+        for name, number in zip(self.table, self.table.numbers):
+            if name == key:
+                return number
+        raise KeyError(key)
+
+    def __iter__(self):
+        return (name for name, _ in zip(self.table, self.table.numbers))
+
+    def __len__(self):
+        return len(self.table.numbers)
 
 
 class Array(list):
-    """A list, and the lines of its items. Headers in double brackets add to an open one."""
+    """A list, and the lines of its items. Headers in double brackets add to an open one. `own` has the lines, or is None where
+    all are that in which the list begins."""
+
+    __slots__ = ("line", "is_open", "own")
 
     def __init__(self, line, is_open=False):
         super().__init__()
-        self.line, self.is_open, self.lines = line, is_open, []
+        self.line, self.is_open, self.own = line, is_open, None
+
+    @property
+    def lines(self):
+        return [self.line] * len(self) if self.own is None else list(self.own)
+
+    def put(self, value, line):
+        """Adds an item with its line."""
+        if self.own is None and line != self.line:
+            self.own = array("I", [self.line]) * len(self)
+        self.append(value)
+        if self.own is not None:
+            self.own.append(line)
 
 
 class Moment(str):
@@ -97,6 +148,8 @@ class Reader:
 
     def __init__(self, text, keys=()):
         self.text, self.keys, self.places = text, keys, {}
+        # Each name and number is kept once.
+        self.known = {}
         self.counted, self.line = 0, 1
 
     def line_at(self, place):
@@ -126,8 +179,8 @@ class Reader:
                 return root
             plain = PLAIN_LINE.match(self.text, place)
             if plain and plain[1] not in here:
-                here[plain[1]] = plain[2][1:-1] if plain[2] else int(plain[3])
-                here.lines[plain[1]] = self.line_at(place)
+                value = plain[2][1:-1] if plain[2] else int(plain[3])
+                here.put(sys.intern(plain[1]), self.known.setdefault(value, value), self.line_at(place))
                 if plain[1] in self.keys:
                     self.places[id(here), plain[1]] = plain.span(2 if plain[2] else 3)
                 place = plain.end()
@@ -157,7 +210,7 @@ class Reader:
     def through(self, table, part, line, begin):
         """The table that a header passes through."""
         if part not in table:
-            table[part], table.lines[part] = Table(line, "implicit"), line
+            table.put(part, Table(line, "implicit"), line)
         found = table[part]
         if type(found) is Array and found.is_open:
             return found[-1]
@@ -170,16 +223,15 @@ class Reader:
         found = table.get(name)
         if double:
             if found is None:
-                found = table[name] = Array(line, True)
-                table.lines[name] = line
+                found = Array(line, True)
+                table.put(name, found, line)
             elif type(found) is not Array or not found.is_open:
                 self.refuse(begin, f"[[{name}]] adds to what line {table.lines[name]} makes no list of tables")
-            found.append(Table(line, "header"))
-            found.lines.append(line)
+            found.put(Table(line, "header"), line)
             return found[-1]
         if found is None:
-            found = table[name] = Table(line, "header")
-            table.lines[name] = line
+            found = Table(line, "header")
+            table.put(name, found, line)
         elif type(found) is Table and found.origin == "implicit":
             found.origin, found.line = "header", line
         else:
@@ -196,7 +248,7 @@ class Reader:
         value, place = self.value(value_begin, depth)
         for part in parts[:-1]:
             if part not in table:
-                table[part], table.lines[part] = Table(line, "dotted"), line
+                table.put(part, Table(line, "dotted"), line)
             found = table[part]
             if type(found) is not Table or found.origin not in ("implicit", "dotted"):
                 self.refuse(begin, f"a dotted key goes through {part!r}, which line {table.lines[part]} has whole")
@@ -204,7 +256,7 @@ class Reader:
             table = found
         if parts[-1] in table:
             self.refuse(begin, f"the key {parts[-1]!r} is there already, in line {table.lines[parts[-1]]}")
-        table[parts[-1]], table.lines[parts[-1]] = value, line
+        table.put(sys.intern(parts[-1]), value, line)
         if parts[-1] in self.keys:
             self.places[id(table), parts[-1]] = value_begin, place
         return place
@@ -255,8 +307,8 @@ class Reader:
         found, place = Array(self.line_at(begin)), begin + 1
         plain = PLAIN_LIST.match(self.text, begin)
         if plain:
-            found += PLAIN_TEXTS.findall(plain[0])
-            found.lines = [found.line] * len(found)
+            known = self.known
+            found += [known.setdefault(text, text) for text in PLAIN_TEXTS.findall(plain[0])]
             return found, plain.end()
         while True:
             place = BLANK.match(self.text, place).end()
@@ -266,8 +318,7 @@ class Reader:
                 self.refuse(begin, "the list that begins here has no end")
             line = self.line_at(place)
             value, place = self.value(place, depth)
-            found.append(value)
-            found.lines.append(line)
+            found.put(value, line)
             place = self.after_element(place, "]", begin, "the list that begins")
 
     def inline_table(self, begin, depth):
