@@ -15,6 +15,7 @@ link may send a frame in each BAG.
 import argparse
 import collections.abc
 import heapq
+import itertools
 import os
 import sys
 from bisect import bisect_left
@@ -181,38 +182,68 @@ def peak_of_frames(hops, speed, most):
     return found
 
 
-def come_whole(hops, t):
-    """The frames that can come by t, counted whole, in parts of a byte."""
-    return sum((1 + (t + hop.spread) // hop.link.vl.bag_ns) * hop.link.amount for hop in hops) * PARTS
+class WholeFrames:
+    """The frames of hops counted whole: of a virtual link there come in t ns at most 1 + (t + spread) / BAG, cut to a whole
+    number. With spread = turns * BAG + rest the quotient is turns + t / BAG, and one more where rest and the rest of t make a
+    BAG. So the rests of each BAG are sorted once, and a look at a moment takes no walk over all hops."""
+
+    def __init__(self, hops):
+        self.hops, self.parts, by_bag = hops, [], {}
+        for hop in hops:
+            turns, rest = divmod(hop.spread, hop.link.vl.bag_ns)
+            by_bag.setdefault(hop.link.vl.bag_ns, []).append((rest, hop.link.amount, turns))
+        for bag, found in by_bag.items():
+            found.sort()
+            # The amounts of those from a place on.
+            behind = [*itertools.accumulate((amount for _, amount, _ in reversed(found)), initial=0)][::-1]
+            at_once = sum((1 + turns) * amount for _, amount, turns in found)
+            self.parts.append((bag, at_once, behind, [rest for rest, _, _ in found]))
+
+    def come(self, t):
+        """What can come by t, in parts of a byte."""
+        came = 0
+        for bag, at_once, behind, rests in self.parts:
+            turns, rest = divmod(t, bag)
+            came += at_once + turns * behind[0] + behind[bisect_left(rests, bag - rest)]
+        return came * PARTS
 
 
-def wait_of_frames(low, high, speed, frame, most, at_once):
-    """The longest wait for its start of a low frame of so many parts of a byte, where high frames go first and frames are
-    counted whole, in whole ns; `most` where it is not less. `at_once` is how much can come at once, low and high. A frame that comes at t starts at x at the latest, where x is
-    the first moment by which the port could have sent the low ones before it and the high ones that came until x. Where
-    all is sent before the next low frame comes, what comes then waits no longer than what came before."""
-    came, first = at_once
-    if (came - frame + first) // speed >= most:
-        return most
-    due = [(hop.link.vl.bag_ns - hop.spread % hop.link.vl.bag_ns, i) for i, hop in enumerate(low)]
-    heapq.heapify(due)
-    found = t = 0
-    while True:
-        x, work = 0, came - frame + first
-        while work > x * speed:
-            x = work // speed
-            if x - t >= most:
-                return most
-            again = came - frame + come_whole(high, x)
-            if again == work:
+class WholeBehindHigh:
+    """The longest waits for their start of low frames, where high frames go first and frames are counted whole.
+
+    A frame that comes at t starts at x at the latest, where x is the first moment by which the port could have sent the low ones
+    before it and the high ones that came until x. `moments` has those at which low frames come, and how much has come by then: up to
+    the first low frame before which all is sent, since what comes from there on waits no longer than what came before."""
+
+    def __init__(self, high, low, speed):
+        self.high, self.speed, self.first = WholeFrames(high), speed, WholeFrames(high).come(0)
+        came = WholeFrames(low).come(0)
+        due = [(hop.link.vl.bag_ns - hop.spread % hop.link.vl.bag_ns, i) for i, hop in enumerate(low)]
+        heapq.heapify(due)
+        self.moments = [(0, came)]
+        while True:
+            t, i = due[0]
+            if t >= LONGEST_BAG_NS or came + self.high.come(t - 1) <= t * speed:
                 break
-            work = again
-        found = max(found, x - t)
-        t, i = due[0]
-        if t >= LONGEST_BAG_NS or came + come_whole(high, t - 1) <= t * speed:
-            return found
-        heapq.heapreplace(due, (t + low[i].link.vl.bag_ns, i))
-        came += low[i].link.amount * PARTS
+            heapq.heapreplace(due, (t + low[i].link.vl.bag_ns, i))
+            came += low[i].link.amount * PARTS
+            self.moments.append((t, came))
+
+    def longest(self, frame, most):
+        """The longest wait of a frame of so many parts of a byte, in whole ns; `most` where it is not less."""
+        found = 0
+        for t, came in self.moments:
+            x, work = 0, came - frame + self.first
+            while work > x * self.speed:
+                x = work // self.speed
+                if x - t >= most:
+                    return most
+                again = came - frame + self.high.come(x)
+                if again == work:
+                    break
+                work = again
+            found = max(found, x - t)
+        return found
 
 
 class BehindHigh:
@@ -414,11 +445,10 @@ class Port:
         behind = BehindHigh(high, low, self.speed)
         ahead, after = ([hop for _, hops in self.groups[high] for hop in hops] for high in (True, False))
         found = {amount: behind.longest(amount * PARTS) for amount in {hop.link.amount for hop in after}}
-        if any(hop.spread is None for hop in self.hops):
+        if not found or any(hop.spread is None for hop in self.hops):
             return found
-        at_once = come_whole(after, 0), come_whole(ahead, 0)
-        wait = lambda amount, most: wait_of_frames(after, ahead, self.speed, amount * PARTS, most, at_once)
-        return {amount: wait(amount, most) for amount, most in found.items()}
+        whole = WholeBehindHigh(ahead, after, self.speed)
+        return {amount: whole.longest(amount * PARTS, most) for amount, most in found.items()}
 
     def set_delays(self, high, delay):
         """Sets the delays of a priority. One that is longer than any run, or does not come to rest, has no end."""

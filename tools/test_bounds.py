@@ -5,6 +5,7 @@ import glob
 import hashlib
 import io
 import os
+import random
 import resource
 import subprocess
 import sys
@@ -183,10 +184,24 @@ class ByHand(unittest.TestCase):
                 high, low = hops[:highs], hops[highs:]
                 for hop in hops:
                     hop.spread = high_spread if hop in high else low_spread
-                at_once = bounds.come_whole(low, 0), bounds.come_whole(high, 0)
-                wait = lambda most: bounds.wait_of_frames(low, high, bounds.PARTS // BYTE, low_frame // BYTE * bounds.PARTS, most, at_once)
+                whole = bounds.WholeBehindHigh(high, low, bounds.PARTS // BYTE)
+                wait = lambda most: whole.longest(low_frame // BYTE * bounds.PARTS, most)
                 self.assertEqual((wait(10**9), wait(longest + 1), wait(longest)), (longest, longest, longest))
                 self.assertEqual(wait(longest - 1), longest - 1)
+
+    def test_whole_frames_by_their_definition(self):
+        """Of each hop there come 1 + (t + spread) / BAG frames, cut to a whole number: at drawn moments, and where a frame comes."""
+        draw = random.Random(3)
+        vls = [virtual_link(i, way("E1", "A", "E2"), size=draw.randint(64, 1518), bag_ms=draw.choice([1, 2, 8, 128])) for i in range(40)]
+        hops = network(vls).ports["E1>A"].hops
+        for hop in hops:
+            hop.spread = draw.choice([0, 1, draw.randint(0, 3 * MS), 2 * hop.link.vl.bag_ns])
+        moments = [draw.randint(0, 200 * MS) for _ in range(200)]
+        moments += [turn * hop.link.vl.bag_ns - hop.spread + more for hop in hops for turn in (3, 4) for more in (-1, 0)]
+        whole = bounds.WholeFrames(hops)
+        for t in (it for it in moments if it >= 0):
+            count = lambda hop: 1 + (t + hop.spread) // hop.link.vl.bag_ns
+            self.assertEqual(whole.come(t), sum(count(hop) * hop.link.amount for hop in hops) * bounds.PARTS)
 
     def test_a_slow_line_brings_less(self):
         """As above, but the first line has 10 Mbit/s: a byte takes ten times the time, so it brings one frame in 67,200
