@@ -1,122 +1,28 @@
 """The one command for all that a user does: what each word of it is handed to."""
 import argparse
 import os
-import re
 import runpy
 import subprocess
 import sys
 import tempfile
-from collections import namedtuple
 
 import afdx
 import by_rt
-import explain
 import files
+import help_texts
+import judge
 import output_sizes
+import package
 import program
 import watch
 from by_rt import tell
 from program import HERE, NoProgram
-
-# Of a command of the program: which of its words are files that it reads, in order, and what it says.
-OfProgram = namedtuple("OfProgram", "files usage says")
-OF_PROGRAM = {
-    "check": OfProgram(1, "NET", "judge a description, and count what it has"),
-    "seq": OfProgram(1, "NET [--trace FILE] [--progress]", "simulate it on one thread; tables as CSV"),
-    "run": OfProgram(
-        1, "NET [--workers N] [--groups N] [--turn N] [--window NS] [--journal FILE] [--trace FILE] [--progress]",
-        "the tables of seq, by Time Warp on several threads",
-    ),
-    "replay": OfProgram(2, "NET STEPS", "do the steps of a journal"),
-}
-# Of a tool: its file, the option that it has in any case, and what it says.
-OfTool = namedtuple("OfTool", "file option usage says")
-OF_TOOLS = {
-    "explain": OfTool("explain.py", None, "NET", "all faults of a description with their lines, or its warnings"),
-    "bounds": OfTool("bounds.py", None, "NET [-o FILE]", "worst-case bounds of latencies and ports, as CSV"),
-    "table": OfTool("from_table.py", None, "TABLE.. -o NET", "make a description of the tables of an interface document"),
-    "campaign": OfTool("campaign.py", None, "NET --seeds N -o DIR", "run many seeds, and merge their tables"),
-    "outages": OfTool(
-        "campaign.py", "--each-outage", "NET [--each-outage NS] -o DIR", "run with each link and each switch out in turn"
-    ),
-    "pcap": OfTool("pcap.py", None, "NET TRACE -o FILE", "make a capture for Wireshark of a trace"),
-}
-# The tools that have the program run.
-RUN_IT = ("campaign", "outages")
-OWN = {
-    "page": ("NET [TABLES] -o FILE", "explain, simulate, bound and draw: one page to look at"),
-    "build": ("[--jobs N]", "prove the program and build it"),
-    "package": ("[-o DIR]", "make a Debian package of the proved program and the tools"),
-    "completion": ("bash", "print what completes words in a shell"),
-}
-# The options of the program that have a value, and those that name a file which it writes.
-VALUED = ("--trace", "--journal", "--workers", "--groups", "--turn", "--window")
-WRITES = ("--trace", "--journal")
-
-# What is said of `run` alone.
-OF_RUN = (
-    "run has threads that run ahead and roll back (Time Warp). Whether it is faster than seq depends on the network and on the\n"
-    "machine: where tables are all that is wanted, and you have not measured it, use seq."
-)
-# What is said of the tools that have the program run.
-OF_CHOICE = "--by WHAT (proved, try or second-opinion; default: proved, else try) or --program PATH names who makes the runs."
-
-IN_A_CLONE = """\
-  the proved one, where it was built of these very sources: `afdx build` and ./test leave it, a package brings it;
-  else these sources by `rt try`, without a proof and with checks, where the kit is: it takes some two minutes, writes no
-  file, and passes on 1 MiB of each run;"""
-IN_A_PACKAGE = "  the proved one that the package has;"
-
-HELP = """usage: afdx [--help] [--version] COMMAND ..
-
-One command for all that is done with a network: each line is a command, and `afdx COMMAND --help` tells its words.
-
-{commands}
-
-which program runs is told on error output, once. It is
-{which}
-  with --by second-opinion the plain simulator in Python, for all but run and replay{only};
-  with --program PATH the program that you name
-
-{of_run}
-
-examples:
-  afdx page net.toml -o net.html
-        whether the description is accepted, its run, its bounds, and a page of all that
-  afdx seq net.toml --trace trace.csv > tables.csv
-        tables and trace of a run
-  afdx page net.toml -o net.html --by second-opinion
-        without the program, by Python alone
-  source <(afdx completion bash)
-        words are completed by the tabulator
-
-status: that of the program or the tool; 2 where a word is wrong, or where no program is there
-"""
-
 
 TOO_LONG = "the trace is too long for `rt try`: the page has no histograms, and tells the losses of tables alone"
 
 
 class Mistake(Exception):
     """What is wrong with the words, in one line."""
-
-
-def commands(is_clone=program.is_clone()):
-    """Each command with its words and what it says, in the order of the help. A package has no sources to build."""
-    found = {"page": OWN["page"]}
-    found |= {name: (it.usage, it.says) for name, it in OF_PROGRAM.items()}
-    found |= {name: (it.usage, it.says) for name, it in OF_TOOLS.items() if is_there(it)}
-    return found | {name: it for name, it in OWN.items() if name != "page" and (is_clone or name == "completion")}
-
-
-def is_there(tool):
-    return os.path.isfile(os.path.join(HERE, tool.file))
-
-
-def help_text(is_clone=program.is_clone()):
-    lines = [f"  {name:<12}{says}" for name, (_, says) in commands(is_clone).items()]
-    which, only = (IN_A_CLONE, "; with --by proved and --by try just that one") if is_clone else (IN_A_PACKAGE, "")
-    return HELP.format(commands="\n".join(lines), which=which, only=only, of_run=OF_RUN)
 
 
 def version_text():
@@ -193,14 +99,14 @@ def files_of(name, words):
             only_paths = True
         elif not only_paths and word.startswith("-") and word != "-":
             option, has_value, value = word.partition("=")
-            if option in VALUED and not has_value:
+            if option in help_texts.VALUED and not has_value:
                 place = next(rest, None)
                 value = words[place] if place is not None else ""
-            if option in WRITES:
+            if option in help_texts.WRITES:
                 written.append(option)
         else:
             read.append(place)
-    return read[: OF_PROGRAM[name].files], written
+    return read[: help_texts.OF_PROGRAM[name].files], written
 
 
 def asks_for_help(words):
@@ -223,9 +129,9 @@ def by_program(name, words):
         if lacks:
             raise Mistake(f"{lacks} needs the program: the second opinion has no such thing")
         tell(it.says)
-        return check_by_opinion(words, read) if name == "check" else ended(tool_command("second_opinion.py", *words))
-    if len(read) < OF_PROGRAM[name].files:
-        raise Mistake(f"usage: afdx {name} {OF_PROGRAM[name].usage}")
+        return check_by_opinion(words, read) if name == "check" else ended(help_texts.tool_command("second_opinion.py", *words))
+    if len(read) < help_texts.OF_PROGRAM[name].files:
+        raise Mistake(f"usage: afdx {name} {help_texts.OF_PROGRAM[name].usage}")
     if written:
         raise NoProgram(
             f"{written[0]} writes a file, which `rt try` cannot keep: `afdx build` builds the proved program"
@@ -266,16 +172,16 @@ def foresee(path, other):
 def check_by_opinion(words, read):
     """Judges a description as `afdxsim check` does, by tools/explain.py, and answers the status."""
     if len(read) < 1 or len(words) > 1 + ("--" in words):
-        raise Mistake(f"usage: afdx check {OF_PROGRAM['check'].usage}")
+        raise Mistake(f"usage: afdx check {help_texts.OF_PROGRAM['check'].usage}")
     path = words[read[0]]
     try:
         text = files.text_of(path)
     except files.Fault as fault:
         print("afdxsim: description: 1 Syntax" if fault.line else f"afdxsim: cannot read {files.printable(path)}", file=sys.stderr)
         return 3 if fault.line else 4
-    found, description = explain.findings_of(path, text)
+    found, description = judge.findings_of(path, text)
     if found:
-        print(f"afdxsim: description: {explain.answer(found[0])}", file=sys.stderr)
+        print(f"afdxsim: description: {judge.answer(found[0])}", file=sys.stderr)
         return 3
     net = afdx.Network(path, text, description)
     offers = sum(
@@ -287,7 +193,7 @@ def check_by_opinion(words, read):
 
 def help_of_program(name, words, path):
     """Tells the words of a command of the program, by the program where one is here, and answers the status."""
-    it, status = OF_PROGRAM[name], 0
+    it, status = help_texts.OF_PROGRAM[name], 0
     try:
         found = program.given(path) if path else program.proved()
         status = subprocess.run([found.path, name, *words]).returncode
@@ -295,7 +201,7 @@ def help_of_program(name, words, path):
         usage = f"usage: afdx {name} {it.usage} [--by WHAT] [--program PATH]"
         files.say(f"{usage}\n\n{it.says}\n\ndocs/FORMATS.md, section 9, has all of it.")
     if name == "run":
-        files.say("\n" + OF_RUN)
+        files.say("\n" + help_texts.OF_RUN)
     return status
 
 
@@ -310,18 +216,18 @@ def write(stream, found):
 
 def by_tool(name, words):
     """Runs a tool in this very process."""
-    tool = OF_TOOLS[name]
-    if not is_there(tool):
+    tool = help_texts.OF_TOOLS[name]
+    if not help_texts.is_there(tool):
         raise Mistake(f"there is no tools/{tool.file}")
     if asks_for_help(words):
         own = " ".join(filter(None, (tool.file, tool.option)))
-        files.say(f"`afdx {name}` is tools/{own}, which has these words." + (f"\n{OF_CHOICE}" if name in RUN_IT else "") + "\n")
+        files.say(f"`afdx {name}` is tools/{own}, which has these words." + (f"\n{help_texts.OF_CHOICE}" if name in help_texts.RUN_IT else "") + "\n")
     asks = asks_for_help(words) or not words
     # At the end of the options, since it may have a value.
     end = words.index("--") if "--" in words else len(words)
     has_option = any(word.startswith(tool.option or "-") for word in words[:end])
     words = words if has_option or not tool.option else [*words[:end], tool.option, *words[end:]]
-    if name in RUN_IT and not asks:
+    if name in help_texts.RUN_IT and not asks:
         words, status = with_program(words)
         if status:
             return status
@@ -386,15 +292,11 @@ def no_option(path):
     return os.path.join(".", path) if path.startswith("-") else path
 
 
-def tool_command(file, *words):
-    return [sys.executable, os.path.join(HERE, file), *words]
-
-
 def explained(net):
     """Tells on error output what is wrong with a description or hardly meant, and answers the status."""
     with watch.Watch("afdx"):
         watch.stage(f"explains {files.printable(net)}")
-        found = subprocess.run(tool_command("explain.py", net), stdin=subprocess.DEVNULL, capture_output=True, text=True)
+        found = subprocess.run(help_texts.tool_command("explain.py", net), stdin=subprocess.DEVNULL, capture_output=True, text=True)
     sys.stderr.write(found.stderr)
     for line in found.stdout.splitlines():
         if not line.endswith(": accepted"):
@@ -416,7 +318,7 @@ def page(arguments):
         tell(it.says)
     with tempfile.TemporaryDirectory(prefix="afdx-page-") as folder:
         tables, trace, bounds = (os.path.join(folder, name) for name in ("tables.csv", "trace.csv", "bounds.csv"))
-        reckoning = None if words.no_bounds else subprocess.Popen(tool_command("bounds.py", words.net, "-o", bounds))
+        reckoning = None if words.no_bounds else subprocess.Popen(help_texts.tool_command("bounds.py", words.net, "-o", bounds))
         try:
             status = simulate(it, words.net, tables, trace) if it else 0
         except BaseException:
@@ -433,7 +335,7 @@ def page(arguments):
         more += [] if words.no_bounds else ["--bounds", "bounds.csv"]
         more += ["--made-by", it.maker.in_words()] if it else []
         tables = linked_tables(words.tables, folder) if words.tables else "tables.csv"
-        command = tool_command("report.py", linked(words.net, folder), tables, "-o", os.path.abspath(words.output), *more)
+        command = help_texts.tool_command("report.py", linked(words.net, folder), tables, "-o", os.path.abspath(words.output), *more)
         return subprocess.run(command, cwd=folder).returncode
 
 
@@ -464,7 +366,7 @@ def simulate(it, net, tables, trace):
     with open(tables, "wb") as out:
         if it.how == "tried":
             return simulate_by_try(net, out, trace)
-        command = [it.path, "seq"] if it.path else tool_command("second_opinion.py")
+        command = [it.path, "seq"] if it.path else help_texts.tool_command("second_opinion.py")
         return ended([*command, net, "--trace", trace], stdin=subprocess.DEVNULL, stdout=out)
 
 
@@ -508,68 +410,20 @@ def build(arguments):
     return 0
 
 
-def options_of(name):
-    """The options that a command's help names."""
-    if name in OF_PROGRAM:
-        return sorted({*re.findall(r"--[a-z-]+", OF_PROGRAM[name].usage), "--by", "--program", "--help"})
-    if name in OF_TOOLS:
-        words = tool_command(OF_TOOLS[name].file, "--help")
-        said = subprocess.run(words, capture_output=True, text=True, stdin=subprocess.DEVNULL).stdout
-        found = set(re.findall(r"(?<![\w-])--[a-z][a-z-]*[a-z]", said))
-        return sorted(found | {"--by"} if name in RUN_IT else found)
-    more = {"page": ["--by", "--limits", "--no-bounds", "--output", "--program"], "build": ["--jobs"], "package": ["--output"]}
-    return [*more.get(name, []), "--help"]
-
-
-COMPLETION = """# bash completion of afdx; made by `afdx completion bash`
-_afdx() {{
-    local word=${{COMP_WORDS[COMP_CWORD]}} before=${{COMP_WORDS[COMP_CWORD - 1]}} options
-    if [ "$COMP_CWORD" -eq 1 ]; then
-        COMPREPLY=($(compgen -W "{names} --help --version" -- "$word"))
-        return
-    fi
-    case $before in
-    --by) COMPREPLY=($(compgen -W "proved try second-opinion" -- "$word")); return ;;
-    esac
-    case ${{COMP_WORDS[1]}} in
-{cases}
-    esac
-    case $word in
-    -*) COMPREPLY=($(compgen -W "$options" -- "$word")) ;;
-    *) COMPREPLY=($(compgen -f -- "$word")) ;;
-    esac
-}}
-complete -o filenames -F _afdx afdx ./afdx
-"""
-
-
-def completion_text(is_clone=program.is_clone()):
-    """What bash is to read, so that it completes words. It is made of the texts of help: `shtab` and `argcomplete` want one parser of all words."""
-    names = commands(is_clone)
-    cases = "\n".join(f"    {name}) options=\"{' '.join(options_of(name))}\" ;;" for name in names)
-    return COMPLETION.format(names=" ".join(names), cases=cases)
-
-
 def completion(arguments):
     if asks_for_help(arguments):
         files.say("usage: afdx completion bash\n\nPrints what completes words in bash: source <(afdx completion bash)")
         return 0
     if arguments != ["bash"]:
         raise Mistake("completion is for bash: afdx completion bash")
-    files.write_out(completion_text())
+    files.write_out(help_texts.completion_text())
     return 0
-
-
-def package(arguments):
-    import package as packing
-
-    return packing.main(arguments)
 
 
 def answer(words):
     """Does what the words say, and answers the status."""
     if words[:1] in (["--help"], ["-h"], ["help"]):
-        files.write_out(help_text())
+        files.write_out(help_texts.help_text())
         return 0
     if words[:1] == ["--version"]:
         files.write_out(version_text())
@@ -582,12 +436,12 @@ def answer(words):
     if not words:
         raise Mistake("which command? afdx --help tells all")
     name, words = words[0], words[1:] + asked if "--" not in words else asked + words[1:]
-    if name in OF_PROGRAM:
+    if name in help_texts.OF_PROGRAM:
         return by_program(name, words)
-    if name in OF_TOOLS:
+    if name in help_texts.OF_TOOLS:
         return by_tool(name, words)
-    own = {"page": page, "build": build, "package": package, "completion": completion}
-    if name not in own or name not in commands():
+    own = {"page": page, "build": build, "package": package.main, "completion": completion}
+    if name not in own or name not in help_texts.commands():
         raise Mistake(f"there is no command {name!r}: afdx --help tells all")
     return own[name](words)
 

@@ -12,16 +12,16 @@ knows nothing are ignored, with a note on error output.
 """
 import argparse
 import csv
-import io
 import re
 import sys
 from collections import namedtuple
 from fractions import Fraction
 
 import afdx
-import explain
 import files
 import headings
+import judge
+import sheets
 import to_tables
 import workbook
 from afdx import BAGS_MS, KEYS, SECTIONS, Fault, cut
@@ -78,9 +78,7 @@ USUAL = {
     "vl": {"priority": "low", "policing_jitter_ns": 500_000, "depth": 4, "offset_ns": 0, "jitter_ns": 0},
 }
 
-# Columns that become comments of a row. Those of virtual links may differ where lines differ in the destination alone.
-LIMITS = ["limit_us", "limit_ms", "limit_ns", "limit_s"]
-COMMENTED = {"vl": [*LIMITS, "udp_port", "udp_source_port", "udp_destination_port"]}
+COMMENTED = {"vl": [*headings.LIMITS, "udp_port", "udp_source_port", "udp_destination_port"]}
 # Which columns tell what a table has. Of several that fit it is what most of its columns are known of, else the first.
 SORTS = [
     ("link", {"a", "b"}),
@@ -97,7 +95,6 @@ NEEDED = {"vl": ["id"], "node": ["name"], "link": ["a", "b"], "outage": ["from",
 WORDS = {"end system": "es", "end_system": "es", "sw": "switch"}
 # So many digits has no number of a table.
 MOST_DIGITS = 30
-UNITS = headings.NS
 # Stands for a column that is to be passed over.
 PASSED = "-"
 # Of the lines that have a fault so many are named.
@@ -130,19 +127,6 @@ def commented(section):
     return [*COMMENTED.get(section, []), REMARKS]
 
 
-def reader_of(path):
-    """A reader of a file of CSV: with or without a byte order mark, by commas, semicolons or tabs."""
-    text = afdx.text_of(path).removeprefix("\ufeff")
-    marked = (line for line in text.split("\n") if re.search("[,;\t]", line) and not line.startswith("#"))
-    return csv.reader(io.StringIO(text, newline=""), delimiter=max(",;\t", key=next(marked, "").count))
-
-
-def numbered(rows):
-    """The rows of a reader of CSV, with their lines."""
-    for cells in rows:
-        yield rows.line_num, cells
-
-
 class Tables:
     """The lines of tables by section, their faults, and what is passed over. `columns` says of headings, in normal form,
     what they stand for."""
@@ -161,9 +145,9 @@ class Tables:
         self.lines["vl"] = self.joined(self.lines["vl"])
 
     def read_csv(self, path):
-        rows = reader_of(path)
+        rows = sheets.reader_of(path)
         try:
-            self.read(path, numbered(rows), self.add, rows.dialect.delimiter)
+            self.read(path, sheets.numbered(rows), self.add, rows.dialect.delimiter)
         except csv.Error as fault:
             self.add(Line(path, rows.line_num, {}), f"is no line of a table: {fault}")
 
@@ -301,7 +285,7 @@ class Tables:
                 found[number or len(found)] = joint = Line(line.path, line.number, dict(line.cells), line.has_commas)
                 joint.parts.append(line)
                 continue
-            again = set(names_of(first.cells.get("destinations", ""))) & set(names_of(line.cells.get("destinations", "")))
+            again = set(sheets.names_of(first.cells.get("destinations", ""))) & set(sheets.names_of(line.cells.get("destinations", "")))
             different = list(self.differences(first.parts[0], line))
             if different:
                 self.add(line, f"virtual link {number} is in {where_is(first, line)} too, and {'; '.join(different)}")
@@ -476,7 +460,7 @@ class Maker:
     def unnamed_end_systems(self):
         """Adds the nodes that have no line: sources and destinations, and then what links name."""
         self.named = {row["name"].value for row in self.rows["node"] if "name" in row}
-        lines, destinations = self.tables.lines, lambda cells: names_of(cells.get("destinations", ""))
+        lines, destinations = self.tables.lines, lambda cells: sheets.names_of(cells.get("destinations", ""))
         ends = [(line, [line.cells.get("source"), *destinations(line.cells)]) for line in lines["vl"]]
         ends += [(line, [line.cells.get("a"), line.cells.get("b")]) for line in lines["link"]]
         for line, names in ends:
@@ -516,9 +500,9 @@ class Maker:
 
     def virtual_link(self, line):
         for part in line.parts:
-            for column in LIMITS:
+            for column in headings.LIMITS:
                 if column in part.cells:
-                    unit = UNITS[column.removeprefix("limit_")]
+                    unit = headings.NS[column.removeprefix("limit_")]
                     self.time(part, column, part.cells[column], "limit_ns", lambda number: number * unit)
         row = self.row_of(line, "vl", {})
         self.sizes(line, row)
@@ -565,13 +549,13 @@ class Maker:
         text = line.cells[key]
         if text == "-":
             return Value([], "")
-        return Value([names_of(path) for path in text.split("|") if path.strip()], "")
+        return Value([sheets.names_of(path) for path in text.split("|") if path.strip()], "")
 
     def shortest(self, line, net):
         """Shortest paths from the source to each destination that the network reaches."""
         beside, switches = self.networks[net]
-        source, wanted = line.cells.get("source"), names_of(line.cells.get("destinations", ""))
-        via = frozenset(names_of(line.cells.get("via", "")))
+        source, wanted = line.cells.get("source"), sheets.names_of(line.cells.get("destinations", ""))
+        via = frozenset(sheets.names_of(line.cells.get("via", "")))
         if (net, source, via) not in self.ways:
             self.ways[net, source, via] = ways_from(source, beside, switches, via)
         before = self.ways[net, source, via]
@@ -591,7 +575,7 @@ class Maker:
 
     def ends(self, line, row):
         """Holds the paths against source and destinations."""
-        source, wanted = line.cells.get("source"), names_of(line.cells.get("destinations", ""))
+        source, wanted = line.cells.get("source"), sheets.names_of(line.cells.get("destinations", ""))
         is_stated = "a" in line.cells or "b" in line.cells
         if not is_stated and not source:
             self.add(line, "has no source")
@@ -613,13 +597,8 @@ class Maker:
         linked = {*self.networks["A"][0], *self.networks["B"][0]}
         for name in names:
             if name not in linked:
-                return f": {name} has no link{explain.meant(name, self.named - {name})}"
+                return f": {name} has no link{judge.meant(name, self.named - {name})}"
         return ""
-
-
-def names_of(text):
-    """Names with blanks, commas or other marks between them."""
-    return [name for name in re.split(r"[\s,;>|]+", text) if name]
 
 
 def ways_from(source, beside, switches, via):
@@ -667,7 +646,7 @@ def comments_of(section, line):
     for column in commented(section) if is_own else ():
         cells = [one_line(part.cells.get(column, "")) for part in parts]
         for cell in dict.fromkeys(filter(None, cells)):
-            names = [name for part, own in zip(parts, cells) if own == cell for name in names_of(part.cells.get("destinations", ""))]
+            names = [name for part, own in zip(parts, cells) if own == cell for name in sheets.names_of(part.cells.get("destinations", ""))]
             # So is a text that ends as if it named some.
             is_told = set(cells) != {cell} or to_tables.AT.fullmatch(cell)
             of = f" at {' '.join(dict.fromkeys(names))}" if is_told and names else ""
@@ -700,7 +679,7 @@ def made(paths, columns=()):
     maker = Maker(tables)
     text = text_of_rows(maker, paths)
     if not tables.faults:
-        for finding in explain.judged(Made(text, maker)):
+        for finding in judge.judged(Made(text, maker)):
             tables.faults.append(fault_of(finding, maker, paths))
     return text, together(tables.faults), together(tables.notes)
 

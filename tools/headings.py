@@ -13,7 +13,7 @@ import re
 from collections import namedtuple
 from fractions import Fraction
 
-import explain
+import judge
 from afdx import KEYS
 
 # The units that a heading may end with, as it is written in small letters with _ between words.
@@ -30,6 +30,8 @@ METRES = {"": ("m", "metre", "metres", "meter", "meters")}
 
 # How many ns a unit of time has, and how many times a second a unit of a rate is.
 NS = {"ns": 1, "us": 10**3, "ms": 10**6, "s": 10**9}
+# Columns that become comments of a row. Those of virtual links may differ where lines differ in the destination alone.
+LIMITS = ["limit_us", "limit_ms", "limit_ns", "limit_s"]
 HERTZ = {"hz": 1, "khz": 1000}
 
 # A column: how it is called without a unit, what it is called with each unit, the unit that is meant where none is named
@@ -204,7 +206,7 @@ def nearest(name, section):
     """The column that is most like a heading which is not known, or None: by its own name, by one of its headings of which
     but a letter or two differ, or by the same words in another order."""
     own = {it: it for columns in FORMS[section].values() for it in columns}
-    found = explain.nearest(name, list(own))
+    found = judge.nearest(name, list(own))
     if found:
         return found
     words = sorted(name.split("_"))

@@ -3,7 +3,9 @@ from collections import namedtuple
 
 import afdx
 from files import Fault
-from second_opinion import HOPS_HEAD, KINDS
+
+HOPS_HEAD = "kind,vl,where,count,least,greatest,sum"
+KINDS = ["wait", "network", "network_a", "network_b", "skew", "delay", "jitter", "backlog"]
 
 # Of what was measured how often, the least, the greatest and the sum.
 Measured = namedtuple("Measured", "count least greatest total line")

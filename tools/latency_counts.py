@@ -7,7 +7,6 @@ import re
 from array import array
 from collections import Counter
 
-import afdx
 from files import Fault
 
 DIGITS = 11

@@ -7,8 +7,8 @@ from collections import namedtuple
 from fractions import Fraction
 
 import afdx
-import from_table
 import headings
+import sheets
 from files import Fault, cut
 
 # ---- limits ----
@@ -44,10 +44,10 @@ class Limits:
 
     def read_table(self):
         """Reads a table: `VL,NAME,NS`, or one that names its columns, as an interface control document does."""
-        rows, columns = from_table.reader_of(self.path), None
+        rows, columns = sheets.reader_of(self.path), None
         self.has_commas = rows.dialect.delimiter == ";"
         try:
-            for line, cells in from_table.numbered(rows):
+            for line, cells in sheets.numbered(rows):
                 cells = [cell.strip() for cell in cells]
                 if not any(cells) or cells[0].startswith("#"):
                     continue
@@ -69,7 +69,7 @@ class Limits:
         known = [ones[0] if len(ones) == 1 else name for ones, name in fitting]
         found = [names.get(name, name) for name in known]
         lacks = [name for name in ("vl", "destination") if name not in found]
-        if not lacks and sum(name in from_table.LIMITS for name in found) != 1:
+        if not lacks and sum(name in headings.LIMITS for name in found) != 1:
             lacks = ["limit_ns, limit_us or limit_ms, and one of them alone"]
         if len(found) < 3 or lacks == ["vl", "destination"]:
             return None
@@ -80,13 +80,13 @@ class Limits:
     def row(self, line, cells, count, wanted):
         if wanted == 3 and count != 3:
             raise Fault(self.path, line, f"has {count} fields in place of 3: VL,NAME,NS")
-        (column,) = [name for name in cells if name in from_table.LIMITS] or [None]
+        (column,) = [name for name in cells if name in headings.LIMITS] or [None]
         text = cells.get(column, "")
         if not text and wanted > 3:
             return
         number = afdx.whole_number(self.path, line, "the virtual link", cells.get("vl", ""))
         ns = self.ns(line, column, text)
-        for where in from_table.names_of(cells.get("destination", "")) or [""]:
+        for where in sheets.names_of(cells.get("destination", "")) or [""]:
             self.add(line, number, where, ns)
 
     def ns(self, line, column, text):
@@ -96,7 +96,7 @@ class Limits:
             text = text.replace(",", ".")
         if not re.fullmatch(r"[0-9_]{1,30}(\.[0-9_]{1,30})?", text):
             raise Fault(self.path, line, f"the limit is {cut(text)}, and no number")
-        ns = Fraction(text.replace("_", "")) * from_table.UNITS[column.removeprefix("limit_")]
+        ns = Fraction(text.replace("_", "")) * headings.NS[column.removeprefix("limit_")]
         if ns.denominator != 1:
             raise Fault(self.path, line, f"the limit is {text}, which is no whole number of ns")
         return int(ns)
@@ -113,7 +113,7 @@ class Limits:
                     break
                 found = COMMENT.fullmatch(text.rstrip())
                 if found:
-                    wanted = from_table.names_of(found[3]) if found[3] else vl.destinations
+                    wanted = sheets.names_of(found[3]) if found[3] else vl.destinations
                     for where in wanted:
                         self.add(i, vl.id, where, self.ns(i, "limit_" + found[1], found[2]))
 

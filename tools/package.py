@@ -19,8 +19,8 @@ import sys
 import tempfile
 import time
 
-import commands
 import files
+import help_texts
 import program
 from program import ROOT, NoProgram
 
@@ -115,11 +115,11 @@ def manuals(path, begin, version, root=ROOT):
     afdx = [python, os.path.join(root, "afdx")]
     of_tools = [
         (f"afdx {name}", help_of(*afdx, name, "--help"))
-        for name in ["page", *commands.OF_TOOLS]
-        if name == "page" or commands.is_there(commands.OF_TOOLS[name])
+        for name in ["page", *help_texts.OF_TOOLS]
+        if name == "page" or help_texts.is_there(help_texts.OF_TOOLS[name])
     ]
-    of_program = [(f"afdxsim {name}", help_of(path, name, "--help")) for name in commands.OF_PROGRAM]
-    general = commands.help_text(is_clone=False)
+    of_program = [(f"afdxsim {name}", help_of(path, name, "--help")) for name in help_texts.OF_PROGRAM]
+    general = help_texts.help_text(is_clone=False)
     see = [("see also", "/usr/share/doc/afdxsim/README.md, and docs/FORMATS.md there: every key, fault, table and status")]
     return {
         "afdx": manual("afdx", "one command for all that is done with an AFDX network", begin, version, [("synopsis", general), *of_tools, *see]),
@@ -220,7 +220,7 @@ def fill(tree, path, record, begin, root=ROOT):
             tree.copy(source, place)
     for name, text in manuals(path, begin, record["version"], root).items():
         tree.write(f"usr/share/man/man1/{name}.1.gz", zipped(text))
-    tree.write("usr/share/bash-completion/completions/afdx", commands.completion_text(is_clone=False))
+    tree.write("usr/share/bash-completion/completions/afdx", help_texts.completion_text(is_clone=False))
 
 
 def close(tree, path, record, root=ROOT):

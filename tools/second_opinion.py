@@ -10,9 +10,10 @@ import heapq
 import sys
 
 import afdx
-import explain
+import judge
 import files
 import long_form
+from hops import HOPS_HEAD, KINDS
 from afdx import CAUSES, Fault
 
 EXAMPLES = """
@@ -269,10 +270,6 @@ class Simulation:
             yield "dropped,%d,%s,%s,%d,,," % (vl, self.names[place], CAUSES[cause], count)
 
 
-HOPS_HEAD = "kind,vl,where,count,least,greatest,sum"
-KINDS = ["wait", "network", "network_a", "network_b", "skew", "delay", "jitter", "backlog"]
-
-
 class Measured(Simulation):
     """A run that also measures what happens on the way: `found` has for each kind, virtual link (None: of all) and place
     how often it was measured, the least, the greatest and the sum. Times are in ns, what waits is in bytes."""
@@ -369,7 +366,7 @@ def main(arguments=None):
     parser.add_argument("--json", action="store_true", help="prints the tables as JSON in long form (docs/TOOLS.md, section 7)")
     parser.add_argument("--events", action="store_true", help="tells on error output how many messages were handled")
     words = parser.parse_args(arguments)
-    description = explain.accepted(words.net)
+    description = judge.accepted(words.net)
     net = small_enough(description)
     written = [path for path in (words.trace, words.hops) if path]
     files.ready(written, prints=True)
