@@ -66,7 +66,7 @@ fn play_words(rt: &HostRuntime, hand: &mut Hand<Passing>, told: &mut String, wor
 }
 
 // Does the steps of a word. If they are refused memory, they are done again: a refused call stopped between two words of its block.
-// `tools/refuse_memory.py` counts the words that were refused memory.
+// `tools/gate/refuse_memory.py` counts the words that were refused memory.
 fn play_word(rt: &HostRuntime, hand: &mut Hand<Passing>, told: &mut String, word: &str) {
     match do_steps(hand, told, word) {
         Ok(()) => {}
