@@ -45,7 +45,7 @@ fn rows_tell_what_they_say(rt: HostRuntime) {
     assert!(rt; wrong.is_empty(), "{wrong}");
 }
 
-// `tools/refuse_memory.py` refuses each of its requests for memory in turn, and counts the lines that it writes.
+// `tools/gate/refuse_memory.py` refuses each of its requests for memory in turn, and counts the lines that it writes.
 #[test]
 fn an_exchange_does_what_scripts_say(rt: HostRuntime) {
     let mut refused = with_room(rt.alloc());

@@ -1,7 +1,7 @@
 //! Scripts for the test actors, one a line: its words, and behind the arrow their answers (`player.rt` and `hands.rt` describe both). A
 //! word for which memory is refused is done again. So each line holds with ample memory, and if any one request for memory is refused. A
 //! line with an arrival that is not done again, `arrive?`, has behind a bar the answers if that arrival is refused.
-//! `tools/refuse_memory.py` refuses each request in turn.
+//! `tools/gate/refuse_memory.py` refuses each request in turn.
 //!
 //! A script does not release what it held (`forget`): the crates of these types prove that it can, and a second proof here would take long.
 mod alone;
@@ -152,7 +152,7 @@ fn scripts_tell_what_their_lines_say(rt: HostRuntime) {
     assert!(rt; wrong.is_empty(), "{wrong}");
 }
 
-// Writes the answers of the scripts of standard input, one a line. Only `tools/test_processes.py` gives some.
+// Writes the answers of the scripts of standard input, one a line. Only `tools/tests/test_processes.py` gives some.
 #[test]
 fn scripts_of_standard_input_are_played(rt: HostRuntime) -> Result<(), Fail> {
     for line in BufReader::new(rt.alloc(), rt.reader())?.lines(rt.alloc()) {

@@ -55,7 +55,7 @@ pub fn deliveries_of(
     Ok(table)
 }
 
-/// What is counted at a destination; no latency where the table lacks it.
+/// Returns the counts of a destination; no latency if the table lacks it.
 pub fn latencies_at(table: &BTreeMap<Destination, Latencies>, at: Destination) -> Latencies
     ensures { result ≡ counts_in table.now.entries at }
 {

@@ -1,4 +1,4 @@
-//! How often frames were lost.
+//! Counts lost frames.
 ghost use Rattle.std.specs.Prelude.{◌≡◌, ◌∷◌, ◌-◌, ◌^◌, ◌<◌, [], cond, OnOk};
 ghost use Rattle.trace_tables.specs.Losses.{count_in, with_loss, with_losses};
 ghost use Rattle.trace_segments.specs.Words.{is_in_network};
@@ -10,7 +10,7 @@ use std::alloc::AllocError;
 use std::collections::BTreeMap;
 use trace_segments::is_in_network;
 
-/// One more of a loss.
+/// Counts one more loss.
 fn add_loss(drops: &mut BTreeMap<Loss, u64>, loss: Loss) -> Result<(), AllocError>
     requires { count_in drops.old.entries loss < 2 ^ 64 - 1 }
     ensures { OnOk result (drops.new.entries ≡ with_loss drops.old.entries loss) }
@@ -20,7 +20,7 @@ fn add_loss(drops: &mut BTreeMap<Loss, u64>, loss: Loss) -> Result<(), AllocErro
     Ok(())
 }
 
-/// One more of a loss, if the network has its virtual link and process.
+/// Counts one more loss, if the network has its virtual link and process.
 pub fn add_known_loss(
     drops: &mut BTreeMap<Loss, u64>,
     network: &Network,

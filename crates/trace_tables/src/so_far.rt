@@ -16,14 +16,14 @@ use std::collections::BTreeMap;
 use std::marker::Model;
 use vlink::{Cause, Message, Note, Row};
 
-/// So many rows are counted at most before all have come. What comes behind them is kept, so that no count of rows passes 64 bits.
+/// The greatest number of rows that are counted before all have come. Later rows are stored, so that no count of rows exceeds 64 bits.
 const MOST: u64 = 1 << 63;
 
-/// The tables of rows that come batch by batch. The rows need not be kept.
+/// The tables of rows that come batch by batch. The rows need not be stored.
 ///
-/// After an error it stands for no rows, and is of no use.
+/// After an error it represents no rows, and is of no use.
 ///
-/// Clauses see what is counted, of how many rows, and the rows that are kept: none before 2^63 are counted. Latencies are in ns.
+/// Clauses see the counts, of how many rows they are, and the rows that are stored: none before 2^63 are counted. Latencies are in ns.
 #[derive(Drop)]
 pub struct TablesSoFar {
     cells: Cells,
@@ -40,7 +40,7 @@ impl Model for TablesSoFar {
     ghost view = { λ t. record { cells = t.cells; drops = t.drops.entries; counted = t.counted; rest = t.rest.items } };
 }
 
-/// A row is counted.
+/// Counts a row.
 #[inline(always)]
 fn count_row(
     cells: &mut Cells,
@@ -67,7 +67,7 @@ fn count_row(
     }
 }
 
-/// Each of the rows is counted.
+/// Counts each of the rows.
 fn count_each(
     cells: &mut Cells,
     drops: &mut BTreeMap<Loss, u64>,
@@ -84,7 +84,7 @@ fn count_each(
     Ok(())
 }
 
-/// A row behind those that are kept.
+/// Stores a row behind those that are stored.
 #[cold]
 #[inline(never)]
 fn keep(rest: &mut Vec<Row>, message: &Message, note: &Note) -> Result<(), AllocError>
@@ -99,7 +99,7 @@ fn keep(rest: &mut Vec<Row>, message: &Message, note: &Note) -> Result<(), Alloc
 }
 
 impl TablesSoFar {
-    /// No row has come. It fails only where memory is refused.
+    /// Makes tables of no rows. It fails only if memory is refused.
     pub fn none(alloc: Global, network: &Network) -> Result<TablesSoFar, AllocError>
         ensures { IfOk result (λ tables. IsSoFar network.now tables []) }
     {
@@ -111,10 +111,10 @@ impl TablesSoFar {
         })
     }
 
-    /// These rows have come behind the others. It fails only where memory is refused.
+    /// Counts these rows after the others. It fails only if memory is refused.
     ///
-    /// A row whose virtual link or process the network lacks is not counted, nor is a delivery at a process that is no destination of
-    /// its virtual link.
+    /// A row whose virtual link or process the network lacks is not counted, nor is a delivery at a process that is no destination of its
+    /// virtual link.
     pub fn count(&mut self, network: &Network, rows: &[Row]) -> Result<(), AllocError>
         requires { (earlier : List Row) × IsSoFar network.now self.old earlier }
         ensures { OnOk result ((earlier : List Row) → IsSoFar network.now self.old earlier → IsSoFar network.now self.new (earlier ++ rows.now)) }
@@ -127,8 +127,7 @@ impl TablesSoFar {
         Ok(())
     }
 
-    /// A row has come behind the others: that of this note, of the event of this message at its receiver. It fails only where memory is
-    /// refused.
+    /// Counts the row of this note, of the event of this message at its receiver, after the others. It fails only if memory is refused.
     ///
     /// It counts what `count` counts.
     pub fn count_note(
@@ -154,7 +153,7 @@ impl TablesSoFar {
         Ok(())
     }
 
-    /// The tables of all rows that have come. It fails only where memory is refused.
+    /// Returns the tables of all rows that came. It fails only if memory is refused.
     pub fn tables(self, network: &Network) -> Result<Tables, AllocError>
         requires { (rows : List Row) × IsSoFar network.now self rows }
         ensures { IfOk result (λ tables. (rows : List Row) → IsSoFar network.now self rows → tables ≡ tables_of network.now rows) }

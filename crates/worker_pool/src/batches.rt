@@ -1,4 +1,4 @@
-//! What the writer's thread does.
+//! The work of the writer's thread.
 ghost use Rattle.std.specs.Prelude.{◌≡◌};
 
 use crossbeam_channel::Receiver;

@@ -64,7 +64,7 @@ fn tell_end(process: Process<Summing>, told: &mut String) {
     let _ = write!(told, "sum {} counter {}", actor.sum, actor.counter);
 }
 
-// Does one word. A word that was refused memory is done again, except `arrive?`: `tools/refuse_memory.py` counts the refusals.
+// Does one word. A word that was refused memory is done again, except `arrive?`: `tools/gate/refuse_memory.py` counts the refusals.
 fn play_word(rt: &HostRuntime, stage: &mut Stage, told: &mut String, word: &str) {
     match act(rt.alloc(), stage, told, word) {
         Ok(()) => {}
