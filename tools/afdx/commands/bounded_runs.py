@@ -1,17 +1,16 @@
 #!/usr/bin/env python3
-"""Draws small networks, runs each with several seeds and offsets, and holds what happened against the bounds that
-afdx bounds works out: no latency may be above its bound, and at no output port may more bytes wait than its bound says. Nor
-may what happens on the way: the wait in a regulator, the delay of a hop, the jitter at a switch, the time on each network,
-the skew.
+"""Draws small networks, runs each with several seeds and offsets, and compares the runs with the bounds of afdx bounds: no
+latency may be above its bound, and at no output port may more bytes wait than its bound. The same holds on the way: for
+the wait in a regulator, the delay of a hop, the jitter at a switch, the time on each network, and the skew.
 
-What is drawn is meant to come near to the bounds: short BAGs, lines of both speeds that have little time left or none,
+The drawn networks come near to the bounds: short BAGs, lines of both speeds that have little time left or none,
 both priorities, sub-virtual links, rings of switches, accounts that refuse, regulators that overflow, small ports,
 outages. Of the runs of a network the first offers all at once; some are aimed at an output port, so that all frames come
 there at one moment if nothing delays them; others have offsets on few moments, and the rest has them anywhere in the
 periods.
 
-What is drawn follows from the number of the network and of the run alone, so a run can be made again. The runs are those
-of afdx second-opinion, which also sees what waits.
+The numbers of the network and of the run alone determine what is drawn, so a run can be made again. afdx second-opinion
+makes the runs, since it also measures what waits.
 """
 import argparse
 import os

@@ -2,15 +2,15 @@
 """Computes worst-case bounds of a network as CSV: of the latency of each virtual link at each destination, and of the
 bytes that wait at each output port.
 
-A bound of this model, computed outside the proofs. It is worked out from the description by network calculus, in whole
-numbers, with the rules of docs/TRAFFIC.md; no proof speaks of it, and it says nothing of real equipment. Tests hold it
-against runs: no latency of a run may be above its bound. Such a case is a defect of one of the two.
+A bound of this model, computed outside the proofs. Network calculus computes it from the description, in whole numbers,
+with the rules of docs/TRAFFIC.md. No proof covers it, and it claims nothing of real equipment. Tests compare it with
+runs: no latency of a run may be above its bound. Such a case is a defect of one of the two.
 
 A bound holds for all offsets, seeds and lengths of a run, with the outages that NET has; other outages need bounds of
 their own. It covers the time from the offer of a frame to its whole arrival at the destination, for each frame that is
 delivered, by whichever network. That is the wait in the regulator (wait_ns), and the longest way from the release on.
-What is used of the offers is their size alone, and for wait_ns their period and jitter: from its release on, a virtual
-link may send a frame in each BAG.
+Of the offers it uses the size alone, and for wait_ns also the period and the jitter: from its release on, a virtual link
+may send a frame in each BAG.
 """
 import argparse
 import os
@@ -25,7 +25,7 @@ examples:
   afdx bounds net.toml > bounds.csv
         all bounds of a network; afdx report --bounds bounds.csv shows them beside the latencies of a run
   afdx bounds net.toml -o bounds.csv --limits limits.csv --strict --junit limits.xml
-        for a build server: the margins, the least first, and the status 1 where a limit is below its bound
+        for a build server: the margins, the least first, and the status 1 if a limit is below its bound
 
   afdx bounds net.toml --fit fitted.toml
         net.toml with policing jitters and port bytes that are just enough for the worst case; the rest of it, comments
@@ -95,7 +95,7 @@ def words_of(arguments=None):
     parser.add_argument("--json", action="store_true", help="writes JSON in long form (docs/TOOLS.md, section 7) in place of CSV")
     says = "holds limits against the bounds: standard output has the margins, in place of the bounds"
     parser.add_argument("--limits", metavar="FILE", help=says + "; NET itself for its comments")
-    parser.add_argument("--strict", action="store_true", help="the status is 1 where a limit is below its bound, or has none")
+    parser.add_argument("--strict", action="store_true", help="the status is 1 if a limit is below its bound, or has none")
     parser.add_argument("--junit", metavar="FILE", help="writes what became of each limit as JUnit's XML")
     says = "writes NET there with policing_jitter_ns and port_bytes by the bounds, all else as it is, in place of bounds"
     parser.add_argument("--fit", metavar="FILE", type=files.output_name, help=says)

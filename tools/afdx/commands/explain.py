@@ -1,10 +1,10 @@
 #!/usr/bin/env python3
-"""Tells what is wrong with a description: all faults at once, each with its line, the value, and what is allowed.
+"""Prints all faults of a description at once, each with its line, the value, and what is allowed.
 
     net.toml:298: virtual link 117 (vl row 17), a, path 1: SW_A_2 is no node; SW_A2?
 
-The fault that `afdxsim` answers is the first one, and its line of `afdxsim` follows it in brackets. Of an accepted
-description it tells what is allowed and hardly meant, as warnings.
+The first fault is the one that `afdxsim` reports; the line of `afdxsim` follows it in brackets. If the description is
+accepted, warnings name what is allowed and probably a mistake.
 """
 import argparse
 import sys
