@@ -13,7 +13,9 @@ pub mod Worked
 pub mod Words
 pub mod Halves
 pub mod Below
+pub mod Timely
 pub mod Told
+pub mod Ran
 pub mod Opened
 pub mod Trays
 pub mod Again
