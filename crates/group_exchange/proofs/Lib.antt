@@ -3,6 +3,7 @@ pub mod Alike
 pub mod Marks
 pub mod Holding
 pub mod Taken
+pub mod Enabled
 pub mod SafeNow
 pub mod Collected
 pub mod InTime
