@@ -10,7 +10,7 @@ use Rattle.virtual_time.specs.Law.{IsIn, IsOrder, Simulation}
 use Rattle.virtual_time.proofs.Order.{not_less-time}
 use Rattle.reverse.specs.Rules.{is_before}
 use Rattle.journal.specs.declared.fault.PoolFault.{PoolFault}
-use Rattle.journal.specs.declared.fault.PoolFault.TheVariants.{OutOfMemory}
+use Rattle.journal.specs.declared.fault.PoolFault.TheVariants.{OutOfMemory, JournalFull}
 use Rattle.group_hand.specs.Flow.{Flow}
 use Rattle.group_hand.specs.declared.block.Did.{Did}
 use Rattle.group_hand.specs.Block.{steps_told}
@@ -75,6 +75,10 @@ module _ {S K : Type 0} (f : Simulation Message S K Note) (owners : List ℕ) wh
     numbers = λ e. absurd (let t = sym memory ∙ e in cc);
     faults = inl memory;
   }
+
+-- want of memory is not that the journal is full
+pub not-full : {T X : Type 0} (fault : PoolFault) (r : Result T PoolFault) → fault ≡ OutOfMemory → r ≡ Err fault → r ≡ Err JournalFull → X
+not-full fault r memory is full = absurd (let e = sym is ∙ full in let m = memory in cc)
 
 -- what none tells, where that tells more
 pub when-none : {X : Type 0} (o : Option X) (P Q : Type 0) → (P → Q) → IfNone o P → IfNone o Q

@@ -34,7 +34,7 @@ impl Standing {
     pub(crate) fn unplaced(alloc: Global) -> Self
         ensures { IsUnplaced result }
     {
-        let none = Steps::new(alloc, None);
+        let none = Steps::new(alloc, false);
         Standing {
             last: Snapshot::of(&none),
             steps: 0,
