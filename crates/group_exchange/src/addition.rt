@@ -8,7 +8,7 @@ use std::snapshot::Snapshot;
 pub enum Addition {
     /// All letters for the group of this number were taken, where these letters were on their way.
     Collected(u16, Snapshot<Boxes>),
-    /// A group did what these words tell, where these letters were on their way.
+    /// A group did these words, where these letters were on their way.
     Posted(Snapshot<Words>, Snapshot<Boxes>),
     /// GVT was set.
     Published,

@@ -23,7 +23,7 @@ use journal::PoolFault;
 use reverse::{Actor, actor_law};
 use vlink::Letter;
 
-/// The tray gets room for so many letters more than are taken, so that it is not copied to a larger place while the first of them arrive.
+/// The tray gets room for this number of letters more than are taken, so that it is not copied to a larger place while the first of them arrive.
 const SPARE: usize = 64;
 
 /// All letters on their way to a group go to the tray of its hand, with a step in the journal for each. Both marks note how long the journal is then, and
@@ -80,7 +80,7 @@ pub fn collect<R: Actor, J: GroupRun<R>>(
     Ok(count as u64)
 }
 
-/// Makes room for so many letters in the tray, and for as many steps in the journal.
+/// Makes room for `count` letters in the tray, and for as many steps in the journal.
 fn reserve_collect<R: Actor>(
     hand: &mut Hand<R>,
     journal: &mut Steps,

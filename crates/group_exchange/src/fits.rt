@@ -31,7 +31,7 @@ impl<R: Actor, J: GroupRun<R>> GroupExchange<R, J> {
         true
     }
 
-    /// One half of a mark tells what the other tells, so that both speak of one moment of the journal.
+    /// Both halves of a mark have one value, so both speak of one moment of the journal.
     pub(crate) fn join_law(&self, group: &Group<R, J>)
         ensures same { mark_at group.now ≡ mark_of self.now.marks group.now.number }
         ensures within { group.now.number < length J.names }

@@ -29,7 +29,7 @@ impl Model for Pairs {
 }
 
 impl Pairs {
-    /// So many of them, of new names. They tell of no step yet. It is refused for memory alone.
+    /// `count` of them, of new names, for groups that have no step yet. It is refused for memory alone.
     pub fn new(alloc: Global, count: usize) -> Result<Pairs, PoolFault>
         ensures count { IfOk result (λ pairs. length pairs ≡ count) }
         ensures memory { IfErr result (λ fault. fault ≡ OutOfMemory) }
@@ -47,7 +47,7 @@ impl Pairs {
         }
     }
 
-    /// So many more, which tell of no step.
+    /// `count` more, for groups that have no step.
     fn add_all(&mut self, mark: &Standing, count: usize) -> Result<(), PoolFault>
         requires { IsUnplaced mark.now }
         ensures more { OnOk result (length self.new ≡ length self.old + count) }
@@ -59,7 +59,7 @@ impl Pairs {
         Ok(())
     }
 
-    /// One more, which tells of no step.
+    /// One more, for a group that has no step.
     fn add(&mut self, mark: &Standing) -> Result<(), PoolFault>
         requires { IsUnplaced mark.now }
         ensures more { OnOk result (length self.new ≡ length self.old + 1) }

@@ -76,7 +76,7 @@ pub fn post<R: Actor, J: GroupRun<R>>(
     Ok(())
 }
 
-/// Makes room for so many steps in the journal, and in the boxes for the letters to others. Messages that are done already count beside, so that the
+/// Makes room for `count` steps in the journal, and in the boxes for the letters to others. Messages that are done already count beside, so that the
 /// floor is exact.
 fn reserve_post<R: Actor>(
     hand: &mut Hand<R>,
@@ -102,7 +102,7 @@ fn reserve_post<R: Actor>(
     journal.reserve(count as usize)
 }
 
-/// The block ends, and is told to the journal, each Take behind the letters that are on their way; then the letters to others are, too. There is room
+/// The block ends and joins the journal, each Take behind the letters that are on their way. Then the letters to others are on their way. There is room
 /// for all.
 fn post_reserved<R: Actor>(
     hand: &mut Hand<R>,

@@ -64,7 +64,7 @@ impl Steps {
         self.count
     }
 
-    /// Makes room for so many more. Where they are not kept it takes no memory.
+    /// Makes room for `more` steps. Where they are not kept it takes no memory.
     pub fn reserve(&mut self, more: usize) -> Result<(), PoolFault>
         ensures room { OnOk result (more ≤ self.new.room) }
         ensures steps { self.new.steps ≡ self.old.steps }
@@ -95,7 +95,7 @@ impl Steps {
         }
     }
 
-    /// A group did what these words tell, so many steps, each Take behind the letters that are on their way. There is room for these steps, and for
+    /// A group did these words, which are `count` steps, each Take behind the letters that are on their way. There is room for these steps, and for
     /// one at the least.
     pub fn post(&mut self, words: &Words, boxes: &Boxes, count: u64)
         requires count { count ≡ length (steps_told words.now.words) }

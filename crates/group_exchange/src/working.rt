@@ -87,8 +87,7 @@ impl<R: Actor, J: GroupRun<R>> Group<R, J> {
         }
     }
 
-    /// The first message is handled, if there is one that is earlier than the limit, and the gate is told of it, if it hears. The answer is whether there
-    /// was one.
+    /// Handles the first message, if there is one that is earlier than the limit, and calls the gate, if it hears. The answer is whether there was one.
     #[inline(always)]
     fn run_one<G: Gate>(&mut self, limit: Time, gate: &G) -> Result<bool, PoolFault>
         requires arrived { self.old.held.flow.tray ≡ [] }
@@ -105,8 +104,8 @@ impl<R: Actor, J: GroupRun<R>> Group<R, J> {
         self.run_first(limit)
     }
 
-    /// The first message is handled, if there is one that is earlier than the limit, and the gate is told of it, before and after. The answer is whether
-    /// there was one.
+    /// Handles the first message, if there is one that is earlier than the limit, and calls the gate before and after it. The answer is whether there was
+    /// one.
     fn run_told<G: Gate>(&mut self, limit: Time, gate: &G) -> Result<bool, PoolFault>
         requires arrived { self.old.held.flow.tray ≡ [] }
         ensures goes { Goes (simulation_of (rules_of R.plain) J.setting) J.owners limit self.old self.new }
