@@ -11,9 +11,9 @@ use vlink::Time;
 pub struct Common<G, K> {
     /// How many workers there are.
     pub workers: usize,
-    /// How many messages a group handles in a turn at most.
+    /// The most messages that a group handles in a turn.
     pub turn: u32,
-    /// How far a group runs ahead of the GVT that it saw at most, in ns.
+    /// The most that a group runs ahead of the GVT that it saw, in ns.
     pub window_ns: u64,
     pub(crate) seats: Seats<G>,
     pub(crate) signals: Signals,
