@@ -7,7 +7,7 @@ import xml.etree.ElementTree as xml
 
 from afdx import model
 from afdx.commands import bounds, explain, from_table, report
-from afdx.reckon import limits
+from afdx.reckon import bounds_file, limits
 from tests.test_campaign import COCKPIT, Here, read
 
 TABLES = COCKPIT.replace(".toml", ".tables.csv")
@@ -83,8 +83,8 @@ class Margins(Here):
         path, page, junit = (os.path.join(self.folder, name) for name in ("bounds.csv", "page.html", "limits.xml"))
         self.assertEqual(self.call(bounds, COCKPIT, "-o", path), (0, "", ""))
         row = model.Tables(TABLES, NET).latencies[101, "DU_R"]
-        bound = limits.Bounds(path, NET).bound(101, "DU_R")
-        other = limits.Bounds(path, NET).bound(102, "DU_L")
+        bound = bounds_file.Bounds(path, NET).bound(101, "DU_R")
+        other = bounds_file.Bounds(path, NET).bound(102, "DU_L")
         self.assertLess(row.greatest, bound)
         for ns, by_latency, by_bound in (
             (row.greatest - 1, "broken", "broken"),

@@ -23,7 +23,7 @@ from afdx.model import traces
 from afdx.page import end_table
 from afdx.page.drawing import Drawing
 from afdx.reckon.frames import Ends, drawn_offsets
-from afdx.reckon.limits import BOUNDS_COLUMNS
+from afdx.reckon.bounds_file import COLUMNS as BOUNDS_COLUMNS
 from afdx.runs.second_opinion import Simulation
 from tests import drawn
 from tests.places import EXAMPLES, tool_words

@@ -132,10 +132,10 @@ def main(arguments=None):
     files.ready(outputs, prints=bool(words.limits))
     given = given_by(words)
     files.judge(outputs, prints=bool(words.limits))
-    texts = {words.output: Page(given).html()}
+    files.write_pieces(words.output, (piece.encode("utf-8", "backslashreplace") for piece in Page(given).pieces()))
     if words.junit:
-        texts[words.junit] = limits.junit_text(list(given.margins.values()), words.strict, os.path.basename(words.net))
-    files.write_all(texts)
+        text = limits.junit_text(list(given.margins.values()), words.strict, os.path.basename(words.net))
+        files.write_whole(words.junit, text)
     if words.limits:
         files.write_out(limits.margins_text(given.margins.values()))
     is_above = tell_above(given)

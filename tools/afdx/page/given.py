@@ -7,7 +7,7 @@ from afdx.files import cut
 from afdx.files.page_text import counted
 from afdx.model import Network, Tables
 from afdx.model.traces import Trace
-from afdx.reckon import frames, hops, limits, transmit_jitter
+from afdx.reckon import bounds_file, frames, hops, limits, transmit_jitter
 from afdx.reckon.frames import Ends
 from afdx.runs import campaign_record
 
@@ -83,7 +83,7 @@ def given_by(words):
     if tables.merged and words.trace:
         raise files.Fault(words.trace, None, f"is the trace of one run, and {tables.path} has the tables of several")
     trace = Trace(words.trace, tables) if words.trace else None
-    bounds = limits.Bounds(words.bounds, net) if words.bounds else None
+    bounds = bounds_file.Bounds(words.bounds, net) if words.bounds else None
     margins = limits.margins_of(limits.limits_of(words.limits, net), tables.latencies, bounds) if words.limits else []
     measured = hops.Hops(words.hops, tables) if words.hops else None
     way = hops.OnTheWay(net, measured, bounds and bounds.of_kind) if measured or bounds else None
@@ -91,7 +91,7 @@ def given_by(words):
     if words.against:
         before, record_before = tables_of(words.against, Network(words.against_net) if words.against_net else net)
         ends_before = ends_of(words, before, record_before) if before.merged == tables.merged else None
-        other = Other(before, ends_before, limits.Bounds(words.against_bounds, before.net) if words.against_bounds else None)
+        other = Other(before, ends_before, bounds_file.Bounds(words.against_bounds, before.net) if words.against_bounds else None)
     made_of = [net.path, tables.path, words.trace, words.limits, words.bounds, words.hops]
     made_of += [words.against, words.against_net, words.against_bounds]
     made_by = words.made_by or (f"{found.program.in_words()}, as their campaign says" if found else None)

@@ -1,5 +1,4 @@
 """The page as HTML: its parts, and the data that its script draws as tables."""
-import json
 import math
 import os
 import re
@@ -7,13 +6,16 @@ import re
 from afdx import files, model
 from afdx.files import program
 from afdx.files.page_text import counted, esc, hundredths, span
-from afdx.page import comparison_panels, loss_panels, panels, worst_case_panels
+from afdx.page import comparison_panels, json_text, loss_panels, panels, worst_case_panels
 from afdx.page.columns import WARN
 from afdx.page.drawing import heat
 from afdx.page.end_table import BARS, ENOUGH_FOR_BARS, EndTable
 from afdx.page.tiles import tiles
-from afdx.reckon import limits
+from afdx.reckon import bounds_file
 from afdx.runs.campaign_record import PERCENTS
+
+# Of more lines of latencies the data of a page is packed. Browsers have what unpacks it since 2023.
+MOST_PLAIN = 50_000
 
 # What the page tells of a virtual link itself.
 FACTS = ["id", "source", "bag_ns", "period_ns", "offset_ns", "jitter_ns", "size", "smax", "priority", "policing"]
@@ -61,7 +63,7 @@ class Page:
             out[outage.line].append([outage.from_ns, outage.to_ns])
         found["outages"] = list(out.values())
         if bounds:
-            ports = {line: bounds.waiting.get(line, limits.Waiting(0, "")) for line in net.mbit}
+            ports = {line: bounds.waiting.get(line, bounds_file.Waiting(0, "")) for line in net.mbit}
             found["waiting"] = [port.most for port in ports.values()]
             found["holds"] = [bounds.holds(line) for line in net.mbit]
             tones = zip(found["waiting"], found["holds"])
@@ -69,7 +71,7 @@ class Page:
         return found
 
     def virtual_links(self):
-        found = []
+        """What the script needs of each virtual link, one by one."""
         for vl in self.net.vls.values():
             paths = {
                 side: [[self.line_number[line] for line in model.lines_of_path(path)] for path in vl.paths[side]]
@@ -77,8 +79,7 @@ class Page:
             }
             row = {key: getattr(vl, key) for key in FACTS}
             lost = [[it.where, loss_panels.side_of(self, it), it.cause, it.count] for it in self.lost.get(vl.id, ())]
-            found.append(row | {"paths": paths, "lost": lost})
-        return found
+            yield row | {"paths": paths, "lost": lost}
 
     def axis(self):
         """From which to which power of ten the axis of all latencies goes, in ns."""
@@ -97,28 +98,39 @@ class Page:
             "enough": ENOUGH_FOR_BARS, **self.rows,
         }
 
-    def html(self):
-        net, given = self.net, self.given
-        name = os.path.basename(net.path)
-        parts = [panels.network(self), panels.end_to_end(self), panels.latency(self)]
-        parts += [worst_case_panels.worst_case(self)] if given.bounds else []
-        parts += [worst_case_panels.on_the_way(self)] if given.way else []
-        parts += [worst_case_panels.transmit_jitter(self)]
-        parts += [comparison_panels.against(self)] if given.other else []
-        parts += [panels.distribution(self)] if given.trace or given.percentiles else []
-        parts += [loss_panels.losses(self)] + ([loss_panels.over_time(self)] if given.trace else []) + [loss_panels.second_copies(self)]
-        parts = [it for it in parts if it]
+    def parts(self):
+        given = self.given
+        found = [panels.network(self), panels.end_to_end(self), panels.latency(self)]
+        found += [worst_case_panels.worst_case(self)] if given.bounds else []
+        found += [worst_case_panels.on_the_way(self)] if given.way else []
+        found += [worst_case_panels.transmit_jitter(self)]
+        found += [comparison_panels.against(self)] if given.other else []
+        found += [panels.distribution(self)] if given.trace or given.percentiles else []
+        found += [loss_panels.losses(self)] + ([loss_panels.over_time(self)] if given.trace else []) + [loss_panels.second_copies(self)]
+        return [it for it in found if it]
+
+    def pieces(self):
+        """The page in pieces, so that a large one is nowhere whole."""
+        name, parts = os.path.basename(self.net.path), self.parts()
         titles = [re.match(r'<section id="(.*?)"><h2>(.*?)</h2>', it).groups() for it in parts]
         links = "".join(f'<a href="#{where}">{title}</a>' for where, title in titles)
-        data = json.dumps(self.data(), separators=(",", ":"), ensure_ascii=False).replace("<", "\\u003c")
-        return (
+        yield (
             f'<!DOCTYPE html>\n<html lang="en"><head><meta charset="utf-8"><title>{esc(name)} – afdxsim</title>\n'
             f'<meta name="viewport" content="width=device-width,initial-scale=1"><style>\n{part_of_page("report.css")}</style></head>\n'
             f"<body><main><header><h1>{esc(name)}</h1><p>{self.words()}</p><nav>{links}</nav></header>\n"
             "<noscript><p>The tables of this page are drawn by its script, which may not run here.</p></noscript>\n"
-            f"{tiles(given, self.ends)}\n" + "\n".join(parts) + f"\n<footer>{self.foot()}</footer></main>\n"
-            f'<script type="application/json" id="data">{data}</script>\n<script>\n{part_of_page("report.js")}</script></body></html>\n'
+            f"{tiles(self.given, self.ends)}\n" + "\n".join(parts) + f"\n<footer>{self.foot()}</footer></main>\n"
         )
+        script, data = part_of_page("report.js"), json_text.pieces(self.data())
+        if len(self.tables.latencies) <= MOST_PLAIN:
+            yield '<script type="application/json" id="data">'
+            yield from (piece.replace("<", "\\u003c") for piece in data)
+            yield f"</script>\n<script>\n{script}</script></body></html>\n"
+        else:
+            yield '<p id="unpacking">The data of this page is unpacked, which takes some seconds.</p>\n<script type="text/plain" id="packed">'
+            yield from json_text.packed(data)
+            yield f'</script>\n<script type="text/plain" id="script">\n{script}</script>\n'
+            yield f"<script>\n{part_of_page('unpack.js')}</script></body></html>\n"
 
     def words(self):
         net = self.net

@@ -41,7 +41,7 @@ def on_the_way(page):
     def pair(kind, name, hint, make=time_column):
         return [make(kind + side, f"{name}, {said}" if len(sides) > 1 else name, hint, kind + "_tone") for side, said in sides]
 
-    page.rows |= {"parts": way.destinations(), "delays": way.hops(), "jitters": way.switches(), "backlogs": way.ports()}
+    page.rows |= {"parts": way.table("destinations"), "delays": way.table("hops"), "jitters": way.table("switches"), "backlogs": way.table("ports")}
     first = sides[0][0]
     parts = [VL_COLUMN, DESTINATION_COLUMN, *pair("wait", "wait in the regulator", "from the offer of a frame to its release")]
     parts += pair("network", "network's own", "from the release to the delivery: the latency less the wait")
