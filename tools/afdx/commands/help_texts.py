@@ -27,7 +27,7 @@ OF_TOOLS = {
         "afdx.commands.campaign", "--each-outage", "NET [--each-outage NS] -o DIR", "run with each link and each switch out in turn"
     ),
     "pcap": OfTool("afdx.commands.pcap", None, "NET TRACE -o FILE", "make a capture for Wireshark of a trace"),
-    "report": OfTool("afdx.page.report", None, "NET TABLES -o FILE", "make a page of tables that are there, of a campaign too"),
+    "report": OfTool("afdx.commands.report", None, "NET TABLES -o FILE", "make a page of tables that are there, of a campaign too"),
     "second-opinion": OfTool(
         "afdx.runs.second_opinion", None, "NET [--trace FILE] [--hops FILE]", "simulate it by a plain simulator, and measure on the way"
     ),
