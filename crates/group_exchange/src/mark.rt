@@ -30,11 +30,11 @@ pub struct Standing {
 }
 
 impl Standing {
-    /// Of a group that the journal does not tell of yet.
+    /// Of a group that has no step in the journal yet.
     pub(crate) fn unplaced(alloc: Global) -> Self
         ensures { IsUnplaced result }
     {
-        let none = Steps::new(alloc, None);
+        let none = Steps::new(alloc, false);
         Standing {
             last: Snapshot::of(&none),
             steps: 0,
@@ -44,7 +44,7 @@ impl Standing {
 }
 
 /// A group collects or posts when the journal has these steps, and has seen GVT at this moment, in ns: so it stands from now on, and both halves of its
-/// mark tell it.
+/// mark have it.
 pub(crate) fn stand_here(
     standing: &mut Standing,
     marks: &mut Vec<LeftHalf<Standing>>,
@@ -71,7 +71,7 @@ pub(crate) fn stand_here(
     tell_both(marks, half, group, standing);
 }
 
-/// The two halves of the standing of a group tell another one.
+/// Both halves of the standing of a group become this one.
 pub(crate) fn tell_both(
     marks: &mut Vec<LeftHalf<Standing>>,
     half: &mut RightHalf<Standing>,

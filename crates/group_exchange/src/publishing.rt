@@ -1,8 +1,8 @@
 //! GVT is set.
-ghost use Rattle.std.specs.Prelude.{◌≡◌, ◌<◌, ◌≤◌, ◌⊎◌, ℕ, length, IfOk, IfErr, OnErr, Err, true};
+ghost use Rattle.std.specs.Prelude.{◌≡◌, ◌<◌, ◌≤◌, ◌⊎◌, ℕ, length, IfOk, IfErr, OnErr, Err};
 ghost use Rattle.reverse.specs.Rules.{rules_of};
 ghost use Rattle.reverse.specs.Setting.{simulation_of};
-ghost use Rattle.journal.specs.declared.fault.PoolFault.TheVariants.{OutOfMemory, JournalFull, Torn};
+ghost use Rattle.journal.specs.declared.fault.PoolFault.TheVariants.{OutOfMemory, JournalFull};
 ghost use Rattle.group_exchange.specs.Effects.{Publishes, IsHeldBack};
 
 use crate::groups::GroupExchange;
@@ -16,7 +16,7 @@ use vlink::Time;
 /// is no step. The answer is GVT, in ns.
 ///
 /// Any refusal leaves the exchange as it was. `JournalFull`: exactly where the steps would pass the limit, which is looked at before any
-/// growth. `Torn`: the journal is kept, and another one has written the step's place in the table, which is seen behind all growths.
+/// growth.
 pub fn publish<R: Actor, J: GroupRun<R>>(
     exchange: &mut GroupExchange<R, J>,
 ) -> Result<Time, PoolFault>
@@ -24,7 +24,7 @@ pub fn publish<R: Actor, J: GroupRun<R>>(
     ensures unchanged { OnErr result (exchange.new ≡ exchange.old) }
     ensures full { result ≡ Err JournalFull → IsHeldBack (simulation_of (rules_of R.plain) J.setting) J.owners exchange.old × (exchange.old.limit ≤ length exchange.old.steps) }
     ensures limited { IsHeldBack (simulation_of (rules_of R.plain) J.setting) J.owners exchange.old → exchange.old.limit ≤ length exchange.old.steps → result ≡ Err JournalFull }
-    ensures faults { IfErr result (λ fault. (fault ≡ OutOfMemory) ⊎ ((fault ≡ JournalFull) ⊎ ((fault ≡ Torn) × (J.keeps ≡ true)))) }
+    ensures faults { IfErr result (λ fault. (fault ≡ OutOfMemory) ⊎ (fault ≡ JournalFull)) }
 {
     actor_law::<R>();
     let gvt = horizon(&exchange.boxes, &exchange.floors, exchange.end);

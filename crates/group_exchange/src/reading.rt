@@ -1,6 +1,9 @@
 //! What is asked of a group in hand, and of the exchange.
 ghost use Rattle.std.specs.Prelude.{◌≡◌, ◌≢◌, ◌<◌, ◌≤◌, true, false, [], length, slice_get, All, Contains, IfSome, IfNone};
 ghost use Rattle.vlink.specs.declared.message.Message.{Message};
+ghost use Rattle.virtual_time.specs.Law.{AreDone, start};
+ghost use Rattle.reverse.specs.Rules.{rules_of};
+ghost use Rattle.reverse.specs.Setting.{simulation_of};
 ghost use Rattle.group_hand.specs.Hands.{IsAsBefore};
 
 use crate::group::Group;
@@ -66,7 +69,9 @@ impl<R: Actor, J: GroupRun<R>> GroupExchange<R, J> {
     /// The steps of a journal that is kept, in order.
     pub fn step_list(&self) -> &[Step]
         requires { J.keeps ≡ true }
-        ensures { result.now ≡ self.now.steps }
+        ensures steps { result.now ≡ self.now.steps }
+        // each could be done where it stands
+        ensures enabled { AreDone (simulation_of (rules_of R.plain) J.setting) result.now (start (simulation_of (rules_of R.plain) J.setting)) }
     {
         self.journal.list()
     }

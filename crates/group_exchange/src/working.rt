@@ -1,11 +1,15 @@
 //! What a group does alone.
-ghost use Rattle.std.specs.Prelude.{◌≡◌, ◌≤◌, ◌⊎◌, false, [], OnOk, IfOk, IfErr, IfNone, Ok, Err, All, IsPermutation};
+ghost use Rattle.std.specs.Prelude.{◌≡◌, ℕ, ◌+◌, ◌≤◌, ◌⊎◌, false, [], OnOk, IfOk, IfErr, IfNone, Ok, Err, All, IsPermutation};
+ghost use Rattle.vlink.specs.Order.{message_order};
+ghost use Rattle.virtual_time.specs.Law.{IsAscending, one_if};
 ghost use Rattle.reverse.specs.Rules.{rules_of};
 ghost use Rattle.reverse.specs.Setting.{simulation_of};
 ghost use Rattle.journal.specs.declared.fault.PoolFault.TheVariants.{OutOfMemory, Exhausted};
+ghost use Rattle.group_hand.specs.Block.{runs_in};
 ghost use Rattle.group_hand.specs.DoneEvents.{messages_of};
-ghost use Rattle.group_hand.specs.declared.in_order.InOrder.TheVariants.{Idle, Late};
-ghost use Rattle.group_exchange.specs.Effects.{Goes, IsGroupAsBefore, IsIdleBefore, IsShort, Works, WorksSome};
+ghost use Rattle.group_hand.specs.Hands.{FirstWaits};
+ghost use Rattle.group_hand.specs.declared.in_order.InOrder.TheVariants.{Ran, Idle, Late};
+ghost use Rattle.group_exchange.specs.Effects.{Ends, Goes, IsGroupAsBefore, IsIdleBefore, IsShort, Works, WorksSome};
 
 use crate::group::Group;
 use crate::run_of::GroupRun;
@@ -15,9 +19,9 @@ use journal::{Gate, PoolFault};
 use reverse::{Actor, actor_law};
 use vlink::{Message, Time};
 
-/// All letters of the tray arrive; then messages that are earlier than the GVT seen and `window`, in ns, are handled, `turn` at most, as long
-/// as there are any; then all done events below the GVT seen are committed. Each step joins the block. The answer is how many messages were handled. A
-/// gate that hears is told of each.
+/// Lets all letters of the tray arrive. Then it handles messages that are earlier than the GVT seen plus `window`, in ns: as many as there are, `turn` at
+/// most, and behind each it lets the letters arrive that the group sent itself. Then it commits all done events below the GVT seen. Each step joins the
+/// block. The answer is the number of messages that it handled. It calls the gate before and after each, if the gate hears.
 ///
 /// A refusal comes between two steps, and leaves what was done before it. `Exhausted`: the process that handles the first message has too few numbers
 /// left. `OutOfMemory`: a growth was refused.
@@ -50,7 +54,8 @@ impl<R: Actor, J: GroupRun<R>> Group<R, J> {
     /// Letters of the tray arrive, and messages that are earlier than the limit are handled, `turn` at most, as long as there are any; behind each of them
     /// arrive the letters that it brought.
     fn run_turn<G: Gate>(&mut self, turn: u32, limit: Time, gate: &G) -> Result<u64, PoolFault>
-        ensures goes { Goes (simulation_of (rules_of R.plain) J.setting) J.owners self.old self.new }
+        ensures goes { Goes (simulation_of (rules_of R.plain) J.setting) J.owners limit self.old self.new }
+        ensures counted { IfOk result (λ count. runs_in self.new.held.flow.words ≡ runs_in self.old.held.flow.words + count) }
         ensures within { IfOk result (λ count. count ≤ turn) }
         ensures idle { IfOk result (λ count. (count ≡ turn) ⊎ IsIdleBefore (simulation_of (rules_of R.plain) J.setting) J.owners limit self.new) }
         ensures arrived { OnOk result (self.new.held.flow.tray ≡ []) }
@@ -70,7 +75,8 @@ impl<R: Actor, J: GroupRun<R>> Group<R, J> {
     /// All letters of the tray arrive.
     #[inline(always)]
     fn empty_tray(&mut self) -> Result<(), PoolFault>
-        ensures goes { Goes (simulation_of (rules_of R.plain) J.setting) J.owners self.old self.new }
+        ensures goes { (limit : ℕ) → Goes (simulation_of (rules_of R.plain) J.setting) J.owners limit self.old self.new }
+        ensures counted { runs_in self.new.held.flow.words ≡ runs_in self.old.held.flow.words }
         ensures arrived { OnOk result (self.new.held.flow.tray ≡ []) }
         ensures memory { IfErr result (λ fault. fault ≡ OutOfMemory) }
     {
@@ -81,11 +87,12 @@ impl<R: Actor, J: GroupRun<R>> Group<R, J> {
         }
     }
 
-    /// The first message is handled, if there is one that is earlier than the limit, and the gate is told of it, if it hears. The answer is whether there
-    /// was one.
+    /// Handles the first message, if there is one that is earlier than the limit, and calls the gate, if it hears. The answer is whether there was one.
     #[inline(always)]
     fn run_one<G: Gate>(&mut self, limit: Time, gate: &G) -> Result<bool, PoolFault>
-        ensures goes { Goes (simulation_of (rules_of R.plain) J.setting) J.owners self.old self.new }
+        requires arrived { self.old.held.flow.tray ≡ [] }
+        ensures goes { Goes (simulation_of (rules_of R.plain) J.setting) J.owners limit self.old self.new }
+        ensures counted { IfOk result (λ ran. runs_in self.new.held.flow.words ≡ runs_in self.old.held.flow.words + one_if ran) }
         ensures idle { result ≡ Ok false → IsIdleBefore (simulation_of (rules_of R.plain) J.setting) J.owners limit self.new }
         ensures tray { result ≡ Ok false → self.new.held.flow.tray ≡ self.old.held.flow.tray }
         ensures short { result ≡ Err Exhausted → IsShort (simulation_of (rules_of R.plain) J.setting) J.owners self.new }
@@ -97,10 +104,12 @@ impl<R: Actor, J: GroupRun<R>> Group<R, J> {
         self.run_first(limit)
     }
 
-    /// The first message is handled, if there is one that is earlier than the limit, and the gate is told of it, before and after. The answer is whether
-    /// there was one.
+    /// Handles the first message, if there is one that is earlier than the limit, and calls the gate before and after it. The answer is whether there was
+    /// one.
     fn run_told<G: Gate>(&mut self, limit: Time, gate: &G) -> Result<bool, PoolFault>
-        ensures goes { Goes (simulation_of (rules_of R.plain) J.setting) J.owners self.old self.new }
+        requires arrived { self.old.held.flow.tray ≡ [] }
+        ensures goes { Goes (simulation_of (rules_of R.plain) J.setting) J.owners limit self.old self.new }
+        ensures counted { IfOk result (λ ran. runs_in self.new.held.flow.words ≡ runs_in self.old.held.flow.words + one_if ran) }
         ensures idle { result ≡ Ok false → IsIdleBefore (simulation_of (rules_of R.plain) J.setting) J.owners limit self.new }
         ensures tray { result ≡ Ok false → self.new.held.flow.tray ≡ self.old.held.flow.tray }
         ensures short { result ≡ Err Exhausted → IsShort (simulation_of (rules_of R.plain) J.setting) J.owners self.new }
@@ -121,7 +130,9 @@ impl<R: Actor, J: GroupRun<R>> Group<R, J> {
     /// The first message is handled, if there is one that is earlier than the limit. The answer is whether there was one.
     #[inline(always)]
     fn run_first(&mut self, limit: Time) -> Result<bool, PoolFault>
-        ensures goes { Goes (simulation_of (rules_of R.plain) J.setting) J.owners self.old self.new }
+        requires arrived { self.old.held.flow.tray ≡ [] }
+        ensures goes { Goes (simulation_of (rules_of R.plain) J.setting) J.owners limit self.old self.new }
+        ensures counted { IfOk result (λ ran. runs_in self.new.held.flow.words ≡ runs_in self.old.held.flow.words + one_if ran) }
         ensures idle { result ≡ Ok false → IsIdleBefore (simulation_of (rules_of R.plain) J.setting) J.owners limit self.new }
         ensures tray { result ≡ Ok false → self.new.held.flow.tray ≡ self.old.held.flow.tray }
         ensures short { result ≡ Err Exhausted → IsShort (simulation_of (rules_of R.plain) J.setting) J.owners self.new }
@@ -137,7 +148,10 @@ impl<R: Actor, J: GroupRun<R>> Group<R, J> {
     /// The first message is handled, where it is earlier than the limit and comes after all that the group has done.
     #[inline(always)]
     fn run_in_order(&mut self, limit: Time) -> Result<InOrder, PoolFault>
-        ensures goes { Goes (simulation_of (rules_of R.plain) J.setting) J.owners self.old self.new }
+        requires arrived { self.old.held.flow.tray ≡ [] }
+        ensures goes { Goes (simulation_of (rules_of R.plain) J.setting) J.owners limit self.old self.new }
+        ensures counted { result ≡ Ok Ran → runs_in self.new.held.flow.words ≡ runs_in self.old.held.flow.words + 1 }
+        ensures words { (result ≡ Ok Idle) ⊎ (result ≡ Ok Late) → self.new.held.flow.words ≡ self.old.held.flow.words }
         ensures idle { result ≡ Ok Idle → IsIdleBefore (simulation_of (rules_of R.plain) J.setting) J.owners limit self.new }
         ensures tray { (result ≡ Ok Idle) ⊎ (result ≡ Ok Late) → self.new.held.flow.tray ≡ self.old.held.flow.tray }
         ensures short { result ≡ Err Exhausted → IsShort (simulation_of (rules_of R.plain) J.setting) J.owners self.new }
@@ -154,7 +168,9 @@ impl<R: Actor, J: GroupRun<R>> Group<R, J> {
     /// The first message that is not done is handled, if there is one that is earlier than the limit, whether other members have done later events or not.
     /// The answer is whether there was one.
     fn run_next(&mut self, limit: Time) -> Result<bool, PoolFault>
-        ensures goes { Goes (simulation_of (rules_of R.plain) J.setting) J.owners self.old self.new }
+        requires arrived { self.old.held.flow.tray ≡ [] }
+        ensures goes { Goes (simulation_of (rules_of R.plain) J.setting) J.owners limit self.old self.new }
+        ensures counted { IfOk result (λ ran. runs_in self.new.held.flow.words ≡ runs_in self.old.held.flow.words + one_if ran) }
         ensures idle { result ≡ Ok false → IsIdleBefore (simulation_of (rules_of R.plain) J.setting) J.owners limit self.new }
         ensures tray { result ≡ Ok false → self.new.held.flow.tray ≡ self.old.held.flow.tray }
         ensures short { result ≡ Err Exhausted → IsShort (simulation_of (rules_of R.plain) J.setting) J.owners self.new }
@@ -172,6 +188,7 @@ impl<R: Actor, J: GroupRun<R>> Group<R, J> {
     /// Messages at the front of the queue that are done already count beside, until the first is not done.
     fn count_done(&mut self) -> Result<(), PoolFault>
         ensures stood { IsGroupAsBefore self.old self.new }
+        ensures waits { OnOk result (IsAscending message_order (messages_of self.new.held.done) → FirstWaits message_order self.new.held) }
         ensures memory { IfErr result (λ fault. fault ≡ OutOfMemory) }
     {
         match self.hand.count_done() {
@@ -197,7 +214,7 @@ impl<R: Actor, J: GroupRun<R>> Group<R, J> {
     fn commit_below(&mut self, moment: Time) -> Result<(), PoolFault>
         requires tray { self.old.held.flow.tray ≡ [] }
         requires seen { moment ≡ self.old.seen }
-        ensures goes { Goes (simulation_of (rules_of R.plain) J.setting) J.owners self.old self.new }
+        ensures ends { Ends (simulation_of (rules_of R.plain) J.setting) J.owners self.old self.new }
         ensures below { OnOk result (All (λ m. self.old.seen ≤ m.time) (messages_of self.new.held.done)) }
         ensures queue { IsPermutation self.old.held.flow.queue self.new.held.flow.queue }
         ensures in_time { All (λ m. m.time ≤ J.setting.until) self.new.held.flow.queue }

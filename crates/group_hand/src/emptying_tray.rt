@@ -1,6 +1,7 @@
 //! Letters that were taken arrive, one after another.
 ghost use Rattle.std.specs.Prelude.{◌≡◌, ◌+◌, ◌<◌, ◌≤◌, true, false, Ok, OnOk, OnErr, IfErr, IfSome, IsPermutation, length, vec_len, vec_capacity};
 ghost use Rattle.reverse.specs.Rules.{rules_of};
+ghost use Rattle.group_hand.specs.Block.{AddsLetters};
 ghost use Rattle.group_hand.specs.Hands.{DoesTold, IsAsBefore, IsQuiet};
 ghost use Rattle.group_hand.specs.Undoing.{HasRoomFor, sent_in};
 ghost use Rattle.group_hand.specs.declared.fault.HandFault.TheVariants.{OutOfMemory};
@@ -32,6 +33,7 @@ impl<R: Actor> Hand<R> {
     #[inline(always)]
     pub fn arrive_all(&mut self) -> Result<(), HandFault>
         ensures did { DoesTold (rules_of R.plain) R.is_value self.old self.new }
+        ensures words { AddsLetters self.old.flow.words self.new.flow.words }
         ensures quiet { OnOk result (IsQuiet self.new) }
         ensures memory { IfErr result (λ fault. fault ≡ OutOfMemory) }
     {
@@ -54,6 +56,7 @@ impl<R: Actor> Hand<R> {
     /// The front of the tray arrives, if there is one. The answer is whether there was. A refusal leaves all as it was.
     fn arrive_front(&mut self) -> Result<bool, HandFault>
         ensures did { DoesTold (rules_of R.plain) R.is_value self.old self.new }
+        ensures words { AddsLetters self.old.flow.words self.new.flow.words }
         ensures quiet { result ≡ Ok false → IsQuiet self.new }
         ensures fewer { result ≡ Ok true → length self.new.flow.tray + sent_in self.new.done < length self.old.flow.tray + sent_in self.old.done }
         ensures unchanged { OnErr result (IsAsBefore self.old self.new) }

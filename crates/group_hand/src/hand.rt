@@ -4,6 +4,7 @@ ghost use Rattle.vlink.specs.declared.message.Message.{Message};
 ghost use Rattle.virtual_time.specs.Law.{World};
 ghost use Rattle.reverse.specs.Rules.{rules_of, is_before};
 ghost use Rattle.reverse.specs.Setting.{Setting};
+ghost use Rattle.group_hand.specs.Block.{AddsCommits};
 ghost use Rattle.group_hand.specs.DoneEvents.{DoneEvent, messages_of};
 ghost use Rattle.group_hand.specs.Hands.{DoesTold, StandsForGroup, CommitsTold, StaysDone, IsAsBefore};
 ghost use Rattle.group_hand.specs.Sealing.{rows_in};
@@ -103,6 +104,7 @@ impl<R: Actor> Hand<R> {
         ensures sealed { OnOk result ((ds : List (DoneEvent R.Record)) × (self.old.done ≡ ds ++ self.new.done)
             × (self.new.rows ≡ record self.old.rows { all = self.old.rows.all ++ rows_in ds }) × All (λ m. m.time < moment) (messages_of ds)) }
         ensures left { OnOk result (StaysDone moment self.new) }
+        ensures words { AddsCommits self.old.flow.words self.new.flow.words }
         ensures queue { IsPermutation self.old.flow.queue self.new.flow.queue }
         ensures flow { self.new.flow ≡ record self.old.flow { queue = self.new.flow.queue; words = self.new.flow.words; room = self.new.flow.room } }
         ensures memory { IfErr result (λ fault. fault ≡ OutOfMemory) }

@@ -5,6 +5,7 @@ ghost use Rattle.vlink.specs.Numbering.{greatest_number};
 ghost use Rattle.reverse.specs.Rules.{rules_of};
 ghost use Rattle.antimessages.specs.Counting.{is_after, newest_of};
 ghost use Rattle.group_hand.specs.Becoming.{Becomes};
+ghost use Rattle.group_hand.specs.Block.{AddsRun};
 ghost use Rattle.group_hand.specs.DoneEvents.{DoneEvent, messages_of};
 ghost use Rattle.group_hand.specs.Hands.{DoesSent};
 ghost use Rattle.group_hand.specs.Flow.{Flow, TookFirst};
@@ -51,6 +52,7 @@ pub(crate) fn handle_in_order<R: Actor>(
     ensures len { length members.new ≡ length members.old }
     ensures did { (rows : Sealed) (before : Flow) → TookFirst message.now before letters.old →
         DoesSent (rules_of R.plain) R.is_value (held members.old done.old.events rows before) [] (held members.new done.new.events rows letters.new) [] }
+    ensures words { AddsRun message.now.receiver letters.old.words letters.new.words }
     ensures done { (d : DoneEvent R.Record) × (done.new.events ≡ done.old.events ++ d ∷ []) × (d.message ≡ message.now) }
     ensures came { ((p : ℕ) → CameTo (rules_of R.plain) R.is_value members.old done.old.events p) → (p : ℕ) → CameTo (rules_of R.plain) R.is_value members.new done.new.events p }
 {

@@ -6,6 +6,7 @@ ghost use Rattle.vlink.specs.Order.{message_order};
 ghost use Rattle.virtual_time.specs.Law.{IsAscending, plus_of};
 ghost use Rattle.reverse.specs.Rules.{rules_of, is_before};
 ghost use Rattle.group_hand.specs.Arriving.{WentOn};
+ghost use Rattle.group_hand.specs.Block.{AddsRun};
 ghost use Rattle.group_hand.specs.DoneEvents.{DoneEvent, messages_of};
 ghost use Rattle.group_hand.specs.Flow.{WasTaken, WentAbroad};
 ghost use Rattle.group_hand.specs.Handling.{HasLater, SetAside, StopsAt};
@@ -108,6 +109,7 @@ pub(crate) fn handle_out_of_order<R: Actor>(
     ensures did { (rows : Sealed) → DoesSent (rules_of R.plain) R.is_value (held members.old done.old.events rows letters.old) [] (held members.new done.new.events rows letters.new) [] }
     ensures came { (p : ℕ) → CameTo (rules_of R.plain) R.is_value members.new done.new.events p }
     ensures empty { aside.new.events ≡ [] }
+    ensures words { AddsRun message.now.receiver letters.old.words letters.new.words ⊎ HasLater message_order message.now done.old.events }
     ensures handled { (length done.new.events ≡ length done.old.events + 1) ⊎ HasLater message_order message.now done.old.events }
 {
     actor_rules_law::<R>();

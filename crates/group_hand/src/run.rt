@@ -8,8 +8,8 @@ ghost use Rattle.reverse.specs.Rules.{rules_of, is_before};
 ghost use Rattle.reverse.specs.Setting.{Setting};
 ghost use Rattle.antimessages.specs.Counting.{is_after, newest_of};
 ghost use Rattle.group_hand.specs.DoneEvents.{DoneEvent, messages_of};
-ghost use Rattle.group_hand.specs.Handling.{IsHandled};
-ghost use Rattle.group_hand.specs.Hands.{DoesTold, IsAsBefore, StandsForGroup};
+ghost use Rattle.group_hand.specs.Handling.{IsHandled, RanFirst};
+ghost use Rattle.group_hand.specs.Hands.{DoesTold, FirstWaits, IsAsBefore, StandsForGroup};
 ghost use Rattle.group_hand.specs.Undoing.{HasRoomFor};
 ghost use Rattle.group_hand.specs.declared.fault.HandFault.TheVariants.{Exhausted};
 ghost use Rattle.group_hand.specs.declared.in_order.InOrder.TheVariants.{Ran, Idle, Late};
@@ -45,6 +45,7 @@ impl<R: Actor> Hand<R> {
         ensures idle_still { result ≡ Ok Idle → IsAsBefore self.old self.new }
         ensures ran { result ≡ Ok Ran → (d : DoneEvent R.Record) × (self.new.done ≡ self.old.done ++ d ∷ [])
             × Contains self.old.flow.queue d.message × All (λ x. is_before x d.message ≡ false) self.old.flow.queue × (d.message.time < limit) }
+        ensures first { result ≡ Ok Ran → (m : Message) × (m.time < limit) × RanFirst m self.old self.new }
         ensures soon { result ≡ Ok Late → (m : Message) × Contains self.old.flow.queue m × (m.time < limit) }
         ensures exhausted { result ≡ Err Exhausted → (m : Message) × Contains self.old.flow.queue m × All (λ x. is_before x m ≡ false) self.old.flow.queue
             × (IsAscending message_order (messages_of self.old.done) → All (λ x. x ≢ m) (messages_of self.old.done))
@@ -89,6 +90,9 @@ impl<R: Actor> Hand<R> {
         ensures still { result ≡ Ok false → IsAsBefore self.old self.new }
         ensures ran { result ≡ Ok true → (x : Setting R) (v : World Message R) → StandsForGroup (rules_of R.plain) R.is_value x v self.old →
             (m : Message) × Contains self.old.flow.queue m × (m.time < limit) × IsHandled m self.old self.new }
+        // where the first message of the queue is not done, it is handled
+        ensures first { result ≡ Ok true → (IsAscending message_order (messages_of self.old.done) → FirstWaits message_order self.old) →
+            (x : Setting R) (v : World Message R) → StandsForGroup (rules_of R.plain) R.is_value x v self.old → (m : Message) × (m.time < limit) × RanFirst m self.old self.new }
         ensures exhausted { result ≡ Err Exhausted → (m : Message) × Contains self.old.flow.queue m × All (λ x. is_before x m ≡ false) self.old.flow.queue
             × (IsAscending message_order (messages_of self.old.done) → All (λ x. x ≢ m) (messages_of self.old.done))
             × ((s : R) → slice_get self.old.members m.receiver ≡ Some (Some s) → greatest_number < R.plain.counter s + MOST_SENT) }
@@ -115,6 +119,8 @@ impl<R: Actor> Hand<R> {
         ensures did { DoesTold (rules_of R.plain) R.is_value self.old self.new }
         ensures ran { OnOk result ((x : Setting R) (v : World Message R) → StandsForGroup (rules_of R.plain) R.is_value x v self.old →
             (m : Message) × Contains self.old.flow.queue m × All (λ y. is_before y m ≡ false) self.old.flow.queue × IsHandled m self.old self.new) }
+        ensures first { OnOk result ((IsAscending message_order (messages_of self.old.done) → FirstWaits message_order self.old) →
+            (x : Setting R) (v : World Message R) → StandsForGroup (rules_of R.plain) R.is_value x v self.old → (m : Message) × RanFirst m self.old self.new) }
         ensures exhausted { result ≡ Err Exhausted → (m : Message) × Contains self.old.flow.queue m × All (λ x. is_before x m ≡ false) self.old.flow.queue
             × (IsAscending message_order (messages_of self.old.done) → All (λ x. x ≢ m) (messages_of self.old.done))
             × ((s : R) → slice_get self.old.members m.receiver ≡ Some (Some s) → greatest_number < R.plain.counter s + MOST_SENT) }

@@ -5,6 +5,7 @@ ghost use Rattle.vlink.specs.Letters.{Letter};
 ghost use Rattle.virtual_time.specs.Law.{minus_of};
 ghost use Rattle.reverse.specs.Rules.{rules_of};
 ghost use Rattle.group_hand.specs.Arriving.{WentOn};
+ghost use Rattle.group_hand.specs.Block.{AddsLetters};
 ghost use Rattle.group_hand.specs.Hands.{DoesSent};
 ghost use Rattle.group_hand.specs.Passing.{held};
 ghost use Rattle.group_hand.specs.Rows.{Sealed};
@@ -38,6 +39,7 @@ pub(crate) fn arrive<R: Actor>(
     ensures len { length members.new ≡ length members.old }
     ensures did { OnOk result ((rows : Sealed) → DoesSent (rules_of R.plain) R.is_value (held members.old done.old.events rows letters.old) [] (held members.new done.new.events rows letters.new) []) }
     ensures came { (p : ℕ) → CameTo (rules_of R.plain) R.is_value members.new done.new.events p }
+    ensures words { OnOk result (AddsLetters letters.old.words letters.new.words) }
     ensures fewer { OnOk result (length letters.new.tray + sent_in done.new.events < length letters.old.tray + sent_in done.old.events) }
     ensures empty { undoing.new.aside.events ≡ [] }
     ensures none_back { undoing.new.back.items ≡ [] }

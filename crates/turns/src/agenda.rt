@@ -1,11 +1,11 @@
 //! The order of a worker's turns: a deque of its groups that are due, from which other workers steal.
 use crate::common::Common;
-use crate::hint::{Hint, TurnRun};
 use crate::moments::Moments;
 use crate::tasks::Tasks;
 use crate::{MOST_SLOTS, SLOTS};
 use crossbeam_deque::{Steal, Stealer, Worker as Deque};
 use std::alloc::{AllocError, Global};
+use turn_words::{Hint, TurnRun};
 
 /// A group of a worker, and the moment at which it has something to do, in ns, as the worker saw it last.
 #[derive(Drop)]

@@ -72,7 +72,7 @@ impl<G: Drop, K: Drop> Common<G, K> {
     }
 }
 
-/// What the workers tell one another of these groups, of which none has had a turn, and their seats. It is refused for memory alone.
+/// What the workers announce to one another of these groups, of which none has had a turn, and their seats. It is refused for memory alone.
 fn seated<G: Drop>(
     alloc: Global,
     until: Time,

@@ -1,8 +1,8 @@
-//! A run by workers of groups of any kind: threads, and who of the groups gets the next turn, by moments that the workers tell one another, without a lock and without waiting.
-//! Each group belongs to a worker, which gives it turn after turn: in one section of an exchange what the group did is told to all, and letters come to
-//! it; then it works on events, as far as it may be ahead of the others.
+//! A run by workers of groups of any kind: threads, and who of the groups gets the next turn, by moments that the workers announce, without a lock and without waiting.
+//! Each group belongs to a worker, which gives it turn after turn. In one section of an exchange the group posts what it did, and takes its letters; then it
+//! works on events, as far as it may be ahead of the others.
 //!
-//! Who gives a turn has the lock of the group meanwhile (`Seats`). For each group the workers tell one another the moment of what it has to do next
+//! Who gives a turn has the lock of the group meanwhile (`Seats`). For each group the workers announce the moment of what it has to do next
 //! (`Moments`). A worker lists its groups that are due in a deque (`Agenda`), and gives them their turns in that order. A worker that finds nothing to do
 //! for its own groups looks again; soon it lets other threads run in between, and gives groups of others their turns, whose workers may be off their
 //! cores: what it steals from the deque of the worker that is furthest behind, or any that is due; and at last it rests until one of its own is due.
@@ -12,12 +12,9 @@
 mod agenda;
 mod apart;
 mod common;
-mod hint;
 mod locking;
 mod looks;
 mod moments;
-mod outcomes;
-mod refusal;
 mod report;
 mod seat;
 mod seats;
@@ -29,20 +26,19 @@ mod workers;
 
 pub use apart::Apart;
 pub use common::Common;
-pub use hint::TurnRun;
 pub use locking::locked_soon;
 pub use moments::Moments;
-pub use refusal::Refusal;
 pub use report::Report;
 pub use seat::Seat;
 pub use tasks::Tasks;
+pub use turn_words::{Refusal, TurnRun};
 pub use workers::work_all;
 
-/// A group works on events that are less than this behind the least moment of all groups, in ns. A rollback costs more than a section of the exchange:
+/// A group works on events that are less than this later than the least moment of all groups, in ns. A rollback costs more than a section of the exchange:
 /// of 1,000 events 2 to 4 are undone and 38 sections taken, and with twice as much 35 and 27.
 pub const LEAD_NS: u64 = 8_000;
 
-/// So many messages a group handles at most before it tells how far it has come.
+/// So many messages a group handles at most before it announces how far it has come.
 const PIECE: u32 = 8;
 
 /// A group that has letters for others ends its turn after so many messages: the others wait for them meanwhile.
@@ -96,6 +92,3 @@ const LOOK_US: u64 = 250_000;
 
 /// A run whose GVT is the same after so many looks at it, which is 10 s, stands still: its workers end, and one thread finishes it.
 const LOOKS_OF_STANDSTILL: u32 = 40;
-
-#[cfg(test)]
-mod tests;

@@ -1,14 +1,14 @@
 //! When each group has something to do next, and how far the workers have come.
 use crate::apart::Apart;
-use crate::{LEAD_NS, PIECE};
+use crate::{LEAD_NS, MOST_UNPOSTED, PIECE};
 use std::alloc::{AllocError, Global};
 use std::sync::atomic::{AtomicBool, AtomicU64, Ordering};
 use vlink::Time;
 
-/// What is told of a group.
+/// What workers announce of a group.
 #[derive(Drop)]
 struct Moment {
-    /// The moment of its next event, in ns, or of its earliest letter that is not posted, as who gave it a turn told it last.
+    /// The moment of its next event, in ns, or of its earliest letter that is not posted, as who gave it a turn announced it last.
     next_ns: AtomicU64,
     /// The least moment of the letters that wait for it, in ns. Who posted one lowers it after that, and who takes them raises it in the same section.
     /// So no letter is missed.
@@ -58,7 +58,7 @@ fn owners_of(alloc: Global, groups: usize, workers: usize) -> Result<Vec<usize>,
     Ok(owners)
 }
 
-/// What the workers tell one another.
+/// What the workers announce to one another.
 #[derive(Drop)]
 pub struct Moments {
     moments: Vec<Apart<Moment>>,
@@ -101,7 +101,16 @@ impl Moments {
         self.moments.len()
     }
 
-    /// So many messages a group handles at most before it tells how far it has come, where it has handled so many in its turn. Nobody asks how far the
+    /// So many messages a group handles at most in a turn, where a turn has so many. Nobody waits for the only group: it goes on until it is to post.
+    pub(crate) fn turn(&self, turn: u32) -> u32 {
+        if self.groups() == 1 {
+            turn.max(MOST_UNPOSTED)
+        } else {
+            turn
+        }
+    }
+
+    /// So many messages a group handles at most before it announces how far it has come, where it has handled so many in its turn. Nobody asks how far the
     /// only group is.
     pub(crate) fn piece(&self, turn: u32, handled: u32) -> u32 {
         let left = turn.saturating_sub(handled);
@@ -163,7 +172,7 @@ impl Moments {
         behind
     }
 
-    /// Before which moment events are due now, in ns: `LEAD_NS` behind the least moment of all groups. The only group has none to wait for.
+    /// Before which moment events are due now, in ns: `LEAD_NS` later than the least moment of all groups. The only group has none to wait for.
     pub(crate) fn limit_ns(&self) -> u64 {
         if self.moments.len() == 1 {
             return u64::MAX;
@@ -217,7 +226,7 @@ impl Moments {
         }
     }
 
-    /// The letters that waited for the group are collected. The answer is the least moment of those that were told of, in ns. Its caller has the lock of the
+    /// The letters that waited for the group are collected. The answer is the least moment of those that were announced, in ns. Its caller has the lock of the
     /// exchange.
     pub fn collect(&self, group: u16) -> u64 {
         let Some(moment) = self.moments.get(usize::from(group)) else {
@@ -241,7 +250,7 @@ impl Moments {
         }
     }
 
-    /// The groups are told of the letters that are listed for them, the least moment of each, in ns; and none is listed from then on.
+    /// Announces to the groups the letters that are listed for them, the least moment of each, in ns; and none is listed from then on.
     pub(crate) fn call_all(&self, letters_ns: &mut [u64]) {
         for (group, letter_ns) in letters_ns.iter_mut().enumerate() {
             if *letter_ns != u64::MAX {

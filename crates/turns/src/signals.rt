@@ -1,4 +1,4 @@
-//! What the workers of a run tell one another: moments, who of them rests, and whether the run has ended.
+//! What the workers of a run announce to one another: moments, who of them rests, and whether the run has ended.
 use crate::REST_US;
 use crate::apart::Apart;
 use crate::moments::Moments;
@@ -17,7 +17,7 @@ fn awake(alloc: Global, workers: usize) -> Result<Vec<Apart<AtomicU64>>, AllocEr
     Ok(rests)
 }
 
-/// What the workers tell one another.
+/// What the workers announce to one another.
 #[derive(Drop)]
 pub(crate) struct Signals {
     /// When each group has something to do next.

@@ -1,11 +1,10 @@
 //! What a worker does with a group.
 ghost use Rattle.std.specs.Prelude.{◌<◌};
 
-use crate::hint::TurnRun;
 use crate::moments::Moments;
-use crate::refusal::Refusal;
 use crate::report::Report;
 use crate::seat::Seat;
+use turn_words::{Refusal, TurnRun};
 
 /// What a worker does with a group that it has in hand. When it does which, says this crate.
 pub trait Tasks<G> {
@@ -25,8 +24,8 @@ pub trait Tasks<G> {
     /// The group handles messages, so many at most, which are no further ahead of the GVT that it saw than this, in ns. The answer is how many.
     fn handle(&self, group: &mut G, most: u32, ahead_ns: u64) -> Result<u32, Self::Fault>;
 
-    /// In one section of the exchange what the group did is told to all, its letters go to the other groups, and are listed: for each group the least
-    /// moment is lowered, in ns; and its own come to it. GVT is set in between where the group waits for it, or it is time. The answer is the least moment
+    /// In one section of the exchange the group posts what it did, and its letters go to the other groups and are listed: for each group the least
+    /// moment is lowered, in ns. Its own letters come to it. GVT is set in between where the group waits for it, or it is time. The answer is the least moment
     /// of the letters that came, in ns.
     fn meet(
         &self,

@@ -4,13 +4,13 @@ use crate::agenda::{Agenda, Stealers};
 use crate::common::Common;
 use crate::looks::Looks;
 use crate::moments::Moments;
-use crate::refusal::Refusal;
 use crate::seat::Seat;
 use crate::signals::Signals;
 use crate::tasks::Tasks;
 use std::alloc::{AllocError, Global};
 use std::sync::Wait;
 use std::{hint, thread};
+use turn_words::Refusal;
 
 /// A worker with these groups gives turns until the run is over or a refusal ends it. One of its own ends the others at their next turn.
 pub(crate) fn give_turns<G: Drop, K: Tasks<G>, T: Wait>(
@@ -180,7 +180,7 @@ impl<'s, G: Drop, K: Tasks<G>, T: Wait> Worker<'s, G, K, T> {
         Ok(has_worked)
     }
 
-    /// The group meets the others. Then they are told of its letters, and only then of its next event, which may be later.
+    /// The group meets the others. Then it announces its letters to them, and only then its next event, which may be later.
     fn meet(&mut self, seat: &mut Seat<G>) -> Result<(), K::Fault> {
         let common = self.common;
         let tasks = &common.tasks;
@@ -197,12 +197,12 @@ impl<'s, G: Drop, K: Tasks<G>, T: Wait> Worker<'s, G, K, T> {
         Ok(())
     }
 
-    /// The group handles messages as long as they are due, as many as a turn has, and tells now and then how far it is. It ends where it is to meet the
+    /// The group handles messages as long as they are due, as many as a turn has, and announces now and then how far it is. It ends where it is to meet the
     /// others. The answer is whether a message was handled.
     fn handle_due(&self, seat: &mut Seat<G>) -> Result<bool, K::Fault> {
         let common = self.common;
         let moments = &common.signals.moments;
-        let turn = common.turn;
+        let turn = moments.turn(common.turn);
         let mut handled = 0;
         for _ in 0..turn {
             let most = moments.piece(turn, handled);
@@ -236,7 +236,7 @@ impl<'s, G: Drop, K: Tasks<G>, T: Wait> Worker<'s, G, K, T> {
     }
 }
 
-/// The group handles messages that are due, so many at most, no further ahead of the GVT that it saw than the window, and tells how far it is: no further
+/// The group handles messages that are due, so many at most, no further ahead of the GVT that it saw than the window, and announces how far it is: no further
 /// than its earliest letter that is not posted. The answer is how many.
 fn handle_piece<G: Drop, K: Tasks<G>>(
     common: &Common<G, K>,
@@ -246,7 +246,9 @@ fn handle_piece<G: Drop, K: Tasks<G>>(
     let tasks = &common.tasks;
     let moments = &common.signals.moments;
     let report = tasks.report(seat);
-    let due_ns = moments.limit_ns().saturating_sub(report.seen_ns);
+    // A letter that waits is to arrive before what is later.
+    let limit_ns = moments.limit_ns().min(moments.letter_ns(report.number));
+    let due_ns = limit_ns.saturating_sub(report.seen_ns);
     let count = tasks.handle(&mut seat.group, most, due_ns.min(common.window_ns))?;
     seat.next_ns = tasks.next_ns(&mut seat.group);
     moments.tell(report.number, tasks.report(seat).first_ns());

@@ -1,8 +1,8 @@
 //! The exchange that all workers of a run share.
-ghost use Rattle.std.specs.Prelude.{◌≡◌, ◌≢◌, ◌+◌, ◌<◌, ◌≤◌, ◌⊎◌, List, length, true, IfErr, Err};
+ghost use Rattle.std.specs.Prelude.{◌≡◌, ◌≢◌, ◌+◌, ◌<◌, ◌≤◌, ◌⊎◌, List, length, IfErr, Err};
 ghost use Rattle.vlink.specs.Letters.{Letter};
 ghost use Rattle.nodes.specs.Words.{simulation_of};
-ghost use Rattle.journal.specs.declared.fault.PoolFault.TheVariants.{OutOfMemory, Exhausted, JournalFull, Spawn, Torn};
+ghost use Rattle.journal.specs.declared.fault.PoolFault.TheVariants.{OutOfMemory, Exhausted, JournalFull, Spawn};
 ghost use Rattle.group_exchange.specs.Views.{block_of};
 ghost use Rattle.group_exchange.specs.Effects.{AreWaiting};
 ghost use Rattle.worker_pool.specs.Outcomes.{LackNumbers};
@@ -83,7 +83,7 @@ impl<J: NetworkRun> Shared<J> {
             × (most_steps J.keeps < length self.old.steps + length (block_of group.old)) }
         ensures limited { most_steps J.keeps < length self.old.steps + length (block_of group.old) → 0 < length (block_of group.old) →
             result ≡ Err JournalFull }
-        ensures faults { IfErr result (λ fault. (fault ≡ OutOfMemory) ⊎ ((fault ≡ JournalFull) ⊎ ((fault ≡ Torn) × (J.keeps ≡ true)))) }
+        ensures faults { IfErr result (λ fault. (fault ≡ OutOfMemory) ⊎ (fault ≡ JournalFull)) }
         ensures no_spawn { IfErr result (λ fault. fault ≢ Spawn) }
     {
         match post(group, &mut self.inner) {

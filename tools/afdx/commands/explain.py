@@ -12,7 +12,7 @@ from collections import Counter
 
 from afdx import files, model
 from afdx.model import Fault, judge
-from afdx.reckon import description_warnings, limits
+from afdx.reckon import bounds_file, description_warnings
 
 EXAMPLES = """
 examples:
@@ -79,7 +79,7 @@ def explain(path, bounds=None, tells_all=False):
         net = model.Network(path, text, description)
         warnings = description_warnings.Warnings(net).findings
         if bounds:
-            warnings += description_warnings.WorstCase(net, limits.Bounds(bounds, net)).findings
+            warnings += description_warnings.WorstCase(net, bounds_file.Bounds(bounds, net)).findings
         lines, count = told_of(path, warnings, tells_all)
         lines.append(f"{path}: accepted{count}")
     return "".join(line + "\n" for line in lines), 1 if found else 0

@@ -27,7 +27,7 @@ OF_TOOLS = {
         "afdx.commands.campaign", "--each-outage", "NET [--each-outage NS] -o DIR", "run with one link or switch out, each in turn"
     ),
     "pcap": OfTool("afdx.commands.pcap", None, "NET TRACE -o FILE", "make a capture for Wireshark from a trace"),
-    "report": OfTool("afdx.page.report", None, "NET TABLES -o FILE", "make a page of existing tables, also of a campaign"),
+    "report": OfTool("afdx.commands.report", None, "NET TABLES -o FILE", "make a page of existing tables, also of a campaign"),
     "second-opinion": OfTool(
         "afdx.runs.second_opinion", None, "NET [--trace FILE] [--hops FILE]", "simulate the network by a plain simulator, and measure each hop"
     ),

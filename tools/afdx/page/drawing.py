@@ -4,7 +4,6 @@ from collections import Counter
 from afdx.files.page_text import counted, esc, frame_count, percent_of, span, two_places
 from afdx.model.traces import MOMENTS
 
-
 # ---- the network ----
 
 RAMP = [

@@ -1,5 +1,5 @@
 "use strict";
-const data = JSON.parse(document.getElementById("data").textContent);
+const data = window.unpacked ?? JSON.parse(document.getElementById("data").textContent);
 const ends = data.ends, lines = data.lines, vls = new Map(data.vls.map(vl => [vl.id, vl]));
 const element = id => document.getElementById(id);
 

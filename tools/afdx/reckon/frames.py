@@ -31,7 +31,9 @@ class Range(namedtuple("Range", "least most")):
         return Range(max(self.least, other.least), min(self.most, other.most))
 
 
+@functools.lru_cache(4096)
 def exactly(count):
+    """The range of one count. Most are small, and kept once."""
     return Range(count, count)
 
 

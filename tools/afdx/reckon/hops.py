@@ -91,6 +91,7 @@ class OnTheWay:
     def __init__(self, net, hops, bound):
         self.net, self.is_measured, self.is_bounded = net, hops is not None, bound is not None
         self.measured = hops.greatest if hops else lambda *_: None
+        self.kept = {}
         self.bound = bound or (lambda *_: None)
 
     def columns(self, kinds, places, names):
@@ -124,7 +125,13 @@ class OnTheWay:
         holds = [self.net.nodes[line.split(">")[0]].port_bytes for _, line in places]
         return self.columns(["backlog"], places, [None, "line"]) | {"holds": holds}
 
+    def table(self, name):
+        """The columns of `destinations`, `hops`, `switches` or `ports`, which are made once."""
+        if name not in self.kept:
+            self.kept[name] = getattr(self, name)()
+        return self.kept[name]
+
     def above(self):
         """How often something measured is above its bound."""
-        tables = [self.destinations(), self.hops(), self.switches(), self.ports()]
+        tables = [self.table(name) for name in ("destinations", "hops", "switches", "ports")] if self.is_measured and self.is_bounded else []
         return sum(mark == BAD for table in tables for key, marks in table.items() if key.endswith("_tone") for mark in marks)

@@ -8,7 +8,7 @@ use crate::tests::stage::play_words;
 use crate::tests::words::tell;
 use group_choice::groups_of;
 use group_exchange::{Group, GroupExchange, Pairs};
-use journal::{PoolFault, Table};
+use journal::PoolFault;
 use network::Network;
 use network_runs::NetworkRun;
 use nodes::Node;
@@ -62,19 +62,17 @@ fn play_script(
     let limit = limit.min(1 << 26);
     let groups = groups.max(1).min(64);
     let script = String::from_str(alloc, script)?;
-    let table = Table::new(alloc)?;
     let owners = groups_of(alloc, network, groups)?;
     let pairs = Pairs::new(alloc, usize::from(groups))?;
     play_at_start::<Brand>(
-        alloc, network, table, owners, pairs, limit, &script, told, refused,
+        alloc, network, owners, pairs, limit, &script, told, refused,
     )
 }
 
-// Plays at an exchange of the network over this table, at its start. Beside a `&str` nothing could be picked at `Brand`.
+// Plays at an exchange of the network, at its start. Beside a `&str` nothing could be picked at `Brand`.
 fn play_at_start<J: NetworkRun>(
     alloc: Global,
     network: &Network,
-    table: Table,
     owners: Vec<u16>,
     pairs: Pairs,
     limit: u64,
@@ -90,7 +88,7 @@ fn play_at_start<J: NetworkRun>(
     requires few { length J.names ≤ 64 }
     requires most { limit ≤ 2 ^ 26 }
 {
-    let (mut exchange, mut groups) = open::<J>(alloc, network, table, owners, pairs, limit)?;
+    let (mut exchange, mut groups) = open::<J>(alloc, network, owners, pairs, limit)?;
     let mut stage = Groups {
         exchange: &mut exchange,
         groups: &mut groups,
@@ -107,7 +105,6 @@ fn play_at_start<J: NetworkRun>(
 fn open<J: NetworkRun>(
     alloc: Global,
     network: &Network,
-    table: Table,
     owners: Vec<u16>,
     pairs: Pairs,
     limit: u64,
@@ -137,7 +134,7 @@ fn open<J: NetworkRun>(
         &offers,
         owners,
         network.until(),
-        Some(table),
+        true,
         pairs,
         limit,
     )

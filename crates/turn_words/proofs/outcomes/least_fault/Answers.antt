@@ -1,9 +1,9 @@
 use Rattle.std.proofs.Common.{◌∙◌, sym, subst, map-id}
 use Rattle.std.proofs.lemmas.Iterator.Adapters.{YieldsList-from_vec}
 use Rattle.std.proofs.lemmas.Iterator.Consumers.{YieldsList-end}
-use Rattle.turns.specs.Outcomes.{IsLeastOf}
-use Rattle.turns.proofs.LeastFault.{least-none, least-more}
-use Rattle.turns.proofs.outcomes.least_fault.Goals as goal
+use Rattle.turn_words.specs.Outcomes.{IsLeastOf}
+use Rattle.turn_words.proofs.LeastFault.{least-none, least-more}
+use Rattle.turn_words.proofs.outcomes.least_fault.Goals as goal
 
 pub loop-outcome-init : goal.loop-outcome-init
 loop-outcome-init g c = record { can = tt; ends = tt; least = least-none g.F.Refusal.rank }

@@ -3,8 +3,6 @@ mod boxes;
 mod group;
 mod passing;
 
-use crate::common::Common;
-use crate::workers::work_all;
 use actor_run::Unwatched;
 use group::{Group, groups_of};
 use passing::Passing;
@@ -12,6 +10,7 @@ use std::alloc::{AllocError, Global};
 use std::fmt::Write;
 use std::sync::Wait;
 use std::thread::Threads;
+use turns::{Common, work_all};
 use vlink::Time;
 
 // The end of a run, in ns: all tokens are earlier.

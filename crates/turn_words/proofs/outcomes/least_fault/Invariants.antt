@@ -1,5 +1,5 @@
-use Rattle.turns.specs.Outcomes.{IsLeastOf}
-use Rattle.turns.proofs.outcomes.least_fault.Given as goal
+use Rattle.turn_words.specs.Outcomes.{IsLeastOf}
+use Rattle.turn_words.proofs.outcomes.least_fault.Given as goal
 
 abbrev pub invariant-loop-outcome : goal.invariant-loop-outcome
 invariant-loop-outcome g l = record {

@@ -1,14 +1,9 @@
 -- The least fault of outcomes that come one after another.
-use Rattle.std.proofs.Common.{◌≡◌, ℕ, ◌≤◌, ◌⊎◌, inl, inr, List, [], ◌∷◌, ◌++◌, sym, subst, arith, Some, None, slice_get, Result, Ok, Err, IsOk, IfErr, OnOk, All, Contains}
+use Rattle.std.proofs.Common.{◌≡◌, ℕ, ◌≤◌, ◌⊎◌, inl, inr, List, [], ◌∷◌, ◌++◌, sym, subst, arith, Result, Ok, Err, IsOk, IfErr, OnOk, All, Contains}
 use Rattle.std.specs.Prelude.{⊤}
 use Rattle.std.proofs.lemmas.Bool.{false≢true}
 use Rattle.std.proofs.lemmas.List.Elements.{All-nil, All-cons, All-append, All-weaker, Contains-append_left, Contains-append_right}
-use Rattle.turns.specs.Outcomes.{HasNoLesser, IsLeastOf}
-
--- the first of some stays the first where one more comes behind them
-pub first_stays : {X : Type 0} (xs : List X) (x first : X) → slice_get xs 0 ≡ Some first → slice_get (xs ++ x ∷ []) 0 ≡ Some first
-first_stays [] x first is = absurd (let bad : None ≡ Some first = is in cc)
-first_stays (y ∷ ys) x first is = is
+use Rattle.turn_words.specs.Outcomes.{HasNoLesser, IsLeastOf}
 
 module _ {F : Type 0} (number : F → ℕ) where
   -- of none

@@ -13,7 +13,7 @@ pub trait TurnRun {
 
 /// A group that should get a turn. By its type it is one of the run; no proof covers whether it has something to do.
 #[derive(Drop)]
-pub(crate) struct Hint<R: TurnRun> {
+pub struct Hint<R: TurnRun> {
     pub group: u16,
     of: PhantomData<R>,
     pub ghost inside: { group < R.groups },
@@ -21,7 +21,7 @@ pub(crate) struct Hint<R: TurnRun> {
 
 impl<R: TurnRun> Hint<R> {
     /// Makes a hint at this group.
-    pub(crate) fn new(group: u16) -> Self
+    pub fn new(group: u16) -> Self
         requires { group < R.groups }
         ensures { result.group ≡ group }
     {
@@ -32,7 +32,7 @@ impl<R: TurnRun> Hint<R> {
     }
 
     /// Returns a copy of the hint.
-    pub(crate) fn again(&self) -> Self
+    pub fn again(&self) -> Self
         ensures { result.group ≡ self.now.group }
     {
         Hint::new(self.group)

@@ -1,12 +1,12 @@
 //! The result of a run by workers, from what each of them ended with.
 ghost use Rattle.std.specs.Prelude.{◌≡◌, ◌≤◌, ◌⊎◌, ◌++◌, ◌∷◌, [], IsOk, IfErr, OnOk};
-ghost use Rattle.turns.specs.Outcomes.{IsLeastOf};
+ghost use Rattle.turn_words.specs.Outcomes.{IsLeastOf};
 
 use crate::refusal::Refusal;
 use std::alloc::AllocError;
 
 /// Adds one outcome behind the others. It fails only if memory is refused.
-pub(crate) fn add_outcome<F: Refusal>(
+pub fn add_outcome<F: Refusal>(
     outcomes: &mut Vec<Result<(), F>>,
     outcome: Result<(), F>,
 ) -> Result<(), AllocError>
@@ -17,7 +17,7 @@ pub(crate) fn add_outcome<F: Refusal>(
 }
 
 /// Returns the fault with the least number of these outcomes, if any.
-pub(crate) fn least_fault<F: Refusal>(outcomes: Vec<Result<(), F>>) -> Result<(), F>
+pub fn least_fault<F: Refusal>(outcomes: Vec<Result<(), F>>) -> Result<(), F>
     ensures { IsLeastOf F.rank outcomes.items result }
 {
     let mut told = Ok(());

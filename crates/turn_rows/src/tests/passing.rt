@@ -1,17 +1,11 @@
 //! What is done with a group of plain lists, over a locked exchange of lists.
 use super::boxes::Boxes;
 use super::group::{Group, least_ns};
-use crate::hint::TurnRun;
-use crate::locking::locked_soon;
-use crate::moments::Moments;
-use crate::refusal::Refusal;
-use crate::report::Report;
-use crate::seat::Seat;
-use crate::tasks::Tasks;
 use std::alloc::{AllocError, Global};
 use std::sync::atomic::{AtomicBool, AtomicU64, Ordering};
 use std::sync::{Mutex, Wait};
 use std::thread;
+use turns::{Moments, Refusal, Report, Seat, Tasks, TurnRun, locked_soon};
 
 // The number of the fault for lack of memory.
 const MEMORY: u8 = 200;
