@@ -1,4 +1,4 @@
-//! A group takes the letters that are on their way to it.
+//! A group takes the letters that are in transit to it.
 ghost use Rattle.std.specs.Prelude.{List, ◌≡◌, ◌≢◌, ◌<◌, ◌≤◌, ◌+◌, ◌⊎◌, ℕ, [], ◌∷◌, ◌++◌, set, length, slice_get, All, IfOk, OnOk, OnErr, IfErr, Err, true};
 ghost use Rattle.std.specs.Option.{option_map};
 ghost use Rattle.vlink.specs.declared.message.Message.{Message};
@@ -26,8 +26,8 @@ use vlink::Letter;
 /// The tray gets room for this number of letters more than are taken, so that it is not copied to a larger place while the first of them arrive.
 const SPARE: usize = 64;
 
-/// All letters on their way to a group go to the tray of its hand, with a step in the journal for each. Both marks note how long the journal is then, and
-/// the GVT of the exchange. The answer is how many letters were taken.
+/// Moves all letters in transit to a group to the tray of its hand, with a step in the journal for each. Both marks note the length of the
+/// journal then, and the GVT of the exchange. Returns how many letters were taken.
 ///
 /// Any refusal leaves both as they were. `JournalFull`: exactly where the steps would pass the limit, which is looked at before any growth.
 pub fn collect<R: Actor, J: GroupRun<R>>(
@@ -99,7 +99,7 @@ fn reserve_collect<R: Actor>(
     journal.reserve(count)
 }
 
-/// These letters go to the back of the tray. There is room for them.
+/// Puts these letters at the back of the tray. The room for them was made before.
 fn deliver_all<R: Actor>(hand: &mut Hand<R>, letters: &[Letter])
     requires ours { All (λ l. is_ours hand.old.members l.message.receiver ≡ true) letters.now }
     requires room { length letters.now ≤ hand.old.flow.room }
@@ -112,7 +112,7 @@ fn deliver_all<R: Actor>(hand: &mut Hand<R>, letters: &[Letter])
     }
 }
 
-/// The floor of a group falls to the least time of these letters.
+/// Lowers the floor of a group to the least time of these letters, if that is lower.
 fn lower_floor(floors: &mut Floors, group: u16, letters: &[Letter])
     requires within { group < length floors.old.floors }
     ensures floor { slice_get floors.new.floors group

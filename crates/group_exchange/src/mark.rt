@@ -1,4 +1,4 @@
-//! What an exchange and a group in hand both say of the group.
+//! What an exchange and a group in hand both state of the group.
 ghost use Rattle.std.specs.Prelude.{◌≡◌, ◌<◌, map, set, length, slice_index};
 ghost use Rattle.group_exchange.specs.Views.{IsUnplaced, last_in};
 
@@ -8,10 +8,10 @@ use std::alloc::Global;
 use std::snapshot::Snapshot;
 use vlink::Time;
 
-/// How long the journal was when a group last collected or posted, and the GVT that its last `collect` saw.
+/// The length of the journal when a group last collected or posted, and the GVT that its last `collect` saw.
 #[derive(Clone, Copy, Debug, PartialEq, Eq)]
 pub struct Mark {
-    /// How many steps the journal had after the group's last `collect` or, where it had a block, `post`; 0 before any.
+    /// The number of steps of the journal after the group's last `collect` or, if it had a block, `post`; 0 before any.
     pub steps: u64,
     /// The GVT that its last `collect` saw, in ns; 0 before any.
     pub seen: Time,
@@ -21,9 +21,9 @@ pub struct Mark {
 /// of one value, and always equal.
 #[derive(Drop)]
 pub struct Standing {
-    /// The steps that the journal had after the group's last `collect` or, where it had a block, `post`. It has no bytes.
+    /// The steps that the journal had after the group's last `collect` or, if it had a block, `post`. It has no bytes.
     pub last: Snapshot<Steps>,
-    /// How many they are.
+    /// The number of these steps.
     pub steps: u64,
     /// The GVT that its last `collect` saw, in ns; 0 before any.
     pub seen: Time,

@@ -78,7 +78,7 @@ impl<R: Actor + Drop, J: GroupRun<R>> GroupExchange<R, J> {
     }
 }
 
-/// A group in hand for each mark, in order, with the actors of its number.
+/// Makes a group in hand for each mark, in order, with the actors of its number.
 fn groups_of<R: Actor + Drop, J: GroupRun<R>>(
     alloc: Global,
     actors: Vec<R>,
@@ -113,7 +113,7 @@ fn groups_of<R: Actor + Drop, J: GroupRun<R>>(
     groups
 }
 
-/// The groups, in order, each with the actors of its number, which leave their slots, and the first mark that is left.
+/// Makes the groups, in order, each with the actors of its number, which leave their slots, and the first mark that is left.
 fn open_all<R: Actor + Drop, J: GroupRun<R>>(
     alloc: Global,
     slots: &mut Vec<Option<R>>,
@@ -155,7 +155,7 @@ fn open_all<R: Actor + Drop, J: GroupRun<R>>(
 }
 
 impl<R: Actor + Drop, J: GroupRun<R>> Group<R, J> {
-    /// The group with this number and these members, which has done nothing.
+    /// Makes the group with this number and these members, which has done nothing.
     fn open(
         alloc: Global,
         number: u16,

@@ -1,4 +1,4 @@
-//! What a group did goes to the journal, and its letters on their way.
+//! A group puts what it did into the journal, and its letters into the boxes.
 ghost use Rattle.std.specs.Prelude.{◌≡◌, ◌<◌, ◌≤◌, ◌+◌, ◌^◌, ◌⊎◌, ◌++◌, ℕ, [], map, length, All, OnOk, OnErr, IfErr, Err, true};
 ghost use Rattle.vlink.specs.declared.message.Message.{Message};
 ghost use Rattle.vlink.specs.Order.{message_order};
@@ -24,8 +24,8 @@ use journal::PoolFault;
 use reverse::{Actor, actor_law};
 use std::alloc::Global;
 
-/// The block of a group goes to the journal, its letters for others are on their way, and its floor is what it has left. With an empty block nothing
-/// changes.
+/// Puts the block of a group into the journal and its letters for others into the boxes, and sets its floor to the least moment of what it
+/// has left. If the block is empty it changes nothing.
 ///
 /// Any refusal leaves both as they were. `JournalFull`: exactly where the steps would pass the limit, which is looked at before any growth.
 pub fn post<R: Actor, J: GroupRun<R>>(

@@ -1,4 +1,4 @@
-//! GVT is set.
+//! Sets GVT.
 ghost use Rattle.std.specs.Prelude.{◌≡◌, ◌<◌, ◌≤◌, ◌⊎◌, ℕ, length, IfOk, IfErr, OnErr, Err};
 ghost use Rattle.reverse.specs.Rules.{rules_of};
 ghost use Rattle.reverse.specs.Setting.{simulation_of};
@@ -12,8 +12,8 @@ use journal::PoolFault;
 use reverse::{Actor, actor_law};
 use vlink::Time;
 
-/// Sets GVT to the least of all floors and of the times of all letters on their way, with a step in the journal; where that is the GVT of before, there
-/// is no step. The answer is GVT, in ns.
+/// Sets GVT to the least of all floors and of the times of all letters in transit, with a step in the journal. If GVT does not change, no
+/// step is added. Returns GVT, in ns.
 ///
 /// Any refusal leaves the exchange as it was. `JournalFull`: exactly where the steps would pass the limit, which is looked at before any
 /// growth.

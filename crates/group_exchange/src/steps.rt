@@ -1,4 +1,4 @@
-//! The journal of a run by groups: steps of the law of virtual time.
+//! The journal of a run by groups: steps of the laws of virtual time.
 ghost use Rattle.std.specs.Prelude.{◌≡◌, ◌+◌, ◌<◌, ◌≤◌, ◌^◌, [], ◌∷◌, ◌++◌, true, map, length, OnOk, IfErr};
 ghost use Rattle.virtual_time.specs.Law.{behind};
 ghost use Rattle.virtual_time.specs.declared.step.Step.TheVariants.{Take, Gvt};
@@ -16,12 +16,12 @@ use std::marker::Model;
 use std::snapshot::Snapshot;
 use vlink::Step;
 
-/// The steps of a journal, in order. They are there as what was added at each go, in snapshots, which have no bytes and are read in proofs alone; and,
-/// where they are kept, once more as they are.
+/// The steps of a journal, in order. They exist as what was added at each go, in snapshots, which have no bytes and are read by proofs
+/// alone. If the steps are stored, they exist once more as values.
 #[derive(Drop)]
 pub struct Steps {
     told: Vec<Snapshot<Addition>>,
-    /// How many steps there are.
+    /// The number of steps.
     count: u64,
     kept: Option<Vec<Step>>,
 }
@@ -57,7 +57,7 @@ impl Steps {
         }
     }
 
-    /// How many there are.
+    /// Returns the number of steps.
     pub fn len(&self) -> u64
         ensures { result ≡ length self.now.steps }
     {
@@ -78,7 +78,8 @@ impl Steps {
         Ok(())
     }
 
-    /// All letters for a group were taken, each the first of the mail of its receiver. There is room for these steps, and for one at the least.
+    /// Adds a Take for each letter for a group, the first of the mail of its receiver. The room for these steps, and for at least one, was
+    /// made before.
     pub fn collect(&mut self, boxes: &Boxes, group: u16)
         requires within { group < length boxes.now.boxes }
         requires some { 0 < self.old.room }
@@ -116,7 +117,7 @@ impl Steps {
         }
     }
 
-    /// GVT was set. There is room for this step.
+    /// Adds that GVT was set. The room for this step was made before.
     pub fn publish(&mut self)
         requires room { 0 < self.old.room }
         requires few { length self.old.steps < 2 ^ 63 }
@@ -130,7 +131,7 @@ impl Steps {
         }
     }
 
-    /// The steps, where they are kept.
+    /// Returns the steps, if they are stored.
     pub fn list(&self) -> &[Step]
         requires { self.now.keeps ≡ true }
         ensures { result.now ≡ self.now.steps }

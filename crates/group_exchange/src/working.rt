@@ -23,8 +23,8 @@ use vlink::{Message, Time};
 /// most, and behind each it lets the letters arrive that the group sent itself. Then it commits all done events below the GVT seen. Each step joins the
 /// block. The answer is the number of messages that it handled. It calls the gate before and after each, if the gate hears.
 ///
-/// A refusal comes between two steps, and leaves what was done before it. `Exhausted`: the process that handles the first message has too few numbers
-/// left. `OutOfMemory`: a growth was refused.
+/// A refusal comes between two steps, and leaves what was done before it. `Exhausted`: the process that handles the first message has too
+/// few numbers left. `OutOfMemory`: memory was refused.
 pub fn work<R: Actor, J: GroupRun<R>, G: Gate>(
     group: &mut Group<R, J>,
     turn: u32,
@@ -40,7 +40,7 @@ pub fn work<R: Actor, J: GroupRun<R>, G: Gate>(
     Ok(count)
 }
 
-/// The receiver of the message, where that is earlier than the limit.
+/// Returns the receiver of the message, if the message is earlier than the limit.
 fn receiver_before(message: &Message, limit: Time) -> Option<u16>
     ensures { IfNone result (limit ≤ message.now.time) }
 {
@@ -51,8 +51,8 @@ fn receiver_before(message: &Message, limit: Time) -> Option<u16>
 }
 
 impl<R: Actor, J: GroupRun<R>> Group<R, J> {
-    /// Letters of the tray arrive, and messages that are earlier than the limit are handled, `turn` at most, as long as there are any; behind each of them
-    /// arrive the letters that it brought.
+    /// Letters of the tray arrive, and at most `turn` messages are handled, as long as they are earlier than the limit. After each of them
+    /// the letters that it brought arrive.
     fn run_turn<G: Gate>(&mut self, turn: u32, limit: Time, gate: &G) -> Result<u64, PoolFault>
         ensures goes { Goes (simulation_of (rules_of R.plain) J.setting) J.owners limit self.old self.new }
         ensures counted { IfOk result (λ count. runs_in self.new.held.flow.words ≡ runs_in self.old.held.flow.words + count) }
@@ -127,7 +127,7 @@ impl<R: Actor, J: GroupRun<R>> Group<R, J> {
         Ok(has_run)
     }
 
-    /// The first message is handled, if there is one that is earlier than the limit. The answer is whether there was one.
+    /// Handles the first message, if it exists and is earlier than the limit. Returns whether there was one.
     #[inline(always)]
     fn run_first(&mut self, limit: Time) -> Result<bool, PoolFault>
         requires arrived { self.old.held.flow.tray ≡ [] }
@@ -145,7 +145,7 @@ impl<R: Actor, J: GroupRun<R>> Group<R, J> {
         }
     }
 
-    /// The first message is handled, where it is earlier than the limit and comes after all that the group has done.
+    /// Handles the first message, if it is earlier than the limit and comes after all that the group has done.
     #[inline(always)]
     fn run_in_order(&mut self, limit: Time) -> Result<InOrder, PoolFault>
         requires arrived { self.old.held.flow.tray ≡ [] }
@@ -165,8 +165,8 @@ impl<R: Actor, J: GroupRun<R>> Group<R, J> {
         }
     }
 
-    /// The first message that is not done is handled, if there is one that is earlier than the limit, whether other members have done later events or not.
-    /// The answer is whether there was one.
+    /// Handles the first message that is not done, if it exists and is earlier than the limit, whether other members have done later events
+    /// or not. Returns whether there was one.
     fn run_next(&mut self, limit: Time) -> Result<bool, PoolFault>
         requires arrived { self.old.held.flow.tray ≡ [] }
         ensures goes { Goes (simulation_of (rules_of R.plain) J.setting) J.owners limit self.old self.new }
@@ -185,7 +185,7 @@ impl<R: Actor, J: GroupRun<R>> Group<R, J> {
         }
     }
 
-    /// Messages at the front of the queue that are done already count beside, until the first is not done.
+    /// Moves messages at the front of the queue that are already done to the tally, until the first is not done.
     fn count_done(&mut self) -> Result<(), PoolFault>
         ensures stood { IsGroupAsBefore self.old self.new }
         ensures waits { OnOk result (IsAscending message_order (messages_of self.new.held.done) → FirstWaits message_order self.new.held) }
@@ -197,7 +197,7 @@ impl<R: Actor, J: GroupRun<R>> Group<R, J> {
         }
     }
 
-    /// The process that handles the first message, if there is one that is earlier than the limit.
+    /// Returns the process that handles the first message, if that exists and is earlier than the limit.
     fn next_before(&mut self, limit: Time) -> Option<u16>
         ensures stood { IsGroupAsBefore self.old self.new }
         ensures idle { IfNone result (IsIdleBefore (simulation_of (rules_of R.plain) J.setting) J.owners limit self.new) }
@@ -210,7 +210,7 @@ impl<R: Actor, J: GroupRun<R>> Group<R, J> {
         }
     }
 
-    /// All done events that are earlier than the moment, which is the GVT seen, are committed. No letter waits in the tray.
+    /// Commits all done events that are earlier than the moment, which is the GVT seen. No letter waits in the tray.
     fn commit_below(&mut self, moment: Time) -> Result<(), PoolFault>
         requires tray { self.old.held.flow.tray ≡ [] }
         requires seen { moment ≡ self.old.seen }
@@ -228,7 +228,7 @@ impl<R: Actor, J: GroupRun<R>> Group<R, J> {
         }
     }
 
-    /// How many messages a process has handled, those that it handled again included.
+    /// Returns how many messages a process has handled, counting those that it handled again.
     fn run_count(&self, process: u16) -> u64 {
         match self.runs.get(usize::from(process)) {
             Some(runs) => *runs,
@@ -236,7 +236,7 @@ impl<R: Actor, J: GroupRun<R>> Group<R, J> {
         }
     }
 
-    /// A process has handled one message more. The count stops at its greatest value.
+    /// Counts one more message that a process handled. The count stops at its greatest value.
     fn count_run(&mut self, process: u16, run: u64)
         ensures { self.new ≡ self.old }
     {
