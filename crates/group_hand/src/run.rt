@@ -1,4 +1,4 @@
-//! The first message of a group is handled.
+//! Handles the first message of a group.
 ghost use Rattle.std.specs.Prelude.{◌≡◌, ◌≢◌, ◌≤◌, ◌<◌, ◌+◌, ◌++◌, ◌∷◌, [], false, true, Some, All, Contains, Ok, Err, OnOk, OnErr, slice_get};
 ghost use Rattle.vlink.specs.declared.message.Message.{Message};
 ghost use Rattle.vlink.specs.Order.{message_order};
@@ -30,12 +30,12 @@ use vlink::Time;
 const MOST_LETTERS: usize = MOST_SENT + 1;
 
 impl<R: Actor> Hand<R> {
-    /// The first message of all members is handled, where it is earlier than the limit and comes after all that the group has done. What it sends to
-    /// members is taken: it joins the queue, or waits in the tray where a letter is to arrive before it or its message counts beside. What it sends to
-    /// others joins the letters abroad.
+    /// Handles the first message of all members, if it is earlier than the limit and comes after all that the group has done. What it sends
+    /// to members is taken: it joins the queue, or waits in the tray if a letter must arrive before it or the tally counts its message.
+    /// What it sends to others joins the letters abroad.
     ///
-    /// `Exhausted`: its receiver, if it is a member, has not enough numbers left for what one event can send. `OutOfMemory`: a growth was refused.
-    /// Either leaves all as it was.
+    /// `Exhausted`: its receiver, if it is a member, does not have enough numbers left for what one event can send. `OutOfMemory`: memory
+    /// was refused. Either leaves all as it was.
     pub fn run_in_order(&mut self, limit: Time) -> Result<InOrder, HandFault>
         ensures did { DoesTold (rules_of R.plain) R.is_value self.old self.new }
         ensures idle { result ≡ Ok Idle → All (λ m. limit ≤ m.time) self.old.flow.queue }
@@ -78,12 +78,12 @@ impl<R: Actor> Hand<R> {
         }
     }
 
-    /// The first message of all members is handled, where it is earlier than the limit, whether other members have done later events or not; or, where it
-    /// is done already, it counts beside. What it sends to members is taken: it joins the queue, or waits in the tray. The answer is whether there was
-    /// one. Letters that wait in the tray are to arrive before.
+    /// Handles the first message of all members, if it is earlier than the limit, whether other members have done later events or not. If
+    /// it is already done, moves it to the tally instead. What it sends to members is taken: it joins the queue, or waits in the tray.
+    /// Returns whether there was such a message. Letters that wait in the tray must arrive before.
     ///
-    /// `Exhausted`: it is not done, and its receiver, if it is a member, has not enough numbers left for what one event can send. `OutOfMemory`: a
-    /// growth was refused. Either leaves all as it was.
+    /// `Exhausted`: the message is not done, and its receiver, if it is a member, does not have enough numbers left for what one event can
+    /// send. `OutOfMemory`: memory was refused. Either leaves all as it was.
     pub fn run_next(&mut self, limit: Time) -> Result<bool, HandFault>
         ensures did { DoesTold (rules_of R.plain) R.is_value self.old self.new }
         ensures idle { result ≡ Ok false → All (λ m. limit ≤ m.time) self.old.flow.queue }
@@ -109,11 +109,11 @@ impl<R: Actor> Hand<R> {
         }
     }
 
-    /// The first message of the queue, which has one, is handled by its receiver, where other members have done later events; or, where it is done
-    /// already, it counts beside. What it sends to members waits in the tray.
+    /// The receiver of the first message of the queue, which must exist, handles it, although other members have done later events. If it
+    /// is already done, it moves to the tally instead. What it sends to members waits in the tray.
     ///
-    /// `Exhausted`: it is not done, and its receiver, if it is a member, has not enough numbers left for what one event can send. `OutOfMemory`: a
-    /// growth was refused. Either leaves all as it was.
+    /// `Exhausted`: the message is not done, and its receiver, if it is a member, does not have enough numbers left for what one event can
+    /// send. `OutOfMemory`: memory was refused. Either leaves all as it was.
     pub(crate) fn run_out_of_order(&mut self) -> Result<(), HandFault>
         requires { (m : Message) × Contains self.old.flow.queue m }
         ensures did { DoesTold (rules_of R.plain) R.is_value self.old self.new }
@@ -169,7 +169,7 @@ fn make_room<K: Copy>(done: &mut DoneEvents<K>, letters: &mut Letters) -> Result
     done.reserve()
 }
 
-/// Makes room for all that one event gives, and to set all done events aside.
+/// Makes room for all that one event gives, and for setting all done events aside.
 fn make_late_room<K: Copy>(
     done: &mut DoneEvents<K>,
     aside: &mut DoneEvents<K>,
