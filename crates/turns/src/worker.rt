@@ -12,7 +12,7 @@ use std::sync::Wait;
 use std::{hint, thread};
 use turn_words::Refusal;
 
-/// A worker with these groups gives turns until the run is over or a refusal ends it. One of its own ends the others at their next turn.
+/// A worker with these groups gives turns until the run is over or a refusal ends it. Its own refusal ends the others at their next turn.
 pub(crate) fn give_turns<G: Drop, K: Tasks<G>, T: Wait>(
     rt: &T,
     alloc: Global,
@@ -48,7 +48,7 @@ struct Worker<'s, G, K: Tasks<G>, T> {
 }
 
 impl<'s, G: Drop, K: Tasks<G>, T: Wait> Worker<'s, G, K, T> {
-    /// A worker with these groups, which has given no turn. It is refused for memory alone.
+    /// Makes a worker with these groups, which has given no turn. Only memory can be refused.
     fn new(
         rt: &'s T,
         alloc: Global,
@@ -81,8 +81,8 @@ impl<'s, G: Drop, K: Tasks<G>, T: Wait> Worker<'s, G, K, T> {
         Ok(())
     }
 
-    /// A turn for each group of its own that no other worker has, or stole: those that are due come first, the one that is furthest behind before the
-    /// others. The answer is whether a message was handled.
+    /// Gives a turn to each group of its own that no other worker has or stole: those that are due come first, the one that is furthest
+    /// behind before the others. Returns whether a message was handled.
     fn own_turns(&mut self) -> Result<bool, K::Fault> {
         let common = self.common;
         let moments = &common.signals.moments;
@@ -102,9 +102,9 @@ impl<'s, G: Drop, K: Tasks<G>, T: Wait> Worker<'s, G, K, T> {
         Ok(has_worked)
     }
 
-    /// A turn for a group of another worker, which may be off its core, where nothing was to do for its own for a while. The more often that served, the
-    /// sooner it does so. What the worker that is furthest behind has listed comes first; one that is off its core lists nothing, so then comes any group
-    /// that is due. The answer is whether a message was handled.
+    /// Gives a turn to a group of another worker, which may be off its core, if its own groups had nothing to do for a while. The more
+    /// often that succeeded, the sooner it does so. First comes what the worker that is furthest behind has listed; a worker that is off
+    /// its core lists nothing, so then comes any group that is due. Returns whether a message was handled.
     fn turn_of_others(&mut self) -> Result<bool, K::Fault> {
         if !self.looks.are_to_help() {
             return Ok(false);
@@ -128,13 +128,13 @@ impl<'s, G: Drop, K: Tasks<G>, T: Wait> Worker<'s, G, K, T> {
         Ok(false)
     }
 
-    /// The group that the worker of this group lists first, and has not come to, if there is one.
+    /// Returns the group that the worker of this group lists first and has not reached, if any.
     fn stolen(&self, group: usize) -> Option<usize> {
         let worker = self.common.signals.moments.owner(group)?;
         self.stealers.steal(worker)
     }
 
-    /// A turn for a group of another worker, if it has something to do before the limit, in ns. The answer is whether a message was handled.
+    /// Gives a turn to a group of another worker, if it has something to do before the limit, in ns. Returns whether a message was handled.
     fn help(&mut self, group: usize, limit_ns: u64) -> Result<bool, K::Fault> {
         let common = self.common;
         if !common.signals.moments.is_due(group, limit_ns)
@@ -146,7 +146,8 @@ impl<'s, G: Drop, K: Tasks<G>, T: Wait> Worker<'s, G, K, T> {
         Ok(true)
     }
 
-    /// A turn for a group, unless another thread has it. Events before the limit, in ns, are due. The answer is whether a message was handled.
+    /// Gives a turn to a group, unless another thread holds it. Events before the limit, in ns, are due. Returns whether a message was
+    /// handled.
     fn turn_of(&mut self, group: usize, limit_ns: u64, is_own: bool) -> Result<bool, K::Fault> {
         let common = self.common;
         let Some(mut seat) = common.seats.try_take(group) else {
@@ -155,13 +156,14 @@ impl<'s, G: Drop, K: Tasks<G>, T: Wait> Worker<'s, G, K, T> {
         let worked = self.turn(&mut seat, limit_ns, is_own);
         drop(seat);
         if !is_own {
-            // Its worker may have gone to rest while the group was not to be had.
+            // Its worker may have gone to rest while the group was held here.
             common.signals.wake_due();
         }
         worked
     }
 
-    /// A turn for a group. It meets the others first, if it has to, and at the end, if it has letters for them. The answer is whether a message was handled.
+    /// Gives a group its turn. It meets the others first, if it must, and at the end, if it has letters for them. Returns whether a message
+    /// was handled.
     fn turn(&mut self, seat: &mut Seat<G>, limit_ns: u64, is_own: bool) -> Result<bool, K::Fault> {
         let common = self.common;
         let moments = &common.signals.moments;
@@ -189,7 +191,7 @@ impl<'s, G: Drop, K: Tasks<G>, T: Wait> Worker<'s, G, K, T> {
         let waits = report.waits_for_gvt(common.window_ns);
         let letters_ns = &mut self.letters_ns;
         let letter_ns = tasks.meet(&mut seat.group, waits, moments, letters_ns)?;
-        // A letter in the tray is to be worked on no later than an event of its moment.
+        // A letter in the tray must be worked on no later than an event of its moment.
         seat.next_ns = seat.next_ns.min(letter_ns);
         seat.unposted = 0;
         moments.call_all(letters_ns);
@@ -217,7 +219,8 @@ impl<'s, G: Drop, K: Tasks<G>, T: Wait> Worker<'s, G, K, T> {
         Ok(handled != 0)
     }
 
-    /// Nothing was due: it looks again soon, and rests after many looks. Where it waits for GVT, or has waited for long, that is set now and then.
+    /// Acts on a look in vain: it looks again soon, and rests after many looks. If it waits for GVT, or has waited for long, it sets GVT
+    /// now and then.
     fn found_nothing(&mut self) -> Result<(), K::Fault> {
         let common = self.common;
         self.looks.look_in_vain();
@@ -265,7 +268,7 @@ fn rest<G: Drop, K: Tasks<G>, T: Wait>(rt: &T, common: &Common<G, K>, number: us
     signals.end_rest(number);
 }
 
-/// Whether there is something to do for a group of a worker, which looked in vain for long, that no other thread has.
+/// Whether a group of a worker that looked in vain for long has something to do, and no other thread holds it.
 fn is_any_due<G: Drop, K: Tasks<G>>(common: &Common<G, K>, number: usize) -> bool {
     let moments = &common.signals.moments;
     let limit_ns = moments.limit_ns();
@@ -281,7 +284,7 @@ fn is_any_due<G: Drop, K: Tasks<G>>(common: &Common<G, K>, number: usize) -> boo
     false
 }
 
-/// Whether there is something to do for a group whose worker looked in vain for long.
+/// Whether a group whose worker looked in vain for long has something to do.
 fn is_to_go_on<G: Drop, K: Tasks<G>>(
     common: &Common<G, K>,
     seat: &Seat<G>,
@@ -293,7 +296,7 @@ fn is_to_go_on<G: Drop, K: Tasks<G>>(
         || report.is_to_meet(moments, limit_ns, common.window_ns, u64::MAX)
 }
 
-/// GVT is set, where no other thread is at the exchange; workers that rest are woken where there is something to do for them now.
+/// Sets GVT, if no other thread is at the exchange, and wakes workers that rest and now have something to do.
 fn publish<G: Drop, K: Tasks<G>>(tasks: &K, signals: &Signals) -> Result<(), K::Fault> {
     if tasks.publish(&signals.moments)? {
         signals.wake_due();
