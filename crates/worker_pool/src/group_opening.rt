@@ -15,8 +15,8 @@ use std::alloc::{AllocError, Global};
 use traffic::offers;
 use vlink::Message;
 
-/// The exchange of a network's groups, with no step in its journal, and each group in hand, in order, its nodes and lines in their opening states: the
-/// offers are on their way, and GVT is 0. It is refused for memory alone.
+/// Makes the exchange of a network's groups without steps in its journal, and each group in hand, in order, its nodes and lines in their
+/// opening states. The offers are in transit, and GVT is 0. Only memory can be refused.
 pub(crate) fn open_groups<J: NetworkRun>(
     alloc: Global,
     start: StartOf<'_, J>,
