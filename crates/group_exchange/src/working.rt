@@ -87,7 +87,8 @@ impl<R: Actor, J: GroupRun<R>> Group<R, J> {
         }
     }
 
-    /// Handles the first message, if there is one that is earlier than the limit, and calls the gate, if it hears. The answer is whether there was one.
+    /// Handles the first message, if it exists and is earlier than the limit, and calls the gate, if the gate hears. Returns whether there
+    /// was one.
     #[inline(always)]
     fn run_one<G: Gate>(&mut self, limit: Time, gate: &G) -> Result<bool, PoolFault>
         requires arrived { self.old.held.flow.tray ≡ [] }
@@ -104,8 +105,8 @@ impl<R: Actor, J: GroupRun<R>> Group<R, J> {
         self.run_first(limit)
     }
 
-    /// Handles the first message, if there is one that is earlier than the limit, and calls the gate before and after it. The answer is whether there was
-    /// one.
+    /// Handles the first message, if it exists and is earlier than the limit, and calls the gate before and after. Returns whether there
+    /// was one.
     fn run_told<G: Gate>(&mut self, limit: Time, gate: &G) -> Result<bool, PoolFault>
         requires arrived { self.old.held.flow.tray ≡ [] }
         ensures goes { Goes (simulation_of (rules_of R.plain) J.setting) J.owners limit self.old self.new }
