@@ -1,12 +1,12 @@
-//! A run by workers of groups of any kind: threads, and who of the groups gets the next turn, by moments that the workers announce, without a lock and without waiting.
-//! Each group belongs to a worker, which gives it turn after turn. In one section of an exchange the group posts what it did, and takes its letters; then it
-//! works on events, as far as it may be ahead of the others.
+//! A run by workers of groups of any kind: threads, and which group gets the next turn, by moments that the workers announce, without a
+//! lock and without waiting. Each group belongs to a worker, which gives it turn after turn. In one section of an exchange the group posts
+//! what it did, and takes its letters. Then it works on events, as far as it may be ahead of the others.
 //!
-//! Who gives a turn has the lock of the group meanwhile (`Seats`). For each group the workers announce the moment of what it has to do next
-//! (`Moments`). A worker lists its groups that are due in a deque (`Agenda`), and gives them their turns in that order. A worker that finds nothing to do
-//! for its own groups looks again; soon it lets other threads run in between, and gives groups of others their turns, whose workers may be off their
-//! cores: what it steals from the deque of the worker that is furthest behind, or any that is due; and at last it rests until one of its own is due.
-//! Nothing here is part of a proof: a wrong estimate costs a turn or a rollback.
+//! The thread that gives a turn holds the lock of the group meanwhile (`Seats`). For each group the workers announce the moment of what it
+//! has to do next (`Moments`). A worker lists its groups that are due in a deque (`Agenda`), and gives them their turns in that order. A
+//! worker that finds nothing to do for its own groups looks again. Soon it lets other threads run in between, and gives turns to groups of
+//! others, whose workers may be off their cores: to one that it steals from the deque of the worker that is furthest behind, or to any that
+//! is due. At last it rests until one of its own is due. No proof covers this: a wrong estimate costs a turn or a rollback.
 #![tactic(auto)]
 
 mod agenda;
@@ -34,11 +34,11 @@ pub use tasks::Tasks;
 pub use turn_words::{Refusal, TurnRun};
 pub use workers::work_all;
 
-/// A group works on events that are less than this later than the least moment of all groups, in ns. A rollback costs more than a section of the exchange:
-/// of 1,000 events 2 to 4 are undone and 38 sections taken, and with twice as much 35 and 27.
+/// A group works on events that are less than this after the least moment of all groups, in ns. A rollback costs more than a section of the
+/// exchange: of 1,000 events 2 to 4 are undone and 38 sections taken, and with twice the lead 35 and 27.
 pub const LEAD_NS: u64 = 8_000;
 
-/// So many messages a group handles at most before it announces how far it has come.
+/// The most messages that a group handles before it announces how far it is.
 const PIECE: u32 = 8;
 
 /// A group that has letters for others ends its turn after this many messages, since the others wait for them.

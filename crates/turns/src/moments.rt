@@ -102,7 +102,8 @@ impl Moments {
         self.moments.len()
     }
 
-    /// So many messages a group handles at most in a turn, where a turn has so many. Nobody waits for the only group: it goes on until it is to post.
+    /// Returns the most messages that a group handles in a turn, from that of the run. Nobody waits for the only group: it goes on until it
+    /// should post.
     pub(crate) fn turn(&self, turn: u32) -> u32 {
         if self.groups() == 1 {
             turn.max(MOST_UNPOSTED)
@@ -111,8 +112,8 @@ impl Moments {
         }
     }
 
-    /// So many messages a group handles at most before it announces how far it has come, where it has handled so many in its turn. Nobody asks how far the
-    /// only group is.
+    /// Returns how many messages a group may handle before it announces how far it is, if it has handled `handled` in its turn. Nobody
+    /// needs to know how far the only group is.
     pub(crate) fn piece(&self, turn: u32, handled: u32) -> u32 {
         let left = turn.saturating_sub(handled);
         if self.groups() == 1 {

@@ -25,9 +25,9 @@ pub trait Tasks<G> {
     /// many.
     fn handle(&self, group: &mut G, most: u32, ahead_ns: u64) -> Result<u32, Self::Fault>;
 
-    /// In one section of the exchange the group posts what it did, and its letters go to the other groups and are listed: for each group the least
-    /// moment is lowered, in ns. Its own letters come to it. GVT is set in between where the group waits for it, or it is time. The answer is the least moment
-    /// of the letters that came, in ns.
+    /// In one section of the exchange the group posts what it did, and its letters go to the other groups and are listed: for each group
+    /// the least moment is lowered, in ns. Then its own letters come to it. In between GVT is set, if the group waits for it or it is time.
+    /// Returns the least moment of the letters that came, in ns.
     fn meet(
         &self,
         group: &mut G,

@@ -239,8 +239,8 @@ impl<'s, G: Drop, K: Tasks<G>, T: Wait> Worker<'s, G, K, T> {
     }
 }
 
-/// The group handles messages that are due, so many at most, no further ahead of the GVT that it saw than the window, and announces how far it is: no further
-/// than its earliest letter that is not posted. The answer is how many.
+/// The group handles messages that are due, at most `most`, no further ahead of the GVT that it saw than the window. It announces how far
+/// it is: no further than its earliest letter that is not posted. Returns how many messages.
 fn handle_piece<G: Drop, K: Tasks<G>>(
     common: &Common<G, K>,
     seat: &mut Seat<G>,
