@@ -1,16 +1,16 @@
-"""Makes a page of one run, to be looked at in a browser or printed: which frames were lost end to end, the network with
-the load of each line, the latency of each virtual link at each destination, and which copies were lost where and why.
+"""Makes a page of one run, for a browser or a printer: which frames were lost end to end, the network with the load of
+each line, the latency of each virtual link at each destination, and which copies were lost where and why.
 
 NET is the description and TABLES what `afdxsim seq NET` printed for it. TABLES may also be the merged tables of
-afdx campaign; the page then says which seed gave each greatest latency. With the trace of the same run
-(`afdxsim seq NET --trace FILE`) the page has, further, a histogram and percentiles for each virtual link and
-destination, and the losses over time; and what was under way at the end is told apart from what was lost.
+afdx campaign; then the page names the seed of each greatest latency. With the trace of the same run
+(`afdxsim seq NET --trace FILE`) the page also has a histogram and percentiles for each virtual link and destination,
+and the losses over time; and it separates what was under way at the end from what was lost.
 
-The page is one file. It needs no connection and no other file. On it one looks for a virtual link by its number or by a
-name; its way lights up on the drawing, and an address of its own, as report.html#vl-101, leads there. A click on a line
-tells which virtual links use it (report.html#line-SWA>DU). A table of more than 15 lines shows the ten worst until the
-rest is asked for. A click on the name of a column sorts. Printed, the page has the lines that are asked for. Of more
-than 20,000 lines of latencies it has the histograms of the worst 20,000.
+The page is one file. It needs no connection and no other file. Search for a virtual link by its number or by a name:
+the drawing highlights its path, and an address of its own, as report.html#vl-101, leads there. A click on a line shows
+which virtual links use it (report.html#line-SWA>DU). A table of more than 15 lines first shows the ten worst. A click
+on the name of a column sorts. Printed, the page has the lines that it shows. Of more than 20,000 lines of latencies it
+has the histograms of the worst 20,000.
 """
 import argparse
 import os
@@ -49,21 +49,21 @@ what the numbers are:
   offered     the frames that the application offers until the end. They are drawn anew, as the program draws them
   missing     offered, and neither delivered nor under way at the end: lost end to end. A frame that came by one network
               alone is not missing. A frame is missing once for each destination that it did not reach
-  under way   offered, not delivered, and it can still come: at the end it waits or is on a line. `3 to 4` is written
-              where tables alone leave it open; a trace tells more
-  copies      those of a frame that are sent by network A and by network B. The second one that comes is dropped as
+  under way   offered, not delivered, and it can still come: at the end it waits or is on a line. `3 to 4` means that
+              tables alone leave it open; a trace shows more
+  copies      those of a frame that go by network A and by network B. The second one to arrive is dropped as
               `duplicate`, which is ordinary
   load        what the virtual links of a line can put on it, from the description alone: each sends (size + 20) * 8
               bits in each max(BAG, period). 100 % is all that the link carries; above it frames are lost or late
-  mean        the sum of the latencies by their number, to the nearest ns
-  percentile  the least latency that so many percent of the frames do not exceed (the nearest rank)
+  mean        the sum of the latencies / their number, to the nearest ns
+  percentile  the least latency that this percentage of the frames does not exceed (the nearest rank)
   bound       of afdx bounds: a bound of this model, computed outside the proofs
-  margin      the limit less the bound; where no bounds are given, less the greatest latency. Red is a limit below the
-              greatest latency, amber one below the bound, or where there is none
-  ten frames  what fewer tell is little. For such a destination the page tells how long the run must be for ten
+  margin      the limit less the bound; if no bounds are given, less the greatest latency. Red is a limit below the
+              greatest latency, amber one below the bound, or one without a bound
+  ten frames  fewer show little. For such a destination the page states how long the run must be for ten
 
-status: 0; 1 where a latency is above its bound, or a limit is broken (with --strict also where one is below its bound, or
-has none); 2 where a word is wrong, a file cannot be read or written, or a file is not what it has to be. One line on error
+status: 0; 1 if a latency is above its bound, or a limit is broken (with --strict also if one is below its bound, or
+has none); 2 if a word is wrong, a file cannot be read or written, or a file is not what it has to be. One line on error
 output then names the file and the line. The page is written to a file beside it, which takes its name once it is
 whole; so an earlier page stays until then.
 """
