@@ -304,7 +304,7 @@ def words_of(arguments=None):
     )
     number(
         "sub", 1, 4, 1, "N",
-        "the most sub-virtual links of a virtual link; each has 1 to so many. 1: no key sub is written",
+        "the most sub-virtual links of a virtual link; each has 1 to this number. 1: no key sub is written",
     )
     parser.add_argument(
         "--policing", choices=[*POLICINGS, "both"],

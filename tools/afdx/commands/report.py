@@ -103,9 +103,9 @@ def words_of(arguments=None):
     if words.against_bounds and not (words.against and words.bounds):
         parser.error("--against-bounds are the bounds of the other run: it needs --against FILE and --bounds FILE")
     if (words.first is not None or words.offsets) and not words.seeds:
-        parser.error("--first and --offsets tell of the runs of a campaign, and --seeds how many they were")
+        parser.error("--first and --offsets describe the runs of a campaign, and --seeds their number")
     if words.junit and not words.limits:
-        parser.error("--junit tells what became of limits, and there are none: --limits FILE")
+        parser.error("--junit reports on limits, and none are given: --limits FILE")
     if words.strict and not (words.limits and words.bounds):
         parser.error("--strict holds limits against bounds: it needs --limits FILE and --bounds FILE")
     return words

@@ -49,7 +49,7 @@ def runs_of(words, tables, found):
     first, net = words.first, tables.net
     if not tables.merged:
         if words.seeds:
-            raise files.Fault(tables.path, None, "these are the tables of one run, and --seeds tells of a campaign")
+            raise files.Fault(tables.path, None, "these are the tables of one run, and --seeds means a campaign")
         return Runs([net.seed], False)
     if found:
         told = Runs(found.all_seeds(), found.offsets)

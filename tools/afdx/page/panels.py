@@ -83,10 +83,10 @@ def end_to_end(page):
         hint = "how long a run must be to bring ten frames"
         columns.append(column("needed", "ms", "ten frames take", "ms", hint))
     if any(page.ends["why"]):
-        columns.append(column("why", "words", "why it is open", hint="where missing is told from the least to the most"))
+        columns.append(column("why", "words", "why it is open", hint="if missing is a range"))
     words = (
         "What the application offered, and what became of it at each destination. A frame is missing where no copy "
-        "of it came and none can come any more; copies that were lost while the other one came are told apart."
+        "of it came and none can come any more; copies that were lost while the other one came are counted apart."
     )
     return panel("ends", "End to end", words, page.grid("end-to-end", columns, "missing", only=by_trouble(page)))
 

@@ -252,13 +252,13 @@ class Ends:
     def why_open(self, journey, sent):
         """Why it is not known how many frames are missing, in words."""
         if sent.one is None:
-            return "merged tables do not tell of which frames the lost copies were"
+            return "merged tables do not show of which frames the lost copies were"
         if not self.trace:
-            return "tables do not tell of which frames the lost copies were; --trace tells more"
+            return "tables do not show of which frames the lost copies were; --trace shows more"
         full = [where for where, cause in self.trace.lost_on_the_way(journey.vl.id) if cause == "port_full" and where in journey.forks]
         if full:
-            return f"at {' and '.join(sorted(full))} copies go on by several ports, and no trace tells which of them was full"
-        return "copies were lost after the last frame that came, and no trace tells of which frames"
+            return f"at {' and '.join(sorted(full))} copies go on by several ports, and no trace shows which of them was full"
+        return "copies were lost after the last frame that came, and no trace shows of which frames"
 
     def may_be_under_way(self, journey, sent, row):
         """How many frames were released so late that they may be under way at the end, if none takes longer than twice the

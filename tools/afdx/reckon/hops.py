@@ -17,7 +17,7 @@ class Hops:
     def __init__(self, path, tables):
         self.path, self.net, self.of = path, tables.net, {}
         if tables.merged:
-            raise Fault(path, None, f"tells of one run, and {tables.path} has several")
+            raise Fault(path, None, f"is of one run, and {tables.path} has several")
         lines = model.lines_of(path, [HOPS_HEAD], "what --hops writes")
         for i, line in enumerate(lines[1:], 2):
             fields = line.split(",")
