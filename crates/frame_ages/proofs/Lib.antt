@@ -8,3 +8,5 @@ pub mod GivenLemmas
 pub mod AgeLemmas
 pub mod NoteLemmas
 pub mod LatencyLemmas
+pub mod RegulatorSteps
+pub mod RegulatorTurns
