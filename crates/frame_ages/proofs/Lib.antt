@@ -10,3 +10,4 @@ pub mod NoteLemmas
 pub mod LatencyLemmas
 pub mod RegulatorSteps
 pub mod RegulatorTurns
+pub mod ReleaseTimer
