@@ -11,3 +11,4 @@ pub mod LatencyLemmas
 pub mod RegulatorSteps
 pub mod RegulatorTurns
 pub mod ReleaseTimer
+pub mod WaitLemmas

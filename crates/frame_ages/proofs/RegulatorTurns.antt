@@ -121,7 +121,7 @@ module _ (v : ℕ) where
   OfPutBy P (Some (Put frame r)) = frame.vl.0 ≡ v → P frame
 
   -- as the frame that the answer releases
-  abbrev LikeReleased : RegAnswer → Frame → Type 0
+  abbrev pub LikeReleased : RegAnswer → Frame → Type 0
   LikeReleased (answer.Released f) frame = (frame.released ≡ f.released) × (frame.offered ≡ f.offered)
   LikeReleased answer.Kept frame = ⊥
   LikeReleased answer.Dropped frame = ⊥
