@@ -12,3 +12,4 @@ pub mod RegulatorSteps
 pub mod RegulatorTurns
 pub mod ReleaseTimer
 pub mod WaitLemmas
+pub mod HeldLemmas

@@ -48,7 +48,7 @@ use Rattle.nodes.specs.laws.SwitchSending.{switch-all, wish_to}
 use Rattle.port_turns.specs.PortEvents.{asks, copy_asks, end_system_asks, or_else, regulated_asks}
 use Rattle.port_turns.proofs.Found.{found-number, found-other, found-set}
 use Rattle.port_turns.proofs.Sources.{OfPut, subject}
-use Rattle.frame_ages.proofs.RegulatorSteps.{OfReleased}
+use Rattle.frame_ages.specs.Waits.{is_offer_of}
 
 -- what holds of all that a node can send holds of what it sends
 pub record OfAllSent (P : Wish → Type 0) (n : ℕ) : Type 0 where
@@ -100,18 +100,9 @@ module _ (v : ℕ) where
   abbrev pub releases : List Wish → List Wish
   releases ws = filter (λ w. is_release w.body) ws
 
-  -- the message offers a frame of it
-  abbrev pub is_offer_of : Body → Bool
-  is_offer_of (body.Offer vl bytes sub) = vl.0 == v
-  is_offer_of (body.Release vl) = false
-  is_offer_of (body.PortFree q) = false
-  is_offer_of (body.Arrive q frame) = false
-  is_offer_of (body.Enqueue q frame) = false
-  is_offer_of (body.Carry frame) = false
-
   -- the message asks that of the regulator
   abbrev pub IsSaid : ℕ → Body → RegEvent → Type 0
-  IsSaid t b (Offer at sub frame) = (is_offer_of b ≡ true) × (at ≡ t) × (frame.offered ≡ t)
+  IsSaid t b (Offer at sub frame) = (is_offer_of v b ≡ true) × (at ≡ t) × (frame.offered ≡ t)
   IsSaid t b (Release at) = (is_release b ≡ true) × (at ≡ t)
 
   -- a frame of the virtual link that is put has P
@@ -128,7 +119,7 @@ module _ (v : ℕ) where
   LikeReleased answer.Nothing frame = ⊥
 
   pub data Turned (n t : ℕ) (b : Body) (before : Regulator) (now : Option Regulator) (ws : List Wish) (put : Option PortEvent) : Type 0 where
-    Quiet : now ≡ Some before → ws ≡ [] → is_release b ≡ false → is_offer_of b ≡ false → OfPutBy (λ f. ⊥) put → Turned n t b before now ws put
+    Quiet : now ≡ Some before → ws ≡ [] → is_release b ≡ false → is_offer_of v b ≡ false → OfPutBy (λ f. ⊥) put → Turned n t b before now ws put
     Does : (e : RegEvent) → IsSaid t b e → now ≡ Some (regulator.after before e) → (vl : VlId) → vl.0 ≡ v → ws ≡ (asked n vl (regulator.out before e).release_at).wishes →
         OfPutBy (LikeReleased (regulator.out before e).answer) put → Turned n t b before now ws put
 
@@ -196,7 +187,7 @@ module _ (v : ℕ) where
     abbrev regulator_of : EndSystemState → Option Regulator
     regulator_of s = option_map (λ found. found.entry.regulator) (find source_number s.sources v)
 
-    regulated-turn : (b : Body) (vl : VlId) (e : RegEvent) (otherwise : Reply) (s : EndSystemState) (g : Regulator) → (vl.0 ≡ v → IsSaid t b e) → ((vl.0 ≡ v → ⊥) → (is_release b ≡ false) × (is_offer_of b ≡ false)) →
+    regulated-turn : (b : Body) (vl : VlId) (e : RegEvent) (otherwise : Reply) (s : EndSystemState) (g : Regulator) → (vl.0 ≡ v → IsSaid t b e) → ((vl.0 ≡ v → ⊥) → (is_release b ≡ false) × (is_offer_of v b ≡ false)) →
         OfPut (λ w frame. frame.vl.0 ≡ w) vl.0 t (regulated_asks q e (source_at s vl)) → regulator_of s ≡ Some g → otherwise.wishes ≡ [] →
         Turned n t b g (regulator_of (regulated n t e otherwise s (source_at s vl)).state) (releases (regulated n t e otherwise s (source_at s vl)).reply.wishes) (regulated_asks q e (source_at s vl))
     regulated-turn b vl e otherwise s g said not put is quiet = elim (cases_eq vl.0 v) [

@@ -31,9 +31,10 @@ use Rattle.port_turns.specs.PortRuns.{AreOwnFrames}
 use Rattle.port_turns.proofs.Senders.{number-stays, until-stays}
 use Rattle.port_turns.proofs.SentKinds.{IsElsewhere, is_to, mine, mine-kind, none-elsewhere, offers-none, receiver-is, sent-late, sent-none, sent-one}
 use Rattle.port_turns.proofs.Sources.{IsOfferFit, source-keeps}
+use Rattle.frame_ages.specs.Waits.{is_offer_of}
 use Rattle.frame_ages.proofs.RegulatorSteps.{IsSound, Stepped, ask-single, ask_at, kept_ask, single, step}
 use Rattle.frame_ages.proofs.RegulatorSteps.Stepped.{Drops, Keeps, Passes, Pops, Rests}
-use Rattle.frame_ages.proofs.RegulatorTurns.{IsSaid, OfAllSent, OfPutAt, Turned, all-sent, is_offer_of, is_release, node-turn, releases}
+use Rattle.frame_ages.proofs.RegulatorTurns.{IsSaid, OfAllSent, OfPutAt, Turned, all-sent, is_release, node-turn, releases}
 use Rattle.frame_ages.proofs.RegulatorTurns.Turned.{Does, Quiet}
 
 no : {X : Type 0} → false ≡ true → X

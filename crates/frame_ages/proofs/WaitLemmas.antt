@@ -37,9 +37,10 @@ use Rattle.port_turns.specs.PortEvents.{asks}
 use Rattle.port_turns.specs.PortRuns.{AreOwnFrames, asked_at, input_of, port_events}
 use Rattle.port_turns.proofs.Rising.{AreTo, events-to}
 use Rattle.frame_ages.specs.Ports.{trace_at}
+use Rattle.frame_ages.specs.Waits.{is_offer_of}
 use Rattle.frame_ages.proofs.RegulatorSteps.{IsReleaseOf, IsSound, OfReleased, Stepped, ask_at, kept_ask, single, step}
 use Rattle.frame_ages.proofs.RegulatorSteps.Stepped.{Drops, Keeps, Passes, Pops, Rests}
-use Rattle.frame_ages.proofs.RegulatorTurns.{IsSaid, LikeReleased, OfPutBy, Turned, is_offer_of, is_release, node-turn, releases}
+use Rattle.frame_ages.proofs.RegulatorTurns.{IsSaid, LikeReleased, OfPutBy, Turned, is_release, node-turn, releases}
 use Rattle.frame_ages.proofs.RegulatorTurns.Turned.{Does, Quiet}
 use Rattle.frame_ages.proofs.ReleaseTimer.{HasRegulator, alarm, ask-is, ask_in, is_due, own-stays, put-own, releases-on-time}
 
