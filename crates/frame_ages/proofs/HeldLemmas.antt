@@ -1,5 +1,5 @@
 -- Which offers come to an end system, in which order, and how long its regulator then holds them.
-use Rattle.std.proofs.Common.{◌≡◌, ℕ, ◌+◌, ◌-◌, ◌*◌, ◌<◌, ◌≤◌, ◌==◌, ◌⊎◌, inl, inr, Bool, true, false, List, [], ◌∷◌, filter, All, Some, None, refl, sym, ap, ◌∙◌, subst, arith}
+use Rattle.std.proofs.Common.{◌≡◌, ℕ, ◌+◌, ◌-◌, ◌*◌, ◌<◌, ◌≤◌, ◌==◌, inl, inr, true, false, List, [], ◌∷◌, Some, None, sym, ap, ◌∙◌, subst, arith}
 use Rattle.std.specs.Prelude.{⊤}
 use Rattle.std.proofs.lemmas.Bool.{cases_eq, cases_lt, both_ways}
 use Rattle.std.proofs.lemmas.Nat.{mul-le}
@@ -15,16 +15,12 @@ use Rattle.virtual_time.specs.Law.{IsAscending, IsIn, Laws, Simulation, events, 
 use Rattle.virtual_time.proofs.Ascending.{ascending-filter}
 use Rattle.virtual_time.proofs.Lists.{in-head}
 use Rattle.virtual_time.proofs.OneThread.{right}
-use Rattle.virtual_time.proofs.Order.{less-time}
 use Rattle.port_bounds.specs.Sublists.{Every}
-use Rattle.port_bounds.specs.Port.{lows_of}
 use Rattle.nodes.specs.declared.node.NodeRecord.{NodeRecord}
-use Rattle.nodes.specs.declared.ports.Outlet.{Outlet}
 use Rattle.nodes.specs.rules.Node.{NodeState, handled, regulator_in}
 use Rattle.nodes.specs.undoing.Node.{node}
 use Rattle.nodes.specs.laws.Sent.{IsSentAs, sent-all}
 use Rattle.port_turns.specs.Nodes.{IsOfNodes}
-use Rattle.port_turns.specs.PortEvents.{outlet_in}
 use Rattle.port_turns.proofs.Rising.{AreTo, before, events-from, events-to}
 use Rattle.port_turns.proofs.SentKinds.{AreFrom, from-sooner, times_of}
 use Rattle.frame_ages.specs.Latencies.{IsHeldWithin}
@@ -32,7 +28,7 @@ use Rattle.frame_ages.specs.Sizes.{OpensEmpty}
 use Rattle.frame_ages.specs.Waits.{IsOfferedBy, is_offer_of}
 use Rattle.frame_ages.proofs.GivenLemmas.{every-from-all, own-frames}
 use Rattle.frame_ages.proofs.Invariants.{IsInvariant, all-events}
-use Rattle.frame_ages.proofs.RegulatorTurns.{OfAllSent, all-sent, is_release}
+use Rattle.frame_ages.proofs.RegulatorTurns.{OfAllSent, all-sent}
 use Rattle.frame_ages.proofs.ReleaseTimer.{HasRegulator, ask_by, ask_in}
 use Rattle.frame_ages.proofs.WaitLemmas.{AreOffered, by-period, full-list, held}
 
@@ -48,7 +44,8 @@ any-offered v e [] h = tt
 any-offered v e (m ∷ ms) h = (
   λ k. (m.time, h.0, omega arith, omega arith, any-offered v (m.time + 0) ms (from-sooner (m.time + 0) m.time (times_of ms) (omega arith) h.1)),
   λ k. any-offered v m.time ms h.1,
-  λ k l. any-offered v e ms (from-sooner e m.time (times_of ms) h.0 h.1))
+  λ k l. any-offered v e ms (from-sooner e m.time (times_of ms) h.0 h.1),
+)
 
 module _ (x : Setting NodeState) (L : Laws (simulation_of (rules_of node) x)) (N : IsOfNodes x) (size : ℕ → ℕ) (O : OpensEmpty x size) (p v bag depth : ℕ) (inside : p < x.processes)
     (is : regulator_in (x.opening p).equipment (record { 0 = v }) ≡ Some (opening bag depth 1)) where
@@ -63,8 +60,10 @@ module _ (x : Setting NodeState) (L : Laws (simulation_of (rules_of node) x)) (N
 
   pub lists-held : IsHeldWithin x p v (depth * bag)
   unfolding opens
-  lists-held = record { holds = λ q outlet there n.
-      (held x N p q v depth bag inside opens quiet 0 0 (depth * bag) (λ e t. t) (λ l len e. l ≤ e) (full-list depth bag) outlet.ahead.byte_ns L 0 n tt (any-offered v 0 (events f n p) (events-from x p L n)) outlet.port).low }
+  lists-held = record {
+    holds = λ q outlet there n.
+        (held x N p q v depth bag inside opens quiet 0 0 (depth * bag) (λ e t. t) (λ l len e. l ≤ e) (full-list depth bag) outlet.ahead.byte_ns L 0 n tt (any-offered v 0 (events f n p) (events-from x p L n)) outlet.port).low;
+  }
 
   module _ (first period jitter : ℕ) (I : IsOfferedBy x v first period jitter) (long : bag ≤ period) (short : jitter ≤ period) where
     -- each offer that is handled was offered
@@ -118,19 +117,23 @@ module _ (x : Setting NodeState) (L : Laws (simulation_of (rules_of node) x)) (N
     due-later m [] a to tos fit above = tt
     due-later m (n ∷ ms) a to tos fit above = (
       λ k. (let rises = number-rises m n (to ∙ sym tos.0) a (fit.0 k) (above n (in-head message_order L.order n ms)) in
-            let next : (m.number + 1) * period ≤ n.number * period = mul-le (m.number + 1) period n.number period (omega arith) (omega arith) in omega arith),
-      due-later m ms a to tos.1 fit.1 (λ k i. above k (omega (arith, i))))
+          let next : (m.number + 1) * period ≤ n.number * period = mul-le (m.number + 1) period n.number period (omega arith) (omega arith) in omega arith),
+      due-later m ms a to tos.1 fit.1 (λ k i. above k (omega (arith, i))),
+    )
 
     offered : (e : ℕ) (ms : List Message) → AreTo p ms → Every IsFit ms → IsAscending message_order ms → AreDue e ms → AreOffered v period jitter (λ e t. e) e ms
     offered e [] to fit up due = tt
     offered e (m ∷ ms) to fit up due = (
-      λ k. (let a = fit.0 k in
-          (first + m.number * period, due.0 k,
-          subst (λ (z : Message). first + m.number * period ≤ z.time) (sym a) (I.not_before m.number),
-          subst (λ (z : Message). z.time ≤ (first + m.number * period) + jitter) (sym a) (I.not_after m.number),
-          offered ((first + m.number * period) + period) ms to.1 fit.1 up.1 (due-later m ms a to.0 to.1 fit.1 up.0))),
+      λ k. (let a = fit.0 k in (
+        first + m.number * period,
+        due.0 k,
+        subst (λ (z : Message). first + m.number * period ≤ z.time) (sym a) (I.not_before m.number),
+        subst (λ (z : Message). z.time ≤ (first + m.number * period) + jitter) (sym a) (I.not_after m.number),
+        offered ((first + m.number * period) + period) ms to.1 fit.1 up.1 (due-later m ms a to.0 to.1 fit.1 up.0),
+      )),
       λ k. offered e ms to.1 fit.1 up.1 due.1,
-      λ k l. offered e ms to.1 fit.1 up.1 due.1)
+      λ k l. offered e ms to.1 fit.1 up.1 due.1,
+    )
 
     all-due : (ms : List Message) → AreDue first ms
     all-due [] = tt
@@ -138,7 +141,9 @@ module _ (x : Setting NodeState) (L : Laws (simulation_of (rules_of node) x)) (N
 
     pub periods-held : IsHeldWithin x p v ((jitter + bag) - period)
     unfolding opens
-    periods-held = record { holds = λ q outlet there n.
-        (held x N p q v depth bag inside opens quiet period jitter ((jitter + bag) - period) (λ e t. e) (λ l len e. ((l + bag) + len * bag) + period ≤ (e + jitter) + bag)
-        (by-period depth bag period jitter ((jitter + bag) - period) long (omega arith)) outlet.ahead.byte_ns L first n tt
-        (offered first (events f n p) (events-to p (one f n).handled) (all-fit n) (ascending-filter message_order L.order (λ m. m.receiver == p) (one f n).handled (right f L n).ascending) (all-due (events f n p))) outlet.port).low }
+    periods-held = record {
+      holds = λ q outlet there n.
+          (held x N p q v depth bag inside opens quiet period jitter ((jitter + bag) - period) (λ e t. e) (λ l len e. ((l + bag) + len * bag) + period ≤ (e + jitter) + bag)
+          (by-period depth bag period jitter ((jitter + bag) - period) long (omega arith)) outlet.ahead.byte_ns L first n tt
+          (offered first (events f n p) (events-to p (one f n).handled) (all-fit n) (ascending-filter message_order L.order (λ m. m.receiver == p) (one f n).handled (right f L n).ascending) (all-due (events f n p))) outlet.port).low;
+    }

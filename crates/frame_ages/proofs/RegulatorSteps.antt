@@ -1,10 +1,8 @@
 -- What a regulator without sub-virtual links makes of an event.
-use Rattle.std.proofs.Common.{◌≡◌, ℕ, zero, suc, ◌+◌, ◌<◌, ◌≤◌, ◌⊎◌, inl, inr, Bool, true, false, cond, nat_le, nat_lt, List, [], ◌∷◌, ◌++◌, length, Option, Some, None, refl, sym, ap, ◌∙◌, subst, arith, leb-false, ltb-true}
+use Rattle.std.proofs.Common.{◌≡◌, ℕ, ◌+◌, ◌<◌, ◌⊎◌, inl, inr, Bool, true, false, cond, nat_le, nat_lt, List, [], ◌∷◌, ◌++◌, length, Option, Some, None, refl, subst, arith, leb-false, ltb-true}
 use Rattle.std.specs.Prelude.{⊤}
-use Rattle.std.proofs.lemmas.Bool.{cases_lt}
 use Rattle.vlink.specs.declared.frame.Frame.{Frame}
-use Rattle.frame_ring.specs.Queue.{Queue}
-use Rattle.bag_regulator.specs.Regulator.{Outcome, Regulator, admitted, appended, ask, direct, due, idle, is_due, list_at, next_release, outcome, popped, queued, served}
+use Rattle.bag_regulator.specs.Regulator.{Outcome, Regulator, appended, ask, direct, idle, next_release, outcome, popped, queued}
 use Rattle.bag_regulator.specs.declared.event.RegEvent.{RegEvent}
 use Rattle.bag_regulator.specs.declared.event.RegEvent.TheVariants.{Offer, Release}
 use Rattle.bag_regulator.specs.declared.event.RegAnswer.{RegAnswer}

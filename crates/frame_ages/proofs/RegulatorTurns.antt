@@ -1,8 +1,8 @@
 -- What a message makes of the regulator of a virtual link at its end system: nothing, or the regulator is asked something, as the message says.
 use Rattle.std.proofs.Common.{◌≡◌, ℕ, ◌+◌, ◌==◌, ◌&&◌, inl, inr, Bool, true, false, cond, List, [], ◌∷◌, ◌++◌, filter, All, IfSome, Option, Some, None, option_map, refl, sym, ap, ◌∙◌, subst, append-nil, eq-eqb, ne_eqb}
-use Rattle.std.specs.Prelude.{⊤, slice_set}
+use Rattle.std.specs.Prelude.{⊤}
 use Rattle.std.specs.List.{list_any}
-use Rattle.std.proofs.lemmas.Bool.{cases_eq, both_ways}
+use Rattle.std.proofs.lemmas.Bool.{cases_eq}
 use Rattle.std.proofs.lemmas.Option.{none-some, same_Some}
 use Rattle.std.proofs.lemmas.List.Elements.{All-cons, All-nil, filter-append}
 use Rattle.vlink.specs.declared.frame.Frame.{Frame}
@@ -40,7 +40,6 @@ use Rattle.nodes.specs.rules.EndSystem as es
 use Rattle.nodes.specs.rules.Finding.{Found, find}
 use Rattle.nodes.specs.rules.Line.{LineState, is_within, line}
 use Rattle.nodes.specs.rules.Ports.{PortsState, exists, reply}
-use Rattle.nodes.specs.rules.Switch.{SwitchState}
 use Rattle.nodes.specs.rules.Node.{handled, regulator_in}
 use Rattle.nodes.specs.laws.EndSystemSending.{end_system-all}
 use Rattle.nodes.specs.laws.Ports.{AheadMeets, carrying, freeing, reply-cases}

@@ -1,8 +1,6 @@
 -- A Release comes at just the moment for which the regulator asks, where a virtual link has no sub-virtual links.
-use Rattle.std.proofs.Common.{◌≡◌, ℕ, ◌+◌, ◌<◌, ◌≤◌, ◌==◌, ◌⊎◌, inl, inr, Bool, true, false, cond, List, [], ◌∷◌, ◌++◌, filter, length, All, Option, Some, None, refl, sym, ap, ◌∙◌, subst, arith, eq-eqb, eqb-true, ne_eqb}
-use Rattle.std.specs.Prelude.{⊤}
+use Rattle.std.proofs.Common.{◌≡◌, ℕ, ◌+◌, ◌<◌, ◌==◌, ◌⊎◌, inl, inr, Bool, true, false, cond, List, [], ◌∷◌, ◌++◌, filter, Option, Some, None, refl, sym, ap, ◌∙◌, subst, arith, eq-eqb, eqb-true}
 use Rattle.std.proofs.lemmas.Bool.{cases_lt, both_ways}
-use Rattle.std.proofs.lemmas.List.Elements.{All-weaker}
 use Rattle.vlink.specs.declared.frame.Frame.{Frame}
 use Rattle.vlink.specs.declared.frame.VlId.{VlId}
 use Rattle.vlink.specs.declared.message.Message.{Message}
@@ -12,7 +10,7 @@ use Rattle.vlink.specs.declared.note.Note.{Note}
 use Rattle.bag_regulator.specs.Regulator.{Regulator, ask, outcome, regulator}
 use Rattle.bag_regulator.specs.declared.event.RegEvent.{RegEvent}
 use Rattle.bag_regulator.specs.declared.event.RegEvent.TheVariants.{Offer, Release}
-use Rattle.reverse.specs.Sending.{Wish, sent}
+use Rattle.reverse.specs.Sending.{Wish}
 use Rattle.reverse.specs.Rules.{rules_of}
 use Rattle.reverse.specs.Setting.{Setting, simulation_of}
 use Rattle.virtual_time.specs.Law.{IsReached, Laws, Simulation, events, reached}
@@ -34,7 +32,7 @@ use Rattle.port_turns.proofs.Sources.{IsOfferFit, source-keeps}
 use Rattle.frame_ages.specs.Waits.{is_offer_of}
 use Rattle.frame_ages.proofs.RegulatorSteps.{IsSound, Stepped, ask-single, ask_at, kept_ask, single, step}
 use Rattle.frame_ages.proofs.RegulatorSteps.Stepped.{Drops, Keeps, Passes, Pops, Rests}
-use Rattle.frame_ages.proofs.RegulatorTurns.{IsSaid, OfAllSent, OfPutAt, Turned, all-sent, is_release, node-turn, releases}
+use Rattle.frame_ages.proofs.RegulatorTurns.{IsSaid, OfPutAt, Turned, all-sent, is_release, node-turn, releases}
 use Rattle.frame_ages.proofs.RegulatorTurns.Turned.{Does, Quiet}
 
 no : {X : Type 0} → false ≡ true → X
@@ -138,26 +136,51 @@ module _ (v room bag : ℕ) where
           releases v (handled n m e).reply.wishes ≡ (asked n vl (regulator.out (single room bag r.sn r.last r.frames) a).release_at).wishes → Stepped room bag r.last r.frames a (outcome (single room bag r.sn r.last r.frames) a) → Turns n m e
       by a said now vl ws (Drops t q frame is sn state ask none) =
           let at = now ∙ ap (λ z. Some z) state in
-          record { vl = vl; wish = None; turn = asks-by None sn r.last r.frames at (Same refl refl (said-offer m.time m.body a t q frame said is)); wishes = ws ∙ ap (λ z. (asked n vl z).wishes) ask;
-              next = record { sn = sn; last = r.last; frames = r.frames; is = at; sound = r.sound; own = own } }
+          record {
+            vl = vl;
+            wish = None;
+            turn = asks-by None sn r.last r.frames at (Same refl refl (said-offer m.time m.body a t q frame said is));
+            wishes = ws ∙ ap (λ z. (asked n vl z).wishes) ask;
+            next = record { sn = sn; last = r.last; frames = r.frames; is = at; sound = r.sound; own = own };
+          }
       by a said now vl ws (Passes t q frame is empty sn state ask released) =
           let at = now ∙ ap (λ z. Some z) state in
-          record { vl = vl; wish = None; turn = asks-by None sn (Some t) [] at (Sets (ap (ask_at room bag r.last) empty) refl (said-offer m.time m.body a t q frame said is)); wishes = ws ∙ ap (λ z. (asked n vl z).wishes) ask;
-              next = record { sn = sn; last = Some t; frames = []; is = at; sound = tt; own = own } }
+          record {
+            vl = vl;
+            wish = None;
+            turn = asks-by None sn (Some t) [] at (Sets (ap (ask_at room bag r.last) empty) refl (said-offer m.time m.body a t q frame said is));
+            wishes = ws ∙ ap (λ z. (asked n vl z).wishes) ask;
+            next = record { sn = sn; last = Some t; frames = []; is = at; sound = tt; own = own };
+          }
       by a said now vl ws (Keeps t q frame is sn state fits sound ask none) =
           let at = now ∙ ap (λ z. Some z) state in
-          record { vl = vl; wish = kept_ask room bag r.last r.frames; turn = asks-by (kept_ask room bag r.last r.frames) sn r.last (r.frames ++ frame ∷ []) at (first r.last r.frames frame sound (said-offer m.time m.body a t q frame said is));
-              wishes = ws ∙ ap (λ z. (asked n vl z).wishes) ask; next = record { sn = sn; last = r.last; frames = r.frames ++ frame ∷ []; is = at; sound = sound; own = own } }
+          record {
+            vl = vl;
+            wish = kept_ask room bag r.last r.frames;
+            turn = asks-by (kept_ask room bag r.last r.frames) sn r.last (r.frames ++ frame ∷ []) at (first r.last r.frames frame sound (said-offer m.time m.body a t q frame said is));
+            wishes = ws ∙ ap (λ z. (asked n vl z).wishes) ask;
+            next = record { sn = sn; last = r.last; frames = r.frames ++ frame ∷ []; is = at; sound = sound; own = own };
+          }
       by a said now vl ws (Rests t is why sn state ask none) =
           let at = now ∙ ap (λ z. Some z) state in
           let rel = said-release m.time m.body a t said is in
-          record { vl = vl; wish = None; turn = asks-by None sn r.last r.frames at (Early (early t r.last r.frames rel.1 why) rel.0); wishes = ws ∙ ap (λ z. (asked n vl z).wishes) ask;
-              next = record { sn = sn; last = r.last; frames = r.frames; is = at; sound = r.sound; own = own } }
+          record {
+            vl = vl;
+            wish = None;
+            turn = asks-by None sn r.last r.frames at (Early (early t r.last r.frames rel.1 why) rel.0);
+            wishes = ws ∙ ap (λ z. (asked n vl z).wishes) ask;
+            next = record { sn = sn; last = r.last; frames = r.frames; is = at; sound = r.sound; own = own };
+          }
       by a said now vl ws (Pops t is f rest are sn state ask released) =
           let at = now ∙ ap (λ z. Some z) state in
           let rel = said-release m.time m.body a t said is in
-          record { vl = vl; wish = ask_at room bag (Some t) rest; turn = asks-by (ask_at room bag (Some t) rest) sn (Some t) rest at (Again refl rel.0); wishes = ws ∙ ap (λ z. (asked n vl z).wishes) ask;
-              next = record { sn = sn; last = Some t; frames = rest; is = at; sound = some t rest; own = own } }
+          record {
+            vl = vl;
+            wish = ask_at room bag (Some t) rest;
+            turn = asks-by (ask_at room bag (Some t) rest) sn (Some t) rest at (Again refl rel.0);
+            wishes = ws ∙ ap (λ z. (asked n vl z).wishes) ask;
+            next = record { sn = sn; last = Some t; frames = rest; is = at; sound = some t rest; own = own };
+          }
         where
           some : (t : ℕ) (rest : List Frame) → IsSound (Some t) rest
           some t [] = tt
@@ -165,8 +188,13 @@ module _ (v room bag : ℕ) where
 
       go : Turned v n m.time m.body (single room bag r.sn r.last r.frames) (regulator_in (handled n m e).equipment (record { 0 = v })) (releases v (handled n m e).reply.wishes) (asks 0 m e) → Turns n m e
       go (Quiet now none rel off put) =
-          record { vl = record { 0 = v }; wish = None; turn = asks-by None r.sn r.last r.frames now (Same refl refl rel); wishes = none;
-              next = record { sn = r.sn; last = r.last; frames = r.frames; is = now; sound = r.sound; own = own } }
+          record {
+            vl = record { 0 = v };
+            wish = None;
+            turn = asks-by None r.sn r.last r.frames now (Same refl refl rel);
+            wishes = none;
+            next = record { sn = r.sn; last = r.last; frames = r.frames; is = now; sound = r.sound; own = own };
+          }
       go (Does a said now vl k ws put) = by a said now vl ws (step room bag r.sn r.last r.frames a r.sound)
 
 -- ---- the timer

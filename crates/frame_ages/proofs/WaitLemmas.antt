@@ -1,14 +1,12 @@
 -- How long a regulator without sub-virtual links holds a frame in the run.
-use Rattle.std.proofs.Common.{◌≡◌, ℕ, zero, suc, ◌+◌, ◌*◌, ◌<◌, ◌≤◌, ◌⊎◌, inl, inr, Bool, true, false, cond, List, [], ◌∷◌, ◌++◌, length, All, Option, Some, None, refl, sym, ap, ◌∙◌, subst, arith, eq-eqb}
+use Rattle.std.proofs.Common.{◌≡◌, ℕ, suc, ◌+◌, ◌*◌, ◌<◌, ◌≤◌, ◌⊎◌, inl, inr, true, false, List, [], ◌∷◌, ◌++◌, length, Option, Some, None, sym, ap, ◌∙◌, subst, arith, eq-eqb}
 use Rattle.std.specs.Prelude.{⊤}
 use Rattle.std.proofs.lemmas.List.{length_push}
 use Rattle.std.proofs.lemmas.Nat.{mul-le}
 use Rattle.vlink.specs.declared.frame.Frame.{Frame}
-use Rattle.vlink.specs.declared.frame.VlId.{VlId}
 use Rattle.vlink.specs.declared.message.Message.{Message}
-use Rattle.vlink.specs.declared.message.Body.{Body}
 use Rattle.vlink.specs.declared.note.Note.{Note}
-use Rattle.bag_regulator.specs.Regulator.{Regulator, outcome, regulator}
+use Rattle.bag_regulator.specs.Regulator.{outcome, regulator}
 use Rattle.bag_regulator.specs.declared.event.RegEvent.{RegEvent}
 use Rattle.bag_regulator.specs.declared.event.RegEvent.TheVariants.{Offer, Release}
 use Rattle.bag_regulator.specs.declared.event.RegAnswer.{RegAnswer}
@@ -22,23 +20,18 @@ use Rattle.reverse.specs.Setting.{Setting, simulation_of}
 use Rattle.virtual_time.specs.Law.{Laws, Simulation, events, one}
 use Rattle.timers.specs.Timer.{AreOnTime, IsOnTime}
 use Rattle.port_bounds.specs.Frames.{PutFrame, link_of}
-use Rattle.port_bounds.specs.Port.{lows_of}
 use Rattle.port_bounds.specs.Sublists.{Every}
-use Rattle.element_bounds.specs.PortTrace.{PortEventAt, put_at, trace_of}
+use Rattle.element_bounds.specs.PortTrace.{trace_of}
 use Rattle.element_bounds.proofs.TraceLemmas.{AllPuts, OfAsked, trace-puts}
-use Rattle.nodes.specs.declared.equipment.Equipment.{Equipment}
 use Rattle.nodes.specs.declared.node.NodeRecord.{NodeRecord}
-use Rattle.nodes.specs.declared.ports.Outlet.{Outlet}
-use Rattle.nodes.specs.rules.EndSystem.{asked}
 use Rattle.nodes.specs.rules.Node.{NodeState, after, handled, regulator_in}
 use Rattle.nodes.specs.undoing.Node.{node}
 use Rattle.port_turns.specs.Nodes.{IsOfNodes}
 use Rattle.port_turns.specs.PortEvents.{asks}
 use Rattle.port_turns.specs.PortRuns.{AreOwnFrames, asked_at, input_of, port_events}
 use Rattle.port_turns.proofs.Rising.{AreTo, events-to}
-use Rattle.frame_ages.specs.Ports.{trace_at}
 use Rattle.frame_ages.specs.Waits.{is_offer_of}
-use Rattle.frame_ages.proofs.RegulatorSteps.{IsReleaseOf, IsSound, OfReleased, Stepped, ask_at, kept_ask, single, step}
+use Rattle.frame_ages.proofs.RegulatorSteps.{IsReleaseOf, IsSound, OfReleased, Stepped, ask_at, single, step}
 use Rattle.frame_ages.proofs.RegulatorSteps.Stepped.{Drops, Keeps, Passes, Pops, Rests}
 use Rattle.frame_ages.proofs.RegulatorTurns.{IsSaid, LikeReleased, OfPutBy, Turned, is_release, node-turn, releases}
 use Rattle.frame_ages.proofs.RegulatorTurns.Turned.{Does, Quiet}
@@ -174,27 +167,47 @@ module _ (x : Setting NodeState) (N : IsOfNodes x) (p q v room bag : ℕ) (insid
           OfPutBy v (LikeReleased v (regulator.out (single room bag r.sn r.last r.frames) a).answer) (asks q m s.equipment) → Stepped room bag r.last r.frames a (outcome (single room bag r.sn r.last r.frames) a) → Goes s m ms
       by a said now put (Drops t k frame is sn state ask none) =
           let o = offered.0 (offer a t k frame said is).0 in
-          record { held = held-none _ (asks q m s.equipment) none put; next = record { sn = sn; last = r.last; frames = r.frames; is = now ∙ ap (λ z. Some z) state; sound = r.sound; own = own };
-              e = o.0 + period; offered = o.4; reckoned = dropped r.last r.frames o.0 reckoned o.1 }
+          record {
+            held = held-none _ (asks q m s.equipment) none put;
+            next = record { sn = sn; last = r.last; frames = r.frames; is = now ∙ ap (λ z. Some z) state; sound = r.sound; own = own };
+            e = o.0 + period;
+            offered = o.4;
+            reckoned = dropped r.last r.frames o.0 reckoned o.1;
+          }
       by a said now put (Passes t k frame is empty sn state ask released) =
           let w = offer a t k frame said is in
           let o = offered.0 w.0 in
           let at = w.1 in
           let since = w.2 in
-          record { held = held-one frame t _ (asks q m s.equipment) (omega arith) released put; next = record { sn = sn; last = Some t; frames = []; is = now ∙ ap (λ z. Some z) state; sound = tt; own = own };
-              e = o.0 + period; offered = o.4; reckoned = (R.start o.0 t (let l = o.2 in omega arith) (let l = o.3 in omega arith), tt) }
+          record {
+            held = held-one frame t _ (asks q m s.equipment) (omega arith) released put;
+            next = record { sn = sn; last = Some t; frames = []; is = now ∙ ap (λ z. Some z) state; sound = tt; own = own };
+            e = o.0 + period;
+            offered = o.4;
+            reckoned = (R.start o.0 t (let l = o.2 in omega arith) (let l = o.3 in omega arith), tt);
+          }
       by a said now put (Keeps t k frame is sn state few sound ask none) =
           let w = offer a t k frame said is in
           let o = offered.0 w.0 in
           let since = w.2 in
-          record { held = held-none _ (asks q m s.equipment) none put; next = record { sn = sn; last = r.last; frames = r.frames ++ frame ∷ []; is = now ∙ ap (λ z. Some z) state; sound = sound; own = own };
-              e = o.0 + period; offered = o.4; reckoned = kept r.last r.frames frame o.0 reckoned sound o.1 (let l = o.2 in omega arith) few }
+          record {
+            held = held-none _ (asks q m s.equipment) none put;
+            next = record { sn = sn; last = r.last; frames = r.frames ++ frame ∷ []; is = now ∙ ap (λ z. Some z) state; sound = sound; own = own };
+            e = o.0 + period;
+            offered = o.4;
+            reckoned = kept r.last r.frames frame o.0 reckoned sound o.1 (let l = o.2 in omega arith) few;
+          }
       by a said now put (Rests t is why sn state ask none) = let w = release a t said is in absurd (early t r.last r.frames w.1 why (due w.0))
       by a said now put (Pops t is g rest are sn state ask released) =
           let w = release a t said is in
           let k = popped r.last t g rest (subst (λ z. Reckoned r.last z e) are reckoned) (ap (ask_at room bag r.last) (sym are) ∙ (due w.0 ∙ ap Some (sym w.1))) in
-          record { held = held-one g t _ (asks q m s.equipment) k.in_time released put; next = record { sn = sn; last = Some t; frames = rest; is = now ∙ ap (λ z. Some z) state; sound = some t rest; own = own };
-              e = onward e t; offered = subst (λ z. AreOffered v period jitter onward (onward e z) ms) (sym w.1) (offered.1 w.0); reckoned = k.reckoned }
+          record {
+            held = held-one g t _ (asks q m s.equipment) k.in_time released put;
+            next = record { sn = sn; last = Some t; frames = rest; is = now ∙ ap (λ z. Some z) state; sound = some t rest; own = own };
+            e = onward e t;
+            offered = subst (λ z. AreOffered v period jitter onward (onward e z) ms) (sym w.1) (offered.1 w.0);
+            reckoned = k.reckoned;
+          }
         where
           some : (t : ℕ) (rest : List Frame) → IsSound (Some t) rest
           some t [] = tt
@@ -204,7 +217,9 @@ module _ (x : Setting NodeState) (N : IsOfNodes x) (p q v room bag : ℕ) (insid
       go (Quiet now none rel off put) = record {
         held = put-weaker (λ f. ⊥) (λ frame. frame.released ≤ frame.offered + wait) (λ frame k. absurd k) (asks q m s.equipment) put;
         next = record { sn = r.sn; last = r.last; frames = r.frames; is = now; sound = r.sound; own = own };
-        e = e; offered = offered.2 off rel; reckoned = reckoned;
+        e = e;
+        offered = offered.2 off rel;
+        reckoned = reckoned;
       }
       go (Does a said now vl k ws put) = by a said now put (step room bag r.sn r.last r.frames a r.sound)
 
