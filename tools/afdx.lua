@@ -8,7 +8,7 @@
 --     afdx.net  A or B, by the source address; - for neither
 --     afdx.seq  the sequence number, which is the last byte of a frame
 --
--- Captures that have the check sequence of each frame, which those of tools/pcap.py have not, need the preference
+-- Captures that have the check sequence of each frame, which those of `afdx pcap` have not, need the preference
 -- `afdx.fcs`: tshark -o afdx.fcs:TRUE.
 
 local afdx = Proto("afdx", "AFDX")

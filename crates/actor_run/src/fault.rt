@@ -5,10 +5,10 @@ use thiserror::Error;
 /// Why a run was given up.
 #[derive(Clone, Copy, Debug, Error)]
 pub enum SimFault {
-    /// A growth was refused.
+    /// Memory was refused.
     #[error("out of memory")]
     OutOfMemory,
-    /// The actor that is next has not enough numbers left for what one event can send.
+    /// The actor that is next does not have enough numbers left for what one event can send.
     #[error("numbers used up")]
     Exhausted,
 }

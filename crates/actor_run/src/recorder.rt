@@ -1,4 +1,4 @@
-//! What takes the rows of a run.
+//! Takes the rows of a run.
 ghost use Rattle.std.specs.Prelude.{◌≡◌, ◌++◌, ◌∷◌, [], List, OnOk};
 ghost use Rattle.virtual_time.specs.Law.{rows_of};
 ghost use Rattle.vlink.specs.Order.{message_order};
@@ -7,18 +7,18 @@ ghost use Rattle.vlink.specs.Letters.{Row};
 use std::alloc::{AllocError, Global};
 use vlink::{Message, Note, Row};
 
-/// Takes the rows of a run, one behind another: keeps them, or counts each and forgets it.
+/// Takes the rows of a run, one after another: it stores them, or counts each and drops it.
 pub trait Recorder {
-    /// What the rows are taken for, as the network in whose tables they are counted.
+    /// What the rows are taken for, such as the network in whose tables they are counted.
     type Purpose;
 
     /// These rows were taken, and no others.
     ghost has_taken: { Self → List Row → Type 0 };
 
-    /// What they are taken for.
+    /// What the rows are taken for.
     ghost purpose: { Self → Self.Purpose };
 
-    /// Takes a row: that of this note, of the event of this message at its receiver. It fails only where memory is refused.
+    /// Takes the row of this note, of the event of this message at its receiver. It fails only if memory is refused.
     fn take(&mut self, message: &Message, note: &Note) -> Result<(), AllocError>
         requires { (rows : List Row) × has_taken self.old rows }
         ensures taken { OnOk result ((rows : List Row) → has_taken self.old rows →
@@ -43,14 +43,14 @@ pub(crate) fn record<R: Recorder>(
     Ok(())
 }
 
-/// Keeps all rows.
+/// Stores all rows.
 #[derive(Drop)]
 pub(crate) struct AllRows {
     pub(crate) rows: Vec<Row>,
 }
 
 impl AllRows {
-    /// No row yet.
+    /// Makes a recorder without rows.
     pub(crate) fn none(alloc: Global) -> Self
         ensures { result.rows.items ≡ [] }
     {
@@ -67,7 +67,8 @@ impl Recorder for AllRows {
 
     ghost purpose = { λ all. tt };
 
-    /// It stays a call, so that the message is kept whole in memory: in the loop of the run its fields would be copied one by one.
+    /// It stays a call of its own, so that the message stays whole in memory: inlined into the loop of the run, its fields would be copied
+    /// one by one.
     #[inline(never)]
     fn take(&mut self, message: &Message, note: &Note) -> Result<(), AllocError> {
         self.rows.push(Row {

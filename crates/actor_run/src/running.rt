@@ -28,8 +28,8 @@ fn limits_law<A: Actor>(actor: &A)
     let _end = actor.until();
 }
 
-/// The receiver handles the message, if it has numbers left for all that it can send: then `out` has what it sends and notes. The answer
-/// is whether it had them.
+/// The receiver handles the message, if it has numbers left for all that it can send; then `out` has what it sends and notes. Returns
+/// whether it had them.
 fn act<A: Actor>(actors: &mut [A], message: &Message, out: &mut Outbound) -> bool
     requires { message.now.receiver < length actors.old }
     ensures messages { result ≡ true → (s : A) → slice_get actors.old message.now.receiver ≡ Some s →
@@ -53,8 +53,8 @@ fn act<A: Actor>(actors: &mut [A], message: &Message, out: &mut Outbound) -> boo
     true
 }
 
-/// The first waiting message, if there is one, is handled by its receiver: what it sends waits, and `recorder` takes a row of each note.
-/// `out` is room for what it sends and notes, and `moment` gets the moment of it. The answer is whether there was one.
+/// The receiver of the first waiting message, if any, handles it: what it sends waits, and `recorder` takes a row of each note. `out` is
+/// room for what it sends and notes, and `moment` becomes the moment of the message. Returns whether a message waited.
 #[inline(always)]
 fn handle_first<A: Actor, R: Recorder>(
     actors: &mut [A],
@@ -91,14 +91,14 @@ fn handle_first<A: Actor, R: Recorder>(
     Ok(true)
 }
 
-/// Runs a simulation of these actors, where actor p is process p, from where it stands: the first of all waiting messages is handled by
-/// its receiver, until none waits. `recorder` takes a row for each note, in the order in which the messages are handled. `watch` is shown how
-/// far the run is, once in 65,536 events and at the end of a run that is not given up.
+/// Runs a simulation of these actors, where actor p is process p, from where it stands: the receiver of the first waiting message handles
+/// it, until none waits. `recorder` takes a row for each note, in the order in which the messages are handled. `watch` is shown how far the
+/// run is, once in 65,536 events and at the end of a run that is not given up.
 ///
-/// `OutOfMemory` comes only where a growth was refused, and `Exhausted` exactly where the actor that is next has not enough numbers
-/// left. Either leaves the actors in the states of the run after some number of events.
+/// `OutOfMemory` comes only if memory was refused, and `Exhausted` exactly if the actor that is next does not have enough numbers left.
+/// Either leaves the actors in the states of the run after some number of events.
 ///
-/// All that one event does becomes a part of it.
+/// The compiler inlines all that one event does into this function.
 #[inline(never)]
 pub fn handle_all<A: Actor, R: Recorder, W: Watch>(
     actors: &mut [A],
@@ -130,13 +130,12 @@ pub fn handle_all<A: Actor, R: Recorder, W: Watch>(
     Ok(())
 }
 
-/// Runs the simulation of these actors, where actor p is process p, from these offers on: the first of all waiting messages is handled
-/// by its receiver, until none waits. The answer has a row for each note, in the order in which the messages were handled. The order of
-/// messages is the derived one: by time in ns, receiver, sender, number and body (profile). `watch` is shown how far the run is, as by
-/// `handle_all`.
+/// Runs the simulation of these actors, where actor p is process p, from these offers on: the receiver of the first waiting message handles
+/// it, until none waits. Returns a row for each note, in the order in which the messages were handled. The order of messages is the derived
+/// one: by time in ns, receiver, sender, number and body (profile). `watch` is shown how far the run is, as by `handle_all`.
 ///
-/// `OutOfMemory` comes only where a growth was refused, and `Exhausted` exactly where the actor that is next has not enough numbers
-/// left. Either leaves the actors in the states of the run after some number of events.
+/// `OutOfMemory` comes only if memory was refused, and `Exhausted` exactly if the actor that is next does not have enough numbers left.
+/// Either leaves the actors in the states of the run after some number of events.
 pub fn run_actors<A: Actor, W: Watch>(
     alloc: Global,
     actors: &mut [A],

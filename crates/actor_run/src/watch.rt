@@ -1,30 +1,29 @@
-//! Who is shown how far a run is.
-//! A look tells the events since the last one, and not all: one number that cannot overflow.
+//! A watch, which is shown how far a run is. A look gives the events since the last look, and not all: so its number cannot overflow.
 ghost use Rattle.std.specs.Prelude.{◌<◌};
 ghost use Rattle.actor_run.specs.declared.watch.TheConstants.{EVENTS_PER_LOOK};
 
 use vlink::Time;
 
-/// A watch is shown how far a run is once in so many events.
+/// The number of events between two looks of a watch.
 const EVENTS_PER_LOOK: u32 = 65_536;
 
-/// Is shown, now and then, how far a run is. It may tell that to somebody; the run goes on as it would without.
+/// Is shown, now and then, how far a run is. It may pass that on; the run is the same as without it.
 pub trait Watch {
     /// What looks alone may make of a watch.
     ghost becomes: { Self → Self → Type 0 };
 
-    /// A look more: the run has come to this moment of simulated time, and handled so many events since the last look.
+    /// One more look: the run has reached this moment of simulated time, and handled this many events since the last look.
     fn look(&mut self, moment: Time, events: u32)
         ensures { becomes self.old self.new };
 
     /// No look at all is one such case.
     ghost stays: { (watch : Self) → becomes watch watch };
 
-    /// Some looks and then some more are such looks.
+    /// Some looks and then some more are again looks.
     ghost goes_on: { (first next last : Self) → becomes first next → becomes next last → becomes first last };
 }
 
-/// One event more is handled, at this moment, behind so many that the watch has not seen. The answer is how many it has not seen now.
+/// Counts one more event, at this moment, after `unseen` events that the watch has not seen. Returns how many it has not seen now.
 #[inline(always)]
 pub(crate) fn show_event<W: Watch>(watch: &mut W, moment: Time, unseen: u32) -> u32
     requires { unseen < EVENTS_PER_LOOK }

@@ -1,4 +1,4 @@
--- What one step does to what is held of a world.
+-- What one step does to the data of a world.
 use Rattle.std.specs.Prelude.{◌≡◌, ◌≢◌, ◌↔◌, ℕ, true, false, Result, Ok, Err}
 use Rattle.vlink.specs.declared.message.Message.{Message}
 use Rattle.vlink.specs.declared.note.Note.{Note}

@@ -1,4 +1,4 @@
--- What a program holds of a world, and when that stands for a world of the law of virtual time.
+-- The data of a world in a program, and when it represents a world of the laws of virtual time.
 use Rattle.std.specs.Prelude.{◌≡◌, ℕ, ◌+◌, ◌<◌, List, [], ◌∷◌, length, slice_get, Some, IsSome, ⊤}
 use Rattle.vlink.specs.declared.message.Message.{Message}
 use Rattle.vlink.specs.declared.note.Note.{Note}

@@ -1,5 +1,5 @@
-//! The six steps of a world of any actors.
-//! What a refused step leaves is compared by letters and not by room: Take fills the tray before it empties the mail.
+//! The six steps of a world of any actors. The contract of a refused step compares letters and not room, since Take fills the tray before
+//! it empties the mail.
 ghost use Rattle.std.specs.Prelude.{◌≡◌, ◌≢◌, ◌↔◌, ◌<◌, ℕ, true, false, length, Some, Ok, Err, IsTrue, OnOk, IfOk};
 ghost use Rattle.virtual_time.specs.declared.step.Step.TheVariants.{Gvt, Take, Arrive, Run, Post, Commit};
 ghost use Rattle.virtual_time.specs.Law.{is_enabled, step as stepped};
@@ -19,9 +19,9 @@ use reverse::{Actor, actor_law, actor_rules_law};
 use vlink::{Letter, Note, Step, Time};
 
 impl<R: Actor> ActorWorld<R> {
-    /// Does one step. What is held for a world is afterwards what the step makes of that world; a step that is not enabled, and one that
-    /// is refused, leave it as it was. Steps that are not enabled and Gvt take no memory. `Exhausted` comes exactly at Run of a process
-    /// that has a next message, and not enough numbers left for what one event can send.
+    /// Does one step. Afterwards the value represents what the step makes of the world that it represented. A step that is not enabled, and
+    /// one that is refused, leave it as it was. Steps that are not enabled and Gvt take no memory. `Exhausted` comes exactly at Run of a
+    /// process that has a next message, and not enough numbers left for what one event can send.
     pub fn step(&mut self, step: Step) -> Result<Done, StepFault>
         requires { IsAWorld (rules_of R.plain) R.number R.end R.is_placed R.is_value self.old }
         ensures stands { OnOk result (AtEachWorld (rules_of R.plain) R.number R.end R.is_placed R.is_value self.old
@@ -42,7 +42,7 @@ impl<R: Actor> ActorWorld<R> {
         self.step_there(step)
     }
 
-    /// Does a step that names no process, or one that there is.
+    /// Does a step that names no process, or one that exists.
     #[tactic(auto, using(crate::proofs::Answering::answers))]
     fn step_there(&mut self, step: Step) -> Result<Done, StepFault>
         requires world { IsAWorld (rules_of R.plain) R.number R.end R.is_placed R.is_value self.old }
@@ -61,7 +61,7 @@ impl<R: Actor> ActorWorld<R> {
         }
     }
 
-    /// Whether the step names a process, and there is none of that number.
+    /// Whether the step names a process that does not exist.
     fn names_none(&self, step: &Step) -> bool
         requires { IsAWorld (rules_of R.plain) R.number R.end R.is_placed R.is_value self.now }
         ensures answer { result ≡ names_none (length self.now.processes) step.now }
@@ -78,8 +78,8 @@ impl<R: Actor> ActorWorld<R> {
         }
     }
 
-    /// The letter number `place`, from 0, of the process's mail goes to the back of its tray, and its floor falls to the letter's time
-    /// if that is lower.
+    /// Moves the letter number `place`, from 0, of the process's mail to the back of its tray. The floor of the process falls to the
+    /// letter's time if that is lower.
     fn take(&mut self, process: u16, place: u32) -> Result<Done, StepFault>
         requires world { IsAWorld (rules_of R.plain) R.number R.end R.is_placed R.is_value self.old }
         requires there { process < length self.old.processes }
@@ -95,7 +95,7 @@ impl<R: Actor> ActorWorld<R> {
         Ok(Done::Did)
     }
 
-    /// The front letter of the process's tray is tallied, with a rollback where its message becomes present or absent.
+    /// Tallies the front letter of the process's tray. The process rolls back if the letter's message becomes present or absent.
     fn arrive(&mut self, process: u16) -> Result<Done, StepFault>
         requires world { IsAWorld (rules_of R.plain) R.number R.end R.is_placed R.is_value self.old }
         requires there { process < length self.old.processes }
@@ -109,7 +109,7 @@ impl<R: Actor> ActorWorld<R> {
         Ok(Done::Did)
     }
 
-    /// The first unhandled message of the process is handled.
+    /// Handles the first unhandled message of the process.
     fn run(&mut self, process: u16) -> Result<Done, StepFault>
         requires world { IsAWorld (rules_of R.plain) R.number R.end R.is_placed R.is_value self.old }
         requires there { process < length self.old.processes }
@@ -122,7 +122,7 @@ impl<R: Actor> ActorWorld<R> {
         Ok(Done::Did)
     }
 
-    /// The process's outbox goes to the mail, and its floor is what it still has in hand.
+    /// Moves the process's outbox to the mail, and sets its floor to the least moment of what it still has in hand.
     fn post(&mut self, process: u16) -> Result<Done, StepFault>
         requires world { IsAWorld (rules_of R.plain) R.number R.end R.is_placed R.is_value self.old }
         requires there { process < length self.old.processes }
@@ -135,7 +135,7 @@ impl<R: Actor> ActorWorld<R> {
         Ok(Done::Did)
     }
 
-    /// GVT is the least of all floors and of the times of all letters in the mail. It takes no memory.
+    /// Sets GVT to the least of all floors and of the times of all letters in the mail. Takes no memory.
     fn publish(&mut self) -> Done
         requires world { IsAWorld (rules_of R.plain) R.number R.end R.is_placed R.is_value self.old }
         ensures stepped { IsStepped (rules_of R.plain) R.number R.end R.is_placed R.is_value Gvt self.old self.new (Ok result) }
@@ -146,7 +146,7 @@ impl<R: Actor> ActorWorld<R> {
         Done::Did
     }
 
-    /// The process's oldest done event is committed, if it is earlier than GVT and its signed count is 1.
+    /// Commits the process's oldest done event, if it is earlier than GVT and its signed count is 1.
     fn commit(&mut self, process: u16) -> Result<Done, StepFault>
         requires world { IsAWorld (rules_of R.plain) R.number R.end R.is_placed R.is_value self.old }
         requires there { process < length self.old.processes }
@@ -163,7 +163,7 @@ impl<R: Actor> ActorWorld<R> {
     }
 }
 
-/// The number of a process, as calls have it: a step has it in 32 bits.
+/// Returns the number of a process as calls use it; a step has it in 32 bits.
 fn number_of(process: u32) -> u16
     requires { process < 65536 }
     ensures { result ≡ process }
@@ -171,7 +171,7 @@ fn number_of(process: u32) -> u16
     process as u16
 }
 
-/// The time of the letter's message.
+/// Returns the time of the letter's message.
 fn time_of(letter: &Letter) -> Time
     ensures { result ≡ letter.now.message.time }
 {

@@ -21,7 +21,7 @@ use vlink::{Letter, Message, Row, Time, process_number};
 
 /// Processes of these actors, process p in place p, with their mail, their floors and GVT.
 ///
-/// Clauses see it as what is held, which stands for a world of the law of virtual time.
+/// Clauses see it as the world of the laws of virtual time that it represents.
 #[derive(Drop)]
 pub struct ActorWorld<R: Actor> {
     pub(crate) processes: Vec<Process<R>>,
@@ -48,8 +48,8 @@ impl<R: Actor> Model for ActorWorld<R> {
 }
 
 impl<R: Actor + Drop> ActorWorld<R> {
-    /// The world at the start: each actor is in its opening state, the offers are in the mail, every floor is the moment after the end,
-    /// and GVT is 0. Actor p is process p. An error means that there is no memory.
+    /// Makes the world at the start: each actor is in its opening state, the offers are in the mail, every floor is the moment after the
+    /// end, and GVT is 0. Actor p is process p. An error means that memory was refused.
     pub fn new(
         alloc: Global,
         actors: Vec<R>,
@@ -77,15 +77,15 @@ impl<R: Actor + Drop> ActorWorld<R> {
         })
     }
 
-    /// GVT.
+    /// Returns GVT.
     pub fn gvt(&self) -> Time
         ensures { result ≡ self.now.gvt }
     {
         self.gvt
     }
 
-    /// The letter number `place`, from 0, of the mail of process `process`: the one that the step Take would take. None where there is
-    /// none, or no such process.
+    /// Returns the letter number `place`, from 0, of the mail of process `process`: the one that the step Take would take. None if no
+    /// letter has that number, or the process does not exist.
     pub fn look(&self, process: u16, place: usize) -> Option<Letter>
         ensures { result ≡ slice_get (letters_for process self.now.mail) place }
     {
@@ -115,7 +115,7 @@ impl<R: Actor + Drop> ActorWorld<R> {
         self.gvt.ns() == until.ns() + 1 && self.all_committed()
     }
 
-    /// The rows of the committed events of process `process`, in their order.
+    /// Returns the rows of the committed events of process `process`, in their order.
     pub fn sealed(&self, process: u16) -> &[Row]
         requires { process < length self.now.processes }
         ensures { AtEachWorld (rules_of R.plain) R.number R.end R.is_placed R.is_value self.now
@@ -124,8 +124,8 @@ impl<R: Actor + Drop> ActorWorld<R> {
         self.processes[usize::from(process)].sealed()
     }
 
-    /// Undoes all done events of process `process`, the newest first, each by its record, and gives the actor back; none where there is
-    /// no such process. Nothing is sent.
+    /// Undoes all done events of process `process`, the newest first, each by its record, and returns the actor; none if the process does
+    /// not exist. Sends nothing.
     pub fn undo_all(self, process: u16) -> Option<R>
         ensures none { IsNone result ↔ (length self.processes ≤ process) }
         ensures undone { IfSome result (λ actor. AtEachWorld (rules_of R.plain) R.number R.end R.is_placed R.is_value self
@@ -142,7 +142,7 @@ impl<R: Actor + Drop> ActorWorld<R> {
     }
 }
 
-/// The mail of so many processes, with the offers in it.
+/// Makes the mail of `processes` processes, with the offers in it.
 fn offered(
     alloc: Global,
     processes: u16,
@@ -156,7 +156,7 @@ fn offered(
     Mail::with_letters(alloc, processes, &letters)
 }
 
-/// A process that has done nothing for each actor, in order.
+/// Makes, for each actor in order, a process that has done nothing.
 fn processes_of<R: Actor + Drop>(
     alloc: Global,
     actors: Vec<R>,

@@ -1,8 +1,8 @@
-//! What becomes of a step of a world.
+//! The result of a step of a world.
 ghost use Rattle.std.specs.Prelude.{◌≡◌, ◌+◌, ◌<◌, ◌^◌};
 ghost use Rattle.actor_world.specs.declared.done.Done.TheVariants.{Did, NotEnabled};
 
-/// What became of a step that was not refused.
+/// The result of a step that was not refused.
 #[derive(Clone, Copy)]
 pub enum Done {
     /// It was done.
@@ -12,7 +12,7 @@ pub enum Done {
 }
 
 impl Done {
-    /// Counts the step, as one that was done or as one that was not enabled.
+    /// Counts the step, either as done or as not enabled.
     #[inline(always)]
     pub fn count(self, did: &mut u64, not_enabled: &mut u64)
         requires { did.old + not_enabled.old < 2 ^ 63 }

@@ -3,16 +3,16 @@ use process_queues::ProcFault;
 use std::alloc::{AllocError, AllocFailed};
 use thiserror::Error;
 
-/// Why a step, or a call on a world, was refused. The world holds afterwards what it held before.
+/// Why a step, or a call on a world, was refused. The world is as it was before.
 #[derive(Clone, Copy, Debug, PartialEq, Eq, Error)]
 pub enum StepFault {
-    /// The step names a process, and there is none of that number.
+    /// The step names a process that does not exist.
     #[error("no such process")]
     NoProcess,
-    /// A growth was refused.
+    /// Memory was refused.
     #[error("out of memory")]
     OutOfMemory,
-    /// The actor of the process has not enough numbers left for what one event can send.
+    /// The actor of the process does not have enough numbers left for what one event can send.
     #[error("numbers used up")]
     Exhausted,
 }

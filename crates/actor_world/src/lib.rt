@@ -1,4 +1,5 @@
-//! The world of a Time Warp run of any actors: all processes with their mail, their floors and GVT, and the six steps, done in any order.
+//! The world of a Time Warp run of any actors: all processes with their mail, their floors and GVT, and the six steps, which can be done in
+//! any order.
 #![tactic(auto)]
 
 mod actor_steps;

@@ -1,4 +1,4 @@
--- What a run by workers leaves behind, and what is left where a fault ends it on the way.
+-- What a run by workers leaves behind, and what is left if a fault ends it earlier.
 use Rattle.std.specs.Prelude.{◌≡◌, ◌⊎◌, ℕ, true, false, List, Option, Some}
 use Rattle.network.specs.Words.{Plan}
 use Rattle.commands.specs.declared.fault.Fault.{Fault}

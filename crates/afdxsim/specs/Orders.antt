@@ -1,4 +1,4 @@
--- What comes of an order. A new command is a case of `DoneOn` and of `IsFaultOn`, and of the files that it names.
+-- The result of an order. A new command is a case of `DoneOn` and of `IsFaultOn`, and of the files that it names.
 use Rattle.std.specs.Prelude.{◌≡◌, ◌≢◌, ◌⊎◌, ℕ, Bool, false, List, option_map, string_bytes}
 use Rattle.command_line.specs.declared.orders.Order.{Order}
 use Rattle.command_line.specs.declared.orders.Order.TheVariants as ordered

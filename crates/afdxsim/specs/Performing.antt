@@ -1,4 +1,4 @@
--- What the words after the program's name come to.
+-- The result of the words after the program's name.
 use Rattle.std.specs.Prelude.{◌≡◌, ◌≢◌, ◌⊎◌, ℕ, Bool, List, [], ◌∷◌, Some}
 use Rattle.clap.specs.Words.{Kinds, Text, fault_of}
 use Rattle.command_line.specs.Meaning.{Names, command_in, command_of, rows_in}

@@ -1,4 +1,4 @@
-//! What the program leaves, in bytes, on a host that tells them.
+//! What the program leaves, in bytes, on a host that knows them.
 ghost use Rattle.std.specs.Prelude.{◌≡◌, ℕ, [], List, None, Some, IfSome, map, option_map};
 ghost use Rattle.command_line.specs.declared.orders.Order.{Order};
 ghost use Rattle.network.specs.Words.{Plan};
@@ -18,9 +18,9 @@ use std::sync::Wait;
 use std::thread::Threads;
 use std::time::Clock;
 
-/// The status that the program ends with. With status 0 the words mean an order on the network that was read, and the last thing that happened to
-/// the host, but for what was shown, is that a file was made, took just the journal, where one is asked for, else just the trace, and was given
-/// back.
+/// Returns the status with which the program ends. With status 0 the words mean an order on the network that was read. The last thing that
+/// happened to the host, apart from what was shown, is that a file was created, took just the journal, if one is asked for, otherwise just
+/// the trace, and was given back.
 fn status_on<'a, S: AsStr, H: Host, T: Threads + Wait + Clock + Sync>(
     rt: &T,
     alloc: Global,
@@ -37,8 +37,9 @@ fn status_on<'a, S: AsStr, H: Host, T: Threads + Wait + Clock + Sync>(
     perform(rt, alloc, words, host)
 }
 
-/// The status that the program ends with. Of this host a clause tells what is left, in bytes: with status 0 the words mean an order on the network
-/// that `net.toml` describes, and the file that was given back last holds just the journal, where one is asked for, else just the trace.
+/// Returns the status with which the program ends. A clause states what is left on this host, in bytes: with status 0 the words mean an
+/// order on the network that `net.toml` describes, and the file that was given back last contains just the journal, if one is asked for,
+/// otherwise just the trace.
 fn status_of<'a, S: AsStr, R: Copy + Send + Sync + Threads + Wait + Clock>(
     rt: &R,
     alloc: Global,

@@ -24,8 +24,8 @@ use std::time::Clock;
 use vlink::Step;
 use worker_pool::{Summary, Traced};
 
-/// Makes the file with this path, and simulates the network by workers, which write the trace into it. Error output is told how far the run is,
-/// where that is asked for. At the end of the run the file is given back with what it took, and then a fault of the trace is told.
+/// Creates the file with this path, and simulates the network by workers, which write the trace into it. Error output shows how far the run
+/// is, if that is asked for. At the end of the run the file is given back with what it took, and then a fault of the trace is reported.
 fn simulate_with_trace<'a, H: Host, T: Threads + Wait + Clock + Sync>(
     rt: &T,
     alloc: Global,
@@ -62,7 +62,7 @@ fn simulate_with_trace<'a, H: Host, T: Threads + Wait + Clock + Sync>(
     }
 }
 
-/// Simulates the network by workers, without a trace. Error output is told how far the run is, where that is asked for.
+/// Simulates the network by workers, without a trace. Error output shows how far the run is, if that is asked for.
 fn heard_by_workers<H: Host, T: Threads + Wait + Clock + Sync>(
     rt: &T,
     alloc: Global,
@@ -83,8 +83,8 @@ fn heard_by_workers<H: Host, T: Threads + Wait + Clock + Sync>(
     found_by_workers(rt, alloc, network, order, with_steps, asked, host.errors())
 }
 
-/// Simulates the network by workers. Where a trace is asked for, its file is made first, and the run writes it. Error output is told how far the
-/// run is, where that is asked for.
+/// Simulates the network by workers. If a trace is asked for, its file is created first, and the run writes it. Error output shows how far
+/// the run is, if that is asked for.
 fn simulate<'a, H: Host, T: Threads + Wait + Clock + Sync>(
     rt: &T,
     alloc: Global,
@@ -121,7 +121,7 @@ fn simulate<'a, H: Host, T: Threads + Wait + Clock + Sync>(
     }
 }
 
-/// Writes the journal of a run into its file, where one is ordered.
+/// Writes the journal of a run into its file, if one is ordered.
 fn keep_journal<'a, H: Host>(
     alloc: Global,
     steps: &[Step],
@@ -140,9 +140,10 @@ fn keep_journal<'a, H: Host>(
     }
 }
 
-/// Simulates the network by workers, which write the trace on the way, if one is ordered: its file is made before the run. Error output is told
-/// how far it is, where that is ordered. Then the journal goes into its file, if one is ordered, and then the tables to standard output. A fault ends it at once: what was written stays, and nothing
-/// that comes later is made or written. Steps are listed only for a journal, and rows never.
+/// Simulates the network by workers, which write the trace during the run, if one is ordered: its file is created before the run. Error
+/// output shows how far the run is, if that is ordered. Then the journal is written into its file, if one is ordered, and then the tables
+/// to standard output. A fault ends it at once: what was written stays, and nothing that comes later is created or written. Steps are
+/// listed only for a journal, and rows never.
 pub fn run<'a, H: Host, T: Threads + Wait + Clock + Sync>(
     rt: &T,
     alloc: Global,

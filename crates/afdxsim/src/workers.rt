@@ -24,7 +24,7 @@ use std::time::Clock;
 use trace_tables::Sink;
 use worker_pool::{Gate, Pace, Summary, Traced, group_number, run_summary, run_traced};
 
-/// A gate that is told of each message and does nothing.
+/// A gate that does nothing.
 pub struct Open;
 
 impl Gate for Open {
@@ -37,8 +37,8 @@ impl Gate for Open {
     fn after(&self, _process: u16, _run: u64) {}
 }
 
-/// The pace that is ordered: with as many groups as are ordered, or else as the network has, and no more workers than groups. It is refused for memory
-/// alone.
+/// Makes the pace that is ordered: as many groups as are ordered, or otherwise as the network has, and no more workers than groups. Only
+/// memory can be refused.
 fn pace_of<T: Threads>(
     rt: &T,
     alloc: Global,
@@ -61,8 +61,8 @@ fn pace_of<T: Threads>(
     })
 }
 
-/// What a run of the network by workers finds at this pace: its tables, and its steps where they are asked for. No rows are listed. Error output is told
-/// how far it is, where that is asked for.
+/// Runs the network by workers at this pace, and returns its tables, and its steps if they are asked for. Lists no rows. Error output shows
+/// how far the run is, if that is asked for.
 #[tactic(auto, using(commands::proofs::Running::tables_made, crate::proofs::Running::workers_gave_up))]
 fn found_at<E: Sink, T: Threads + Wait + Clock + Sync>(
     rt: &T,
@@ -84,8 +84,8 @@ fn found_at<E: Sink, T: Threads + Wait + Clock + Sync>(
     Ok(found)
 }
 
-/// What the run that is ordered finds: its tables, and its steps where they are asked for. Error output is told of its groups and workers, and how far it is,
-/// where that is asked for.
+/// Does the run that is ordered, and returns its tables, and its steps if they are asked for. Error output shows its groups and workers,
+/// and how far it is, if that is asked for.
 pub fn found_by_workers<E: Sink, T: Threads + Wait + Clock + Sync>(
     rt: &T,
     alloc: Global,
@@ -105,8 +105,8 @@ pub fn found_by_workers<E: Sink, T: Threads + Wait + Clock + Sync>(
     found_at(rt, alloc, network, pace, with_steps, asked, errors)
 }
 
-/// A run at this pace that writes its trace into this file, which is given back at the end of the run. What it has taken is then a beginning of the trace
-/// of the one-thread run, whatever became of its writing. Where the run itself is given up, the file is dropped.
+/// Does a run at this pace that writes its trace into this file, which is given back at the end of the run. The file then has a beginning
+/// of the trace of the one-thread run, whatever became of its writing. If the run itself is given up, the file is dropped.
 #[tactic(auto, using(commands::proofs::Running::tables_made, crate::proofs::Running::tracers_gave_up))]
 fn traced_at<F: Sink + Drop + Send, E: Sink, T: Threads + Wait + Clock + Sync>(
     rt: &T,
@@ -144,8 +144,8 @@ fn traced_at<F: Sink + Drop + Send, E: Sink, T: Threads + Wait + Clock + Sync>(
     Ok(found)
 }
 
-/// The run that is ordered, where it writes its trace into this file. Error output is told of its groups and workers, and how far it is, where that is asked
-/// for.
+/// Does the run that is ordered, which writes its trace into this file. Error output shows its groups and workers, and how far it is, if
+/// that is asked for.
 pub fn traced_by_workers<F: Sink + Drop + Send, E: Sink, T: Threads + Wait + Clock + Sync>(
     rt: &T,
     alloc: Global,

@@ -1,4 +1,4 @@
--- Signed counts: what a letter makes of them, and which present message comes first.
+-- Signed counts: what a letter does to them, and which present message comes first.
 use Rattle.std.specs.Prelude.{◌≡◌, ℤ, pos, ◌-◌, ◌-ℤ◌, Bool, true, false, ◌&&◌, List, ◌∷◌, map, filter, length, slice_get, Option, Some, None}
 use Rattle.virtual_time.specs.Law.{Order, least, pluses, minuses, is_present}
 use Rattle.virtual_time.specs.declared.letter.Letter.{Letter}

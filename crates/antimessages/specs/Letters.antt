@@ -1,4 +1,4 @@
--- What a letter adds to the count of its message, and where letters are kept.
+-- What a letter adds to the count of its message, and where letters are stored.
 use Rattle.std.specs.Prelude.{ℕ, ℤ, pos, negsuc, List}
 use Rattle.virtual_time.specs.declared.letter.Sign.{Sign}
 use Rattle.virtual_time.specs.declared.letter.Sign.TheVariants.{Plus, Minus}

@@ -1,5 +1,5 @@
--- How signed counts are kept: the letters of a message that are tallied and not taken back have the ordinals 0, 1 and so on, all with
--- one sign.
+-- How signed counts are stored: the letters of a message that are tallied and not removed have the ordinals 0, 1 and so on, all with one
+-- sign.
 use Rattle.std.specs.Prelude.{◌≡◌, ℕ, ◌-◌, ℤ, pos, ◌-ℤ◌, ◌≢◌, cond, nat_lt, List, [], ◌∷◌, map, Option, Some, None, ⊤}
 use Rattle.std.specs.Ordering.{nat_cmp, ordering_then}
 use Rattle.std.specs.declared.cmp.Ordering.{Ordering}

@@ -1,4 +1,4 @@
--- The order of occurrences is total where that of messages is.
+-- The order of occurrences is total if that of messages is.
 use Rattle.std.specs.declared.cmp.Ordering.{Ordering}
 use Rattle.std.specs.Cmp.{IsTotalOrder, on_total, then_total, nat_cmp_total}
 use Rattle.vlink.specs.declared.message.Message.{Message}

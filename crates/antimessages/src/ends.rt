@@ -1,12 +1,12 @@
-//! Items that come to a deque mostly at its back, and leave it mostly at its front.
+//! A deque that items mostly enter at the back, and mostly leave at the front.
 ghost use Rattle.std.specs.Prelude.{◌≡◌, ◌+◌, ◌<◌, remove, slice_get};
 ghost use Rattle.std.specs.VecDeque.{deque_len, deque_capacity};
 
 use std::collections::VecDeque;
 use std::mem::replace;
 
-/// Takes the item at this place, if there is one. The shorter side moves, and nothing where it is the first. If it was the last item left,
-/// the deque begins at its front again.
+/// Removes and returns the item at this place, or returns none if the place is empty. It moves the shorter side, and nothing if the item is
+/// the first. If the item was the last one left, the deque begins at its front again.
 #[inline(always)]
 pub(crate) fn take_at<T: Drop>(items: &mut VecDeque<T>, place: usize) -> Option<T>
     ensures value { result ≡ slice_get items.old.items place }
@@ -23,8 +23,8 @@ pub(crate) fn take_at<T: Drop>(items: &mut VecDeque<T>, place: usize) -> Option<
     item
 }
 
-/// A deque without items begins at the front of its room again, so that the same few places are used again and again, and stay near
-/// the processor. No item moves, and no memory is taken.
+/// Lets an empty deque begin at the front of its room again. So the same few places are used again and again, and stay in the caches. No
+/// item moves, and no memory is taken.
 pub fn rewind<T: Drop>(items: &mut VecDeque<T>)
     ensures items { items.new.items ≡ items.old.items }
     ensures len { deque_len items.new ≡ deque_len items.old }

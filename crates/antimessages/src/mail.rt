@@ -1,4 +1,4 @@
-//! The mail: a box of letters for each process.
+//! The mail: a queue of letters for each process.
 ghost use Rattle.std.specs.Prelude.{◌≡◌, ◌≢◌, ℕ, ◌<◌, ◌≤◌, [], ◌++◌, length, map, remove, slice_get, All, IsOk, OnOk, OnErr, IfOk};
 ghost use Rattle.std.specs.Option.{option_map};
 ghost use Rattle.virtual_time.specs.Law.{received_by};
@@ -15,8 +15,8 @@ use std::marker::Model;
 use std::mem;
 use vlink::{Letter, process_number};
 
-/// The letters that were posted and not taken, of each process those that it receives, in the order in which they were posted.
-/// Processes are numbered from 0.
+/// The letters that were posted and not taken. Each process has those that it receives, in the order in which they were posted. Processes
+/// are numbered from 0.
 #[derive(Drop)]
 pub struct Mail {
     boxes: Vec<VecDeque<Letter>>,
@@ -35,7 +35,7 @@ impl Model for Mail {
 }
 
 impl Mail {
-    /// No letter, for so many processes. That of no process takes no memory.
+    /// Makes mail without letters for `processes` processes. For 0 processes it takes no memory.
     pub fn new(alloc: Global, processes: u16) -> Result<Self, OutOfMemory>
         ensures processes { IfOk result (λ mail. length mail ≡ processes) }
         ensures none { IfOk result (λ mail. (p : ℕ) → letters_for p mail ≡ []) }
@@ -49,8 +49,8 @@ impl Mail {
         Ok(Mail { boxes })
     }
 
-    /// The mail of so many processes to which the letters of the outbox were posted. Its time goes by the number of letters, however many
-    /// they are; `post` is made for the few letters of one event. That of no process takes no memory.
+    /// Makes the mail of `processes` processes, to which the letters of the outbox are posted. Its time is proportional to the number of
+    /// letters; `post` is made for the few letters of one event. For 0 processes it takes no memory.
     pub fn with_letters(alloc: Global, processes: u16, outbox: &Outbox) -> Result<Self, OutOfMemory>
         requires { All (λ letter. letter.message.receiver < processes) outbox.now.letters }
         ensures processes { IfOk result (λ mail. length mail ≡ processes) }
@@ -62,14 +62,14 @@ impl Mail {
         Ok(Mail { boxes })
     }
 
-    /// How many processes there are.
+    /// Returns the number of processes.
     pub fn processes(&self) -> u16
         ensures { result ≡ length self.now }
     {
         process_number(self.boxes.len())
     }
 
-    /// How many letters there are for this process; 0 where there is no such process.
+    /// Returns the number of letters for this process; 0 if the process does not exist.
     pub fn count(&self, process: u16) -> usize
         ensures { result ≡ length (letters_for process self.now) }
     {
@@ -79,7 +79,8 @@ impl Mail {
         }
     }
 
-    /// The letter number `place`, from 0, of those for this process: the one that `take` would give. None where there is none.
+    /// Returns the letter number `place`, from 0, of those for this process: the one that `take` would return. None if no letter has that
+    /// number.
     pub fn look(&self, process: u16, place: usize) -> Option<Letter>
         ensures { result ≡ slice_get (letters_for process self.now) place }
     {
@@ -89,8 +90,8 @@ impl Mail {
         }
     }
 
-    /// Takes the letter number `place`, from 0, of those for this process; the others keep their order. None, and nothing changes,
-    /// where there is none or no such process.
+    /// Removes and returns the letter number `place`, from 0, of those for this process; the others keep their order. If no letter has that
+    /// number, or the process does not exist, it returns none and changes nothing.
     #[inline(always)]
     pub fn take(&mut self, process: u16, place: usize) -> Option<Letter>
         ensures taken { result ≡ slice_get (letters_for process self.old) place }
@@ -104,7 +105,8 @@ impl Mail {
         take_at(&mut self.boxes[usize::from(process)], place)
     }
 
-    /// All letters for this process go to `letters`, which has none, and no letter is copied: the two change places, with their room.
+    /// Moves all letters for this process to `letters`, which must be empty. No letter is copied: the two queues change places, with their
+    /// room.
     pub fn take_all(&mut self, process: u16, letters: &mut VecDeque<Letter>)
         requires { letters.old.items ≡ [] }
         ensures taken { letters.new.items ≡ letters_for process self.old }
@@ -118,8 +120,8 @@ impl Mail {
         mem::swap(&mut self.boxes[usize::from(process)], letters);
     }
 
-    /// Makes room, so that `post` of this outbox takes no memory as long as no other call comes between. It is refused only where
-    /// some process had less room.
+    /// Makes room, so that `post` of this outbox takes no memory as long as no other call comes between. It can be refused only if some
+    /// process has less room.
     pub fn reserve(&mut self, outbox: &Outbox) -> Result<(), OutOfMemory>
         requires { All (λ letter. letter.message.receiver < length self.old) outbox.now.letters }
         ensures same { (p : ℕ) → letters_for p self.new ≡ letters_for p self.old }
@@ -131,8 +133,8 @@ impl Mail {
         reserve_all(&mut self.boxes, &outbox.letters)
     }
 
-    /// The letters of the outbox go in order to the back of the mail of their receivers, and the outbox is left empty. Where there
-    /// is room this takes no memory and succeeds; a refusal changes nothing.
+    /// Moves the letters of the outbox, in order, to the back of the mail of their receivers, and leaves the outbox empty. If the room was
+    /// made before, it takes no memory and succeeds. A refusal changes nothing.
     pub fn post(&mut self, outbox: &mut Outbox) -> Result<(), OutOfMemory>
         requires { All (λ letter. letter.message.receiver < length self.old) outbox.old.letters }
         ensures posted { OnOk result ((p : ℕ) → letters_for p self.new ≡ letters_for p self.old ++ received_by message_order p outbox.old.letters) }

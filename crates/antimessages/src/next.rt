@@ -1,4 +1,4 @@
-//! The message that comes next, kept as letters are tallied.
+//! The next message, which is updated with each letter that is tallied.
 ghost use Rattle.std.specs.Prelude.{◌≡◌, ◌≢◌, ◌∷◌, List, true};
 ghost use Rattle.std.specs.Option.{option_copied};
 ghost use Rattle.virtual_time.specs.Law.{lesser};
@@ -12,8 +12,9 @@ use crate::tally::{Change, Tally};
 use vlink::{Letter, Message};
 
 impl Tally {
-    /// What `next_after` answers once this letter is tallied, where `next` was its answer before: the counts are looked through only where
-    /// the letter took its message away. `change` is what the letter made of its message, which comes after `newest` where that is not `Same`.
+    /// Returns what `next_after` would return once this letter is tallied, if `next` was its result before. It searches the counts only if
+    /// the letter made that message absent. `change` is what the letter did to its message, which comes after `newest` if `change` is not
+    /// `Same`.
     pub fn next_with(
         &self,
         next: Option<Message>,
@@ -36,7 +37,7 @@ impl Tally {
     }
 }
 
-/// The message, or the other one if that comes first.
+/// Returns the earlier of the message and the other one, if that exists.
 fn lesser(message: &Message, other: Option<Message>) -> Message
     ensures { Some result ≡ lesser message_order message.now other }
 {

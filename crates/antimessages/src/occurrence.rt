@@ -1,4 +1,4 @@
-//! The letters of a message that count, told apart by ordinals, and their order.
+//! The letters of a message that count, numbered by ordinals, and their order.
 ghost use Rattle.std.specs.Prelude.{◌≡◌, ◌↔◌, IsTrue, refl};
 ghost use Rattle.std.specs.Cmp.{IsTotalOrder, partial_equiv_from_equiv, eq_by_cmp_equiv, partial_order_from_total};
 ghost use Rattle.std.specs.Ordering.{eq_by_cmp, as_partial_cmp};
@@ -13,7 +13,7 @@ ghost use Rattle.vlink.specs.contracts.message.MessageOrd.TheImpl.Laws as messag
 use std::cmp::Ordering;
 use vlink::{Message, compare, message_order_law};
 
-/// One of the letters of a message that count: its number among them, from 0.
+/// One of the letters of a message that count, with its number among them, from 0.
 #[derive(Clone, Copy)]
 pub(crate) struct Occurrence {
     pub(crate) message: Message,
@@ -53,7 +53,7 @@ impl Ord for Occurrence {
 
     ghost matches_eq = { λ a b. refl };
 
-    /// Most occurrences are of messages of two moments, and need no call.
+    /// Most comparisons are of messages of two moments, and need no call.
     #[inline(always)]
     fn cmp(&self, other: &Self) -> Ordering {
         match compare(&self.message, &other.message) {
@@ -88,7 +88,7 @@ pub(crate) fn is_before(first: &Message, second: &Message) -> bool
     compare(first, second) == Ordering::Less
 }
 
-/// Whether they are the same message. Most messages differ in their numbers.
+/// Whether the two are the same message. Most messages differ in their numbers.
 pub(crate) fn is_same(first: &Message, second: &Message) -> bool
     ensures { IsTrue result ↔ (first.now ≡ second.now) }
 {

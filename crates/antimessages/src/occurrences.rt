@@ -1,4 +1,4 @@
-//! The tallied letters: for each occurrence its sign.
+//! The tallied letters, as a map from each occurrence to its sign.
 ghost use Rattle.std.specs.Prelude.{◌≡◌, ◌+◌, ◌<◌, ◌^◌, pos, ◌∷◌, false, Option, IsSome, IsTrue, IfSome, IfOk, OnOk, OnErr};
 ghost use Rattle.std.specs.Option.{MatchOption, option_copied, option_map};
 ghost use Rattle.std.specs.List.{find};
@@ -18,7 +18,7 @@ use std::collections::btree_map::Range;
 use std::ops::Bound;
 use vlink::{Message, Sign};
 
-/// The last ordinal of a message and the sign of its letters, if any of them count.
+/// Returns the last ordinal of a message and the sign of its letters, if any of them count.
 pub(crate) fn last_of(signs: &BTreeMap<Occurrence, Sign>, message: &Message) -> Option<(u64, Sign)>
     requires { AreTallied signs.now.entries }
     ensures count { MatchOption result (signed_count message_order message.now (letters_of signs.now.entries) ≡ pos 0)
@@ -39,8 +39,8 @@ pub(crate) fn last_of(signs: &BTreeMap<Occurrence, Sign>, message: &Message) -> 
     }
 }
 
-/// Where no letter of the message counts, one of this sign does. The answer is whether none did; where one did, and at a refusal, nothing
-/// changes.
+/// If no letter of the message counts, adds one of this sign, and returns true. Otherwise it returns false and changes nothing. A refusal
+/// changes nothing.
 pub(crate) fn put_first(
     signs: &mut BTreeMap<Occurrence, Sign>,
     message: &Message,
@@ -68,7 +68,7 @@ pub(crate) fn put_first(
     }
 }
 
-/// The first letter of a message, which is there, gets this sign. It takes no memory.
+/// Gives this sign to the first letter of a message, which must exist. Takes no memory.
 fn put_back(signs: &mut BTreeMap<Occurrence, Sign>, message: &Message, sign: Sign)
     requires { IsSome (lookup (is_at (occurrence_cmp (occurrence_of message.now 0))) signs.old.entries) }
     ensures { signs.new.entries ≡ insert_entry occurrence_cmp signs.old.entries (occurrence_of message.now 0) sign }
@@ -81,7 +81,7 @@ fn put_back(signs: &mut BTreeMap<Occurrence, Sign>, message: &Message, sign: Sig
     let _sign = signs.insert(first, sign);
 }
 
-/// One letter more of this sign counts for the message, of which there are `ordinal` such letters. A refusal changes nothing.
+/// Adds one letter of this sign for the message, which has `ordinal` such letters. A refusal changes nothing.
 pub(crate) fn put(
     signs: &mut BTreeMap<Occurrence, Sign>,
     message: &Message,
@@ -103,7 +103,7 @@ pub(crate) fn put(
     Ok(())
 }
 
-/// The last letter of a message counts no more.
+/// Removes the last letter of a message.
 pub(crate) fn take(
     signs: &mut BTreeMap<Occurrence, Sign>,
     message: &Message,
@@ -123,8 +123,8 @@ pub(crate) fn take(
     let _sign = signs.remove(&last);
 }
 
-/// Where the first letters that count are those of the message, and these are one plus letter, it counts no more. The answer is whether
-/// they are; where they are not, nothing changes.
+/// If the first message that counts is this one, with one plus letter alone, removes that letter and returns true. Otherwise it returns
+/// false and changes nothing.
 pub(crate) fn take_first(signs: &mut BTreeMap<Occurrence, Sign>, message: &Message) -> bool
     requires { AreTallied signs.old.entries }
     ensures tallied { AreTallied signs.new.entries }
@@ -144,7 +144,7 @@ pub(crate) fn take_first(signs: &mut BTreeMap<Occurrence, Sign>, message: &Messa
     true
 }
 
-/// Whether the first letters that count are those of the message, and these are one plus letter.
+/// Whether the first message that counts is this one, with one plus letter alone.
 fn begins_with_one(signs: &BTreeMap<Occurrence, Sign>, message: &Message) -> bool
     ensures { IsTrue result → BeginsWithOne message.now signs.now.entries }
 {
@@ -161,7 +161,7 @@ fn begins_with_one(signs: &BTreeMap<Occurrence, Sign>, message: &Message) -> boo
     }
 }
 
-/// The last letter of a message counts no more, where that is a plus. Else nothing changes.
+/// Removes the last letter of a message if it is a plus. Otherwise it changes nothing.
 pub(crate) fn take_last(signs: &mut BTreeMap<Occurrence, Sign>, message: &Message)
     requires { AreTallied signs.old.entries }
     ensures tallied { AreTallied signs.new.entries }
@@ -190,7 +190,7 @@ pub(crate) fn begins_after(signs: &BTreeMap<Occurrence, Sign>, message: &Message
     }
 }
 
-/// The first present message of those that come after `newest`, or of all where none is given.
+/// Returns the first present message of those that come after `newest`, or of all if `newest` is none.
 pub(crate) fn next_after(
     signs: &BTreeMap<Occurrence, Sign>,
     newest: Option<&Message>,
@@ -217,7 +217,7 @@ fn is_plus(sign: Sign) -> bool
     }
 }
 
-/// Whether the message comes after `newest`, if that is given.
+/// Whether the message comes after `newest`, or `newest` is none.
 fn is_after(newest: Option<&Message>, message: &Message) -> bool
     ensures { result ≡ is_after message_order (option_copied newest.entry) message.now }
 {
@@ -227,7 +227,7 @@ fn is_after(newest: Option<&Message>, message: &Message) -> bool
     }
 }
 
-/// Where the occurrences of messages that come after `newest` begin: behind all of its own.
+/// Returns the bound at which the occurrences of messages that come after `newest` begin: behind all of its own.
 fn behind(newest: Option<&Message>) -> Bound<Occurrence>
     ensures { result ≡ behind (option_copied newest.entry) }
 {
@@ -240,7 +240,7 @@ fn behind(newest: Option<&Message>) -> Bound<Occurrence>
     }
 }
 
-/// The message of the first of these entries that has a plus, if there is one.
+/// Returns the message of the first of these entries that is a plus, or none.
 fn first_plus(entries: Range<'_, Occurrence, Sign>) -> Option<Message>
     ensures { result ≡ option_map (λ e. e.0.message) (find (λ e. is_plus e.1) entries.entry) }
 {

@@ -24,7 +24,7 @@ impl Model for Outbox {
 }
 
 impl Outbox {
-    /// No letter. It takes no memory.
+    /// Makes an outbox without letters. Takes no memory.
     pub fn new(alloc: Global) -> Self
         ensures { result.letters ≡ [] }
     {
@@ -33,21 +33,21 @@ impl Outbox {
         }
     }
 
-    /// The letters, the first made at the front.
+    /// Returns the letters, the first made at the front.
     pub fn letters(&self) -> &[Letter]
         ensures { result.now ≡ self.now.letters }
     {
         &self.letters
     }
 
-    /// Whether each letter is for one of the processes 0, 1, .. of which there are so many. Then it can be posted to their mail.
+    /// Whether each letter is for one of the processes 0 to `processes` - 1. Then it can be posted to their mail.
     pub fn goes_within(&self, processes: usize) -> bool
         ensures { IsTrue result ↔ All (λ letter. letter.message.receiver < processes) self.now.letters }
     {
         are_within(&self.letters, processes)
     }
 
-    /// The letter goes to the back. Where there is room this takes no memory and succeeds; a refusal changes nothing.
+    /// Puts the letter at the back. If the room was made before, it takes no memory and succeeds. A refusal changes nothing.
     pub fn push(&mut self, letter: Letter) -> Result<(), OutOfMemory>
         ensures pushed { OnOk result (self.new.letters ≡ self.old.letters ++ letter ∷ []) }
         ensures unchanged { OnErr result (self.new.letters ≡ self.old.letters) }
@@ -55,7 +55,7 @@ impl Outbox {
         ensures room { self.old.room ≤ self.new.room + 1 }
     {
         self.letters.reserve(1)?;
-        // Written out again: the kit's borrow checker does not cover moving on the letter itself.
+        // The letter is written out again, since the kit's borrow checker does not allow to pass it on.
         self.letters.push_reserved(Letter {
             message: letter.message,
             sign: letter.sign,
@@ -63,8 +63,7 @@ impl Outbox {
         Ok(())
     }
 
-    /// Makes room for `count` more letters, so that as many calls of `push` take no memory. It is refused only where there was
-    /// less room.
+    /// Makes room for `count` more letters, so that this many calls of `push` take no memory. It can be refused only if there is less room.
     pub fn reserve(&mut self, count: usize) -> Result<(), OutOfMemory>
         ensures same { self.new.letters ≡ self.old.letters }
         ensures room { OnOk result (count ≤ self.new.room) }
@@ -76,7 +75,7 @@ impl Outbox {
     }
 }
 
-/// Each message as the letter that brings it, in order.
+/// Makes, for each message in order, the letter that brings it.
 pub fn plus_letters(alloc: Global, messages: &[Message]) -> Result<Outbox, OutOfMemory>
     ensures { IfOk result (λ outbox. outbox.letters ≡ map plus_of messages.now) }
 {

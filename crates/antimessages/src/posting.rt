@@ -1,4 +1,4 @@
-//! Room for letters with their receivers, and the letters put there.
+//! Makes room for letters at their receivers, and puts the letters there.
 ghost use Rattle.std.specs.Prelude.{◌≡◌, ◌↔◌, ℕ, true, false, cond, [], ◌∷◌, ◌+◌, ◌<◌, ◌≤◌, ◌==◌, ◌++◌, length, map, filter, All, IsTrue, IsOk, OnOk, OnErr};
 ghost use Rattle.std.specs.VecDeque.{deque_len, deque_capacity};
 ghost use Rattle.virtual_time.specs.Law.{received_by};
@@ -9,8 +9,8 @@ use crate::fault::OutOfMemory;
 use std::collections::VecDeque;
 use vlink::Letter;
 
-/// Makes room in the mail of each receiver for all letters that it receives. The letters are looked through for each of them, or for each
-/// process where these are fewer.
+/// Makes room in the mail of each receiver for all letters that it receives. It searches the letters once for each letter, or once for each
+/// process if that is less.
 pub(crate) fn reserve_all(
     boxes: &mut Vec<VecDeque<Letter>>,
     letters: &[Letter],
@@ -29,7 +29,7 @@ pub(crate) fn reserve_all(
     }
 }
 
-/// The same, process by process.
+/// Does the same, process by process.
 fn reserve_by_receivers(
     boxes: &mut Vec<VecDeque<Letter>>,
     letters: &[Letter],
@@ -47,7 +47,7 @@ fn reserve_by_receivers(
     Ok(())
 }
 
-/// The same, letter by letter.
+/// Does the same, letter by letter.
 fn reserve_by_letters(
     boxes: &mut Vec<VecDeque<Letter>>,
     letters: &[Letter],
@@ -66,8 +66,7 @@ fn reserve_by_letters(
     Ok(())
 }
 
-/// Makes room in the mail of one receiver for those of the letters that it receives. They are tallied only where there might be
-/// too little room.
+/// Makes room in the mail of one receiver for its share of the letters. It counts them only if the room might not suffice.
 fn make_room(
     mailbox: &mut VecDeque<Letter>,
     letters: &[Letter],
@@ -86,7 +85,7 @@ fn make_room(
     Ok(())
 }
 
-/// How many of the letters this process receives.
+/// Returns how many of the letters this process receives.
 fn count_for(letters: &[Letter], receiver: usize) -> usize
     ensures { result ≡ length (filter (λ letter. letter.message.receiver == receiver) letters.now) }
 {
@@ -97,7 +96,7 @@ fn count_for(letters: &[Letter], receiver: usize) -> usize
     count
 }
 
-/// 1 where this process receives the letter, and else 0.
+/// Returns 1 if this process receives the letter, and otherwise 0.
 fn one_for(letter: &Letter, receiver: usize) -> usize
     ensures one { result ≡ cond (letter.now.message.receiver == receiver) 1 0 }
     ensures most { result ≤ 1 }
@@ -109,7 +108,7 @@ fn one_for(letter: &Letter, receiver: usize) -> usize
     }
 }
 
-/// Whether each of the letters is for one of the processes 0, 1, .. of which there are so many.
+/// Whether each of the letters is for one of the processes 0 to `processes` - 1.
 pub(crate) fn are_within(letters: &[Letter], processes: usize) -> bool
     ensures { IsTrue result ↔ All (λ letter. letter.message.receiver < processes) letters.now }
 {
@@ -121,7 +120,7 @@ pub(crate) fn are_within(letters: &[Letter], processes: usize) -> bool
     true
 }
 
-/// Whether the letter is for one of so many processes.
+/// Whether the letter is for one of the processes 0 to `processes` - 1.
 fn is_within(letter: &Letter, processes: usize) -> bool
     ensures yes { result ≡ true → letter.now.message.receiver < processes }
     ensures no { result ≡ false → processes ≤ letter.now.message.receiver }
@@ -129,7 +128,7 @@ fn is_within(letter: &Letter, processes: usize) -> bool
     usize::from(letter.message.receiver) < processes
 }
 
-/// Each letter goes to the back of the mail of its receiver, in order. There is room for all.
+/// Puts each letter, in order, at the back of the mail of its receiver. The room for all was made before.
 pub(crate) fn put_all(boxes: &mut Vec<VecDeque<Letter>>, letters: &[Letter])
     requires receivers { All (λ letter. letter.message.receiver < length boxes.old.items) letters.now }
     requires room { HasRoom (map store_of boxes.old.items) letters.now }
@@ -142,8 +141,8 @@ pub(crate) fn put_all(boxes: &mut Vec<VecDeque<Letter>>, letters: &[Letter])
     }
 }
 
-/// Each letter goes to the back of the mail of its receiver, in order, and room for it is made there. Unlike `reserve_all` and `put_all`
-/// this takes a time by the number of letters alone; but a refusal leaves some of the letters there.
+/// Puts each letter, in order, at the back of the mail of its receiver, and makes the room for it. Unlike `reserve_all` and `put_all`, its
+/// time is proportional to the number of letters; but a refusal leaves some of the letters there.
 pub(crate) fn push_all(
     boxes: &mut Vec<VecDeque<Letter>>,
     letters: &[Letter],
@@ -160,7 +159,7 @@ pub(crate) fn push_all(
     Ok(())
 }
 
-/// The item goes to the back of the queue.
+/// Puts the item at the back of the queue.
 fn push<T: Copy>(queue: &mut VecDeque<T>, item: T) -> Result<(), OutOfMemory>
     ensures { OnOk result (queue.new.items ≡ queue.old.items ++ item ∷ []) }
 {

@@ -20,21 +20,21 @@ use std::collections::BTreeMap;
 use std::marker::Model;
 use vlink::{Letter, Message, Sign};
 
-/// What a letter makes of its message in a tally. A message is present where its signed count is above 0.
+/// What a letter does to its message in a tally. A message is present if its signed count is above 0.
 #[derive(Clone, Copy)]
 pub enum Change {
-    /// The message is present now and was not.
+    /// The message was absent and is present now.
     BecamePresent,
-    /// The message was present and is not any more.
+    /// The message was present and is absent now.
     BecameAbsent,
     /// The message is present as before, or absent as before.
     Same,
 }
 
-/// The signed count of each message: how many plus letters of it arrived, less the minus letters.
+/// The signed count of each message: the number of its plus letters that arrived, minus the number of its minus letters.
 ///
-/// Clauses see letters with these counts, in the order of their messages and without opposite pairs, and ask for their signed counts
-/// alone. A message whose count is 3 has three entries, one whose count is -2 two: so no number bounds a count.
+/// Clauses see letters with these counts, in the order of their messages and without opposite pairs. They use only their signed counts. A
+/// message whose count is 3 has three entries, and one whose count is -2 has two: so no number limits a count.
 #[derive(Drop)]
 pub struct Tally {
     signs: BTreeMap<Occurrence, Sign>,
@@ -54,7 +54,7 @@ impl Model for Tally {
 }
 
 impl Tally {
-    /// Each count is 0. It takes no memory.
+    /// Makes a tally in which each count is 0. Takes no memory.
     pub fn new(alloc: Global) -> Self
         ensures { result ≡ [] }
     {
@@ -63,7 +63,7 @@ impl Tally {
         }
     }
 
-    /// The signed count of a message.
+    /// Returns the signed count of a message.
     pub fn count(&self, message: &Message) -> i128
         ensures count { result ≡ signed_count message_order message.now self.now }
         ensures small { result <ℤ pos (2 ^ 63) }
@@ -75,7 +75,7 @@ impl Tally {
         }
     }
 
-    /// Whether the signed count of a message is 0. Where the message comes before all others that are tallied, none is looked for.
+    /// Whether the signed count of a message is 0. If the message comes before all others that are tallied, this needs no search.
     #[inline(always)]
     pub fn is_zero(&self, message: &Message) -> bool
         ensures { IsTrue result ↔ (signed_count message_order message.now self.now ≡ pos 0) }
@@ -84,15 +84,15 @@ impl Tally {
         begins_after(&self.signs, message) || last_of(&self.signs, message).is_none()
     }
 
-    /// The first present message of those that come after `newest`, or of all where none is given.
+    /// Returns the first present message of those that come after `newest`, or of all if `newest` is none.
     pub fn next_after(&self, newest: Option<&Message>) -> Option<Message>
         ensures { result ≡ present_after message_order (option_copied newest.entry) self.now }
     {
         next_after(&self.signs, newest)
     }
 
-    /// The letter is tallied: its message's count rises by 1 for a plus and falls by 1 for a minus, also below 0. The answer tells
-    /// whether the message became present or absent by that. A refusal changes nothing.
+    /// Tallies the letter: its message's count rises by 1 for a plus and falls by 1 for a minus, also below 0. Returns whether the message
+    /// thereby became present or absent. A refusal changes nothing.
     pub fn add(&mut self, letter: Letter) -> Result<Change, OutOfMemory>
         ensures count { OnOk result (signed_count message_order letter.message self.new
             ≡ signed_count message_order letter.message self.old +ℤ weight letter.sign) }
@@ -109,7 +109,7 @@ impl Tally {
         self.add_further(letter)
     }
 
-    /// Does what `add` does, by two searches.
+    /// Does what `add` does, with two searches.
     fn add_further(&mut self, letter: Letter) -> Result<Change, OutOfMemory>
         ensures count { OnOk result (signed_count message_order letter.message self.new
             ≡ signed_count message_order letter.message self.old +ℤ weight letter.sign) }
@@ -125,7 +125,7 @@ impl Tally {
         Ok(change)
     }
 
-    /// A present message is tallied once less. Where it is not present nothing changes. It takes no memory.
+    /// Lowers the count of a present message by 1. If the message is not present it changes nothing. Takes no memory.
     pub fn take_present(&mut self, message: &Message)
         ensures present { IsPresent message_order self.old message.now → HaveSameCounts message_order self.old (plus_of message.now ∷ self.new) }
         ensures absent { (IsPresent message_order self.old message.now → ⊥) → self.new ≡ self.old }
@@ -136,7 +136,7 @@ impl Tally {
         }
     }
 
-    /// Which letters a tally has is told by its signed counts alone: two with the same counts are equal.
+    /// The signed counts determine the letters of a tally: two tallies with the same counts are equal.
     pub fn counts_law(&self)
         ensures tally { IsTally self.now }
         ensures told { (other : List Letter) → IsTally other → HaveSameCounts message_order self.now other → self.now ≡ other }
@@ -146,8 +146,8 @@ impl Tally {
     }
 }
 
-/// A letter of this sign counts for the message, or one of the other sign does not any more. `last` tells the last ordinal and the sign of
-/// the letters that count. A refusal changes nothing.
+/// Adds a letter of this sign to the message, or removes one of the other sign. `last` is the last ordinal and the sign of the letters that
+/// count. A refusal changes nothing.
 fn count_letter(
     signs: &mut BTreeMap<Occurrence, Sign>,
     message: &Message,
@@ -176,7 +176,7 @@ fn count_letter(
     Ok(())
 }
 
-/// What a letter of this sign makes of its message, of which `last` tells the last ordinal and the sign of the letters that count.
+/// Returns what a letter of this sign does to its message. `last` is the last ordinal and the sign of the message's letters that count.
 fn change_at(last: Option<(u64, Sign)>, sign: Sign) -> Change
     ensures { (m : Message) (tally : List Letter) → MatchOption last (signed_count message_order m tally ≡ pos 0)
         (λ x. signed_count message_order m tally ≡ count_with x.1 (x.0 + 1)) →
@@ -198,7 +198,7 @@ fn change_at(last: Option<(u64, Sign)>, sign: Sign) -> Change
     }
 }
 
-/// Whether just one plus letter of a message counts, as its last ordinal and sign tell.
+/// Whether one plus letter of a message counts and no other, by its last ordinal and sign.
 fn is_one(last: Option<(u64, Sign)>) -> bool
     ensures { IsTrue result ↔ (last ≡ Some (0, Plus)) }
 {
@@ -209,7 +209,7 @@ fn is_one(last: Option<(u64, Sign)>) -> bool
     }
 }
 
-/// Whether the two signs are one.
+/// Whether the two signs are equal.
 fn is_equal(first: Sign, second: Sign) -> bool
     ensures same { IsTrue result → first ≡ second }
     ensures opposite { result ≡ false → is_plus first ≡ not (is_plus second) }

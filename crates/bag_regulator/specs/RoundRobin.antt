@@ -1,5 +1,5 @@
--- The round robin: which of some numbers is next.
--- It takes a test, so that one definition serves the regulator (a frame waits) and the law of its releases (a frame was offered).
+-- The round robin: which of some numbers is next. It takes a test, so that one definition serves the regulator (a frame waits) and the law
+-- of its releases (a frame was offered).
 use Rattle.std.specs.Prelude.{ℕ, zero, suc, ◌+◌, ◌-◌, Bool, if◌then◌else◌, Option, Some, None}
 use Rattle.std.specs.Option.{option_or}
 

@@ -1,4 +1,4 @@
--- What clap has passed: the command is one of the program's, what it requires is there, and each number is within its limits.
+-- What clap has read: the command is one of the program's, it has the words that it requires, and each number is within its limits.
 use Rattle.std.specs.Prelude.{◌≡◌, ◌⊎◌, ℕ, true, List, Option, IfSome, codes, is_some}
 use Rattle.clap.specs.Words.{IsUnsignedIn, Row, Text, first_of, one_of}
 use Rattle.vlink.specs.declared.time.TheConstants.{LATEST_NS}

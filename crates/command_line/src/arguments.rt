@@ -7,7 +7,7 @@ use clap::builder::ValueParser;
 use clap::{Arg, ArgAction};
 use std::alloc::Global;
 
-/// A path that has to be there, known by its place.
+/// A path that must be given, identified by its position.
 pub(crate) fn path<'a>(alloc: Global, id: &'a str, help: &'a str) -> Arg<'a>
     ensures rule { rule_of result ≡ path_rule id.entry.now }
     ensures local { result.global ≡ false }
@@ -15,7 +15,7 @@ pub(crate) fn path<'a>(alloc: Global, id: &'a str, help: &'a str) -> Arg<'a>
     Arg::new(alloc, id).required(true).help(help)
 }
 
-/// A file that may be named: `--id FILE`.
+/// A file that may be given: `--id FILE`.
 pub(crate) fn file<'a>(alloc: Global, id: &'a str, help: &'a str) -> Arg<'a>
     ensures rule { rule_of result ≡ file_rule id.entry.now }
     ensures local { result.global ≡ false }
@@ -23,7 +23,7 @@ pub(crate) fn file<'a>(alloc: Global, id: &'a str, help: &'a str) -> Arg<'a>
     valued(alloc, id, "FILE", help)
 }
 
-/// What may be named with a value: `--id UNIT`.
+/// An option with a value: `--id UNIT`.
 fn valued<'a>(alloc: Global, id: &'a str, unit: &'a str, help: &'a str) -> Arg<'a>
     ensures rule { rule_of result ≡ file_rule id.entry.now }
     ensures local { result.global ≡ false }
@@ -31,7 +31,7 @@ fn valued<'a>(alloc: Global, id: &'a str, unit: &'a str, help: &'a str) -> Arg<'
     Arg::new(alloc, id).long(id).value_name(unit).help(help)
 }
 
-/// A flag that may be named: `--id`.
+/// A flag that may be given: `--id`.
 pub(crate) fn flag<'a>(alloc: Global, id: &'a str, help: &'a str) -> Arg<'a>
     ensures rule { rule_of result ≡ flag_rule id.entry.now }
     ensures local { result.global ≡ false }
@@ -42,7 +42,7 @@ pub(crate) fn flag<'a>(alloc: Global, id: &'a str, help: &'a str) -> Arg<'a>
         .help(help)
 }
 
-/// A number that may be named: `--id UNIT`.
+/// A number that may be given: `--id UNIT`.
 pub(crate) fn number<'a>(
     alloc: Global,
     id: &'a str,

@@ -1,5 +1,4 @@
-//! The numbers that set the pace of a run.
-//! The usual numbers are not clap's defaults, so that a default is a clause of our own.
+//! The numbers that set the pace of a run. The defaults are not clap's, so that each default is a clause of our own.
 ghost use Rattle.std.specs.Prelude.{◌≡◌, codes, false};
 ghost use Rattle.clap.specs.Words.{rule_of};
 ghost use Rattle.vlink.specs.declared.time.TheConstants.{LATEST_NS};
@@ -12,15 +11,15 @@ use vlink::LATEST_NS;
 
 /// The greatest number of threads.
 pub(crate) const MOST_WORKERS: u64 = 64;
-/// The number of threads where the words name none.
+/// The default number of threads.
 pub(crate) const USUAL_WORKERS: u64 = 4;
 /// The greatest number of groups of processes.
 pub(crate) const MOST_GROUPS: u64 = 64;
 /// The greatest number of events in a turn.
 pub(crate) const MOST_TURN: u64 = 256;
-/// The number of events in a turn where the words name none.
+/// The default number of events in a turn.
 pub(crate) const USUAL_TURN: u64 = 16;
-/// The window, in ns, where the words name none.
+/// The default window, in ns.
 pub(crate) const USUAL_WINDOW_NS: u64 = 1_000_000;
 
 /// `--workers N`.
@@ -33,7 +32,7 @@ pub(crate) fn workers<'a>(alloc: Global) -> Arg<'a>
         "workers",
         "N",
         value_parser!(u64).range(1..=MOST_WORKERS as i64),
-        "How many threads simulate: 1 to 64 [default: 4]. There are never more than groups of processes. More than one pays where many events fall within some 8 us of simulated time and few frames go between the groups",
+        "Number of threads: 1 to 64 [default: 4], and never more than groups of processes. Use more than one if many events fall within some 8 us of simulated time and few frames go between the groups",
     )
 }
 
@@ -47,7 +46,7 @@ pub(crate) fn groups<'a>(alloc: Global) -> Arg<'a>
         "groups",
         "N",
         value_parser!(u64).range(1..=MOST_GROUPS as i64),
-        "How many groups of processes there are: 1 to 64, and never more than processes [default: as many as workers, but no more than cores, and one where more are not worth the letters between them; each process, where there are at most 16]. The tables do not depend on it",
+        "Number of groups of processes: 1 to 64, and never more than processes [default: each process alone, if there are at most 16; otherwise as many as workers, but no more than cores, and one if more are not worth the messages between them]. The tables do not depend on it",
     )
 }
 
@@ -61,7 +60,7 @@ pub(crate) fn turn<'a>(alloc: Global) -> Arg<'a>
         "turn",
         "N",
         value_parser!(u64).range(1..=MOST_TURN as i64),
-        "How many events a group of processes handles at most in one turn: 1 to 256 [default: 16]. Between turns letters go out and come in",
+        "The most events that a group of processes handles in one turn: 1 to 256 [default: 16]. Between turns it sends and receives messages",
     )
 }
 

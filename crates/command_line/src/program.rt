@@ -9,13 +9,13 @@ use clap::{Arg, Command};
 use std::alloc::{AllocError, Global};
 
 /// What `--version` prints behind the program's name.
-const VERSION: &str = "0.1.0";
+const VERSION: &str = "0.2.0";
 
 const PROGRESS: &str =
-    "Says on error output, at most four times a second, how far the run is and how long it may still take";
+    "Prints to error output, at most four times a second, how far the run is and how long it may still take";
 
 const EXAMPLES: &str =
-    "Examples:\n  afdxsim check examples/n1.toml\n  afdxsim seq examples/n1.toml --trace t.csv\n  afdxsim run examples/n1.toml --workers 8 --journal steps.txt\n  afdxsim replay examples/n1.toml steps.txt\n\nA refused description is told by its first fault; tools/explain.py tells all of them at once, each with its line.";
+    "Examples:\n  afdxsim check examples/n1.toml\n  afdxsim seq examples/n1.toml --trace t.csv\n  afdxsim run examples/n1.toml --workers 8 --journal steps.txt\n  afdxsim replay examples/n1.toml steps.txt\n\nThe program prints the first fault of a description; afdx explain prints all of them at once, each with its line.";
 
 /// The program with its four commands.
 pub(crate) fn program<'a>(alloc: Global) -> Result<Command<'a>, AllocError>
@@ -66,7 +66,7 @@ fn check<'a>(alloc: Global) -> Result<Command<'a>, AllocError>
         alloc,
         "check",
         "Reads a description, and counts its processes, virtual links and offered frames",
-        "Example: afdxsim check examples/n1.toml\n\nIt tells the first fault; tools/explain.py tells all of them at once, each with its line.",
+        "Example: afdxsim check examples/n1.toml\n\nIt prints the first fault of a description; afdx explain prints all of them at once, each with its line.",
     )
 }
 

@@ -1,4 +1,4 @@
-//! The values that clap has for an argument.
+//! Reads the values that clap has for an argument.
 ghost use Rattle.std.specs.Prelude.{◌≡◌, ◌≤◌, None, Some, true, IfOk, IfSome, is_some, option_map};
 ghost use Rattle.std.specs.String.{string_bytes};
 ghost use Rattle.clap.specs.Words.{found_of, first_of, one_of, rows_of};
@@ -8,7 +8,7 @@ ghost use Rattle.command_line.specs.Meaning.{IsNamed, IsNumberOf, number_in};
 use clap::ArgMatches;
 use std::alloc::{AllocError, Global};
 
-/// The text of an argument, if it has one.
+/// Returns the text of an argument, if it has one.
 pub(crate) fn text_of(
     alloc: Global,
     values: &ArgMatches<'_>,
@@ -22,7 +22,7 @@ pub(crate) fn text_of(
     }
 }
 
-/// The text of an argument that has one.
+/// Returns the text of an argument that has one.
 pub(crate) fn given_text_of(
     alloc: Global,
     values: &ArgMatches<'_>,
@@ -35,7 +35,7 @@ pub(crate) fn given_text_of(
     String::from_str(alloc, text)
 }
 
-/// Whether a flag is named.
+/// Whether a flag is given.
 pub(crate) fn is_named(values: &ArgMatches<'_>, id: &str) -> bool
     ensures { IsNamed (rows_of (found_of values.now)) id.now result }
 {
@@ -45,7 +45,7 @@ pub(crate) fn is_named(values: &ArgMatches<'_>, id: &str) -> bool
     }
 }
 
-/// The number of an argument, which is at most the greatest, if it has one.
+/// Returns the number of an argument, if it has one. The number is at most the greatest.
 pub(crate) fn named_number(values: &ArgMatches<'_>, id: &str, most: u64) -> Option<u64>
     requires { IsUpTo most (one_of id.now (rows_of (found_of values.now))) }
     ensures value { result ≡ option_map number_in (one_of id.now (rows_of (found_of values.now))) }
@@ -54,7 +54,7 @@ pub(crate) fn named_number(values: &ArgMatches<'_>, id: &str, most: u64) -> Opti
     values.try_get_one::<u64>(id).unwrap()
 }
 
-/// The number of an argument, which is at most the greatest, or the usual one where it has none.
+/// Returns the number of an argument, which is at most the greatest, or the default if it has none.
 pub(crate) fn number_of(values: &ArgMatches<'_>, id: &str, usual: u64, most: u64) -> u64
     requires given { IsUpTo most (one_of id.now (rows_of (found_of values.now))) }
     requires usual { (1 ≤ usual) × (usual ≤ most) }

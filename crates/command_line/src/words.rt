@@ -11,10 +11,10 @@ use clap::Error;
 use std::alloc::Global;
 use std::convert::AsStr;
 
-/// Reads the words after the program's name: gives the command with its values.
+/// Reads the words after the program's name, and returns the command with its values.
 ///
-/// An error is clap's: a mistake in the words, a request for help, or want of memory, which comes only where a growth was refused. Its `Display` is the text for the user,
-/// and its `exit_code` is 0 for help and 2 for a mistake.
+/// An error is clap's: a mistake in the words, a request for help, or lack of memory, which comes only if memory was refused. Its `Display`
+/// is the text for the user, and its `exit_code` is 0 for help and 2 for a mistake.
 pub fn order<'a, S: AsStr>(alloc: Global, words: &'a [S]) -> Result<Order, Error>
     ensures command { IfOk result (λ order. command_in (map S.text words.entry.now) ≡ Some (command_of order)) }
     ensures names { IfOk result (Names (rows_in (map S.text words.entry.now))) }

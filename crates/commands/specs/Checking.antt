@@ -1,4 +1,4 @@
--- What the program says of a network that is accepted.
+-- What the program prints of an accepted network.
 use Rattle.std.specs.Prelude.{ℕ, List, ◌++◌, length, codes, decimal}
 use Rattle.network.specs.Words.{Plan, process_count}
 use Rattle.traffic.specs.Offers.{offers_of}

@@ -1,4 +1,4 @@
--- What a stream took, what of a fault is told on it, and why standard output did not take a text.
+-- What a stream took, how a fault is reported on it, and why standard output did not take a text.
 use Rattle.std.specs.Prelude.{◌≡◌, ℕ, ◌+◌, Bool, true, List, Option}
 use Rattle.std.specs.Borrow.{Bor}
 use Rattle.std.specs.Io.KnownBytes.{append_known}

@@ -1,4 +1,4 @@
--- What the program leaves behind: files, and then what it shows on standard output; and what is left where a fault ends it on the way.
+-- What the program leaves behind: files, and then what it prints to standard output; and what is left if a fault ends it earlier.
 use Rattle.std.specs.Prelude.{◌≡◌, ◌⊎◌, ◌≤◌, ℕ, Bool, true, false, List, Option, None, Some, IfSome, length, take}
 use Rattle.std.specs.Borrow.{Bor}
 use Rattle.network.specs.Words.{Plan}

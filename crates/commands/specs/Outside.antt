@@ -1,4 +1,4 @@
--- What a host tells of all that the program reaches outside itself.
+-- What a host states of all that the program uses outside itself.
 use Rattle.std.specs.Prelude.{◌≡◌, ◌≢◌, ℕ, Bool, true, List, Option, codes}
 
 -- hosts S, files F that are being written, standard outputs O and error outputs E, as plain functions and relations

@@ -1,4 +1,4 @@
--- What error output is told of a run: how far it is, and of a run by workers which groups and workers it has.
+-- What error output shows of a run: how far it is, and of a run by workers which groups and workers it has.
 use Rattle.std.specs.Prelude.{◌≡◌, ◌⊎◌, ◌≤◌, ◌/◌, ◌++◌, ◌∷◌, ℕ, Bool, true, false, List, [], Option, ⊤, codes, decimal, flat_map}
 use Rattle.network.specs.Words.{Plan, process_count}
 use Rattle.commands.specs.Ending.{Took}

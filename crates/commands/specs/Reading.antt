@@ -1,4 +1,4 @@
--- What a read of a file gives, and what its bytes are as a description.
+-- What a read of a file returns, and what its bytes are as a description.
 use Rattle.std.specs.Prelude.{◌≡◌, ◌⊎◌, ℕ, List, Option, None, Some, IsUtf8}
 use Rattle.network_rows.specs.declared.fault.DescFault.TheVariants.{Syntax}
 use Rattle.network.specs.Words.{Plan}

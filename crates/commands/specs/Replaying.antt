@@ -1,4 +1,4 @@
--- What the program says of a journal whose steps were done on a network.
+-- What the program prints of a journal whose steps were done on a network.
 use Rattle.std.specs.Prelude.{◌≡◌, ◌⊎◌, ◌↔◌, ◌<◌, ◌≤◌, ℕ, Bool, true, false, IsTrue, All, List, Option, ◌++◌, length, take, slice_get, Some, codes, decimal, string_bytes}
 use Rattle.vlink.specs.Letters.{Row}
 use Rattle.virtual_time.specs.declared.step.Step.{Step}

@@ -1,4 +1,4 @@
--- What the streams of a host took, and what was told on them.
+-- What the streams of a host took, and what was reported on them.
 use Rattle.std.specs.Prelude.{◌≡◌, ℕ, Bool, true, false, List}
 use Rattle.network.specs.Words.{Plan}
 use Rattle.commands.specs.Ending.{Told, Took}

@@ -1,4 +1,4 @@
--- What the program says of a fault, on one line of error output, and the status that it then ends with.
+-- What the program prints of a fault, on one line of error output, and the status with which it then ends.
 use Rattle.std.specs.Prelude.{◌≡◌, ◌⊎◌, ℕ, List, [], ◌∷◌, ◌++◌, Option, None, Some, codes, decimal}
 use Rattle.std.specs.Option.{option_map_or}
 use Rattle.network_rows.specs.Keys.{key_text, section_text}

@@ -1,4 +1,4 @@
-//! What is answered: the fault that an order met, if there was one; and of words that are no order that can be done, help, or why they are refused.
+//! Answers an order with the fault that it met, if any. Words that are not an order get help, or the reason why they are refused.
 ghost use Rattle.std.specs.Prelude.{◌≡◌, ◌≢◌, ◌⊎◌, false, IfErr, IfSome, OnErr, OnOk};
 ghost use Rattle.clap.specs.declared.error.kind.ErrorKind.TheVariants as Kind;
 ghost use Rattle.commands.specs.declared.fault.Fault.TheVariants.{CannotWrite, OutOfMemory};
@@ -18,7 +18,7 @@ use std::alloc::Global;
 use std::fmt::Display;
 use trace_tables::write_all;
 
-/// Tells of want of memory.
+/// Reports lack of memory.
 fn tell_memory<H: Host>(host: &mut H) -> u8
     ensures value { result ≡ 5 }
     ensures told { IsTold H.outside host.old host.new result (telling_of OutOfMemory) }
@@ -28,7 +28,7 @@ fn tell_memory<H: Host>(host: &mut H) -> u8
     telling::tell_memory(host.errors())
 }
 
-/// Tells of a file that the words name twice, or of want of memory, where the line wants that. Nothing else is done.
+/// Reports a file that the words name twice; if the line finds no memory, it reports that instead. It does nothing else.
 pub fn refuse_twice<H: Host>(alloc: Global, path: &str, host: &mut H) -> u8
     ensures status { (result ≡ 2) ⊎ (result ≡ 5) }
     ensures told { TellsTwice path.now (IsTold H.outside host.old host.new result) }
@@ -37,7 +37,7 @@ pub fn refuse_twice<H: Host>(alloc: Global, path: &str, host: &mut H) -> u8
     tell_twice(alloc, path, host.errors())
 }
 
-/// Tells a fault, if there was one.
+/// Reports a fault, if any.
 pub fn tell_outcome<H: Host>(alloc: Global, outcome: Result<(), Fault<'_>>, host: &mut H) -> u8
     ensures status { (result ≡ 0) ⊎ (result ≡ 3) ⊎ (result ≡ 4) ⊎ (result ≡ 5) }
     ensures done { OnOk outcome.entry ((result ≡ 0) × (host.new ≡ host.old)) }
@@ -51,7 +51,7 @@ pub fn tell_outcome<H: Host>(alloc: Global, outcome: Result<(), Fault<'_>>, host
     }
 }
 
-/// Writes a text on standard output.
+/// Writes a text to standard output.
 fn show<H: Host>(alloc: Global, text: &str, host: &mut H) -> u8
     ensures status { (result ≡ 0) ⊎ (result ≡ 4) ⊎ (result ≡ 5) }
     ensures shown { result ≡ 0 → Shows H.outside host.old host.new text.now }
@@ -80,7 +80,7 @@ fn give_help<M: Display, H: Host>(alloc: Global, help: &M, host: &mut H) -> u8
     }
 }
 
-/// Writes why the words are refused. Where error output fails, nothing more is said.
+/// Writes why the words are refused. If error output fails, nothing more is written.
 fn refuse<M: Display, H: Host>(alloc: Global, why: &M, host: &mut H) -> u8
     ensures status { (result ≡ 2) ⊎ (result ≡ 5) }
     ensures said { result ≡ 2 → IfSome (M.output why.now) (Says H.outside host.old host.new) }
@@ -97,8 +97,8 @@ fn refuse<M: Display, H: Host>(alloc: Global, why: &M, host: &mut H) -> u8
     }
 }
 
-/// Writes the message of clap for words that are no order, by its kind: the help that they ask for on standard output, or why they are
-/// refused on error output.
+/// Writes the message of clap for words that are not an order, by its kind: the help that they ask for to standard output, or the reason
+/// why they are refused to error output.
 pub fn answer<M: Display, H: Host>(alloc: Global, kind: ErrorKind, message: &M, host: &mut H) -> u8
     ensures status { (result ≡ 0) ⊎ (result ≡ 2) ⊎ (result ≡ 4) ⊎ (result ≡ 5) }
     ensures memory { kind ≡ Kind.OutOfMemory → result ≡ 5 }

@@ -1,5 +1,5 @@
-//! A journal, done on a network, and what is told of it.
-//! All lines are read first, so that the two functions called are those whose contracts are the promise.
+//! A journal, done on a network, and its summary. All lines are read first, so that the two functions that are called are those whose
+//! contracts are the promise.
 ghost use Rattle.std.specs.Prelude.{◌≡◌, ◌⊎◌, List, IfOk, IfErr, string_bytes};
 ghost use Rattle.vlink.specs.Letters.{Row};
 ghost use Rattle.virtual_time.specs.declared.step.Step.{Step};
@@ -21,18 +21,18 @@ use timewarp::{Replay, World};
 use trace_tables::Tables;
 use vlink::Step;
 
-/// What is told of a journal that was done on a network.
+/// The result of a journal that was done on a network.
 #[derive(Drop)]
 pub struct Conclusion {
     /// The world after its steps.
     pub world: World,
     /// The tables of the committed events.
     pub tables: Tables,
-    /// The line that tells how many steps were done, were not enabled and were refused, GVT in ns, and whether the run is finished.
+    /// The line that states how many steps were done, were not enabled and were refused, GVT in ns, and whether the run is finished.
     pub line: String,
 }
 
-/// Whether a run is finished, as the end of a line.
+/// Returns whether a run is finished, as the end of a line.
 fn finish_of(is_finished: bool) -> &'static str
     ensures { result.now ≡ finish_text is_finished }
 {
@@ -43,7 +43,7 @@ fn finish_of(is_finished: bool) -> &'static str
     }
 }
 
-/// How many steps were done, were not enabled and were refused, and GVT in ns, as the beginning of a line.
+/// Makes the beginning of a line: how many steps were done, were not enabled and were refused, and GVT in ns.
 fn counts_of(
     alloc: Global,
     did: u64,
@@ -58,7 +58,7 @@ fn counts_of(
     )
 }
 
-/// The line of a replay.
+/// Makes the line of a replay.
 fn line_of(
     alloc: Global,
     did: u64,
@@ -74,7 +74,7 @@ fn line_of(
     Ok(line)
 }
 
-/// The line that tells what a replay has found.
+/// Makes the line that states the results of a replay.
 fn summary_of(alloc: Global, found: &Replay) -> Result<String, AllocError>
     ensures { IfOk result (λ line. (steps : List Step) → IsReplayed found.now steps → IsSummary found.now.world.plan steps (string_bytes line)) }
 {
@@ -91,7 +91,7 @@ fn summary_of(alloc: Global, found: &Replay) -> Result<String, AllocError>
     Ok(line)
 }
 
-/// The tables of what is committed.
+/// Makes the tables of what is committed.
 #[tactic(auto, using(crate::proofs::Conclusions::committed))]
 fn committed_tables(alloc: Global, world: &World) -> Result<Tables, AllocError>
     ensures committed { IfOk result (λ tables. (steps : List Step) → IsAfter world.now steps → AreCommittedTables world.now.plan steps tables) }
@@ -105,7 +105,7 @@ fn committed_tables(alloc: Global, world: &World) -> Result<Tables, AllocError>
     }
 }
 
-/// The line and the tables of a replay.
+/// Makes the line and the tables of a replay.
 fn told_of(alloc: Global, found: &Replay) -> Result<(String, Tables), AllocError>
     ensures line { IfOk result (λ told. (steps : List Step) → IsReplayed found.now steps → IsSummary found.now.world.plan steps (string_bytes told.0)) }
     ensures committed { IfOk result (λ told. (steps : List Step) → IsAfter found.now.world steps → AreCommittedTables found.now.world.plan steps told.1) }
@@ -118,7 +118,7 @@ fn told_of(alloc: Global, found: &Replay) -> Result<(String, Tables), AllocError
     Ok((line, tables))
 }
 
-/// Tells what a replay has found.
+/// Makes the conclusion of a replay.
 fn conclusion_after(alloc: Global, found: Replay) -> Result<Conclusion, AllocError>
     ensures told { IfOk result (λ conclusion. (steps : List Step) → IsReplayed found steps → TellsOfSteps found.world.plan steps conclusion) }
     ensures network { IfOk result (λ conclusion. conclusion.world.plan ≡ found.world.plan) }
@@ -136,7 +136,7 @@ fn conclusion_after(alloc: Global, found: Replay) -> Result<Conclusion, AllocErr
     }
 }
 
-/// Does these steps on a network, and tells what they came to.
+/// Does these steps on a network, and returns their conclusion.
 #[tactic(auto, using(crate::proofs::Conclusions::told_there))]
 fn conclusion_by(
     alloc: Global,
@@ -151,11 +151,11 @@ fn conclusion_by(
     Ok(conclusion_after(alloc, found)?)
 }
 
-/// Does the journal with this text on a network, and tells what it came to. All its lines are read before its first step is done.
+/// Does the journal with this text on a network, and returns its conclusion. All its lines are read before its first step is done.
 ///
-/// `JournalFull` comes exactly where the text has more than 67108864 lines, and `JournalLine` tells the first line, from 1, that is the
-/// text of no step. `OutOfMemory` comes only where a growth was refused, and `Exhausted` only at `Run` of a process that has a next
-/// message, and not enough numbers left for what one event can send.
+/// `JournalFull` comes exactly if the text has more than 67108864 lines, and `JournalLine` gives the first line, from 1, that is not the
+/// text of a step. `OutOfMemory` comes only if memory was refused, and `Exhausted` only at `Run` of a process that has a next message, and
+/// not enough numbers left for what one event can send.
 pub fn conclusion_of(
     alloc: Global,
     network: Network,

@@ -1,4 +1,4 @@
-//! The journal with a text: its steps, read and then done on a network.
+//! The journal in a text: its steps, read and then done on a network.
 ghost use Rattle.std.specs.Prelude.{◌≡◌, ◌⊎◌, IfOk, IfErr};
 ghost use Rattle.network.specs.Words.{Plan};
 ghost use Rattle.timewarp.specs.Replayed.{IsReplayed};
@@ -12,7 +12,7 @@ use std::alloc::Global;
 use timewarp::{Replay, StepFault, replay};
 use vlink::Step;
 
-/// The most lines of a journal.
+/// The greatest number of lines of a journal.
 pub const MOST_LINES: u64 = 67_108_864;
 
 /// Why a text was not read as a journal.
@@ -26,7 +26,7 @@ fn fault_of(fault: LinesFault) -> Fault<'static>
     }
 }
 
-/// The steps of the journal with this text.
+/// Reads the steps of the journal with this text.
 #[tactic(auto, using(crate::proofs::Conclusions::few_lines, crate::proofs::Conclusions::lines_fault))]
 pub fn steps_of(alloc: Global, text: &[u8]) -> Result<Vec<Step>, Fault<'static>>
     ensures steps { IfOk result (λ steps. IsJournal text.now steps.items) }

@@ -1,4 +1,4 @@
-//! A text that is kept: its file is made, takes it, and is given back.
+//! Writes a text into a file: creates the file, writes the text, and gives the file back.
 ghost use Rattle.std.specs.Prelude.{◌≡◌, ◌≢◌, ◌+◌, [], true, IfErr, IfOk, IfSome, OnOk};
 ghost use Rattle.trace_segments.specs.declared.fault.OutFault.TheVariants as out;
 ghost use Rattle.trace_segments.specs.Words.{IsBeginning};
@@ -14,14 +14,14 @@ use std::alloc::Global;
 use trace_tables::{OutFault, SegmentFault, Sink, TraceFault, write_trace};
 use vlink::{Row, Step};
 
-/// What a run leaves in a file: the rows of its trace, or the steps of its journal.
+/// What a run writes into a file: the rows of its trace, or the steps of its journal.
 #[derive(Clone, Copy)]
 pub enum Kept<'a> {
     Trace(&'a Network, &'a [Row]),
     Journal(&'a [Step]),
 }
 
-/// Why a text did not go into the file with this path, as a fault of the program.
+/// Returns why a text was not written into the file with this path, as a fault of the program.
 pub fn fault_of_file<'a>(path: &'a str, why: OutFault) -> Fault<'a>
     ensures { result ≡ fault_of_file path.entry why }
 {
@@ -32,7 +32,7 @@ pub fn fault_of_file<'a>(path: &'a str, why: OutFault) -> Fault<'a>
     }
 }
 
-/// Why a trace was not written into the file with this path, as a fault of the program.
+/// Returns why a trace was not written into the file with this path, as a fault of the program.
 pub fn fault_of_trace<'a>(path: &'a str, why: TraceFault) -> Fault<'a>
     ensures { result ≡ fault_of_trace path.entry why }
 {
@@ -43,7 +43,7 @@ pub fn fault_of_trace<'a>(path: &'a str, why: TraceFault) -> Fault<'a>
     }
 }
 
-/// A new, empty file with this path.
+/// Creates an empty file with this path.
 pub fn make_file<'a, H: Host>(path: &'a str, host: &mut H) -> Result<H::File, Fault<'a>>
     ensures empty { IfOk result (λ file. IfSome (H.outside.wrote file) (λ bytes. bytes ≡ [])) }
     ensures fresh { IfOk result (λ file. H.outside.file_failures file ≡ 0) }
@@ -74,7 +74,7 @@ fn write<F: Sink>(alloc: Global, kept: Kept<'_>, file: &mut F) -> Result<(), Out
     }
 }
 
-/// Makes the file with this path and writes what a run leaves into it. Where that fails, the file is given back with what it took.
+/// Creates the file with this path and writes what a run leaves into it. If that fails, the file is given back with what it took.
 pub fn keep<'a, H: Host>(
     alloc: Global,
     kept: Kept<'_>,

@@ -1,8 +1,8 @@
-//! What a clock and a count of events say of a run: texts behind the moment that it has come to. No clause tells them.
+//! The speed of a run by a clock and a count of events: texts behind the moment that the run has reached. No clause determines them.
 use std::alloc::{AllocError, Global};
 use vlink::Time;
 
-/// A count, in thousands or millions where it is great.
+/// Appends a count, in thousands or millions if it is great.
 fn push_count(text: &mut String, count: u64) -> Result<(), AllocError> {
     if count >= 1_000_000 {
         let whole = count / 1_000_000;
@@ -16,8 +16,8 @@ fn push_count(text: &mut String, count: u64) -> Result<(), AllocError> {
     write!(text, "{count}")
 }
 
-/// Of a run that has come to this moment of its time after so many ms: the part in per cent, how many events it handles in a second, where they
-/// are counted, and how many seconds are left where the rest takes as long as what is done.
+/// Makes the text for a run that has reached this moment of its time after `ms` ms: its progress in per cent, how many events it handles in
+/// a second, if they are counted, and how many seconds are left if the rest takes as long as what is done.
 pub fn pace_so_far(
     alloc: Global,
     moment: Time,
@@ -42,7 +42,7 @@ pub fn pace_so_far(
     Ok(text)
 }
 
-/// Of a run that has ended after so many ms: how many events it handled, where they were counted, and how long it took.
+/// Makes the text for a run that ended after `ms` ms: how many events it handled, if they were counted, and how long it took.
 pub fn pace_at_end(alloc: Global, events: u64, ms: u64) -> Result<String, AllocError> {
     let mut text = String::new(alloc);
     if events > 0 {

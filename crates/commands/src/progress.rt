@@ -1,5 +1,5 @@
-//! Progress: error output is told how far a run is, and which groups and workers it has.
-//! On a terminal a line ends like any other, and the next one goes up into its place: so a fault behind it has a line of its own.
+//! Progress: error output shows how far a run is, and which groups and workers it has. On a terminal a line ends like any other, and the
+//! next one moves up into its place. So a fault behind it has a line of its own.
 ghost use Rattle.std.specs.Prelude.{◌≡◌, ◌⊎◌, ◌++◌, [], IfOk, OnOk, string_bytes};
 ghost use Rattle.commands.specs.Progress.{HearsAsked, IsProgressLine, groups_text, progress_text, upwards};
 
@@ -14,17 +14,17 @@ use vlink::Time;
 
 const NS_PER_MS: u64 = 1_000_000;
 
-/// A line is told so long after the one before it, at the least.
+/// The least time between two lines.
 const MS_PER_LINE: u64 = 250;
 
-/// Whether progress is asked for, and whether error output is a terminal: there a line goes into the place of the one before it.
+/// Whether progress is asked for, and whether error output is a terminal. On a terminal a line replaces the one before it.
 #[derive(Clone, Copy)]
 pub struct Asked {
     pub is_asked: bool,
     pub is_terminal: bool,
 }
 
-/// What is asked of a host.
+/// Asks a host whether its error output is a terminal.
 pub fn asked_of<H: Host>(is_asked: bool, host: &H) -> Asked
     ensures { result.is_asked ≡ is_asked }
 {
@@ -34,8 +34,8 @@ pub fn asked_of<H: Host>(is_asked: bool, host: &H) -> Asked
     }
 }
 
-/// Tells error output how many groups of processes and how many workers a run has, where progress is asked for. Where memory for the line is refused, it is
-/// not told.
+/// Writes to error output how many groups of processes and how many workers a run has, if progress is asked for. If memory for the line is
+/// refused, nothing is written.
 pub fn tell_groups<E: Sink>(alloc: Global, groups: u16, workers: u8, asked: Asked, errors: &mut E)
     ensures { HearsAsked E.taken E.failures asked.is_asked (λ line. line ≡ groups_text groups workers) errors.old errors.new }
 {
@@ -48,7 +48,7 @@ pub fn tell_groups<E: Sink>(alloc: Global, groups: u16, workers: u8, asked: Aske
     say(line.as_str(), errors);
 }
 
-/// The line that tells of so many groups and workers.
+/// Makes the line with these numbers of groups and workers.
 fn groups_line(alloc: Global, groups: u16, workers: u8) -> Result<String, AllocError>
     ensures { IfOk result (λ line. string_bytes line ≡ groups_text groups workers) }
 {
@@ -59,8 +59,8 @@ fn groups_line(alloc: Global, groups: u16, workers: u8) -> Result<String, AllocE
     Ok(line)
 }
 
-/// Tells error output how far a run is, where that is asked for. Where the clock cannot be read, or memory for a line is refused, no line is
-/// told.
+/// Writes to error output how far a run is, if that is asked for. If the clock cannot be read, or memory for a line is refused, no line is
+/// written.
 #[derive(Drop)]
 pub struct Progress<'a, E: Sink, T: Clock> {
     pub errors: &'a mut E,
@@ -68,17 +68,17 @@ pub struct Progress<'a, E: Sink, T: Clock> {
     alloc: Global,
     pub until: Time,
     pub asked: Asked,
-    /// When the run began, where the clock tells it and progress is asked for.
+    /// When the run began, if the clock can be read and progress is asked for.
     start: Option<Instant>,
-    /// When the last line was told, in ms from the start.
+    /// When the last line was written, in ms from the start.
     told_ms: u64,
-    /// Whether a line was told.
+    /// Whether a line was written.
     has_told: bool,
     events: u64,
 }
 
 impl<'a, E: Sink, T: Clock> Progress<'a, E, T> {
-    /// A run begins that ends at this moment, in ns. Nothing is told of it yet.
+    /// Begins a run that ends at this moment, in ns. Nothing is written yet.
     pub fn new(clock: &'a T, alloc: Global, until: Time, asked: Asked, errors: &'a mut E) -> Self
         ensures same_reference { result.errors.ghost_name ≡ errors.entry.ghost_name }
         ensures errors { result.errors.now ≡ errors.old }
@@ -103,13 +103,13 @@ impl<'a, E: Sink, T: Clock> Progress<'a, E, T> {
         }
     }
 
-    /// How long the run has gone on, in ms, where the clock tells it and progress is asked for.
+    /// Returns how long the run has gone on, in ms, if the clock can be read and progress is asked for.
     fn elapsed_ms(&self) -> Option<u64> {
         let elapsed = self.start?.elapsed(self.clock).ok()?;
         u64::try_from(elapsed.as_millis()).ok()
     }
 
-    /// Tells a line, where progress is asked for.
+    /// Writes a line, if progress is asked for.
     fn tell(&mut self, moment: Time, rest: &str)
         ensures same_reference { self.new.errors.ghost_name ≡ self.old.errors.ghost_name }
         ensures asked { self.new.asked.is_asked ≡ self.old.asked.is_asked }
@@ -127,7 +127,7 @@ impl<'a, E: Sink, T: Clock> Progress<'a, E, T> {
         self.has_told = true;
     }
 
-    /// Tells the last line: the run has come to its end.
+    /// Writes the last line: the run has ended.
     pub fn end(&mut self)
         ensures same_reference { self.new.errors.ghost_name ≡ self.old.errors.ghost_name }
         ensures asked { self.new.asked.is_asked ≡ self.old.asked.is_asked }
@@ -145,7 +145,7 @@ impl<'a, E: Sink, T: Clock> Progress<'a, E, T> {
     }
 }
 
-/// The line of a run that ends at this moment, in ns: how far it is, and then the rest.
+/// Makes the line of a run that ends at this moment, in ns: how far it is, and then the rest.
 fn line_of(
     alloc: Global,
     until: Time,
@@ -162,14 +162,14 @@ fn line_of(
     Ok(line)
 }
 
-/// What stands before a line: nothing, or what leads to the place of the line before it.
+/// Returns what stands before a line: nothing, or the codes that lead to the place of the line before it.
 fn front_of(is_over: bool) -> &'static str
     ensures { (result.now ≡ []) ⊎ (result.now ≡ upwards) }
 {
     if is_over { "\x1b[1A\x1b[2K" } else { "" }
 }
 
-/// So many ms of so many, and then the rest of the line.
+/// Appends the ms that are simulated, the ms of the whole run, and then the rest of the line.
 fn push_line(line: &mut String, moment_ms: u64, until_ms: u64, rest: &str) -> Result<(), AllocError>
     ensures { OnOk result (string_bytes line.new ≡ string_bytes line.old ++ progress_text moment_ms until_ms rest.now) }
 {

@@ -1,4 +1,4 @@
-//! From a file to the network that it describes.
+//! Reads the network that a file describes.
 ghost use Rattle.std.specs.Prelude.{◌≡◌, OnOk, IfOk, IfErr};
 ghost use Rattle.netdesc.specs.Words.{HasNoFault, Describes};
 ghost use Rattle.commands.specs.Reading.{GivesNetwork, IsFaultOfFile, IsFaultOfNet, TellsOf};
@@ -10,7 +10,7 @@ use network::Network;
 use std::alloc::Global;
 use std::str;
 
-/// The text that these bytes are.
+/// Reads these bytes as a text.
 fn text_in(bytes: &[u8]) -> Result<&str, Fault<'static>>
     ensures text { IfOk result (λ text. text.now ≡ bytes.now) }
     ensures fault { IfErr result (TellsOf bytes.now) }
@@ -21,7 +21,7 @@ fn text_in(bytes: &[u8]) -> Result<&str, Fault<'static>>
     }
 }
 
-/// The network that these bytes describe.
+/// Reads the network that these bytes describe.
 pub fn network_in(alloc: Global, bytes: &[u8]) -> Result<Network, Fault<'static>>
     ensures sound { OnOk result (HasNoFault bytes.now) }
     ensures network { IfOk result (Describes bytes.now) }
@@ -30,7 +30,7 @@ pub fn network_in(alloc: Global, bytes: &[u8]) -> Result<Network, Fault<'static>
     Ok(read(alloc, text_in(bytes)?)?)
 }
 
-/// The bytes of the file with this path.
+/// Reads the bytes of the file with this path.
 pub fn bytes_of<'a, H: Host>(
     alloc: Global,
     path: &'a str,
@@ -49,7 +49,7 @@ pub fn bytes_of<'a, H: Host>(
     }
 }
 
-/// The network that the file with this path describes.
+/// Reads the network that the file with this path describes.
 pub fn network_of<'a, H: Host>(
     alloc: Global,
     path: &'a str,

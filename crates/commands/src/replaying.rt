@@ -16,7 +16,7 @@ use command_line::Replay;
 use network::Network;
 use std::alloc::Global;
 
-/// Does the journal in the file with this path on a network, and tells what it came to.
+/// Does the journal in the file with this path on a network, and returns its conclusion.
 fn conclusion_in<'a, H: Host>(
     alloc: Global,
     network: Network,
@@ -39,7 +39,7 @@ fn conclusion_in<'a, H: Host>(
     }
 }
 
-/// Writes what a journal came to: its tables on standard output, and then its line on error output.
+/// Writes the conclusion of a journal: its tables to standard output, and then its line to error output.
 fn show_conclusion<H: Host>(
     alloc: Global,
     conclusion: &Conclusion,
@@ -62,8 +62,8 @@ fn show_conclusion<H: Host>(
     Ok(())
 }
 
-/// Does the journal in the file that is ordered on a network. Then the tables of the committed events go to standard output, and then the
-/// line that tells what was counted to error output, whether the run is finished or not.
+/// Does the journal in the file that the order names on a network. Then it writes the tables of the committed events to standard output,
+/// and the line with the counts to error output, whether the run is finished or not.
 pub fn replay<'a, H: Host>(
     alloc: Global,
     network: Network,

@@ -20,7 +20,7 @@ use std::alloc::Global;
 use std::time::Clock;
 use trace_tables::{OutFault, Sink, Tables, write_csv};
 
-/// Writes the tables of a run on standard output.
+/// Writes the tables of a run to standard output.
 pub fn show_tables<O: Sink>(
     alloc: Global,
     network: &Network,
@@ -39,7 +39,7 @@ pub fn show_tables<O: Sink>(
     }
 }
 
-/// The tables of the one-thread run of the network. Error output is told how far it is, where that is asked for.
+/// Makes the tables of the one-thread run of the network. Error output shows how far it is, if that is asked for.
 #[tactic(auto, using(crate::proofs::Running::tables_made, crate::proofs::Running::given_up))]
 fn tables_of_run<E: Sink, T: Clock>(
     rt: &T,
@@ -58,7 +58,7 @@ fn tables_of_run<E: Sink, T: Clock>(
     Ok(tables)
 }
 
-/// The one-thread run of the network, with its rows. Error output is told how far it is, where that is asked for.
+/// Does the one-thread run of the network, with its rows. Error output shows how far it is, if that is asked for.
 #[tactic(auto, using(crate::proofs::Running::tables_made, crate::proofs::Running::given_up))]
 fn whole_run<E: Sink, T: Clock>(
     rt: &T,
@@ -78,7 +78,7 @@ fn whole_run<E: Sink, T: Clock>(
     Ok(finished)
 }
 
-/// Those tables, where error output is the host's.
+/// Makes these tables, with the error output of the host.
 fn heard_tables<H: Host, T: Clock>(
     rt: &T,
     alloc: Global,
@@ -96,7 +96,7 @@ fn heard_tables<H: Host, T: Clock>(
     tables_of_run(rt, alloc, network, asked, host.errors())
 }
 
-/// That run with its rows, where error output is the host's.
+/// Does this run with its rows, with the error output of the host.
 fn heard_run<H: Host, T: Clock>(
     rt: &T,
     alloc: Global,
@@ -115,7 +115,8 @@ fn heard_run<H: Host, T: Clock>(
     whole_run(rt, alloc, network, asked, host.errors())
 }
 
-/// Simulates the network on one thread, tells error output how far it is, where that is asked for, and writes its tables on standard output.
+/// Simulates the network on one thread, shows on error output how far it is, if that is asked for, and writes its tables to standard
+/// output.
 fn run_to_tables<H: Host, T: Clock>(
     rt: &T,
     alloc: Global,
@@ -135,8 +136,8 @@ fn run_to_tables<H: Host, T: Clock>(
     shown
 }
 
-/// Simulates the network on one thread, tells error output how far it is, where that is asked for, makes the file with this path and writes the
-/// trace into it, and then writes the tables on standard output.
+/// Simulates the network on one thread and shows on error output how far it is, if that is asked for. Then it creates the file with this
+/// path, writes the trace into it, and writes the tables to standard output.
 fn run_to_trace<'a, H: Host, T: Clock>(
     rt: &T,
     alloc: Global,
@@ -157,9 +158,8 @@ fn run_to_trace<'a, H: Host, T: Clock>(
     show_tables(alloc, network, &finished.tables, host.output())
 }
 
-/// Simulates the network on one thread, and tells error output how far it is, where that is ordered. Then the trace goes into its file, if one
-/// is ordered, and then the tables go to standard output.
-/// Where no trace is ordered, the rows are not kept.
+/// Simulates the network on one thread, and shows on error output how far it is, if that is ordered. Then it writes the trace into its
+/// file, if one is ordered, and then the tables to standard output. If no trace is ordered, the rows are not stored.
 pub fn seq<'a, H: Host, T: Clock>(
     rt: &T,
     alloc: Global,

@@ -1,4 +1,4 @@
-//! The text of the steps of a run, written out.
+//! Writes the text of the steps of a run.
 ghost use Rattle.std.specs.Prelude.{◌≡◌, ◌≢◌, ◌⊎◌, ◌+◌, IfErr, OnOk};
 ghost use Rattle.std.specs.Io.KnownBytes.{append_known};
 ghost use Rattle.journal_text.specs.Text.{steps_text};
@@ -10,14 +10,13 @@ use std::alloc::Global;
 use trace_tables::{OutFault, Sink, write_all};
 use vlink::Step;
 
-/// The most bytes that are held until they go out.
+/// The most bytes that are held until they are written.
 const HELD_BYTES: usize = 65_536;
 
-/// Writes the text of these steps, a line each, as `read_steps` reads it.
+/// Writes the text of these steps, one a line, as `read_steps` reads it.
 ///
-/// Its memory, 65536 bytes whatever the number of steps, is taken before the first byte goes out. `Device` comes only where the sink
-/// failed; what went out is a beginning of the text. `OutOfMemory` comes only where memory was refused; then nothing went out. `Layout`
-/// never comes.
+/// Its memory, 65536 bytes for any number of steps, is taken before the first byte is written. `Device` comes only if the sink failed; what
+/// was written is a beginning of the text. `OutOfMemory` comes only if memory was refused; then nothing was written. `Layout` never comes.
 pub fn write_steps<S: Sink>(alloc: Global, steps: &[Step], sink: &mut S) -> Result<(), OutFault>
     ensures text { OnOk result (S.taken sink.new ≡ append_known (S.taken sink.old) (steps_text steps.now)) }
     ensures went_well { OnOk result (S.failures sink.new ≡ S.failures sink.old) }

@@ -10,14 +10,14 @@ use std::os::unix::fs::MetadataExt;
 use std::path::Path;
 use trace_tables::{Sink, SinkFault};
 
-/// A file or a stream of the system. No clause tells what it took.
+/// A file or a stream of the system. No clause states what it took.
 #[derive(Drop)]
 pub struct Device<W> {
     writer: W,
     failures: u64,
 }
 
-/// Writes some of these bytes, by one system call where none is interrupted, and tells how many. None where the system refuses.
+/// Writes some of these bytes, by one system call if it is not interrupted, and returns how many. None if the system refuses.
 fn write_some<W: Write>(writer: &mut W, bytes: &[u8]) -> Option<usize>
     ensures some { IfSome result (λ n. (1 ≤ n) × (n ≤ length bytes.now)) }
 {
@@ -52,7 +52,7 @@ impl<W: Write> Sink for Device<W> {
     }
 }
 
-/// The system that the program runs on.
+/// The system on which the program runs.
 #[derive(Drop)]
 pub struct System {
     runtime: HostRuntime,
@@ -61,7 +61,7 @@ pub struct System {
 }
 
 impl System {
-    /// The system behind this runtime. No write has failed yet.
+    /// Makes the system of this runtime. No write has failed yet.
     pub fn new(runtime: HostRuntime) -> Self
         ensures output { ⟦<Device<Stdout> as Sink>⟧.failures (⟦<System as Host>⟧.outside.output result) ≡ 0 }
         ensures errors { ⟦<Device<Stderr> as Sink>⟧.failures (⟦<System as Host>⟧.outside.errors result) ≡ 0 }
@@ -80,7 +80,7 @@ impl System {
     }
 }
 
-/// Why the system did not read or make a file.
+/// Returns why the system did not read or create a file.
 fn fault_of(error: &Error) -> FileFault {
     match error.kind() {
         ErrorKind::OutOfMemory => FileFault::OutOfMemory,
@@ -88,20 +88,20 @@ fn fault_of(error: &Error) -> FileFault {
     }
 }
 
-/// A file that is there: its device, and its number on it.
+/// An existing file: its device, and its number on it.
 type Place = (u64, u64);
 
-/// The path of a file that keeps nothing of what is written into it.
+/// The path of a file that drops all that is written into it.
 const NOWHERE: &str = "/dev/null";
 
 impl System {
-    /// The file that this path names, where one is there.
+    /// Returns the file that this path names, if it exists.
     fn place_of(&self, path: Path<'_>) -> Option<Place> {
         let found = fs::metadata(&self.runtime, path).ok()?;
         Some((found.dev(), found.ino()))
     }
 
-    /// Whether this path names a plain file that is there. Any other, as a terminal, holds nothing that could be written over.
+    /// Whether this path names a plain file that exists. Any other, such as a terminal, has no contents that could be overwritten.
     fn is_plain(&self, path: Path<'_>) -> bool {
         match fs::metadata(&self.runtime, path) {
             Ok(found) => found.is_file(),
@@ -109,7 +109,7 @@ impl System {
         }
     }
 
-    /// The folder that this path names a file in, where it is there, and the name in it.
+    /// Returns the folder in which this path names a file, if it exists, and the name in it.
     fn entry_of<'a>(&self, path: Path<'a>) -> Option<(Place, &'a str)> {
         let folder = path.parent()?;
         let name = path.file_name()?;
@@ -122,7 +122,7 @@ impl System {
         Some((self.place_of(folder)?, name))
     }
 
-    /// Both paths name one plain file that is there, or one name of one folder where none is yet.
+    /// Whether both paths name one plain file that exists, or one name of one folder in which no file has it yet.
     fn is_same(&self, first: &str, second: &str) -> bool {
         let (first, second) = (Path::new(first), Path::new(second));
         match (self.place_of(first), self.place_of(second)) {
@@ -146,7 +146,8 @@ impl Host for System {
 
     type Errors = Device<Stderr>;
 
-    // What a file of the system holds, and which can be made, is for the system to tell; and what paths name, but that equal ones name one file, unless it keeps nothing.
+    // Only the system knows what its files contain and which can be created; and which paths name one file, except that equal paths do,
+    // unless the file drops what is written.
     ghost outside = { record {
       gives = λ _ _ _. Unit;
       makes = λ _ _ _. Unit;

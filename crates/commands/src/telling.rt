@@ -1,4 +1,4 @@
-//! What the program says of a fault, on one line of error output.
+//! Reports a fault on one line of error output.
 ghost use Rattle.std.specs.Prelude.{◌≡◌, ◌≤◌, ◌⊎◌, ◌++◌, [], codes, decimal, OnOk, IfOk, string_bytes};
 ghost use Rattle.std.specs.Option.{option_map_or};
 ghost use Rattle.commands.specs.Telling.{place_text, place_of, fault_name, description_text, fault_text, told_line, telling_of, telling_of_no_text, telling_of_twice, TellsOne};
@@ -11,7 +11,7 @@ use netdesc::{DescFault, Place};
 use std::alloc::{AllocError, Global};
 use trace_tables::{Sink, write_all};
 
-/// Where a description has its fault, if the fault has a place.
+/// Returns the place of a fault of a description, if it has one.
 fn place_of(fault: &DescFault) -> Option<Place>
     ensures { result ≡ place_of fault.now }
 {
@@ -28,7 +28,7 @@ fn place_of(fault: &DescFault) -> Option<Place>
     }
 }
 
-/// What is said of a fault of a description before its place.
+/// Returns the text of a fault of a description before its place.
 fn fault_name(fault: &DescFault) -> &'static str
     ensures { result.now ≡ fault_name fault.now }
 {
@@ -46,7 +46,7 @@ fn fault_name(fault: &DescFault) -> &'static str
     }
 }
 
-/// The section, the row and the key, with one blank between.
+/// Appends the section, the row and the key, with one blank between.
 fn push_place(text: &mut String, place: &Place) -> Result<(), AllocError>
     ensures { OnOk result (string_bytes text.new ≡ string_bytes text.old ++ place_text place.now) }
 {
@@ -61,7 +61,7 @@ fn push_place(text: &mut String, place: &Place) -> Result<(), AllocError>
     Ok(())
 }
 
-/// A fault of a description, with its place.
+/// Appends a fault of a description, with its place.
 fn push_description(text: &mut String, fault: &DescFault) -> Result<(), AllocError>
     ensures { OnOk result (string_bytes text.new ≡ string_bytes text.old ++ description_text fault.now) }
 {
@@ -73,7 +73,7 @@ fn push_description(text: &mut String, fault: &DescFault) -> Result<(), AllocErr
     Ok(())
 }
 
-/// Two texts, one behind the other.
+/// Appends two texts, one behind the other.
 fn push_both(text: &mut String, first: &str, second: &str) -> Result<(), AllocError>
     ensures { OnOk result (string_bytes text.new ≡ string_bytes text.old ++ (first.now ++ second.now)) }
 {
@@ -81,7 +81,7 @@ fn push_both(text: &mut String, first: &str, second: &str) -> Result<(), AllocEr
     text.push_str(second)
 }
 
-/// A fault.
+/// Appends a fault.
 fn push_fault(text: &mut String, fault: &Fault<'_>) -> Result<(), AllocError>
     ensures { OnOk result (string_bytes text.new ≡ string_bytes text.old ++ fault_text fault.now) }
 {
@@ -100,7 +100,7 @@ fn push_fault(text: &mut String, fault: &Fault<'_>) -> Result<(), AllocError>
     }
 }
 
-/// The line that tells a fault.
+/// Makes the line that reports a fault.
 fn line_of(alloc: Global, fault: &Fault<'_>) -> Result<String, AllocError>
     ensures { IfOk result (λ line. string_bytes line ≡ told_line (fault_text fault.now)) }
 {
@@ -110,14 +110,14 @@ fn line_of(alloc: Global, fault: &Fault<'_>) -> Result<String, AllocError>
     Ok(line)
 }
 
-/// The line that tells of want of memory.
+/// Returns the line that reports lack of memory.
 fn want_of_memory() -> &'static str
     ensures { result.now ≡ told_line (fault_text OutOfMemory) }
 {
     "afdxsim: out of memory\n"
 }
 
-/// Writes a line on error output. Where that fails, nothing more is said.
+/// Writes a line to error output. If that fails, nothing more is written.
 pub fn say<E: Sink>(line: &str, errors: &mut E)
     ensures took { E.failures errors.new ≡ E.failures errors.old → Took E.taken errors.old errors.new line.now }
     ensures failed { E.failures errors.old ≤ E.failures errors.new }
@@ -125,7 +125,7 @@ pub fn say<E: Sink>(line: &str, errors: &mut E)
     let _said = write_all(errors, line.as_bytes());
 }
 
-/// The line that tells of a file that the words name twice.
+/// Makes the line that reports a file that the words name twice.
 fn twice_line(alloc: Global, path: &str) -> Result<String, AllocError>
     ensures { IfOk result (λ line. string_bytes line ≡ (telling_of_twice path.now).line) }
 {
@@ -135,7 +135,7 @@ fn twice_line(alloc: Global, path: &str) -> Result<String, AllocError>
     Ok(line)
 }
 
-/// Tells of want of memory. It takes none.
+/// Reports lack of memory. Takes no memory.
 pub fn tell_memory<E: Sink>(errors: &mut E) -> u8
     ensures { Told E.taken E.failures errors.old errors.new result (telling_of OutOfMemory) }
 {
@@ -143,7 +143,7 @@ pub fn tell_memory<E: Sink>(errors: &mut E) -> u8
     Fault::OutOfMemory.status()
 }
 
-/// Tells of a file that the words name twice, or of want of memory, where the line wants that.
+/// Reports a file that the words name twice; if the line finds no memory, it reports that instead.
 pub fn tell_twice<E: Sink>(alloc: Global, path: &str, errors: &mut E) -> u8
     ensures told { TellsTwice path.now (Told E.taken E.failures errors.old errors.new result) }
     ensures known { (result ≡ 2) ⊎ (result ≡ 5) }
@@ -157,7 +157,7 @@ pub fn tell_twice<E: Sink>(alloc: Global, path: &str, errors: &mut E) -> u8
     }
 }
 
-/// Tells of a word that is not UTF-8. It takes no memory.
+/// Reports a word that is not UTF-8. Takes no memory.
 pub fn tell_no_text<E: Sink>(errors: &mut E) -> u8
     ensures { Told E.taken E.failures errors.old errors.new result telling_of_no_text }
 {
@@ -165,8 +165,8 @@ pub fn tell_no_text<E: Sink>(errors: &mut E) -> u8
     BAD_WORDS
 }
 
-/// Tells a fault on error output, by one line, and gives the status that the program ends with. Where the line itself wants memory it
-/// tells of that in place of the fault. Where error output fails, nothing more is said.
+/// Reports a fault on error output, by one line, and returns the status with which the program ends. If the line itself finds no memory, it
+/// reports that instead of the fault. If error output fails, nothing more is written.
 pub fn tell<E: Sink>(alloc: Global, fault: &Fault<'_>, errors: &mut E) -> u8
     ensures told { TellsOne fault.now (Told E.taken E.failures errors.old errors.new result) }
     ensures known { (result ≡ 3) ⊎ (result ≡ 4) ⊎ (result ≡ 5) }

@@ -1,5 +1,5 @@
-//! A host that tells all, in bytes: what its files and streams hold, which file can be read and which can be made. No command runs on it: it shows
-//! that there can be such a host.
+//! A host that knows the bytes of its files and streams, which file can be read and which can be created. No command runs on it: it shows
+//! that such a host can exist.
 ghost use Rattle.std.specs.Prelude.{◌≡◌, []};
 
 use crate::host::{FileFault, Host};
@@ -7,7 +7,7 @@ use std::alloc::Global;
 use std::sync::Wait;
 use trace_tables::{Sink, SinkFault};
 
-/// Takes bytes as far as there is memory for them, and tells all of them. After 2^64 - 1 failures it waits for ever.
+/// Takes bytes as far as it has memory for them, and knows all of them. After 2^64 - 1 failures it waits for ever.
 #[derive(Drop)]
 pub struct Sheet<R: Wait + Copy> {
     rt: R,
@@ -54,12 +54,12 @@ impl<R: Wait + Copy> Sink for Sheet<R> {
     }
 }
 
-/// A host with the file `net.toml`, the one that can be read. All files can be made but `no/file`.
+/// A host with the file `net.toml`, the only one that can be read. All files can be created except `no/file`.
 #[derive(Drop)]
 pub struct TellingHost<R: Wait + Copy> {
     rt: R,
     alloc: Global,
-    /// What `net.toml` holds.
+    /// The contents of `net.toml`.
     pub net: Vec<u8>,
     /// The file that was given back last.
     pub last: Option<Sheet<R>>,

@@ -1,4 +1,4 @@
-//! What regulators, accounts and output ports give to worst-case bounds. No product code.
+//! What regulators, accounts and output ports contribute to worst-case bounds. No product code.
 #![tactic(auto)]
 
 mod passages;

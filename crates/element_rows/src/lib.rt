@@ -1,4 +1,4 @@
-//! No product code: rows of what the built program does not show, each a line of text that says what is done and what comes of it.
+//! No product code: rows for what the built program does not show. Each row is a line of text: what is done, and what it results in.
 #![tactic(auto)]
 
 #[cfg(test)]

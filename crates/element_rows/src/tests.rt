@@ -1,7 +1,7 @@
-//! Rows of data: what the elements, messages and nodes do that scripts play; how many bytes the values take that are kept in great number; and
-//! what calls come to that the program does not show: on the exchange of a network, what a replay leaves, segments of a trace.
+//! Rows of data: scripts that show what elements, messages and nodes do; how many bytes the values take that exist in great number; and
+//! results of calls that the program does not show: on the exchange of a network, what a replay leaves, and segments of a trace.
 //!
-//! A row does not let go what it had in hand (`forget`): that it can is proved where its type is, and here once more it would take long.
+//! A row does not release what it held (`forget`): the crates of these types prove that it can, and a second proof here would take long.
 mod accounts;
 mod checks;
 mod elements;
@@ -45,7 +45,7 @@ fn rows_tell_what_they_say(rt: HostRuntime) {
     assert!(rt; wrong.is_empty(), "{wrong}");
 }
 
-// `tools/refuse_memory.py` refuses each of its requests for memory in turn, and counts the lines that it writes.
+// `tools/gate/refuse_memory.py` refuses each of its requests for memory in turn, and counts the lines that it writes.
 #[test]
 fn an_exchange_does_what_scripts_say(rt: HostRuntime) {
     let mut refused = with_room(rt.alloc());
@@ -56,7 +56,7 @@ fn an_exchange_does_what_scripts_say(rt: HostRuntime) {
     assert!(rt; wrong.is_empty(), "{wrong}");
 }
 
-// Whether the values are that small that are kept in great number.
+// Whether the values that exist in great number are small enough.
 fn are_small() -> bool {
     size_of::<Message>() <= 56
         && size_of::<Letter>() <= 64
@@ -72,7 +72,7 @@ fn try_rows(alloc: Global, rows: &str, refused: &mut String, wrong: &mut String)
     }
 }
 
-// A row tells what stands behind its last arrow, or is wrong. Where something could not be made for want of memory it is tried once more.
+// A row writes what stands behind its last arrow, or it is wrong. What could not be made for lack of memory is tried once more.
 fn try_row(alloc: Global, row: &str, refused: &mut String, wrong: &mut String) {
     let (given, wanted) = row.rsplit_once(" => ").unwrap_or((row, "a row"));
     let mut told = with_room(alloc);
@@ -89,7 +89,7 @@ fn try_row(alloc: Global, row: &str, refused: &mut String, wrong: &mut String) {
     }
 }
 
-// There is room for all that rows tell, also where it is refused once.
+// Makes room for all that rows write, also if it is refused once.
 fn with_room(alloc: Global) -> String {
     let mut told = String::new(alloc);
     let _ = told.reserve(4096);
@@ -97,8 +97,8 @@ fn with_room(alloc: Global) -> String {
     told
 }
 
-// What a row tells: its kind stands in front, and with what it begins, and behind a comma what is done. Calls that are refused memory are
-// kept.
+// Writes the results of a row: its kind and its start stand in front, and behind a comma what is done. Calls that are refused memory are
+// stored.
 fn tell_row(alloc: Global, row: &str, told: &mut String, refused: &mut String) {
     let (head, script) = row.split_once(',').unwrap_or((row, ""));
     let (kind, begin) = head.split_once(' ').unwrap_or((head, ""));
@@ -115,7 +115,7 @@ fn tell_row(alloc: Global, row: &str, told: &mut String, refused: &mut String) {
     }
 }
 
-// What is told of the network whose name stands in front. To return a network would take as long to prove as three functions.
+// Writes the results for the network whose name stands in front. To return a network would take as long to prove as three functions.
 fn tell_of_network(
     alloc: Global,
     kind: &str,
@@ -138,7 +138,7 @@ fn tell_of_network(
     }
 }
 
-// Behind the name of the network stands the number of a process, or how many steps a journal can have and how many groups there are.
+// Behind the name of the network stands the number of a process, or how many steps a journal can have and how many groups the network has.
 fn tell_on(
     alloc: Global,
     network: &Network,

@@ -10,17 +10,17 @@ use process_queues::Process;
 use reverse::{Actor, actor_rules_law};
 use vlink::Time;
 
-/// Fossil collection (Jefferson, "Virtual Time", ACM TOPLAS 7(3), 1985): done events that are earlier than `gvt`, in ns, are committed,
-/// the oldest first, until `n` are, none is left, or the signed count of one is not 1. The answer is how many. An event at `gvt` itself
-/// is not committed. A refusal commits none.
+/// Fossil collection (Jefferson, "Virtual Time", ACM TOPLAS 7(3), 1985). It commits done events that are earlier than `gvt`, in ns, the
+/// oldest first, until it has committed `n`, none is left, or the signed count of one is not 1. Returns how many it committed. An event at
+/// `gvt` itself is not committed. A refusal commits none.
 ///
-/// This call is kept for users of single processes, who commit several events at one go. No command goes over it: `actor_world` and
+/// This call is for users of single processes, who commit several events at one go. No command uses it: `actor_world` and
 /// `process_exchange` commit one event after another by `Process::seal_oldest`.
 ///
-/// - `committed`: the part for which the process stands, after so many times its oldest done event was committed.
-/// - `answer`: how many, for each part for which the process stood.
-/// - `one`, `one_part`: of one event at most, whether there was one, and what became of the part.
-/// - `reserved`: a refusal comes only where there was not room for all of them.
+/// - `committed`: the part that the process represents, after this number of commits of its oldest done event.
+/// - `answer`: how many events are committed, for each part that the process represented.
+/// - `one`, `one_part`: of one event at most, whether such an event existed, and what became of the part.
+/// - `reserved`: a refusal comes only if not all of them can be counted.
 pub fn commit<R: Actor>(process: &mut Process<R>, gvt: Time, n: u64) -> Result<u64, OutOfMemory>
     ensures committed { IfOk result (λ count. Does (rules_of R.plain) R.is_value (λ opening. committed_times (rules_of R.plain) count) process.old.queues process.new.queues) }
     ensures answer { IfOk result (λ count. AtEachPart (rules_of R.plain) R.is_value process.old.queues (λ opening part.
@@ -48,7 +48,8 @@ pub fn commit<R: Actor>(process: &mut Process<R>, gvt: Time, n: u64) -> Result<u
     Ok(count as u64)
 }
 
-/// Whether there is a moment, and it is earlier than another one: of the oldest done event and GVT, in ns, whether it can be undone no more.
+/// Whether the moment exists and is earlier than the limit. For the oldest done event and GVT, in ns, this means that the event can no
+/// longer be undone.
 pub fn is_early(moment: Option<Time>, limit: Time) -> bool
     ensures { result ≡ is_moment_before limit moment }
 {

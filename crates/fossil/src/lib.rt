@@ -1,4 +1,4 @@
-//! Fossil collection: the events of a process that are earlier than global virtual time (GVT) can be undone no more, and are committed
+//! Fossil collection: the events of a process that are earlier than global virtual time (GVT) can no longer be undone, and are committed
 //! (Jefferson, "Virtual Time", ACM TOPLAS 7(3), 1985).
 #![tactic(auto)]
 

@@ -11,11 +11,11 @@ use reverse::Actor;
 use row_times::{count_before, rows_in_time};
 use vlink::{Row, Time};
 
-/// The rows of committed events of the moments from `from` on and before `to`, in their order, where the moments of all rows of committed events
-/// do not fall, as those of a process do that is safe. It takes no memory, and its time goes by the logarithm of their number.
+/// Returns the rows of committed events whose moments are at or after `from` and before `to`, in their order. The moments of all rows of
+/// committed events must not fall; those of a safe process do not. Takes no memory; its time is logarithmic in the number of rows.
 ///
 /// - `there`: they are such rows of those that have not left.
-/// - `whole`: where no row has left but such as are earlier than `from`, they are all such rows.
+/// - `whole`: if only rows that are earlier than `from` have left, they are all such rows.
 pub fn rows_between<R: Actor>(process: &Process<R>, from: Time, to: Time) -> &[Row]
     requires { (opening : R) × (part : Part Message R) × StandsFor (rules_of R.plain) R.is_value opening part process.now.queues
         × AreInTime (rules_of R.plain) (rowed (rules_of R.plain) opening part.committed) }
@@ -28,12 +28,12 @@ pub fn rows_between<R: Actor>(process: &Process<R>, from: Time, to: Time) -> &[R
     rows_in_time(process.sealed(), from, to)
 }
 
-/// The rows of committed events that are earlier than a moment, in ns, leave. It takes no memory.
+/// Lets the rows of committed events leave that are earlier than a moment, in ns. Takes no memory.
 ///
-/// - `stands`: the process stands for what it stood for.
-/// - `gone`: how many leave, all of them earlier than the moment.
-/// - `early`: where all rows that had left are earlier than a limit that is not before the moment, so are all that have left.
-/// - `late`: those that are still there are of the moment or later, where all rows of committed events are fewer than 2^64.
+/// - `stands`: the process represents what it represented before.
+/// - `gone`: how many rows leave, all of them earlier than the moment.
+/// - `early`: if all rows that had left are earlier than a limit that is not before the moment, so are all that have left now.
+/// - `late`: those that are still here are at the moment or later, if all rows of committed events are fewer than 2^64.
 pub fn let_rows_go<R: Actor>(process: &mut Process<R>, moment: Time)
     requires { (opening : R) × (part : Part Message R) × StandsFor (rules_of R.plain) R.is_value opening part process.old.queues
         × AreInTime (rules_of R.plain) (rowed (rules_of R.plain) opening part.committed) }

@@ -1,4 +1,4 @@
--- A list of frames without its last one, as a ring leaves it from which that was taken away.
+-- A list of frames without its last one, as a ring is left after the last frame was removed.
 use Rattle.std.proofs.Common.{◌≡◌, ◌++◌, List, [], ◌∷◌, refl, ap}
 use Rattle.vlink.specs.declared.frame.Frame.{Frame}
 

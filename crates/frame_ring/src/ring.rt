@@ -1,6 +1,5 @@
-//! A ring of frames that wait.
-//! The buffer is std's `VecDeque`; its room is a number of its own, since the capacity of a `VecDeque` can be greater than what was asked
-//! for.
+//! A ring of frames that wait. The buffer is std's `VecDeque`. The ring stores its room itself, since the capacity of a `VecDeque` can be
+//! greater than requested.
 ghost use Rattle.std.specs.Prelude.{◌≡◌, ◌*◌, ◌<◌, ◌≤◌, ◌↔◌, [], ◌∷◌, ◌++◌, length, IsTrue, IsNone, IfOk, IfSome, IfNone};
 ghost use Rattle.frame_ring.specs.Queue.{bytes_of};
 
@@ -9,10 +8,10 @@ use std::collections::VecDeque;
 use std::marker::Model;
 use vlink::Frame;
 
-/// Frames that wait in one buffer, with a fixed room, and the sum of their sizes.
+/// Waiting frames in one buffer with a fixed room, and the sum of their sizes.
 ///
-/// Clauses see it as the list of its frames, the front first, and its room, the number of frames that it may hold.
-/// Only `new` takes memory.
+/// Clauses see it as the list of its frames, the front first, and its room, which is the number of frames that it may hold. Only `new`
+/// takes memory.
 #[derive(Drop)]
 pub struct FrameRing {
     frames: VecDeque<Frame>,
@@ -32,8 +31,7 @@ impl Model for FrameRing {
 }
 
 impl FrameRing {
-    /// An empty ring for `room` frames. Its whole buffer is made here; an error means that there is no memory for it,
-    /// and leaves nothing behind.
+    /// Makes an empty ring for `room` frames, with its whole buffer. An error means that there is no memory for it; nothing is left behind.
     pub fn new(alloc: Global, room: u32) -> Result<Self, AllocError>
         ensures empty { IfOk result (λ ring. ring.frames ≡ []) }
         ensures room { IfOk result (λ ring. ring.room ≡ room) }
@@ -45,7 +43,7 @@ impl FrameRing {
         })
     }
 
-    /// How many frames there are.
+    /// Returns the number of frames.
     pub fn len(&self) -> u32
         ensures value { result ≡ length self.now.frames }
         ensures within { length self.now.frames ≤ self.now.room }
@@ -53,7 +51,7 @@ impl FrameRing {
         self.frames.len() as u32
     }
 
-    /// How many bytes the frames have together, from destination address to check sequence.
+    /// Returns the sum of the sizes of the frames in bytes, each from destination address to check sequence.
     #[tactic(auto, using(crate::proofs::Bytes::bytes_within_limits))]
     pub fn bytes(&self) -> u64
         ensures value { result ≡ bytes_of self.now.frames }
@@ -66,14 +64,14 @@ impl FrameRing {
         self.bytes
     }
 
-    /// Whether there is no frame.
+    /// Whether the ring has no frame.
     pub fn is_empty(&self) -> bool
         ensures { IsTrue result ↔ (self.now.frames ≡ []) }
     {
         self.frames.is_empty()
     }
 
-    /// Whether the ring holds as many frames as it may, so that a push has no room.
+    /// Whether the ring holds as many frames as it may, so that no further frame fits.
     pub fn is_full(&self) -> bool
         ensures full { IsTrue result ↔ (length self.now.frames ≡ self.now.room) }
         ensures within { length self.now.frames ≤ self.now.room }
@@ -81,7 +79,7 @@ impl FrameRing {
         self.len() == self.room
     }
 
-    /// Puts a frame behind the others, in a ring that is not full. It takes no memory.
+    /// Puts a frame behind the others, in a ring that is not full. Takes no memory.
     #[tactic(auto, using(crate::proofs::Bytes::bytes_within_limits))]
     pub fn push_back(&mut self, frame: Frame)
         requires { length self.old.frames < self.old.room }
@@ -92,7 +90,7 @@ impl FrameRing {
         self.frames.push_back_reserved(frame);
     }
 
-    /// Puts a frame before the others, in a ring that is not full. It takes no memory.
+    /// Puts a frame before the others, in a ring that is not full. Takes no memory.
     #[tactic(auto, using(crate::proofs::Bytes::bytes_within_limits))]
     pub fn push_front(&mut self, frame: Frame)
         requires { length self.old.frames < self.old.room }
@@ -103,7 +101,7 @@ impl FrameRing {
         self.frames.push_front_reserved(frame);
     }
 
-    /// Takes the last frame away and returns it, or none from an empty ring.
+    /// Removes and returns the last frame, or returns none if the ring is empty.
     pub fn pop_back(&mut self) -> Option<Frame>
         ensures empty { IsNone result ↔ (self.old.frames ≡ []) }
         ensures last { IfSome result (λ frame. self.old.frames ≡ self.new.frames ++ frame ∷ []) }
@@ -115,7 +113,7 @@ impl FrameRing {
         Some(last)
     }
 
-    /// Takes the first frame away and returns it, or none from an empty ring.
+    /// Removes and returns the first frame, or returns none if the ring is empty.
     pub fn pop_front(&mut self) -> Option<Frame>
         ensures empty { IsNone result ↔ (self.old.frames ≡ []) }
         ensures first { IfSome result (λ frame. self.old.frames ≡ frame ∷ self.new.frames) }

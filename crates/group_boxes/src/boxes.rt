@@ -11,7 +11,8 @@ use std::marker::Model;
 use vlink::{Letter, Message, Time};
 
 /// The letters that were posted and not collected: for each group those that its processes receive, in the order in which they were posted.
-/// Groups and processes are numbered from 0. For each group they are fewer than 2 ^ 32, so that a step of the journal can name the place of each.
+/// Groups and processes are numbered from 0. Each group has fewer than 2 ^ 32 of them, so that a step of the journal can name the place of
+/// each.
 #[derive(Drop)]
 pub struct Boxes {
     boxes: Vec<Vec<Letter>>,
@@ -36,7 +37,7 @@ impl Model for Boxes {
 }
 
 impl Boxes {
-    /// A box for each group, where the letters that bring these messages lie. `owners` has for each process the number of its group.
+    /// Makes a box for each group, with the letters that bring these messages. `owners` has for each process the number of its group.
     pub fn with_offers(
         alloc: Global,
         groups: u16,
@@ -57,7 +58,7 @@ impl Boxes {
         Ok(Boxes { boxes, owners })
     }
 
-    /// The group of this process. None: there is no such process.
+    /// Returns the group of this process, or none if the process does not exist.
     pub fn owner(&self, process: u16) -> Option<u16>
         ensures is { result ≡ slice_get self.now.owners process }
         ensures within { IfSome result (λ group. group < length self.now.boxes) }
@@ -65,7 +66,7 @@ impl Boxes {
         owner_of(&self.owners, process)
     }
 
-    /// The letters for a group, the oldest first.
+    /// Returns the letters for a group, the oldest first.
     pub fn letters(&self, group: u16) -> &[Letter]
         requires { group < length self.now.boxes }
         ensures { result.now ≡ box_of self.now.boxes group }
@@ -74,7 +75,7 @@ impl Boxes {
         letters.as_slice()
     }
 
-    /// How many letters are on their way to a process; 0 where there is no such process.
+    /// Returns how many letters are in transit to a process; 0 if the process does not exist.
     pub fn waiting_count(&self, process: u16) -> u32
         ensures { result ≡ waiting_for self.now process }
     {
@@ -84,7 +85,7 @@ impl Boxes {
         }
     }
 
-    /// Makes room for so many letters more in each box.
+    /// Makes room for `more` letters in each box.
     pub fn reserve(&mut self, more: usize) -> Result<(), OutOfMemory>
         ensures room { OnOk result (HasRoom more self.new.rooms) }
         ensures boxes { self.new.boxes ≡ self.old.boxes }
@@ -94,7 +95,7 @@ impl Boxes {
         Ok(())
     }
 
-    /// The letters go in order to the backs of the boxes of their receivers' groups. There is room for all.
+    /// Puts the letters, in order, at the backs of the boxes of their receivers' groups. The room for them was made before.
     pub fn post_reserved(&mut self, letters: &[Letter])
         requires receivers { All (λ l. l.message.receiver < length self.old.owners) letters.now }
         requires room { HasRoom (length letters.now) self.old.rooms }
@@ -105,7 +106,7 @@ impl Boxes {
         put_all(&mut self.boxes, &self.owners, letters);
     }
 
-    /// All letters for a group leave. Room for many is given back.
+    /// Removes all letters for a group. Large room is given back.
     pub fn clear(&mut self, group: u16)
         requires { group < length self.old.boxes }
         ensures cleared { box_of self.new.boxes group ≡ [] }
@@ -116,7 +117,7 @@ impl Boxes {
         clear_box(&mut self.boxes[usize::from(group)]);
     }
 
-    /// The least time of all letters, or the moment where that is earlier.
+    /// Returns the least time of all letters, or the moment if that is earlier.
     pub fn earliest_time(&self, moment: Time) -> Time
         ensures { result ≡ lowest moment (times_of message_order (flat_map (λ box. box) self.now.boxes)) }
     {

@@ -1,4 +1,4 @@
-//! Letters that are put into the boxes of groups, and the least of their times.
+//! Puts letters into the boxes of groups, and finds the least of their times.
 ghost use Rattle.std.specs.Prelude.{◌≡◌, ℕ, ◌<◌, ◌≤◌, ◌^◌, [], ◌∷◌, ◌++◌, map, flat_map, length, slice_get, All, OnOk, vec_len, vec_capacity};
 ghost use Rattle.virtual_time.specs.Law.{lowest, plus_of, received_by, times_of};
 ghost use Rattle.vlink.specs.Order.{message_order};
@@ -7,17 +7,17 @@ ghost use Rattle.group_boxes.specs.Boxing.{AreShort, HasRoom, box_of, for_group,
 use antimessages::OutOfMemory;
 use vlink::{Letter, Message, Sign, Time, earlier};
 
-/// For so many letters at most an emptied box keeps room.
+/// The most letters for which an emptied box keeps room.
 const MOST_KEPT: usize = 4096;
 
-/// The group of this process. None: there is no such process.
+/// Returns the group of this process, or none if the process does not exist.
 pub(crate) fn owner_of(owners: &[u16], process: u16) -> Option<u16>
     ensures { result ≡ slice_get owners.now process }
 {
     owners.get(usize::from(process)).copied()
 }
 
-/// Makes room for so many letters more in each box.
+/// Makes room for `more` letters in each box.
 pub(crate) fn make_room(boxes: &mut Vec<Vec<Letter>>, more: usize) -> Result<(), OutOfMemory>
     ensures items { map (λ x. x.items) boxes.new.items ≡ map (λ x. x.items) boxes.old.items }
     ensures room { OnOk result (HasRoom more (map (λ x. room_in (vec_capacity x) (vec_len x)) boxes.new.items)) }
@@ -28,7 +28,8 @@ pub(crate) fn make_room(boxes: &mut Vec<Vec<Letter>>, more: usize) -> Result<(),
     Ok(())
 }
 
-/// Makes room for so many items more in a box. It is refused to one that would have 2 ^ 32, since a step of the journal cannot name the place of each.
+/// Makes room for `more` items in a box. It is refused if the box would have 2 ^ 32 items, since a step of the journal could not name the
+/// place of each.
 fn grow<T>(items: &mut Vec<T>, more: usize) -> Result<(), OutOfMemory>
     ensures items { items.new.items ≡ items.old.items }
     ensures room { OnOk result (more ≤ room_in (vec_capacity items.new) (vec_len items.new)) }
@@ -40,7 +41,7 @@ fn grow<T>(items: &mut Vec<T>, more: usize) -> Result<(), OutOfMemory>
     Ok(())
 }
 
-/// Each letter goes to the back of the box of its receiver's group, in order. There is room for all.
+/// Puts each letter, in order, at the back of the box of its receiver's group. The room for them was made before.
 pub(crate) fn put_all(boxes: &mut Vec<Vec<Letter>>, owners: &[u16], letters: &[Letter])
     requires each { All (λ owner. owner < length boxes.old.items) owners.now }
     requires receivers { All (λ l. l.message.receiver < length owners.now) letters.now }
@@ -56,7 +57,7 @@ pub(crate) fn put_all(boxes: &mut Vec<Vec<Letter>>, owners: &[u16], letters: &[L
     }
 }
 
-/// The letter that brings each message goes to the back of the box of its receiver's group, in order, and room is made there.
+/// Puts the letter of each message, in order, at the back of the box of its receiver's group, and makes the room for it.
 pub(crate) fn push_all(
     boxes: &mut Vec<Vec<Letter>>,
     owners: &[u16],
@@ -80,7 +81,7 @@ pub(crate) fn push_all(
     Ok(())
 }
 
-/// The item goes to the back of a box.
+/// Puts the item at the back of a box.
 fn push<T: Copy>(items: &mut Vec<T>, item: T) -> Result<(), OutOfMemory>
     ensures items { OnOk result (items.new.items ≡ items.old.items ++ item ∷ []) }
     ensures short { OnOk result (length items.new.items < 2 ^ 32) }
@@ -90,7 +91,7 @@ fn push<T: Copy>(items: &mut Vec<T>, item: T) -> Result<(), OutOfMemory>
     Ok(())
 }
 
-/// All items leave a box. Room for many is given back: the offers of a run lie there at the start, and so many letters do not come again.
+/// Removes all items of a box. Large room is given back: the offers of a run lie there at the start, and so many letters do not come again.
 pub(crate) fn clear_box<T: Drop>(items: &mut Vec<T>)
     ensures items { items.new.items ≡ [] }
 {
@@ -100,7 +101,7 @@ pub(crate) fn clear_box<T: Drop>(items: &mut Vec<T>)
     }
 }
 
-/// The least time of all letters in the boxes, or the moment where that is earlier.
+/// Returns the least time of all letters in the boxes, or the moment if that is earlier.
 pub(crate) fn least_time(boxes: &[Vec<Letter>], moment: Time) -> Time
     ensures { result ≡ lowest moment (times_of message_order (flat_map (λ box. box) (map (λ x. x.items) boxes.now))) }
 {
@@ -111,7 +112,7 @@ pub(crate) fn least_time(boxes: &[Vec<Letter>], moment: Time) -> Time
     earliest
 }
 
-/// The least time of the letters, or the moment where that is earlier.
+/// Returns the least time of the letters, or the moment if that is earlier.
 fn earliest_of(letters: &[Letter], moment: Time) -> Time
     ensures { result ≡ lowest moment (times_of message_order letters.now) }
 {
@@ -122,7 +123,7 @@ fn earliest_of(letters: &[Letter], moment: Time) -> Time
     earliest
 }
 
-/// How many of the letters this process receives.
+/// Returns how many of the letters this process receives.
 pub(crate) fn count_for(letters: &[Letter], process: u16) -> u32
     requires few { length letters.now < 2 ^ 32 }
     ensures { result ≡ length (received_by message_order process letters.now) }

@@ -1,4 +1,4 @@
-//! The least of floors and of letters on their way.
+//! The least of floors and of letters in transit.
 ghost use Rattle.std.specs.Prelude.{◌≡◌, flat_map};
 ghost use Rattle.virtual_time.specs.Law.{lowest, times_of};
 ghost use Rattle.vlink.specs.Order.{message_order};
@@ -7,14 +7,14 @@ use crate::boxes::Boxes;
 use gvt::Floors;
 use vlink::{Time, earlier};
 
-/// The least of all floors and of the times of all letters on their way, or the moment where that is earlier: what GVT is set to.
+/// Returns the least of all floors and of the times of all letters in transit, or the moment if that is earlier. GVT is set to it.
 pub fn horizon(boxes: &Boxes, floors: &Floors, moment: Time) -> Time
     ensures { result ≡ lowest (lowest moment floors.now.floors) (times_of message_order (flat_map (λ box. box) boxes.now.boxes)) }
 {
     boxes.earliest_time(earliest_floor(floors, moment))
 }
 
-/// The least of all floors, or the moment where that is earlier.
+/// Returns the least of all floors, or the moment if that is earlier.
 fn earliest_floor(floors: &Floors, moment: Time) -> Time
     ensures { result ≡ lowest moment floors.now.floors }
 {

@@ -1,5 +1,5 @@
-//! What stands between groups of processes: the letters on their way, a box for each group; the least of their times and of all floors; and up to which
-//! moments a group works.
+//! The letters in transit between groups of processes, with a box for each group; the least of their times and of all floors; and the
+//! moments up to which a group works.
 #![tactic(auto)]
 
 mod boxes;

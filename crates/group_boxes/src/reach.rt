@@ -1,20 +1,20 @@
-//! Up to which moments a group works.
+//! The moments up to which a group works.
 ghost use Rattle.std.specs.Prelude.{◌≡◌, ◌+◌, min};
 
 use vlink::Time;
 
-/// Up to which moments, in ns, a group works.
+/// The moments, in ns, up to which a group works.
 #[derive(Clone, Copy)]
 pub struct Reach {
-    /// Messages that are earlier are handled.
+    /// Earlier messages are handled.
     pub ahead: Time,
-    /// Done events that are earlier are committed.
+    /// Earlier done events are committed.
     pub good: Time,
 }
 
 impl Reach {
-    /// That of a group which has seen GVT at this moment: it runs ahead of GVT by `window`, in ns, and not past the end; and no letter that is still to
-    /// come is earlier than GVT, so what was done before is for good.
+    /// Returns the reach of a group that has seen GVT at this moment. It runs ahead of GVT by `window`, in ns, and not past the end. No
+    /// letter that is still to come is earlier than GVT, so events before it can no longer be undone.
     pub fn of(seen: Time, window: u64, end: Time) -> Self
         ensures ahead { result.ahead ≡ min (seen + window) end }
         ensures good { result.good ≡ seen }
@@ -26,7 +26,7 @@ impl Reach {
     }
 }
 
-/// The moment so long after another one, or the end where that is earlier.
+/// Returns the moment `window` after `seen`, or the end if that is earlier.
 fn limit_of(seen: Time, window: u64, end: Time) -> Time
     ensures { result ≡ min (seen + window) end }
 {

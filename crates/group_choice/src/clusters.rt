@@ -1,19 +1,19 @@
-//! Nodes that stay together: each switch with the end systems that have most traffic with it.
+//! Clusters of nodes that stay together: each switch with the end systems that have most traffic with it.
 use crate::flows::{Flow, add, is_switch, sum_at};
 use network::Network;
 use std::alloc::{AllocError, Global};
 
-/// The clusters of a network, one for each switch at first, by the place of the switch among the switches.
+/// The clusters of a network, one for each switch at first, in the order of the switches.
 #[derive(Drop)]
 pub(crate) struct Clusters {
-    /// The cluster of each node: none of an end system that has no traffic.
+    /// The cluster of each node; none for an end system without traffic.
     pub(crate) of: Vec<Option<usize>>,
     /// How many events each cluster has in a second.
     pub(crate) sums: Vec<u64>,
 }
 
 impl Clusters {
-    /// Each switch with its end systems.
+    /// Makes a cluster of each switch with its end systems.
     pub(crate) fn new(
         alloc: Global,
         network: &Network,
@@ -29,7 +29,7 @@ impl Clusters {
         Ok(clusters)
     }
 
-    /// Each switch is a cluster.
+    /// Makes each switch a cluster.
     fn begin(&mut self, network: &Network, loads: &[u64]) -> Result<(), AllocError> {
         for node in 0..network.node_count() {
             if is_switch(network, node) {
@@ -42,7 +42,7 @@ impl Clusters {
         Ok(())
     }
 
-    /// The cluster of a node.
+    /// Returns the cluster of a node.
     pub(crate) fn at(&self, node: usize) -> Option<usize> {
         match self.of.get(node) {
             Some(cluster) => *cluster,
@@ -50,7 +50,7 @@ impl Clusters {
         }
     }
 
-    /// The end systems join the switches.
+    /// Adds the end systems to the clusters of the switches.
     fn take_in(&mut self, network: &Network, flows: &[Flow], loads: &[u64]) {
         for node in 0..network.node_count() {
             if !is_switch(network, node) {
@@ -70,7 +70,7 @@ impl Clusters {
         }
     }
 
-    /// The most frames in a second that the end system sends to a switch.
+    /// Returns the most frames in a second that the end system sends to a switch.
     fn most(&self, flows: &[Flow], node: usize) -> u64 {
         let mut most = 0;
         for flow in flows {
@@ -81,7 +81,7 @@ impl Clusters {
         most
     }
 
-    /// Of the switches to which the end system sends about as many, the one whose cluster has least to do.
+    /// Of the switches to which the end system sends about `most` frames, returns the one whose cluster has the least load.
     fn least_of(&self, flows: &[Flow], node: usize, most: u64) -> Option<usize> {
         let mut least = None;
         for flow in flows {
@@ -92,7 +92,7 @@ impl Clusters {
         least
     }
 
-    /// The one of two clusters that has less to do, of equal ones the first.
+    /// Returns the one of two clusters that has the lesser load, the first if they are equal.
     fn lesser(&self, one: Option<usize>, other: Option<usize>) -> Option<usize> {
         let (Some(first), Some(second)) = (one, other) else {
             return one.or(other);

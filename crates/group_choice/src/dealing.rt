@@ -1,16 +1,16 @@
-//! Nodes are dealt to groups by what they have to do alone, where there are more groups than switches.
+//! Distributes nodes to groups by their load alone, if there are more groups than switches.
 use crate::flows::{add, least};
 use crate::moving::Owners;
 use std::alloc::{AllocError, Global};
 
-/// What a node has to do.
+/// The load of a node.
 #[derive(Clone, Copy, PartialEq, Eq, PartialOrd, Ord)]
 struct Load {
     events: u64,
     node: usize,
 }
 
-/// Each node, that with most to do first, goes to the group that has least to do.
+/// Gives each node, the one with the greatest load first, to the group with the least load.
 pub(crate) fn deal(alloc: Global, loads: &[u64], groups: usize) -> Result<Owners, AllocError> {
     let mut left = by_events(alloc, loads)?;
     let mut owners = Owners {
@@ -25,7 +25,7 @@ pub(crate) fn deal(alloc: Global, loads: &[u64], groups: usize) -> Result<Owners
     Ok(owners)
 }
 
-/// What each node has to do, that with most last.
+/// Returns the load of each node, the greatest last.
 fn by_events(alloc: Global, loads: &[u64]) -> Result<Vec<Load>, AllocError> {
     let mut left = Vec::with_capacity(alloc, loads.len())?;
     for node in 0..loads.len() {
@@ -38,7 +38,7 @@ fn by_events(alloc: Global, loads: &[u64]) -> Result<Vec<Load>, AllocError> {
     Ok(left)
 }
 
-/// The node goes to the group that has least to do.
+/// Gives the node to the group with the least load.
 fn give(owners: &mut Owners, load: Load) {
     let group = least(&owners.sums);
     add(&mut owners.sums, group, load.events);

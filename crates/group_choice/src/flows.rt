@@ -1,4 +1,4 @@
-//! What the lines of a network carry, and what its nodes have to do.
+//! The traffic on the lines of a network, and the load of its nodes.
 use network::{Network, Way};
 use network_rows::{NodeKind, VirtualLink};
 use std::alloc::{AllocError, Global};
@@ -12,7 +12,7 @@ pub(crate) struct Flow {
     pub(crate) frames: u64,
 }
 
-/// What each line carries, by its number.
+/// Returns the traffic of each line, by its number.
 pub(crate) fn flows_of(alloc: Global, network: &Network) -> Result<Vec<Flow>, AllocError> {
     let mut flows = Vec::with_capacity(alloc, network.line_count())?;
     for number in 0..network.line_count() {
@@ -27,7 +27,7 @@ pub(crate) fn flows_of(alloc: Global, network: &Network) -> Result<Vec<Flow>, Al
     Ok(flows)
 }
 
-/// How many events each node has in a second, at least one. A line's events are those of the node to which it leads.
+/// Returns how many events each node has in a second, at least one. The events of a line count for the node to which it leads.
 pub(crate) fn loads_of(
     alloc: Global,
     network: &Network,
@@ -56,8 +56,8 @@ pub(crate) fn is_switch(network: &Network, node: usize) -> bool {
     }
 }
 
-/// How many events the node has in a second for what it sends over the line: a switch has a second one for each frame, by which the frame comes to
-/// the port.
+/// Returns how many events the node has in a second for what it sends over the line. A switch has a second event for each frame, by which
+/// the frame comes to the port.
 fn sent_by(network: &Network, flow: Flow) -> u64 {
     if is_switch(network, flow.from) {
         flow.frames.saturating_mul(2)
@@ -66,7 +66,7 @@ fn sent_by(network: &Network, flow: Flow) -> u64 {
     }
 }
 
-/// How many frames go out by a port in a second, where these are the ways that leave its node.
+/// Returns how many frames a port sends in a second. `ways` are the ways that leave its node.
 fn frames_out(network: &Network, ways: &[Way], port: u16) -> u64 {
     let mut frames = 0u64;
     for way in ways {
@@ -77,7 +77,7 @@ fn frames_out(network: &Network, ways: &[Way], port: u16) -> u64 {
     frames
 }
 
-/// How many frames of the virtual link of that number go out in a second.
+/// Returns how many frames of the virtual link with this number are sent in a second.
 fn rate_on(network: &Network, id: VlId) -> u64 {
     match network.place_of(id) {
         Some(vl) if vl < network.vl_count() => rate_of(network.virtual_link(vl)),
@@ -85,27 +85,27 @@ fn rate_on(network: &Network, id: VlId) -> u64 {
     }
 }
 
-/// How many frames of the virtual link go out in a second, at least one: one in each period, and in each gap at most.
+/// Returns how many frames of the virtual link are sent in a second, at least one: one in each period, and at most one in each BAG.
 fn rate_of(link: VirtualLink) -> u64 {
     let gap_ns = u64::from(link.bag_ms) * 1_000_000;
     1 + 1_000_000_000 / link.period_ns.max(gap_ns).max(1)
 }
 
-/// Adds so much at a place.
+/// Adds `more` at a place.
 pub(crate) fn add(sums: &mut [u64], place: usize, more: u64) {
     if let Some(sum) = sums.get_mut(place) {
         *sum = sum.saturating_add(more);
     }
 }
 
-/// Takes so much away at a place.
+/// Subtracts `less` at a place.
 pub(crate) fn take(sums: &mut [u64], place: usize, less: u64) {
     if let Some(sum) = sums.get_mut(place) {
         *sum = sum.saturating_sub(less);
     }
 }
 
-/// The sum at a place.
+/// Returns the sum at a place.
 pub(crate) fn sum_at(sums: &[u64], place: usize) -> u64 {
     match sums.get(place) {
         Some(sum) => *sum,
@@ -113,7 +113,7 @@ pub(crate) fn sum_at(sums: &[u64], place: usize) -> u64 {
     }
 }
 
-/// The place of the least sum, of several the first.
+/// Returns the place of the least sum, the first if there are several.
 pub(crate) fn least(sums: &[u64]) -> usize {
     let mut least = 0;
     for place in 0..sums.len() {

@@ -13,10 +13,10 @@ use network::Network;
 use std::alloc::{AllocError, Global};
 use vlink::process_number;
 
-/// How many events a group is to have within a lead, at the least.
+/// The least number of events that a group should have within a lead.
 const EVENTS_IN_LEAD: u64 = 8;
 
-/// How many groups there are where so many are asked for: at least one, and no more than processes. A network without a process has none.
+/// Returns the number of groups if `asked` are asked for: at least one, and no more than processes. A network without a process has none.
 pub fn groups_asked(network: &Network, asked: u16) -> u16
     ensures least { 1 ≤ process_count network.now → 1 ≤ result }
     ensures few { result ≤ process_count network.now }
@@ -26,8 +26,8 @@ pub fn groups_asked(network: &Network, asked: u16) -> u16
     asked.max(1).min(network.process_count())
 }
 
-/// How many groups a network is worth: at most so many, and each has some events within the lead, in ns, by which workers may be apart. There is at least
-/// one, and there are no more than processes. A network without a process has none. It is refused for memory alone.
+/// Returns how many groups a network is worth: at most `most`, and each group has some events within the lead, in ns, by which workers may
+/// be apart. The result is at least one, and no more than processes. A network without a process has none. Only memory can be refused.
 pub fn groups_worth(
     alloc: Global,
     network: &Network,
@@ -44,9 +44,9 @@ pub fn groups_worth(
     Ok(worth.min(most).max(1).min(network.process_count()))
 }
 
-/// The group of each process of the network, by its number, where there are so many groups, from 0. Each end system goes with a switch, switches with much
-/// traffic between them go together while a group can take both, and a line goes with the node to which it leads. Where there are more groups than nodes,
-/// processes go to them in turn. It is refused for memory alone.
+/// Returns the group of each process of the network, by its number, for this number of groups, from 0. Each end system goes with a switch.
+/// Switches with much traffic between them go together while a group can take both. A line goes with the node to which it leads. If there
+/// are more groups than nodes, processes go to them in turn. Only memory can be refused.
 pub fn groups_of(alloc: Global, network: &Network, groups: u16) -> Result<Vec<u16>, AllocError>
     requires { 1 ≤ groups }
     ensures all { IfOk result (λ places. length places.items ≡ process_count network.now) }
@@ -61,7 +61,7 @@ pub fn groups_of(alloc: Global, network: &Network, groups: u16) -> Result<Vec<u1
     places
 }
 
-/// The group of each of so many processes, where they go to so many groups in turn.
+/// Gives the processes to the groups in turn.
 fn in_turn(alloc: Global, processes: u16, groups: u16) -> Result<Vec<u16>, AllocError>
     requires { 1 ≤ groups }
     ensures all { IfOk result (λ places. length places.items ≡ processes) }
@@ -76,7 +76,7 @@ fn in_turn(alloc: Global, processes: u16, groups: u16) -> Result<Vec<u16>, Alloc
     Ok(places)
 }
 
-/// The group of each process, where each node has one: that of a line is the one of the node to which it leads.
+/// Returns the group of each process from the group of each node: a line has that of the node to which it leads.
 fn places_of(
     alloc: Global,
     network: &Network,
@@ -99,7 +99,7 @@ fn places_of(
     Ok(places)
 }
 
-/// The group of each node of a network.
+/// Returns the group of each node of a network.
 fn owners_in(alloc: Global, network: &Network, groups: usize) -> Result<Owners, AllocError>
     requires { 1 ≤ groups }
 {
@@ -112,7 +112,7 @@ fn owners_in(alloc: Global, network: &Network, groups: usize) -> Result<Owners, 
     owners
 }
 
-/// The same where what the lines carry and what the nodes have to do are known.
+/// Does the same, if the traffic of the lines and the load of the nodes are known.
 fn owners_of(
     alloc: Global,
     network: &Network,
@@ -133,7 +133,7 @@ fn owners_of(
     owners
 }
 
-/// The same where there are no more groups than clusters, and each group is to have about so much to do.
+/// Does the same, if there are no more groups than clusters; each group gets a load of about `even`.
 fn join_and_pack(
     alloc: Global,
     clusters: &mut Clusters,
@@ -159,7 +159,7 @@ fn join_and_pack(
     Ok(owners)
 }
 
-/// Each cluster goes to a group that has at most so much to do, if one has, and its nodes with it.
+/// Gives each cluster, with its nodes, to a group whose load stays at most `most`, if one does.
 fn pack_homes(
     alloc: Global,
     clusters: &Clusters,
@@ -176,7 +176,7 @@ fn pack_homes(
     })
 }
 
-/// The group of each node, where each cluster has one.
+/// Returns the group of each node from the group of each cluster.
 fn homes(
     alloc: Global,
     clusters: &Clusters,
@@ -194,7 +194,7 @@ fn homes(
     Ok(of)
 }
 
-/// The group that was found for a node; where none was, the node joins the one that has least to do.
+/// Returns the group that was found for a node. If none was, the node joins the one with the least load.
 fn home(sums: &mut [u64], group: Option<usize>, load: u64) -> usize {
     match group {
         Some(group) => group,
@@ -206,7 +206,7 @@ fn home(sums: &mut [u64], group: Option<usize>, load: u64) -> usize {
     }
 }
 
-/// The sum of all.
+/// Returns the sum of all loads.
 fn all(loads: &[u64]) -> u64 {
     let mut sum = 0u64;
     for load in loads {

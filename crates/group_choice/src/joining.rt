@@ -1,10 +1,10 @@
-//! Clusters are joined, the two with most traffic between them first.
+//! Joins clusters, the two with the most traffic between them first.
 use crate::clusters::Clusters;
 use crate::flows::{Flow, add, sum_at};
 use crate::matrix::Matrix;
 use std::alloc::{AllocError, Global};
 
-/// Two clusters, and what goes between them.
+/// Two clusters, and the traffic between them.
 #[derive(Clone, Copy)]
 struct Pair {
     one: usize,
@@ -12,8 +12,8 @@ struct Pair {
     frames: u64,
 }
 
-/// Joins clusters as long as there are more than groups, and two with traffic between them have at most so much to do. A cluster that joined
-/// another has nothing to do. The answer is what goes between each two.
+/// Joins clusters as long as they are more than groups, and two with traffic between them have a load of at most `most`. A cluster that
+/// joined another has no load. Returns the traffic between each two.
 pub(crate) fn join_all(
     alloc: Global,
     clusters: &mut Clusters,
@@ -30,7 +30,7 @@ pub(crate) fn join_all(
     Ok(between)
 }
 
-/// What goes between each two clusters.
+/// Returns the traffic between each two clusters.
 fn flow_between(alloc: Global, clusters: &Clusters, flows: &[Flow]) -> Result<Matrix, AllocError> {
     let mut between = Matrix::new(alloc, clusters.sums.len())?;
     for flow in flows {
@@ -43,7 +43,8 @@ fn flow_between(alloc: Global, clusters: &Clusters, flows: &[Flow]) -> Result<Ma
     Ok(between)
 }
 
-/// The two clusters with most traffic between them of those that have at most so much to do together, if any have traffic between them.
+/// Returns the two clusters with the most traffic between them, of those whose loads are together at most `most`; none if no such two have
+/// traffic between them.
 fn closest(clusters: &Clusters, between: &Matrix, most: u64) -> Option<Pair> {
     let mut closest: Option<Pair> = None;
     for one in 0..clusters.sums.len() {
@@ -52,7 +53,7 @@ fn closest(clusters: &Clusters, between: &Matrix, most: u64) -> Option<Pair> {
     closest
 }
 
-/// The same where one is given, and comes first.
+/// Does the same with one cluster given, which comes first.
 fn closest_to(clusters: &Clusters, between: &Matrix, one: usize, most: u64) -> Option<Pair> {
     let mut closest: Option<Pair> = None;
     for other in one..clusters.sums.len() {
@@ -64,13 +65,13 @@ fn closest_to(clusters: &Clusters, between: &Matrix, one: usize, most: u64) -> O
     closest
 }
 
-/// Whether these are two clusters, neither of which joined another, that have at most so much to do together.
+/// Whether these are two clusters, neither of which joined another, whose loads are together at most `most`.
 fn fit(sums: &[u64], one: usize, other: usize, most: u64) -> bool {
     let (first, second) = (sum_at(sums, one), sum_at(sums, other));
     one != other && first > 0 && second > 0 && first.saturating_add(second) <= most
 }
 
-/// The pair with more traffic, which is some.
+/// Returns the pair with more traffic, if it has any.
 fn closer(one: Option<Pair>, other: Option<Pair>) -> Option<Pair> {
     let more = match one {
         Some(pair) => pair.frames,
@@ -82,7 +83,7 @@ fn closer(one: Option<Pair>, other: Option<Pair>) -> Option<Pair> {
     }
 }
 
-/// The second cluster of the pair joins the first.
+/// Joins the second cluster of the pair to the first.
 fn join(clusters: &mut Clusters, between: &mut Matrix, pair: Pair) {
     let joined = sum_at(&clusters.sums, pair.other);
     add(&mut clusters.sums, pair.one, joined);

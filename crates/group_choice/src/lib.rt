@@ -1,5 +1,5 @@
-//! Which group each process of a network belongs to, where several workers share the network: what has much traffic with one another belongs
-//! together, and each group has about as much to do.
+//! Chooses the group of each process of a network, if several workers share the network. Processes with much traffic between them belong
+//! together, and each group has about the same load.
 #![tactic(auto)]
 
 mod clusters;

@@ -1,7 +1,7 @@
-//! A table of what goes between each two clusters.
+//! A table of the traffic between each two clusters.
 use std::alloc::{AllocError, Global};
 
-/// A number for each two of so many.
+/// A number for each two of a number of clusters.
 #[derive(Drop)]
 pub(crate) struct Matrix {
     side: usize,
@@ -9,7 +9,7 @@ pub(crate) struct Matrix {
 }
 
 impl Matrix {
-    /// All 0.
+    /// Makes a table of zeros.
     pub(crate) fn new(alloc: Global, side: usize) -> Result<Self, AllocError> {
         Ok(Matrix {
             side,
@@ -17,7 +17,7 @@ impl Matrix {
         })
     }
 
-    /// The number for these two.
+    /// Returns the number for these two.
     pub(crate) fn at(&self, one: usize, other: usize) -> u64 {
         match self
             .cells
@@ -28,7 +28,7 @@ impl Matrix {
         }
     }
 
-    /// Adds so much for these two, either way round.
+    /// Adds `more` for these two, in either order.
     pub(crate) fn add(&mut self, one: usize, other: usize, more: u64) {
         self.add_one_way(one, other, more);
         self.add_one_way(other, one, more);

@@ -1,9 +1,9 @@
-//! Nodes move to other groups where less then goes between groups.
+//! Moves nodes to other groups if that lowers the traffic between groups.
 use crate::flows::{Flow, add, is_switch, sum_at, take};
 use network::Network;
 use std::alloc::{AllocError, Global};
 
-/// How often all nodes are looked at.
+/// How often all nodes are examined.
 const ROUNDS: usize = 8;
 
 /// The group of each node, and how many events each group has in a second.
@@ -14,7 +14,7 @@ pub(crate) struct Owners {
 }
 
 impl Owners {
-    /// The group of a node.
+    /// Returns the group of a node.
     pub(crate) fn at(&self, node: usize) -> usize {
         match self.of.get(node) {
             Some(group) => *group,
@@ -22,8 +22,8 @@ impl Owners {
         }
     }
 
-    /// Nodes move to the groups with which they have more traffic, where those then have at most so much to do, or less than the group that the node
-    /// leaves; and end systems leave a group that has more.
+    /// Moves nodes to the groups with which they have more traffic, if the load of these is then at most `most`, or less than that of the
+    /// group that the node leaves. End systems leave a group whose load is greater.
     pub(crate) fn improve(
         &mut self,
         alloc: Global,
@@ -42,7 +42,7 @@ impl Owners {
         Ok(())
     }
 
-    /// What goes between the node and each group.
+    /// Returns the traffic between the node and each group.
     fn traffic_of(
         &self,
         alloc: Global,
@@ -61,7 +61,7 @@ impl Owners {
         Ok(traffic)
     }
 
-    /// The node goes to the group to which it should go, group by group.
+    /// Moves the node to the group to which it should go, group by group.
     fn settle(&mut self, node: usize, load: u64, traffic: &[u64], most: u64, is_light: bool) {
         for group in 0..self.sums.len() {
             if group != self.at(node) && self.gains(node, group, load, traffic, most, is_light) {

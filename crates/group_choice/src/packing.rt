@@ -1,4 +1,4 @@
-//! Clusters are put into groups.
+//! Puts clusters into groups.
 use crate::clusters::Clusters;
 use crate::flows::{add, least, sum_at};
 use crate::matrix::Matrix;
@@ -11,8 +11,8 @@ pub(crate) struct Packed {
     pub(crate) sums: Vec<u64>,
 }
 
-/// Puts the clusters into so many groups, those with most to do first: each group gets one, and then each of the others goes where it has most traffic
-/// of the groups that have at most so much to do with it, or where there is least to do.
+/// Puts the clusters into groups, those with the greatest load first. Each group gets one. Each further cluster goes to the group with
+/// which it has most traffic, of those whose load stays at most `most`, or to the group with the least load.
 pub(crate) fn pack(
     alloc: Global,
     clusters: &Clusters,
@@ -41,7 +41,7 @@ pub(crate) fn pack(
     Ok(packed)
 }
 
-/// The cluster with most to do that is in no group yet.
+/// Returns the cluster with the greatest load that is in no group yet.
 fn greatest(clusters: &Clusters, packed: &Packed) -> Option<usize> {
     let mut greatest = None;
     let mut load = 0;
@@ -54,7 +54,7 @@ fn greatest(clusters: &Clusters, packed: &Packed) -> Option<usize> {
     greatest
 }
 
-/// The group of a cluster.
+/// Returns the group of a cluster.
 pub(crate) fn group_of(packed: &Packed, cluster: usize) -> Option<usize> {
     match packed.of.get(cluster) {
         Some(group) => *group,
@@ -62,7 +62,8 @@ pub(crate) fn group_of(packed: &Packed, cluster: usize) -> Option<usize> {
     }
 }
 
-/// The group with which the cluster has most traffic, of those that have at most so much to do with it, and else the one that has least to do.
+/// Returns the group with which the cluster has most traffic, of those whose load stays at most `most`, or else the one with the least
+/// load.
 fn best(packed: &Packed, between: &Matrix, cluster: usize, load: u64, most: u64) -> usize {
     let mut best = None;
     let mut traffic = 0;
@@ -79,7 +80,7 @@ fn best(packed: &Packed, between: &Matrix, cluster: usize, load: u64, most: u64)
     }
 }
 
-/// What goes between the cluster and those of the group.
+/// Returns the traffic between the cluster and the members of the group.
 fn traffic_with(packed: &Packed, between: &Matrix, cluster: usize, group: usize) -> u64 {
     let mut frames = 0u64;
     for other in 0..packed.of.len() {

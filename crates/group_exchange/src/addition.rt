@@ -3,12 +3,12 @@ use group_boxes::Boxes;
 use group_hand::Words;
 use std::snapshot::Snapshot;
 
-/// What is added to a journal of groups at one go. It stands for steps of the law of virtual time.
+/// What is added to a journal of groups at one go. It represents steps of the laws of virtual time.
 #[derive(Drop)]
 pub enum Addition {
-    /// All letters for the group of this number were taken, where these letters were on their way.
+    /// All letters for the group with this number were taken, while these letters were in transit.
     Collected(u16, Snapshot<Boxes>),
-    /// A group did what these words tell, where these letters were on their way.
+    /// A group did what these words state, while these letters were in transit.
     Posted(Snapshot<Words>, Snapshot<Boxes>),
     /// GVT was set.
     Published,

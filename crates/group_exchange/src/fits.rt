@@ -1,4 +1,4 @@
-//! Whether a group in hand is the one of the journal.
+//! Whether a group in hand is the group of the journal.
 ghost use Rattle.std.specs.Prelude.{◌≡◌, ◌≤◌, ◌<◌, ℕ, ◌++◌, true, length};
 ghost use Rattle.virtual_time.specs.Law.{AreDone, in_hand};
 ghost use Rattle.reverse.specs.Rules.{rules_of};
@@ -14,8 +14,8 @@ use halves::agree_law;
 use reverse::Actor;
 
 impl<R: Actor, J: GroupRun<R>> GroupExchange<R, J> {
-    /// Whether both marks are equal: always, since they are the halves of one value, and each call writes both. So the group in hand is what the
-    /// journal and then its block make of its processes, and each step of the block can be done there. It takes no memory.
+    /// Whether both marks are equal. They always are, since they are the halves of one value, and each call writes both. So the group in
+    /// hand is what the journal and then its block make of its processes, and each step of the block is enabled there. Takes no memory.
     pub fn fits(&self, group: &Group<R, J>) -> bool
         ensures yes { result ≡ true }
         ensures same { mark_at group.now ≡ mark_of self.now.marks group.now.number }
@@ -31,7 +31,7 @@ impl<R: Actor, J: GroupRun<R>> GroupExchange<R, J> {
         true
     }
 
-    /// One half of a mark tells what the other tells, so that both speak of one moment of the journal.
+    /// One half of a mark states what the other half states, so both refer to one moment of the journal.
     pub(crate) fn join_law(&self, group: &Group<R, J>)
         ensures same { mark_at group.now ≡ mark_of self.now.marks group.now.number }
         ensures within { group.now.number < length J.names }

@@ -10,18 +10,18 @@ use std::alloc::Global;
 use std::marker::{Model, PhantomData};
 use vlink::Time;
 
-/// A group: its processes in one hand, with the block of what they did since its last post, and its mark: how long the journal was when it last collected
-/// or posted, and the GVT that it saw.
+/// A group: its processes in one hand, with the block of what they did since its last post, and its mark: the length of the journal when it
+/// last collected or posted, and the GVT that it saw.
 #[derive(Drop)]
 pub struct Group<R: Actor, J: GroupRun<R>> {
     pub(crate) hand: Hand<R>,
     pub(crate) number: u16,
     pub(crate) standing: Standing,
-    /// Its half of it. It has no bytes.
+    /// The group's half of the mark. It has no bytes.
     pub(crate) mark: RightHalf<Standing>,
     /// The rows of committed events that have left are of moments before this one.
     pub(crate) gone: Time,
-    /// How many messages each process handled, those that it handled again included.
+    /// How many messages each process handled, counting those that it handled again.
     pub(crate) runs: Vec<u64>,
     /// The moment after the end of the run.
     pub(crate) end: Time,
@@ -52,7 +52,7 @@ impl<R: Actor, J: GroupRun<R>> Model for Group<R, J> {
 }
 
 impl<R: Actor, J: GroupRun<R>> Group<R, J> {
-    /// Its number, from 0.
+    /// Returns its number, from 0.
     pub fn number(&self) -> u16
         ensures number { result ≡ self.now.number }
         ensures within { self.now.number < length J.names }

@@ -15,8 +15,8 @@ use reverse::Actor;
 use std::marker::{Model, PhantomData};
 use vlink::Time;
 
-/// Letters on their way between groups, a floor for each group and GVT, the journal of what all did, and a mark for each group. Where the journal is not
-/// kept it is there in proofs alone.
+/// Letters in transit between groups, a floor for each group and GVT, the journal of what all did, and a mark for each group. A journal
+/// that is not stored exists in proofs alone.
 #[derive(Drop)]
 pub struct GroupExchange<R: Actor, J: GroupRun<R>> {
     pub(crate) boxes: Boxes,
@@ -49,7 +49,7 @@ impl<R: Actor, J: GroupRun<R>> Model for GroupExchange<R, J> {
 }
 
 impl<R: Actor, J: GroupRun<R>> GroupExchange<R, J> {
-    /// How many groups there are.
+    /// Returns the number of groups.
     pub fn groups(&self) -> u16
         ensures count { result ≡ length J.names }
         ensures grouped { AreGrouped J.setting.processes result J.owners }
@@ -57,14 +57,14 @@ impl<R: Actor, J: GroupRun<R>> GroupExchange<R, J> {
         self.floors.processes()
     }
 
-    /// GVT, in ns.
+    /// Returns GVT, in ns.
     pub fn gvt(&self) -> Time
         ensures { result ≡ (world_after (simulation_of (rules_of R.plain) J.setting) self.now.steps).gvt }
     {
         self.gvt
     }
 
-    /// How many steps the journal has.
+    /// Returns the number of steps of the journal.
     pub fn steps(&self) -> u64
         ensures { result ≡ length self.now.steps }
     {

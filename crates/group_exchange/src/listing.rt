@@ -1,4 +1,4 @@
-//! The steps for which letters that are taken, and words of a group, stand.
+//! Lists the steps that letters that are taken, and words of a group, represent.
 ghost use Rattle.std.specs.Prelude.{true, ◌≡◌, ◌+◌, ◌<◌, ◌≤◌, ◌^◌, ◌∷◌, [], ◌++◌, ℕ, map, length, vec_len, vec_capacity};
 ghost use Rattle.virtual_time.specs.Law.{behind};
 ghost use Rattle.virtual_time.specs.declared.step.Step.TheVariants.{Take};
@@ -9,7 +9,7 @@ use group_boxes::Boxes;
 use group_hand::{Did, Words};
 use vlink::{Letter, Step};
 
-/// Each letter was taken, the first of the mail of its receiver. There is room for these steps.
+/// Lists a Take for each letter, the first of the mail of its receiver. The room for these steps was made before.
 pub(crate) fn list_takes(steps: &mut Vec<Step>, letters: &[Letter])
     requires room { vec_len steps.old + length letters.now ≤ vec_capacity steps.old }
     ensures { steps.new.items ≡ steps.old.items ++ map (λ l. Take l.message.receiver 0) letters.now }
@@ -22,7 +22,8 @@ pub(crate) fn list_takes(steps: &mut Vec<Step>, letters: &[Letter])
     }
 }
 
-/// The steps for which the words of a block stand, which are kept, each Take behind the letters that are on their way. There is room for them.
+/// Lists the steps that the words of a stored block represent, each Take behind the letters that are in transit. The room for them was made
+/// before.
 pub(crate) fn list_block(steps: &mut Vec<Step>, words: &Words, boxes: &Boxes)
     requires keeps { words.now.keeps ≡ true }
     requires room { vec_len steps.old + length (steps_told words.now.words) ≤ vec_capacity steps.old }
@@ -31,7 +32,7 @@ pub(crate) fn list_block(steps: &mut Vec<Step>, words: &Words, boxes: &Boxes)
     list_words(steps, words.list(), boxes);
 }
 
-/// The steps for which these words stand, each Take behind the letters that are on their way. There is room for them.
+/// Lists the steps that these words represent, each Take behind the letters that are in transit. The room for them was made before.
 fn list_words(steps: &mut Vec<Step>, words: &[Did], boxes: &Boxes)
     requires room { vec_len steps.old + length (steps_told words.now) ≤ vec_capacity steps.old }
     ensures { steps.new.items ≡ steps.old.items ++ map (behind (waiting_for boxes.now)) (steps_told words.now) }
@@ -41,7 +42,7 @@ fn list_words(steps: &mut Vec<Step>, words: &[Did], boxes: &Boxes)
     }
 }
 
-/// The steps for which this word stands.
+/// Lists the steps that this word represents.
 fn list_word(steps: &mut Vec<Step>, did: Did, boxes: &Boxes)
     requires room { vec_len steps.old + length (steps_of_word did) ≤ vec_capacity steps.old }
     ensures items { steps.new.items ≡ steps.old.items ++ map (behind (waiting_for boxes.now)) (steps_of_word did) }

@@ -9,7 +9,7 @@ use journal::PoolFault;
 use std::alloc::Global;
 use std::marker::Model;
 
-/// The two halves of marks, in order, before an exchange and its groups have them. They have no bytes. A clause sees their names.
+/// Pairs of halves of marks, in order, before an exchange and its groups get them. They have no bytes. Clauses see their names.
 #[derive(Drop)]
 pub struct Pairs {
     pub(crate) lefts: Vec<LeftHalf<Standing>>,
@@ -29,7 +29,7 @@ impl Model for Pairs {
 }
 
 impl Pairs {
-    /// So many of them, of new names. They tell of no step yet. It is refused for memory alone.
+    /// Makes `count` pairs, under new names. They state no step yet. Only memory can be refused.
     pub fn new(alloc: Global, count: usize) -> Result<Pairs, PoolFault>
         ensures count { IfOk result (λ pairs. length pairs ≡ count) }
         ensures memory { IfErr result (λ fault. fault ≡ OutOfMemory) }
@@ -47,7 +47,7 @@ impl Pairs {
         }
     }
 
-    /// So many more, which tell of no step.
+    /// Adds `count` pairs, which state no step.
     fn add_all(&mut self, mark: &Standing, count: usize) -> Result<(), PoolFault>
         requires { IsUnplaced mark.now }
         ensures more { OnOk result (length self.new ≡ length self.old + count) }
@@ -59,7 +59,7 @@ impl Pairs {
         Ok(())
     }
 
-    /// One more, which tells of no step.
+    /// Adds one pair, which states no step.
     fn add(&mut self, mark: &Standing) -> Result<(), PoolFault>
         requires { IsUnplaced mark.now }
         ensures more { OnOk result (length self.new ≡ length self.old + 1) }

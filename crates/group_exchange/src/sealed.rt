@@ -1,4 +1,4 @@
-//! The rows of a group that are for good.
+//! The rows of a group that can no longer change.
 ghost use Rattle.std.specs.Prelude.{◌≡◌, ◌≤◌, ◌↔◌, ℕ, [], All, IsTrue, max, true, false};
 ghost use Rattle.vlink.specs.Order.{message_order};
 ghost use Rattle.virtual_time.specs.Law.{earlier, one, rowed, rows_at};
@@ -26,8 +26,8 @@ impl<R: Actor, J: GroupRun<R>> Group<R, J> {
         self.hand.all_committed()
     }
 
-    /// Whether its events before a moment, in ns, are all committed and are for good: the moment is not later than the GVT that it saw, and no done
-    /// event is earlier.
+    /// Whether its events before a moment, in ns, are all committed and can no longer change: the moment is not later than the GVT that it
+    /// saw, and no done event is earlier.
     pub fn is_committed_before(&self, moment: Time) -> bool
         ensures all { IsTrue result ↔ ((moment ≤ self.now.seen) × All (λ m. moment ≤ m.time) (messages_of self.now.held.done)) }
         ensures each { result ≡ true → (p : ℕ) → is_of J.owners self.now.number p ≡ true →
@@ -37,9 +37,9 @@ impl<R: Actor, J: GroupRun<R>> Group<R, J> {
         moment.ns() <= self.standing.seen.ns() && !self.hand.is_done_before(moment)
     }
 
-    /// The rows of its committed events, in their order, but those that have left.
+    /// Returns the rows of its committed events, in their order, without those that have left.
     ///
-    /// - `each`: where none has left, they are, at each of its processes, all rows of its committed events.
+    /// - `each`: if none has left, they are, at each of its processes, all rows of its committed events.
     /// - `others`: none is of a process of another group.
     pub fn sealed(&self) -> &[Row]
         ensures each { self.now.gone ≡ 0 → (p : ℕ) → is_of J.owners self.now.number p ≡ true → rows_at p result.now
@@ -50,12 +50,12 @@ impl<R: Actor, J: GroupRun<R>> Group<R, J> {
         self.hand.rows()
     }
 
-    /// The rows of its committed events of the moments from `from` on and before `to`, in ns, in their order. None of these has left, since
-    /// `from` is not earlier than `gone`.
+    /// Returns the rows of its committed events whose moments are at or after `from` and before `to`, in ns, in their order. None of these
+    /// has left, since `from` is not earlier than `gone`.
     ///
     /// - `rows`: they are such rows of its committed events.
-    /// - `whole`: where its events before `to` are all committed and are for good, they are all such rows that the one-thread run has of its processes,
-    ///   in its order.
+    /// - `whole`: if its events before `to` are all committed and can no longer change, they are all such rows that the one-thread run has
+    ///   of its processes, in its order.
     pub fn rows_between(&self, from: Time, to: Time) -> &[Row]
         requires { self.now.gone ≤ from }
         ensures rows { result.now ≡ rows_within (rules_of R.plain) from to self.now.held.rows.all }
@@ -69,7 +69,8 @@ impl<R: Actor, J: GroupRun<R>> Group<R, J> {
         rows_in_time(self.hand.rows(), from, to)
     }
 
-    /// The rows of its committed events that are earlier than a moment, in ns, leave, the oldest first; where memory is refused for it, some may stay.
+    /// Lets the rows of its committed events leave that are earlier than a moment, in ns, the oldest first. If memory is refused for it,
+    /// some may stay.
     pub fn let_rows_go(&mut self, moment: Time)
         ensures gone { self.new.gone ≡ max self.old.gone moment }
         ensures others { self.new ≡ record self.old { held = self.new.held; gone = self.new.gone } }
@@ -81,7 +82,7 @@ impl<R: Actor, J: GroupRun<R>> Group<R, J> {
     }
 }
 
-/// The later of two moments.
+/// Returns the later of two moments.
 fn later_of(one: Time, other: Time) -> Time
     ensures { result ≡ max one other }
 {

@@ -1,10 +1,10 @@
-//! Actors that are parted into groups.
+//! Splits actors into groups.
 ghost use Rattle.std.specs.Prelude.{◌≡◌, ℕ, ◌<◌, true, false, map, length, slice_get, Some, None, OnOk, IfOk};
 ghost use Rattle.group_exchange.specs.Views.{is_of};
 
 use std::alloc::{AllocError, Global};
 
-/// Each item, as one that there is.
+/// Wraps each item as one that exists.
 pub(crate) fn some_of<R: Drop>(alloc: Global, items: Vec<R>) -> Result<Vec<Option<R>>, AllocError>
     ensures { IfOk result (λ slots. slots.items ≡ map (λ x. Some x) items.items) }
 {
@@ -15,7 +15,7 @@ pub(crate) fn some_of<R: Drop>(alloc: Global, items: Vec<R>) -> Result<Vec<Optio
     Ok(slots)
 }
 
-/// The items of a group at their places, and none at all others. They leave the slots.
+/// Moves the items of a group to their places, with none at all others. They leave the slots.
 pub(crate) fn members_of<R: Drop>(
     alloc: Global,
     slots: &mut Vec<Option<R>>,
@@ -37,7 +37,7 @@ pub(crate) fn members_of<R: Drop>(
     Ok(members)
 }
 
-/// The item leaves its slot, if it is wanted.
+/// Takes the item out of its slot, if it is wanted.
 fn take_where<R: Drop>(slot: &mut Option<R>, wanted: bool) -> Option<R>
     ensures taken { wanted ≡ true → result ≡ slot.old }
     ensures none { wanted ≡ false → result ≡ None }

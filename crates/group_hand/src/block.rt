@@ -1,4 +1,4 @@
-//! What a group did, as steps of the law of virtual time.
+//! What a group did, as steps of the laws of virtual time.
 ghost use Rattle.std.specs.Prelude.{◌≡◌, ◌+◌, ◌<◌, ◌≤◌, [], ◌∷◌, ◌++◌, true, Some, OnOk, length};
 ghost use Rattle.group_hand.specs.Block.{steps_of_word, steps_told};
 
@@ -21,12 +21,12 @@ pub enum Did {
     Committed { process: u16 },
 }
 
-/// What a group did, in order. Each word is there as a snapshot, which has no bytes and is read in proofs alone; and, where the journal is kept,
-/// once more as it is.
+/// What a group did, in order. Each word exists as a snapshot, which has no bytes and is read by proofs alone. If the journal is stored,
+/// each word exists once more as a value.
 #[derive(Drop)]
 pub struct Words {
     told: Vec<Snapshot<Did>>,
-    /// How many of them stand for two steps; the others stand for one.
+    /// How many of the words represent two steps; the others represent one.
     long: usize,
     kept: Option<Vec<Did>>,
 }
@@ -48,7 +48,7 @@ impl Model for Words {
 }
 
 impl Words {
-    /// No word, and whether those that come are kept.
+    /// Makes a list without words. `keeps` states whether later words are stored.
     pub fn new(alloc: Global, keeps: bool) -> Self
         ensures words { result.words ≡ [] }
         ensures keeps { result.keeps ≡ keeps }
@@ -60,8 +60,8 @@ impl Words {
         }
     }
 
-    /// Makes room for so many more: as long as no other call comes between, so many calls of `push_reserved` have it. Where they are not kept it
-    /// takes no memory.
+    /// Makes room for `more` words: as long as no other call comes between, this many calls of `push_reserved` have room. If words are not
+    /// stored it takes no memory.
     #[inline(always)]
     pub(crate) fn reserve(&mut self, more: usize) -> Result<(), AllocError>
         ensures room { OnOk result (more ≤ self.new.room) }
@@ -75,7 +75,7 @@ impl Words {
         Ok(())
     }
 
-    /// One more, for which there is room.
+    /// Adds one word. The room for it was made before.
     #[inline(always)]
     pub(crate) fn push_reserved(&mut self, did: Did)
         requires { 0 < self.old.room }
@@ -90,21 +90,21 @@ impl Words {
         }
     }
 
-    /// How many steps they stand for.
+    /// Returns the number of steps that the words represent.
     pub fn steps(&self) -> u64
         ensures { result ≡ length (steps_told self.now.words) }
     {
         (self.told.len() + self.long) as u64
     }
 
-    /// Whether they are kept to be read.
+    /// Whether the words are stored to be read.
     pub fn keeps(&self) -> bool
         ensures { result ≡ self.now.keeps }
     {
         self.kept.is_some()
     }
 
-    /// The words, where they are kept.
+    /// Returns the words, if they are stored.
     pub fn list(&self) -> &[Did]
         requires { self.now.keeps ≡ true }
         ensures { result.now ≡ self.now.words }
@@ -116,7 +116,7 @@ impl Words {
     }
 }
 
-/// How many steps a word stands for beside the first: one or none.
+/// Returns how many steps a word represents besides the first: one or none.
 #[inline(always)]
 fn more_steps(did: &Did) -> usize
     ensures few { result ≤ 1 }

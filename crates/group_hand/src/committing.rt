@@ -1,4 +1,4 @@
-//! The oldest done events of a group are committed.
+//! Commits the oldest done events of a group.
 ghost use Rattle.std.specs.Prelude.{◌≡◌, ℕ, ◌+◌, ◌<◌, ◌≤◌, ◌⊎◌, ◌++◌, ◌∷◌, [], true, false, All, IfSome, Some, OnOk, OnErr, length, take, drop, slice_get, vec_len, vec_capacity};
 ghost use Rattle.vlink.specs.Order.{message_order};
 ghost use Rattle.vlink.specs.declared.message.Message.{Message};
@@ -17,14 +17,14 @@ use std::alloc::AllocError;
 use vlink::{Message, Row, Time, order_law};
 
 impl<K: Copy> DoneEvents<K> {
-    /// How many messages the oldest events, so many, sent in all, and how many rows they gave.
+    /// Returns how many messages the oldest `count` events sent in all, and how many rows they gave.
     fn shares(&self, count: usize) -> (usize, usize)
         requires { count ≤ length self.now.events }
         ensures sent { result.0 ≡ sent_in (take count self.now.events) }
         ensures noted { result.1 ≡ noted_in (take count self.now.events) }
     {
         let events = self.events.as_slice();
-        // No sum is more than there are in all, which these numbers tell.
+        // No sum is greater than the whole, which these two numbers are.
         let _most = (self.sends.len(), self.rows.len());
         let mut sent = 0;
         let mut noted = 0;
@@ -36,7 +36,7 @@ impl<K: Copy> DoneEvents<K> {
         (sent, noted)
     }
 
-    /// The oldest events, so many, are forgotten. Their rows go to the end of `taken`, which has room for them.
+    /// Forgets the oldest `count` events. Their rows go to the end of `taken`, which has room for them.
     fn forget(&mut self, count: usize, taken: &mut Vec<Row>)
         requires enough { count ≤ length self.old.events }
         requires room { vec_len taken.old + length (rows_in self.old.events) ≤ vec_capacity taken.old }
@@ -51,7 +51,7 @@ impl<K: Copy> DoneEvents<K> {
 }
 
 impl Letters {
-    /// Whether a done event with this message can be committed below the moment; `first` is the first message of the queue, if there is one, and
+    /// Whether a done event with this message can be committed below the moment. `first` is the first message of the queue, if any, and
     /// `limit` the earlier of both moments.
     #[inline(always)]
     fn can_commit(
@@ -73,7 +73,7 @@ impl Letters {
         self.extra.is_zero(message)
     }
 
-    /// How many of the oldest done events can be committed below the moment, one after another.
+    /// Returns how many of the oldest done events can be committed below the moment, one after another.
     pub(crate) fn count_early<K: Copy>(
         &self,
         done: &DoneEvents<K>,
@@ -95,7 +95,7 @@ impl Letters {
         events.len()
     }
 
-    /// The oldest done events, so many, are committed: they are forgotten, and their rows go to the end of `sealed`. A refusal changes nothing.
+    /// Commits the oldest `count` done events: they are forgotten, and their rows go to the end of `sealed`. A refusal changes nothing.
     pub(crate) fn commit_first<K: Copy>(
         &mut self,
         done: &mut DoneEvents<K>,
@@ -120,7 +120,8 @@ impl Letters {
     }
 }
 
-/// Whether the message is earlier than the moment, and comes before `first`, if there is one. Mostly `limit` tells, the earlier of both moments.
+/// Whether the message is earlier than the moment, and comes before `first`, if that exists. Mostly the comparison with `limit`, the
+/// earlier of both moments, decides.
 #[inline(always)]
 fn is_early(message: &Message, moment: Time, first: &Option<Message>, limit: Time) -> bool
     requires { (limit ≤ moment) × IfSome first.now (λ f. limit ≤ f.time) }
@@ -135,7 +136,7 @@ fn is_early(message: &Message, moment: Time, first: &Option<Message>, limit: Tim
     message.time < moment && comes_before(message, first)
 }
 
-/// Whether the message comes before `first`, if there is one.
+/// Whether the message comes before `first`, or `first` is none.
 #[inline(always)]
 fn comes_before(message: &Message, first: &Option<Message>) -> bool
     ensures yes { result ≡ true → IfSome first.now (λ f. message_order.less message.now f ≡ true) }
@@ -147,7 +148,7 @@ fn comes_before(message: &Message, first: &Option<Message>) -> bool
     }
 }
 
-/// That the oldest events, so many, are committed is told in the block, which has room for it.
+/// Adds the commits of the oldest `count` events to the block, which has room for them.
 fn tell_committed<K: Copy>(done: &DoneEvents<K>, block: &mut Words, count: usize)
     requires enough { count ≤ length done.now.events }
     requires room { count ≤ block.old.room }
@@ -162,7 +163,7 @@ fn tell_committed<K: Copy>(done: &DoneEvents<K>, block: &mut Words, count: usize
     }
 }
 
-/// The first items, so many, go to the end of `taken`, which has room for them. It has a type parameter so that the borrow checker follows it.
+/// Moves the first `count` items to the end of `taken`, which has room for them. The type parameter is there for the borrow checker.
 #[inline(always)]
 fn move_first<T: Copy + Drop>(items: &mut Trail<T>, count: usize, taken: &mut Vec<T>)
     requires enough { count ≤ length items.old.items }

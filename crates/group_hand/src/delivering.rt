@@ -1,4 +1,4 @@
-//! Letters come to a group from the mail of the run.
+//! Takes letters to a group from the mail of the run.
 ghost use Rattle.std.specs.Prelude.{◌≡◌, ◌≤◌, ◌<◌, ◌+◌, [], ◌∷◌, ◌++◌, true, OnOk, OnErr, IfErr};
 ghost use Rattle.std.specs.VecDeque.{deque_len, deque_capacity};
 ghost use Rattle.vlink.specs.declared.message.Message.{Message};
@@ -17,7 +17,7 @@ use std::collections::VecDeque;
 use vlink::Letter;
 
 impl<R: Actor> Hand<R> {
-    /// A letter to a member, which was taken from the mail of the run, comes to the back of the tray. A refusal leaves all as it was.
+    /// Puts a letter to a member, which was taken from the mail of the run, at the back of the tray. A refusal leaves all as it was.
     pub fn deliver(&mut self, letter: Letter) -> Result<(), HandFault>
         requires { is_ours self.old.members letter.message.receiver ≡ true }
         ensures delivered { OnOk result ((x : Setting R) (v : World Message R) → letter.message.time ≤ x.until →
@@ -33,8 +33,8 @@ impl<R: Actor> Hand<R> {
         Ok(())
     }
 
-    /// Makes room for so many letters: as long as no other call comes between, so many calls of `deliver_reserved` have it. A refusal leaves all as it
-    /// was.
+    /// Makes room for `more` letters: as long as no other call comes between, this many calls of `deliver_reserved` have room. A refusal
+    /// leaves all as it was.
     pub fn reserve_letters(&mut self, more: usize) -> Result<(), HandFault>
         ensures room { OnOk result (more ≤ self.new.flow.room) }
         ensures same { IsAsBefore self.old self.new }
@@ -46,7 +46,7 @@ impl<R: Actor> Hand<R> {
         }
     }
 
-    /// A letter to a member, which was taken from the mail of the run, comes to the back of the tray, which has room for it.
+    /// Puts a letter to a member, which was taken from the mail of the run, at the back of the tray. The room for it was made before.
     pub fn deliver_reserved(&mut self, letter: Letter)
         requires ours { is_ours self.old.members letter.message.receiver ≡ true }
         requires room { 0 < self.old.flow.room }
@@ -61,7 +61,7 @@ impl<R: Actor> Hand<R> {
 }
 
 impl Letters {
-    /// A letter comes to the back of the tray, which has room for it.
+    /// Puts a letter at the back of the tray. The room for it was made before.
     fn deliver_reserved(&mut self, letter: &Letter)
         requires { 0 < self.old.room }
         ensures delivered { self.new ≡ record self.old { tray = self.old.tray ++ letter.now ∷ []; room = self.new.room } }
@@ -72,7 +72,7 @@ impl Letters {
     }
 }
 
-/// Puts the item at the back, where there is room. It has a type parameter so that the borrow checker follows it.
+/// Puts the item at the back. The room for it was made before. The type parameter is there for the borrow checker.
 fn push_back<T: Copy + Drop>(items: &mut VecDeque<T>, item: &T)
     requires { deque_len items.old < deque_capacity items.old }
     ensures pushed { items.new.items ≡ items.old.items ++ item.now ∷ [] }

@@ -13,15 +13,15 @@ use std::alloc::{AllocError, Global};
 use std::marker::Model;
 use vlink::{Message, Note, Row, compare, message_order_law, order_law};
 
-/// For so many events there is made room at one go.
+/// The number of events for which room is made at a time.
 const AHEAD: usize = 64;
 
 /// The most rows that one event gives.
 const MOST_ROWS: usize = 2;
 
-/// What is kept of a done event: its message, how many messages it sent, how many rows it gave, and the record by which it is undone.
+/// The stored data of a done event: its message, how many messages it sent, how many rows it gave, and the record by which it is undone.
 ///
-/// Its fields lie here so that there is no room between them: then the record is copied at one go.
+/// The fields lie in an order that leaves no gaps between them: then the record is copied at one go.
 #[derive(Clone, Copy)]
 pub(crate) struct Event<K: Copy> {
     pub(crate) message: Message,
@@ -32,13 +32,13 @@ pub(crate) struct Event<K: Copy> {
 
 /// Done events, the oldest at the front; all that they sent, and all rows that they gave, in the same order.
 ///
-/// Clauses see each event with what it sent and its rows, and for how many more events, messages and rows there is room.
+/// Clauses see each event with what it sent and its rows, and the room for more events, messages and rows.
 #[derive(Drop)]
 pub(crate) struct DoneEvents<K: Copy> {
     pub(crate) events: Trail<Event<K>>,
     pub(crate) sends: Trail<Message>,
     pub(crate) rows: Trail<Row>,
-    /// For how many events more there is room in each of these, whatever they send and note, at the least: so one look tells it.
+    /// The number of events for which each of these lists has room at least, whatever the events send and note: so one comparison suffices.
     pub(crate) room: usize,
 }
 
@@ -61,7 +61,7 @@ impl<K: Copy> Model for DoneEvents<K> {
 }
 
 impl<K: Copy> DoneEvents<K> {
-    /// No event.
+    /// Makes an empty list.
     pub(crate) fn new(alloc: Global) -> Self
         ensures { result.events ≡ [] }
     {
@@ -73,7 +73,7 @@ impl<K: Copy> DoneEvents<K> {
         }
     }
 
-    /// Makes room for one event more, whatever it sends and notes. Mostly there is.
+    /// Makes room for one more event, whatever it sends and notes. Mostly it exists.
     #[inline(always)]
     pub(crate) fn reserve(&mut self) -> Result<(), AllocError>
         ensures events { OnOk result (1 ≤ self.new.events_room) }
@@ -87,7 +87,7 @@ impl<K: Copy> DoneEvents<K> {
         self.grow()
     }
 
-    /// Makes room for events more, whatever they send and note.
+    /// Makes room for more events, whatever they send and note.
     #[inline(never)]
     fn grow(&mut self) -> Result<(), AllocError>
         ensures events { OnOk result (1 ≤ self.new.events_room) }
@@ -100,7 +100,7 @@ impl<K: Copy> DoneEvents<K> {
         Ok(())
     }
 
-    /// Makes room for so many events more, so many messages that they send, and so many rows.
+    /// Makes room for these numbers of events, of messages that they send, and of rows.
     pub(crate) fn reserve_each(
         &mut self,
         events: usize,
@@ -116,7 +116,7 @@ impl<K: Copy> DoneEvents<K> {
         self.rows.reserve(rows)
     }
 
-    /// One event more, the newest, for which there is room.
+    /// Adds one event, the newest. The room for it was made before.
     #[inline(always)]
     pub(crate) fn push_reserved(
         &mut self,
@@ -142,7 +142,7 @@ impl<K: Copy> DoneEvents<K> {
         self.room = self.room.saturating_sub(1);
     }
 
-    /// Where no more are there than have left, they take the place of those.
+    /// Moves what is left to the front, if it is no more than what has left.
     pub(crate) fn close_up(&mut self)
         ensures { self.new.events ≡ self.old.events }
     {
@@ -151,7 +151,7 @@ impl<K: Copy> DoneEvents<K> {
         self.rows.close_up();
     }
 
-    /// Whether the message comes after the newest event, if there is one.
+    /// Whether the message comes after the newest event, or no event is here.
     #[inline(always)]
     pub(crate) fn is_before(&self, message: &Message) -> bool
         ensures { result ≡ is_after message_order (newest_of (messages_of self.now.events)) message.now }
@@ -163,7 +163,7 @@ impl<K: Copy> DoneEvents<K> {
     }
 }
 
-/// Whether the first message comes before the second. Mostly their moments tell, or their receivers.
+/// Whether the first message comes before the second. Mostly their moments decide, or their receivers.
 #[inline(always)]
 pub(crate) fn precedes(first: &Message, second: &Message) -> bool
     ensures { result ≡ message_order.less first.now second.now }
@@ -179,7 +179,7 @@ pub(crate) fn precedes(first: &Message, second: &Message) -> bool
     compare(first, second).is_lt()
 }
 
-/// The messages go behind those that were sent. There is room for them.
+/// Puts the messages behind those that were sent. The room for them was made before.
 #[inline(always)]
 fn send_all(sends: &mut Trail<Message>, messages: &[Message])
     requires room { length messages.now ≤ sends.old.room }
@@ -191,7 +191,7 @@ fn send_all(sends: &mut Trail<Message>, messages: &[Message])
     }
 }
 
-/// The notes that the message's event gave go behind the rows, which have room for them.
+/// Puts the notes of the message's event behind the rows. The room for them was made before.
 #[inline(always)]
 fn note_all(rows: &mut Trail<Row>, message: &Message, notes: &[Note])
     requires { length notes.now ≤ rows.old.room }

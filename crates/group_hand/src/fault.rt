@@ -6,10 +6,10 @@ use thiserror::Error;
 /// Why a group refused a call.
 #[derive(Clone, Copy, Debug, PartialEq, Eq, Error)]
 pub enum HandFault {
-    /// A growth was refused.
+    /// Memory was refused.
     #[error("out of memory")]
     OutOfMemory,
-    /// The actor that is next has not enough numbers left for what one event can send.
+    /// The actor that is next does not have enough numbers left for what one event can send.
     #[error("numbers used up")]
     Exhausted,
 }

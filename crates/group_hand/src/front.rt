@@ -1,4 +1,4 @@
-//! Messages at the front of the queue that are done already count beside.
+//! Messages at the front of the queue that are already done move to the tally.
 ghost use Rattle.std.specs.Prelude.{◌≡◌, ◌≢◌, ◌<◌, true, false, All, Contains, Ok, Some, OnOk, OnErr, IfErr, IsPermutation, length};
 ghost use Rattle.vlink.specs.declared.message.Message.{Message};
 ghost use Rattle.vlink.specs.Order.{message_order};
@@ -14,7 +14,7 @@ use crate::hand::Hand;
 use reverse::{Actor, actor_rules_law};
 
 impl<R: Actor> Hand<R> {
-    /// Messages at the front of the queue that are done already leave it and count beside, until the first one is not done: then `floor` is exact.
+    /// Moves messages at the front of the queue that are already done to the tally, until the first one is not done: then `floor` is exact.
     /// No word joins the block. A refusal stops between two messages.
     pub fn count_done(&mut self) -> Result<(), HandFault>
         ensures stands { (x : Setting R) (v : World Message R) → StandsForGroup (rules_of R.plain) R.is_value x v self.old → StandsForGroup (rules_of R.plain) R.is_value x v self.new }
@@ -26,7 +26,7 @@ impl<R: Actor> Hand<R> {
         Ok(())
     }
 
-    /// The first message of the queue, if it is done already, leaves it and counts beside. The answer is whether it was. A refusal leaves all as it was.
+    /// Moves the first message of the queue to the tally, if it is already done. Returns whether it was. A refusal leaves all as it was.
     fn count_first_done(&mut self) -> Result<bool, HandFault>
         ensures stands { (x : Setting R) (v : World Message R) → StandsForGroup (rules_of R.plain) R.is_value x v self.old → StandsForGroup (rules_of R.plain) R.is_value x v self.new }
         ensures others { self.new ≡ record self.old { flow = record self.old.flow { queue = self.new.flow.queue; extra = self.new.flow.extra; room = self.new.flow.room } } }

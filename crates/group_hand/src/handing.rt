@@ -1,4 +1,4 @@
-//! What a group hands on to the rest of the run: its block, the letters for others, and its floor.
+//! What a group passes to the rest of the run: its block, the letters for others, and its floor.
 ghost use Rattle.std.specs.Prelude.{◌≡◌, ◌⊎◌, ◌≤◌, ℕ, suc, min, [], true, Some, All, Contains, IfSome, IfNone, IsPermutation};
 ghost use Rattle.vlink.specs.declared.message.Message.{Message};
 ghost use Rattle.vlink.specs.Order.{message_order};
@@ -19,21 +19,21 @@ use std::mem;
 use vlink::{Letter, Message, Time, earlier, order_law};
 
 impl<R: Actor> Hand<R> {
-    /// Whether the process is of the group.
+    /// Whether the process is a member of the group.
     pub fn has(&self, process: u16) -> bool
         ensures { result ≡ is_ours self.now.members process }
     {
         is_ours(&self.members, process)
     }
 
-    /// The actors by their numbers; none where the process is elsewhere.
+    /// Returns the actors by their numbers; none if the process is elsewhere.
     pub fn members(&self) -> &[Option<R>]
         ensures { result.now ≡ self.now.members }
     {
         &self.members
     }
 
-    /// The words of the block: what was done since it began.
+    /// Returns the words of the block: what was done since it began.
     pub fn block(&self) -> &Words
         ensures words { result.now.words ≡ self.now.flow.words }
         ensures keeps { result.now.keeps ≡ self.now.flow.keeps }
@@ -41,7 +41,7 @@ impl<R: Actor> Hand<R> {
         &self.letters.block
     }
 
-    /// The block ends: the answer has its words, and the next one begins with none.
+    /// Ends the block and returns its words. The next block begins without words.
     pub fn next_block(&mut self, alloc: Global) -> Words
         ensures words { result.words ≡ self.old.flow.words }
         ensures keeps { result.keeps ≡ self.old.flow.keeps }
@@ -52,7 +52,7 @@ impl<R: Actor> Hand<R> {
         self.letters.next_block(alloc)
     }
 
-    /// The letters that were posted for others, in order.
+    /// Returns the letters that were posted for others, in order.
     pub fn letters_abroad(&self) -> &[Letter]
         ensures letters { result.now ≡ self.now.flow.abroad }
         ensures mail { (x : Setting R) (v : World Message R) → StandsForGroup (rules_of R.plain) R.is_value x v self.now → (q : ℕ) → v.mail q ≡ received_by message_order q result.now }
@@ -60,7 +60,7 @@ impl<R: Actor> Hand<R> {
         self.letters.abroad.as_slice()
     }
 
-    /// The letters for others are in the mail of the run now: they leave the group. Their room stays.
+    /// Removes the letters for others, once they are in the mail of the run. Their room stays.
     pub fn clear_abroad(&mut self)
         ensures cleared { self.new ≡ record self.old { flow = record self.old.flow { abroad = []; room = self.new.flow.room } } }
         ensures stands { (x : Setting R) (v : World Message R) → StandsForGroup (rules_of R.plain) R.is_value x v self.old →
@@ -70,14 +70,14 @@ impl<R: Actor> Hand<R> {
         self.letters.clear_abroad();
     }
 
-    /// The floor of the group, which is the least floor of its members: the least of the first message's time, of the times of the letters in the
-    /// tray, and of `end`, the moment after the end of the run, in ns. It is exact where `count_done` was called before.
+    /// Returns the floor of the group, which is the least floor of its members: the least of the first message's time, of the times of the
+    /// letters in the tray, and of `end`, the moment after the end of the run, in ns. It is exact if `count_done` was called before.
     pub fn floor(&mut self, end: Time) -> Time
         ensures same { IsAsBefore self.old self.new }
         ensures least { result ≡ floor_in message_order end self.old.flow }
         ensures bound { (x : Setting R) (v : World Message R) → end ≡ suc x.until → StandsForGroup (rules_of R.plain) R.is_value x v self.old →
             (p : ℕ) → is_ours self.old.members p ≡ true → result ≤ v.floors p }
-        // the first message of the queue, if there is one, is not done: then there is no lower bound that is higher
+        // if the first message of the queue exists and is not done, no lower bound is higher
         ensures reached { (x : Setting R) (v : World Message R) → end ≡ suc x.until → StandsForGroup (rules_of R.plain) R.is_value x v self.old →
             FirstWaits message_order self.old →
             (result ≡ end) ⊎ ((p : ℕ) × (is_ours self.old.members p ≡ true) × (v.floors p ≡ result)) }
@@ -86,7 +86,7 @@ impl<R: Actor> Hand<R> {
         self.letters.floor(end)
     }
 
-    /// The moment of the first message of the queue, if there is one.
+    /// Returns the moment of the first message of the queue, if any.
     pub fn next_time(&mut self) -> Option<Time>
         ensures same { IsAsBefore self.old self.new }
         ensures among { IfSome result (λ t. (m : Message) × Contains self.old.flow.queue m × (m.time ≡ t)) }
@@ -102,7 +102,7 @@ impl<R: Actor> Hand<R> {
 }
 
 impl Letters {
-    /// The block ends: the answer has its words, and the next one begins with none.
+    /// Ends the block and returns its words. The next block begins without words.
     fn next_block(&mut self, alloc: Global) -> Words
         ensures words { result.words ≡ self.old.words }
         ensures keeps { result.keeps ≡ self.old.keeps }
@@ -113,14 +113,14 @@ impl Letters {
         mem::replace(&mut self.block, next)
     }
 
-    /// The letters for others leave. Their room stays.
+    /// Removes the letters for others. Their room stays.
     fn clear_abroad(&mut self)
         ensures { self.new ≡ record self.old { abroad = []; room = self.new.room } }
     {
         self.abroad.clear();
     }
 
-    /// The least time of the messages of the queue and of the letters in the tray, or `end`.
+    /// Returns the least time of the messages of the queue and of the letters in the tray, or `end`.
     fn floor(&mut self, end: Time) -> Time
         ensures same { IsPermutation self.old.queue self.new.queue }
         ensures others { self.new ≡ record self.old { queue = self.new.queue; room = self.new.room } }
@@ -132,7 +132,7 @@ impl Letters {
     }
 }
 
-/// The moment of the message, if there is one, or `end`, whichever is earlier.
+/// Returns the moment of the message, if it exists, or `end`, whichever is earlier.
 #[inline(always)]
 pub(crate) fn time_or(message: &Option<Message>, end: Time) -> Time
     ensures some { IfSome message.now (λ m. result ≡ min m.time end) }
@@ -144,7 +144,7 @@ pub(crate) fn time_or(message: &Option<Message>, end: Time) -> Time
     }
 }
 
-/// The least time of the letters, or the moment where that is earlier.
+/// Returns the least time of the letters, or the moment if that is earlier.
 fn earliest_in(letters: &VecDeque<Letter>, moment: Time) -> Time
     ensures { result ≡ lowest moment (times_of message_order letters.now.items) }
 {

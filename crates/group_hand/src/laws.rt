@@ -1,4 +1,4 @@
-//! What holds of each group.
+//! What holds for each group.
 ghost use Rattle.vlink.specs.declared.message.Message.{Message};
 ghost use Rattle.virtual_time.specs.Law.{World};
 ghost use Rattle.reverse.specs.Rules.{rules_of};
@@ -7,10 +7,10 @@ ghost use Rattle.group_hand.specs.Hands.{HasDoneNothing, Held, IsAsBefore, IsOpe
 
 use reverse::{Actor, actor_rules_law};
 
-/// What holds of each group, whatever calls do.
+/// What holds for each group, whatever calls do.
 ///
-/// - `as_before`: one that is as before, but for the order of its queue and its room, stands for what it stood for.
-/// - `opens`: one that has done nothing stands for its members in their opening states.
+/// - `as_before`: a group that is as before, except for the order of its queue and its room, represents what it represented.
+/// - `opens`: a group that has done nothing represents its members in their opening states.
 pub fn hand_law<R: Actor>()
     ensures as_before { (old new : Held R R.Record) → IsAsBefore old new → (x : Setting R) (v : World Message R) →
         StandsForGroup (rules_of R.plain) R.is_value x v old → StandsForGroup (rules_of R.plain) R.is_value x v new }

@@ -12,7 +12,7 @@ use crate::letters::Letters;
 use reverse::{Actor, Outbound, actor_rules_law};
 use vlink::Message;
 
-/// Whether the process is of the group.
+/// Whether the process is a member of the group.
 #[inline(always)]
 pub(crate) fn is_ours<S>(members: &[Option<S>], process: u16) -> bool
     ensures { result ≡ is_ours members.now process }
@@ -24,7 +24,7 @@ pub(crate) fn is_ours<S>(members: &[Option<S>], process: u16) -> bool
     }
 }
 
-/// Whether the process is of the group, and has numbers left for all that one event can send.
+/// Whether the process is a member of the group, and has numbers left for all that one event can send.
 #[inline(always)]
 pub(crate) fn has_numbers<R: Actor>(members: &[Option<R>], process: u16) -> bool
     ensures yes { result ≡ true → (s : R) × (slice_get members.now process ≡ Some (Some s)) × (R.plain.counter s + MOST_SENT ≤ greatest_number) }
@@ -37,7 +37,8 @@ pub(crate) fn has_numbers<R: Actor>(members: &[Option<R>], process: u16) -> bool
     }
 }
 
-/// The receiver, which is of the group, handles the message: `out` has what it sends and notes. The answer is the record by which that is undone.
+/// The receiver, which is a member of the group, handles the message: `out` has what it sends and notes. Returns the record by which the
+/// message is undone.
 #[inline(always)]
 pub(crate) fn act<R: Actor>(
     members: &mut [Option<R>],
@@ -59,7 +60,7 @@ pub(crate) fn act<R: Actor>(
     }
 }
 
-/// The receiver, if it is of the group, undoes the message by the record that it left.
+/// The receiver, if it is a member of the group, undoes the message by the record that it left.
 pub(crate) fn undo<R: Actor>(members: &mut [Option<R>], message: &Message, kept: R::Record)
     requires { (s : R) → slice_get members.old message.now.receiver ≡ Some (Some s) → CameFrom R.plain R.is_value s message.now kept }
     ensures len { length members.new ≡ length members.old }
@@ -76,8 +77,8 @@ pub(crate) fn undo<R: Actor>(members: &mut [Option<R>], message: &Message, kept:
     }
 }
 
-/// These messages, which one event sent, go on: those for members as letters that are taken, the others to the letters for others. There is room
-/// for them.
+/// Passes on the messages that one event sent: those for members as letters that are taken, the others to the letters for others. The room
+/// for them was made before.
 #[inline(always)]
 pub(crate) fn send_all<R: Actor>(members: &[Option<R>], letters: &mut Letters, messages: &[Message])
     requires room { length messages.now ≤ letters.old.room }

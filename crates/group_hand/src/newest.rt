@@ -1,4 +1,4 @@
-//! The newest of the done events of a group: which it is, and how it is taken off, or moved.
+//! The newest of the done events of a group: which it is, and how it is removed or moved.
 ghost use Rattle.std.specs.Prelude.{◌≡◌, ◌==◌, ◌≢◌, ◌+◌, ◌-◌, ◌<◌, ◌≤◌, List, [], ◌∷◌, ◌++◌, true, false, Some, All, Contains, length, take, drop, reverse, vec_len, vec_capacity, map, OnOk};
 ghost use Rattle.std.specs.Option.{option_copied};
 ghost use Rattle.vlink.specs.Order.{message_order};
@@ -14,7 +14,7 @@ use std::alloc::AllocError;
 use vlink::{Message, order_law};
 
 impl<K: Copy> DoneEvents<K> {
-    /// The message of the newest event, if there is one.
+    /// Returns the message of the newest event, if any.
     pub(crate) fn newest_message(&self) -> Option<&Message>
         ensures { option_copied result ≡ newest_of (messages_of self.now.events) }
     {
@@ -24,7 +24,7 @@ impl<K: Copy> DoneEvents<K> {
         }
     }
 
-    /// Whether the newest event, if there is one, is of this process.
+    /// Whether the newest event exists and is of this process.
     pub(crate) fn newest_is_for(&self, process: u16) -> bool
         ensures last { (front : List (DoneEvent K)) (d : DoneEvent K) → self.now.events ≡ front ++ d ∷ [] → result ≡ (d.message.receiver == process) }
         ensures newest { (m : Message) → newest_of (messages_of self.now.events) ≡ Some m → result ≡ (m.receiver == process) }
@@ -35,21 +35,21 @@ impl<K: Copy> DoneEvents<K> {
         }
     }
 
-    /// How many events there are.
+    /// Returns the number of events.
     pub(crate) fn len(&self) -> usize
         ensures { result ≡ length self.now.events }
     {
         self.events.len()
     }
 
-    /// How many messages they sent in all.
+    /// Returns how many messages they sent in all.
     pub(crate) fn sent_count(&self) -> usize
         ensures { result ≡ sent_in self.now.events }
     {
         self.sends.len()
     }
 
-    /// Whether the message is that of an event. Where it comes after the newest one, none is looked for.
+    /// Whether an event has this message. If the message comes after the newest one, this needs no search.
     pub(crate) fn has(&self, message: &Message) -> bool
         ensures yes { result ≡ true → Contains (messages_of self.now.events) message.now }
         ensures no { result ≡ false → IsAscending message_order (messages_of self.now.events) → All (λ x. x ≢ message.now) (messages_of self.now.events) }
@@ -58,7 +58,7 @@ impl<K: Copy> DoneEvents<K> {
         !self.is_before(message) && is_among(&self.events, message)
     }
 
-    /// Makes room for all events of the other list besides.
+    /// Makes room for all events of the other list besides its own.
     pub(crate) fn reserve_for(&mut self, other: &DoneEvents<K>) -> Result<(), AllocError>
         ensures room { OnOk result (HasRoomFor other.now.events self.new) }
         ensures same { self.new.events ≡ self.old.events }
@@ -66,7 +66,7 @@ impl<K: Copy> DoneEvents<K> {
         self.reserve_each(other.events.len(), other.sends.len(), other.rows.len())
     }
 
-    /// The newest event, which there is, becomes the newest of the other list, which has room for all that are here.
+    /// Moves the newest event, which must exist, to the other list, as its newest. The other list has room for all that are here.
     pub(crate) fn move_newest(&mut self, other: &mut DoneEvents<K>)
         requires some { 0 < length self.old.events }
         requires room { HasRoomFor self.old.events other.old }
@@ -86,7 +86,8 @@ impl<K: Copy> DoneEvents<K> {
         move_last(&mut self.rows, noted, &mut other.rows);
     }
 
-    /// The newest event, which there is, is taken off. What it sent goes to `back`, the last first, which has room for all that was sent.
+    /// Removes and returns the newest event, which must exist. What it sent goes to `back`, the last first, which has room for all that was
+    /// sent.
     pub(crate) fn pop_newest(&mut self, back: &mut Vec<Message>) -> Event<K>
         requires some { 0 < length self.old.events }
         requires room { vec_len back.old + sent_in self.old.events ≤ vec_capacity back.old }
@@ -107,7 +108,7 @@ impl<K: Copy> DoneEvents<K> {
     }
 }
 
-/// Whether the message is that of one of these events.
+/// Whether one of these events has this message.
 fn is_among<K: Copy>(events: &Trail<Event<K>>, message: &Message) -> bool
     ensures yes { result ≡ true → Contains (map (λ e. e.message) events.now.items) message.now }
     ensures no { result ≡ false → All (λ x. x ≢ message.now) (map (λ e. e.message) events.now.items) }
@@ -128,7 +129,7 @@ fn is_same(first: &Message, second: &Message) -> bool
     *first == *second
 }
 
-/// The last items, so many, go to the end of `taken`, which has room for them. It has a type parameter so that the borrow checker follows it.
+/// Moves the last `count` items to the end of `taken`, which has room for them. The type parameter is there for the borrow checker.
 fn move_last<T: Copy + Drop>(items: &mut Trail<T>, count: usize, taken: &mut Trail<T>)
     requires enough { count ≤ length items.old.items }
     requires room { count ≤ taken.old.room }
@@ -145,8 +146,8 @@ fn move_last<T: Copy + Drop>(items: &mut Trail<T>, count: usize, taken: &mut Tra
     items.truncate(first);
 }
 
-/// The last items, so many, go to the end of `back`, the last first, which has room for them. It has a type parameter so that the borrow checker
-/// follows it.
+/// Moves the last `count` items to the end of `back`, the last first, which has room for them. The type parameter is there for the borrow
+/// checker.
 fn take_back<T: Copy + Drop>(sends: &mut Trail<T>, count: usize, back: &mut Vec<T>)
     requires enough { count ≤ length sends.old.items }
     requires room { vec_len back.old + count ≤ vec_capacity back.old }

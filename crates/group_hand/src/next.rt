@@ -1,4 +1,4 @@
-//! The first message of the queue, where it is done already: it counts beside.
+//! Moves the first message of the queue to the tally, if it is already done.
 ghost use Rattle.std.specs.Prelude.{◌≡◌, ◌∷◌, false, All, Contains, OnOk, OnErr, IsPermutation};
 ghost use Rattle.vlink.specs.declared.message.Message.{Message};
 ghost use Rattle.vlink.specs.Order.{message_order};
@@ -11,7 +11,7 @@ use antimessages::OutOfMemory;
 use vlink::{Letter, Message, Sign, message_order_law, order_law};
 
 impl Letters {
-    /// The first message of the queue, which is this one, is done already: it leaves the queue, and counts beside. A refusal changes nothing.
+    /// Moves the first message of the queue, which is this one and already done, to the tally. A refusal changes nothing.
     pub(crate) fn count_again(&mut self, message: &Message) -> Result<(), OutOfMemory>
         requires among { Contains self.old.queue message.now }
         requires first { All (λ x. is_before x message.now ≡ false) self.old.queue }

@@ -14,7 +14,7 @@ use reverse::{Actor, actor_rules_law};
 use vlink::Time;
 
 impl<R: Actor> Hand<R> {
-    /// The moment of the oldest done event, in ns, if there is one.
+    /// Returns the moment of the oldest done event, in ns, if any.
     pub fn oldest(&self) -> Option<Time>
         ensures { result ≡ option_map (λ m. m.time) (slice_get (messages_of self.now.done) 0) }
     {
@@ -30,7 +30,7 @@ impl<R: Actor> Hand<R> {
 
     /// Whether some done event is earlier than the moment, in ns.
     ///
-    /// - `members`: where none is, none of any member is.
+    /// - `members`: if none is, no event of any member is.
     pub fn is_done_before(&self, moment: Time) -> bool
         ensures yes { result ≡ true → (m : Message) × Contains (messages_of self.now.done) m × (m.time < moment) }
         ensures no { result ≡ false → IsAscending message_order (messages_of self.now.done) → All (λ m. moment ≤ m.time) (messages_of self.now.done) }
@@ -43,7 +43,7 @@ impl<R: Actor> Hand<R> {
 }
 
 impl<K: Copy> DoneEvents<K> {
-    /// The moment of the oldest event, if there is one.
+    /// Returns the moment of the oldest event, if any.
     fn oldest_time(&self) -> Option<Time>
         ensures { result ≡ option_map (λ m. m.time) (slice_get (messages_of self.now.events) 0) }
     {
@@ -54,7 +54,7 @@ impl<K: Copy> DoneEvents<K> {
     }
 }
 
-/// Whether there is a moment, and it is earlier than another one.
+/// Whether the oldest moment exists and is earlier than `moment`.
 fn is_early(oldest: Option<Time>, moment: Time) -> bool
     ensures yes { result ≡ true → (t : ℕ) × (oldest ≡ Some t) × (t < moment) }
     ensures no { result ≡ false → IfSome oldest (λ t. moment ≤ t) }

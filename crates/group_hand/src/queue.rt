@@ -1,4 +1,4 @@
-//! The messages that a group has to handle: what was sent, in two lists, and beside them the offers.
+//! The messages that a group has to handle: sent ones in two lists, and beside them the offers.
 ghost use Rattle.std.specs.Prelude.{◌≡◌, ◌≢◌, ◌+◌, ◌<◌, ◌≤◌, [], ◌∷◌, ◌++◌, true, false, All, Contains, OnOk, IfOk, IfSome, IfNone, IsPermutation};
 ghost use Rattle.std.specs.List.Sorted.{IsSortedBy};
 ghost use Rattle.std.proofs.Props.{props};
@@ -11,12 +11,13 @@ use std::marker::Model;
 use two_lists::{TwoLists, sort, take_out};
 use vlink::{Message, message_order_law, order_law};
 
-/// So many messages that wait in no order are put in order at one go.
+/// The number of unsorted messages that are sorted at one go.
 const MANY: usize = 1024;
 
-/// The messages that a group has to handle. All offers are known from the start and are sorted once; one that is undone goes to the lists.
+/// The messages that a group has to handle. All offers are known from the start and are sorted once; an offer that is undone goes to the
+/// lists.
 ///
-/// Clauses see it as the list of all, in no particular order, in which a message can be several times, and for how many more there is room.
+/// Clauses see it as the list of all, in no particular order, in which a message can occur several times, and the room for more.
 #[derive(Drop)]
 pub(crate) struct Queue {
     lists: TwoLists,
@@ -35,7 +36,7 @@ impl Model for Queue {
 }
 
 impl Queue {
-    /// These offers.
+    /// Makes a queue of these offers.
     pub(crate) fn of_offers(alloc: Global, offers: Vec<Message>) -> Result<Self, AllocError>
         ensures { IfOk result (λ queue. IsPermutation offers.items queue.messages) }
     {
@@ -47,7 +48,7 @@ impl Queue {
         })
     }
 
-    /// The first message, if there is one.
+    /// Returns the first message, if any.
     #[inline(always)]
     pub(crate) fn first(&mut self) -> Option<Message>
         ensures same { IsPermutation self.old.messages self.new.messages }
@@ -64,7 +65,7 @@ impl Queue {
         Some(message)
     }
 
-    /// Takes the first message out, if there is one.
+    /// Removes and returns the first message, if any.
     #[inline(always)]
     pub(crate) fn pop(&mut self) -> Option<Message>
         ensures one { IfSome result (λ m. IsPermutation self.old.messages (m ∷ self.new.messages)) }
@@ -80,7 +81,7 @@ impl Queue {
         Some(message)
     }
 
-    /// Takes out the first message, which is this one.
+    /// Removes the first message, which is this one.
     #[inline(always)]
     pub(crate) fn take_first(&mut self, message: &Message)
         requires among { Contains self.old.messages message.now }
@@ -92,7 +93,7 @@ impl Queue {
         let _first = self.pop();
     }
 
-    /// Where many messages wait in no order, and no offers are left, they are put in order at one go, and lie beside as offers do.
+    /// If many messages wait in no order, and no offers are left, sorts them at one go, and stores them in place of the offers.
     pub(crate) fn sort_many(&mut self)
         ensures { IsPermutation self.old.messages self.new.messages }
     {
@@ -105,7 +106,7 @@ impl Queue {
         self.offers = sort_down(far);
     }
 
-    /// Makes room for so many messages more: as long as no other call comes between, so many calls of `push_reserved` have it.
+    /// Makes room for `more` messages: as long as no other call comes between, this many calls of `push_reserved` have room.
     #[inline(always)]
     pub(crate) fn reserve(&mut self, more: usize) -> Result<(), AllocError>
         ensures room { OnOk result (more ≤ self.new.room) }
@@ -115,7 +116,7 @@ impl Queue {
         Ok(())
     }
 
-    /// One message more, for which there is room.
+    /// Adds one message. The room for it was made before.
     #[inline(always)]
     pub(crate) fn push_reserved(&mut self, message: &Message)
         requires { 0 < self.old.room }
@@ -125,7 +126,7 @@ impl Queue {
         self.lists.push_reserved(message);
     }
 
-    /// Takes the message out, once, wherever it is: it is rare. The answer is whether it was there.
+    /// Removes the message, once, wherever it is: it is rare. Returns whether it was there.
     pub(crate) fn remove(&mut self, message: &Message) -> bool
         ensures one { result ≡ true → IsPermutation self.old.messages (message.now ∷ self.new.messages) }
         ensures none { result ≡ false → All (λ x. x ≢ message.now) self.old.messages }
@@ -139,7 +140,7 @@ impl Queue {
     }
 }
 
-/// The messages in their order, the first of them at the end.
+/// Sorts the messages, the first of them at the end.
 fn sort_down(messages: Vec<Message>) -> Vec<Message>
     ensures falling { IsSortedBy (λ x y. is_before y x) result.items }
     ensures same { IsPermutation messages.items result.items }

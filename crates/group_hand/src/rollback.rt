@@ -1,4 +1,4 @@
-//! A member goes back to a message: what it has done from there on is undone, the newest first; what others have done stays.
+//! A member goes back to a message: what it has done from there on is undone, the newest first. What others have done stays.
 ghost use Rattle.std.specs.Prelude.{◌≡◌, ℕ, ◌+◌, ◌<◌, ◌≤◌, ◌++◌, true, false, [], List, Option, length, reverse, vec_len, vec_capacity, OnOk};
 ghost use Rattle.vlink.specs.declared.message.Message.{Message};
 ghost use Rattle.vlink.specs.Order.{message_order};
@@ -14,7 +14,7 @@ use reverse::{Actor, actor_rules_law};
 use std::alloc::{AllocError, Global};
 use vlink::Message;
 
-/// What a rollback needs besides: empty between calls.
+/// What a rollback needs besides; empty between calls.
 #[derive(Drop)]
 pub(crate) struct Undoing<K: Copy> {
     /// Later events of other members, which stay done; the newest is at the front.
@@ -24,7 +24,7 @@ pub(crate) struct Undoing<K: Copy> {
 }
 
 impl<K: Copy> Undoing<K> {
-    /// Nothing.
+    /// Makes empty lists.
     pub(crate) fn new(alloc: Global) -> Self
         ensures aside { result.aside.events ≡ [] }
         ensures back { result.back.items ≡ [] }
@@ -47,8 +47,8 @@ impl<K: Copy> Undoing<K> {
     }
 }
 
-/// The receiver of the message, if it is a member, goes back to it: those of its events that do not come before the message are undone, the newest
-/// first, and their messages wait again; what they sent goes to `back`, the last first. There is room for all of this.
+/// The receiver of the message, if it is a member, goes back to it. Its events that do not come before the message are undone, the newest
+/// first, and their messages wait again. What they sent goes to `back`, the last first. The room for all of this was made before.
 pub(crate) fn roll_back<R: Actor>(
     members: &mut [Option<R>],
     done: &mut DoneEvents<R::Record>,
@@ -75,7 +75,7 @@ pub(crate) fn roll_back<R: Actor>(
     bring_back(done, &mut undoing.aside);
 }
 
-/// The newest events that do not come before the message are undone or set aside.
+/// Undoes or sets aside the newest events that do not come before the message.
 fn set_back<R: Actor>(
     members: &mut [Option<R>],
     done: &mut DoneEvents<R::Record>,
@@ -103,7 +103,7 @@ fn set_back<R: Actor>(
     }
 }
 
-/// The newest event, which does not come before the message, is undone if it is one of the message's receiver, and else set aside.
+/// Undoes the newest event, which does not come before the message, if it is one of the message's receiver, and otherwise sets it aside.
 fn step_back<R: Actor>(
     members: &mut [Option<R>],
     done: &mut DoneEvents<R::Record>,
@@ -138,7 +138,7 @@ fn step_back<R: Actor>(
     }
 }
 
-/// The events that were set aside are the newest again, which there is room for.
+/// Makes the events that were set aside the newest again. The room for them was made before.
 pub(crate) fn bring_back<K: Copy>(done: &mut DoneEvents<K>, aside: &mut DoneEvents<K>)
     requires { HasRoomFor aside.old.events done.old }
     ensures done { done.new.events ≡ done.old.events ++ reverse aside.old.events }

@@ -7,7 +7,7 @@ use std::marker::Model;
 use std::snapshot::Snapshot;
 use vlink::{Row, Time};
 
-/// The rows of committed events. Those that have left are there as snapshots, which have no bytes and are read in proofs alone.
+/// The rows of committed events. Those that have left exist as snapshots, which have no bytes and are read by proofs alone.
 #[derive(Drop)]
 pub(crate) struct Rows {
     left: Vec<Snapshot<Row>>,
@@ -24,7 +24,7 @@ impl Model for Rows {
 }
 
 impl Rows {
-    /// None.
+    /// Makes an empty list.
     pub(crate) fn new(alloc: Global) -> Self
         ensures { result ≡ record { all = []; left = 0 } }
     {
@@ -34,14 +34,14 @@ impl Rows {
         }
     }
 
-    /// Those that have not left, the oldest first.
+    /// Returns those that have not left, the oldest first.
     pub(crate) fn as_slice(&self) -> &[Row]
         ensures { result.now ≡ drop self.now.left self.now.all }
     {
         &self.there
     }
 
-    /// The oldest that are there leave, while they are earlier than the moment. A refusal leaves all as it was.
+    /// Lets the oldest rows leave, while they are earlier than the moment. A refusal leaves all as it was.
     pub(crate) fn let_go(&mut self, moment: Time) -> Result<(), AllocError>
         ensures all { self.new.all ≡ self.old.all }
         ensures gone { (count : ℕ) × (self.new.left ≡ self.old.left + count) × (count ≤ length (drop self.old.left self.old.all))
@@ -56,7 +56,7 @@ impl Rows {
     }
 }
 
-/// How many of these rows come before the first that is not earlier than the moment.
+/// Returns how many of these rows come before the first that is not earlier than the moment.
 fn count_before(rows: &[Row], moment: Time) -> usize
     ensures within { result ≤ length rows.now }
     ensures early { All (λ row. row.message.time < moment) (take result rows.now) }
@@ -79,7 +79,7 @@ fn is_early(row: &Row, moment: Time) -> bool
     row.message.time < moment
 }
 
-/// The first rows, so many, leave: they are the last of `left`, which has room for them.
+/// Moves the first `count` rows to the end of `left`, which has room for them.
 fn move_first(there: &mut Vec<Row>, left: &mut Vec<Snapshot<Row>>, count: usize)
     requires enough { count ≤ vec_len there.old }
     requires room { vec_len left.old + count ≤ vec_capacity left.old }

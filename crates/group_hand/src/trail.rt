@@ -4,10 +4,11 @@ ghost use Rattle.std.specs.Prelude.{◌≡◌, ◌↔◌, ◌+◌, ◌-◌, ◌<
 use std::alloc::{AllocError, Global};
 use std::marker::Model;
 
-/// Items that come at the end, and leave at the end, or the oldest at the front. Those that left at the front lie there until the gap is closed, which
-/// waits until they are as many as the others: so each item is moved at most once for one that left, and each lies at its place in one block.
+/// Items that come at the end, and leave at the end, or the oldest at the front. Those that left at the front stay in memory until the gap
+/// is closed, which waits until they are as many as the others. So each item is moved at most once for one that left, and each lies at its
+/// place in one block.
 ///
-/// Clauses see the items that are there, and for how many more there is room.
+/// Clauses see the items, and the room for more.
 #[derive(Drop)]
 pub(crate) struct Trail<T: Copy> {
     all: Vec<T>,
@@ -27,7 +28,7 @@ impl<T: Copy> Model for Trail<T> {
 }
 
 impl<T: Copy + Drop> Trail<T> {
-    /// No item.
+    /// Makes a list without items.
     pub(crate) fn new(alloc: Global) -> Self
         ensures { result.items ≡ [] }
     {
@@ -37,7 +38,7 @@ impl<T: Copy + Drop> Trail<T> {
         }
     }
 
-    /// How many items are there.
+    /// Returns the number of items.
     #[inline(always)]
     pub(crate) fn len(&self) -> usize
         ensures { result ≡ length self.now.items }
@@ -45,7 +46,7 @@ impl<T: Copy + Drop> Trail<T> {
         self.all.len() - self.left
     }
 
-    /// Makes room for so many more.
+    /// Makes room for `more` items.
     pub(crate) fn reserve(&mut self, more: usize) -> Result<(), AllocError>
         ensures room { OnOk result (more ≤ self.new.room) }
         ensures items { self.new.items ≡ self.old.items }
@@ -53,7 +54,7 @@ impl<T: Copy + Drop> Trail<T> {
         self.all.reserve(more)
     }
 
-    /// One item more, for which there is room.
+    /// Adds one item. The room for it was made before.
     #[inline(always)]
     pub(crate) fn push_back_reserved(&mut self, item: T)
         requires { 0 < self.old.room }
@@ -63,7 +64,7 @@ impl<T: Copy + Drop> Trail<T> {
         self.all.push_reserved(item);
     }
 
-    /// The item at this place.
+    /// Returns the item at this place.
     #[inline(always)]
     pub(crate) fn item(&self, place: usize) -> &T
         requires { place < length self.now.items }
@@ -72,7 +73,7 @@ impl<T: Copy + Drop> Trail<T> {
         &self.all[self.left + place]
     }
 
-    /// The items, the oldest first.
+    /// Returns the items, the oldest first.
     #[inline(always)]
     pub(crate) fn as_slice(&self) -> &[T]
         ensures { result.now ≡ self.now.items }
@@ -80,7 +81,7 @@ impl<T: Copy + Drop> Trail<T> {
         &self.all[self.left..]
     }
 
-    /// The oldest item, if there is one.
+    /// Returns the oldest item, if any.
     pub(crate) fn front(&self) -> Option<&T>
         ensures variant { IsSome result ↔ (0 < length self.now.items) }
         ensures lookup { IfSome result (λ x. x.now ≡ slice_index_or self.now.items 0 x.now) }
@@ -91,7 +92,7 @@ impl<T: Copy + Drop> Trail<T> {
         Some(self.item(0))
     }
 
-    /// The newest item, if there is one.
+    /// Returns the newest item, if any.
     #[inline(always)]
     pub(crate) fn back(&self) -> Option<&T>
         ensures variant { IsSome result ↔ (0 < length self.now.items) }
@@ -104,7 +105,7 @@ impl<T: Copy + Drop> Trail<T> {
         Some(self.item(len - 1))
     }
 
-    /// The newest item leaves, if there is one.
+    /// Removes and returns the newest item, if any.
     pub(crate) fn pop_back(&mut self) -> Option<T>
         ensures items { self.old.items ≡ self.new.items ++ option_to_list result }
         ensures variant { IsSome result ↔ (0 < length self.old.items) }
@@ -116,7 +117,7 @@ impl<T: Copy + Drop> Trail<T> {
         self.all.pop()
     }
 
-    /// The newest leave, and so many stay.
+    /// Removes the newest items, so that `len` stay.
     pub(crate) fn truncate(&mut self, len: usize)
         requires { len ≤ length self.old.items }
         ensures items { self.new.items ≡ take len self.old.items }
@@ -125,7 +126,7 @@ impl<T: Copy + Drop> Trail<T> {
         self.all.truncate(self.left + len);
     }
 
-    /// The oldest leave, so many.
+    /// Removes the oldest `count` items.
     #[inline(always)]
     pub(crate) fn forget(&mut self, count: usize)
         requires { count ≤ length self.old.items }
@@ -135,7 +136,7 @@ impl<T: Copy + Drop> Trail<T> {
         self.left += count;
     }
 
-    /// Where no more are there than have left at the front, they move there.
+    /// Moves the items to the front, if they are no more than those that have left there.
     pub(crate) fn close_up(&mut self)
         ensures items { self.new.items ≡ self.old.items }
         ensures room { self.old.room ≤ self.new.room }

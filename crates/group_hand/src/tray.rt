@@ -1,4 +1,4 @@
-//! The front of the tray: how it counts, and what was sent in vain.
+//! The front letter of the tray: how it counts, and messages that were sent in vain.
 ghost use Rattle.std.specs.Prelude.{◌≡◌, ◌≢◌, ◌+◌, ◌<◌, ◌≤◌, ◌⊎◌, [], ◌∷◌, ◌++◌, true, false, List, Ok, All, Contains, OnOk, OnErr, IfOk, IfSome, IfNone, IsPermutation, length, map, pos, ◌<ℤ◌, ◌≤ℤ◌};
 ghost use Rattle.vlink.specs.declared.message.Message.{Message};
 ghost use Rattle.vlink.specs.Letters.{Letter};
@@ -18,21 +18,21 @@ use crate::members::is_ours;
 use antimessages::OutOfMemory;
 use vlink::{Letter, Message, Sign, order_law};
 
-/// What becomes of the message of a letter that arrives.
+/// What happens to the message of a letter that arrives.
 #[derive(Clone, Copy)]
 pub(crate) enum Way {
-    /// The letter counts beside.
+    /// The tally counts the letter.
     Beside,
     /// It joins the queue.
     Joins,
-    /// It left the queue.
+    /// It leaves the queue.
     Leaves,
     /// It was done, and is undone.
     Undoes,
 }
 
 impl Letters {
-    /// The front of the tray, if there is one.
+    /// Returns the front letter of the tray, if any.
     pub(crate) fn front(&self) -> Option<Letter>
         ensures front { IfSome result (λ l. (rest : List Letter) × (self.now.tray ≡ l ∷ rest)) }
         ensures none { IfNone result (self.now.tray ≡ []) }
@@ -43,7 +43,7 @@ impl Letters {
         }
     }
 
-    /// What becomes of the letter's message, where `is_done` tells whether it is that of a done event. A letter that counts beside is tallied, and a
+    /// Returns what happens to the letter's message; `is_done` states whether a done event has it. A letter for the tally is tallied, and a
     /// message that leaves the queue has left it. A refusal changes nothing.
     pub(crate) fn count(&mut self, letter: &Letter, is_done: bool) -> Result<Way, OutOfMemory>
         ensures counted { (way : Way) → result ≡ Ok way → FrontCounts letter.now is_done self.old self.new way }
@@ -58,7 +58,7 @@ impl Letters {
         }
     }
 
-    /// Does what `count` does of a plus letter.
+    /// Does what `count` does, for a plus letter.
     fn count_plus(&mut self, letter: &Letter, is_done: bool) -> Result<Way, OutOfMemory>
         requires { letter.now.sign ≡ Plus }
         ensures counted { (way : Way) → result ≡ Ok way → FrontCounts letter.now is_done self.old self.new way }
@@ -76,7 +76,7 @@ impl Letters {
         Ok(Way::Joins)
     }
 
-    /// Does what `count` does of a minus letter.
+    /// Does what `count` does, for a minus letter.
     fn count_minus(&mut self, letter: &Letter, is_done: bool) -> Result<Way, OutOfMemory>
         requires { letter.now.sign ≡ Minus }
         ensures counted { (way : Way) → result ≡ Ok way → FrontCounts letter.now is_done self.old self.new way }
@@ -97,7 +97,7 @@ impl Letters {
         self.tally(letter)
     }
 
-    /// The letter counts beside.
+    /// Counts the letter in the tally.
     fn tally(&mut self, letter: &Letter) -> Result<Way, OutOfMemory>
         ensures beside { IfOk result (λ way. way ≡ Beside) }
         ensures counts { OnOk result (HaveSameCounts message_order self.new.extra (letter.now ∷ self.old.extra)) }
@@ -110,7 +110,7 @@ impl Letters {
         Ok(Way::Beside)
     }
 
-    /// The front of the tray, which is this letter, leaves it, and that it arrived is told, for which there is room.
+    /// Removes the front letter of the tray, which is this one, and adds the word that it arrived. The room for it was made before.
     pub(crate) fn take_front(&mut self, letter: &Letter)
         requires { 0 < self.old.room }
         ensures tray { (rest : List Letter) → self.old.tray ≡ letter.now ∷ rest → self.new.tray ≡ rest }
@@ -125,7 +125,7 @@ impl Letters {
         self.room -= 1;
     }
 
-    /// The message leaves the queue, if it is there.
+    /// Removes the message from the queue, if it is there.
     pub(crate) fn take_out(&mut self, message: &Message)
         ensures taken { Contains self.old.queue message.now → IsPermutation self.old.queue (message.now ∷ self.new.queue) }
         ensures others { self.new ≡ record self.old { queue = self.new.queue; room = self.new.room } }
@@ -134,7 +134,7 @@ impl Letters {
         let _gone = self.queue.remove(message);
     }
 
-    /// A message that an undone event sent is taken back: its antimessage goes where the message went.
+    /// Takes back a message that an undone event sent: its antimessage goes where the message went.
     pub(crate) fn take_back(&mut self, message: &Message, is_home: bool)
         requires { 0 < self.old.room }
         ensures home { is_home ≡ true → self.new ≡ record self.old { tray = self.old.tray ++ minus_of message.now ∷ []; words = self.old.words ++ Taken message.now.receiver ∷ []; room = self.new.room } }

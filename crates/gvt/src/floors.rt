@@ -8,7 +8,8 @@ use std::alloc::Global;
 use std::marker::Model;
 use vlink::{Time, earlier, process_number};
 
-/// For each process a floor: a moment, in ns, that all it has in hand, and has not posted, is not earlier than. Processes are numbered from 0.
+/// For each process a floor: a moment, in ns, such that nothing that the process has in hand and has not posted is earlier. Processes are
+/// numbered from 0.
 #[derive(Drop)]
 pub struct Floors {
     floors: Vec<Time>,
@@ -28,7 +29,8 @@ impl Model for Floors {
 }
 
 impl Floors {
-    /// Floors for so many processes in a run with this end time: each is the moment after the end. Those of no process take no memory.
+    /// Makes floors for `processes` processes in a run with this end time: each is the moment after the end. For 0 processes it takes no
+    /// memory.
     pub fn new(alloc: Global, processes: u16, until: Time) -> Result<Self, OutOfMemory>
         requires { until < GREATEST_NS }
         ensures floors { IfOk result (λ f. f.floors ≡ replicate processes (until + 1)) }
@@ -46,28 +48,28 @@ impl Floors {
         Ok(Floors { floors, until })
     }
 
-    /// How many processes there are.
+    /// Returns the number of processes.
     pub fn processes(&self) -> u16
         ensures { result ≡ length self.now.floors }
     {
         process_number(self.floors.len())
     }
 
-    /// The floor of this process; none where there is no such process.
+    /// Returns the floor of this process, or none if the process does not exist.
     pub fn floor(&self, process: u16) -> Option<Time>
         ensures { result ≡ slice_get self.now.floors process }
     {
         self.floors.get(usize::from(process)).copied()
     }
 
-    /// The moment after the end of the run.
+    /// Returns the moment after the end of the run.
     pub(crate) fn end(&self) -> Time
         ensures { result ≡ self.now.until + 1 }
     {
         Time::new(self.until.ns() + 1).unwrap()
     }
 
-    /// The floor of this process falls to the moment, where that is lower.
+    /// Lowers the floor of this process to the moment, if the moment is lower.
     pub fn lower(&mut self, process: u16, moment: Time)
         requires { process < length self.old.floors }
         ensures floors { self.new.floors ≡ slice_set self.old.floors process (min moment (slice_index self.old.floors process)) }
@@ -80,7 +82,7 @@ impl Floors {
         self.floors[place] = earlier(moment, self.floors[place]);
     }
 
-    /// The floor of this process is the moment from now on.
+    /// Sets the floor of this process to the moment.
     pub fn set(&mut self, process: u16, moment: Time)
         requires { process < length self.old.floors }
         ensures set { self.new.floors ≡ slice_set self.old.floors process moment }

@@ -1,4 +1,4 @@
-//! The horizon of floors and mail, and why it is GVT.
+//! The least of floors and mail, and why it is GVT.
 ghost use Rattle.std.specs.Prelude.{◌≡◌, ℕ, ◌+◌, ◌<◌, List, Some, length, slice_get};
 ghost use Rattle.vlink.specs.declared.message.Message.{Message};
 ghost use Rattle.virtual_time.specs.Law.{lowest, times_of, Simulation, World, gvt_over};
@@ -11,8 +11,8 @@ use crate::floors::Floors;
 use antimessages::Mail;
 use vlink::{Time, earlier};
 
-/// The least of all floors and of the times of all letters in the mail, or the moment after the end: what GVT is set to (Jefferson,
-/// "Virtual Time", ACM TOPLAS 7(3), 1985). There may be more boxes in the mail than floors, or fewer. It takes no memory.
+/// Returns the least of all floors and of the times of all letters in the mail, or the moment after the end. GVT is set to it (Jefferson,
+/// "Virtual Time", ACM TOPLAS 7(3), 1985). The mail may be of more processes than the floors, or of fewer. Takes no memory.
 pub fn horizon(floors: &Floors, mail: &Mail) -> Time
     ensures { result ≡ horizon_over floors.now mail.now }
 {
@@ -23,8 +23,8 @@ pub fn horizon(floors: &Floors, mail: &Mail) -> Time
     horizon
 }
 
-/// The horizon of floors and mail that are those of a world, a floor and a box of the mail for each process, is what the step Gvt
-/// sets there.
+/// If the floors and the mail are those of a world, with a floor and a queue of letters for each process, `horizon` returns just what the
+/// step Gvt sets there.
 pub fn gvt_law<S, K, N>()
     ensures { (f : Simulation Message S K N) → ((m : Message) → f.rules.order.time m ≡ m.time) → (w : World Message S) (floors : Floored) (mail : List Store) →
         f.processes ≡ length floors.floors → f.processes ≡ length mail → f.until ≡ floors.until →
@@ -33,7 +33,7 @@ pub fn gvt_law<S, K, N>()
         horizon_over floors mail ≡ gvt_over f f.processes w }
 {}
 
-/// The least of all floors, or the moment after the end.
+/// Returns the least of all floors, or the moment after the end.
 fn earliest_floor(floors: &Floors) -> Time
     ensures { result ≡ lowest (floors.now.until + 1) floors.now.floors }
 {
@@ -46,7 +46,7 @@ fn earliest_floor(floors: &Floors) -> Time
     earliest
 }
 
-/// The least time of the letters for this process, or the moment where that is earlier.
+/// Returns the least time of the letters for this process, or the moment if that is earlier.
 fn earliest_letter(mail: &Mail, process: u16, moment: Time) -> Time
     ensures { result ≡ lowest moment (times_of message_order (letters_for process mail.now)) }
 {

@@ -1,5 +1,5 @@
-//! Global virtual time (GVT): the moment below which no event is undone any more (Jefferson, "Virtual Time", ACM TOPLAS 7(3), 1985).
-//! It is found from a floor for each process, a moment that nothing the process has in hand is earlier than, and the letters in the mail.
+//! Global virtual time (GVT): the moment below which no event is undone any more (Jefferson, "Virtual Time", ACM TOPLAS 7(3), 1985). It is
+//! computed from the letters in the mail and from a floor for each process; nothing that the process has in hand is earlier than its floor.
 #![tactic(auto)]
 
 mod floors;

@@ -1,4 +1,5 @@
-//! The two halves of a value, which is there in proofs alone: each tells it. They are always equal, since only both together change it.
+//! The two halves of a value that exists in proofs alone. Each half states the value. They always agree, since the value changes only
+//! through both together.
 #![tactic(auto)]
 
 ghost use Rattle.std.specs.Prelude.{◌≡◌, ℕ};
@@ -9,7 +10,7 @@ ghost use Rattle.halves.specs.Ownership.{fraction};
 
 use std::marker::{Model, PhantomData, Send, Sync};
 
-/// One half of a value, which both tell alike. It has no bytes.
+/// One half of a value that both state. It has no bytes.
 pub struct LeftHalf<T> {
     marker: PhantomData<T>,
     pub ghost name: { ℕ },
@@ -35,7 +36,7 @@ impl<T> Model for RightHalf<T> {
     ghost also_shares = { λ s _. one (fraction T.row s.name s.value) };
 }
 
-/// The two halves of this value, of a new name.
+/// Makes the two halves of this value, under a new name.
 pub fn pair<T>(value: &T) -> (LeftHalf<T>, RightHalf<T>)
     ensures name { result.0.name ≡ result.1.name }
     ensures left { result.0.value ≡ value.now }
@@ -51,13 +52,13 @@ pub fn pair<T>(value: &T) -> (LeftHalf<T>, RightHalf<T>)
     )
 }
 
-/// Two halves of one name tell one value.
+/// Two halves of one name state the same value.
 pub fn agree_law<T>(left: &LeftHalf<T>, right: &RightHalf<T>)
     requires { left.now.name ≡ right.now.name }
     ensures { left.now.value ≡ right.now.value }
 {}
 
-/// Two halves of one name tell another value.
+/// Sets two halves of one name to another value.
 pub fn tell<T>(left: &mut LeftHalf<T>, right: &mut RightHalf<T>, value: &T)
     requires { left.old.name ≡ right.old.name }
     ensures left { left.new.value ≡ value.now }

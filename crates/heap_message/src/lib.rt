@@ -1,4 +1,4 @@
-//! A message as a heap takes it: the greatest element of a heap comes out first, so the earlier message is the greater one.
+//! A message for a heap. A heap returns its greatest element first, so the earlier message is the greater one.
 #![tactic(auto)]
 
 ghost use Rattle.std.specs.Prelude.{◌≡◌};
@@ -14,7 +14,7 @@ use std::cmp::Ordering;
 use std::marker::Model;
 use vlink::{Message, compare};
 
-/// A message, in the opposite of the order of messages.
+/// A message, ordered opposite to the order of messages.
 ///
 /// Clauses see it as the message.
 #[derive(Drop)]
@@ -31,7 +31,7 @@ impl Model for HeapMessage {
 }
 
 impl HeapMessage {
-    /// The message, to be put into a heap.
+    /// Makes the element of a message.
     #[inline(always)]
     pub fn new(message: &Message) -> Self
         ensures { result ≡ message.now }
@@ -39,7 +39,7 @@ impl HeapMessage {
         HeapMessage { message: *message }
     }
 
-    /// The message.
+    /// Returns the message.
     #[inline(always)]
     pub fn message(&self) -> &Message
         ensures { result.now ≡ self.now }

@@ -6,7 +6,7 @@ use reverse::Reversible;
 use std::marker::Model;
 use vlink::next_sn;
 
-/// What integrity checking says of a frame.
+/// The verdict of integrity checking on a frame.
 #[derive(Clone, Copy, Debug)]
 pub enum Checked {
     Passed,
@@ -15,8 +15,8 @@ pub enum Checked {
 
 /// Integrity checking of one virtual link on one network, at a receiver (ARINC 664 Part 7).
 ///
-/// A frame passes if none was received before it, if its number is 0, or if its number is one or two steps after
-/// the previous one: that of the last frame received, whether it passed or not (profile).
+/// A frame passes if none was received before it, if its number is 0, or if its number is one or two steps after the previous one. The
+/// previous number is that of the last frame received, whether it passed or not (profile).
 ///
 /// The event is the number of a frame. Clauses see the previous number, or none.
 #[derive(Clone, Copy)]
@@ -33,21 +33,21 @@ impl Model for Integrity {
 }
 
 impl Integrity {
-    /// Checking before any frame is received.
+    /// The state before any frame is received.
     pub fn new() -> Self
         ensures { result ≡ None }
     {
         Integrity { previous: None }
     }
 
-    /// The number of the last frame received, passed or not.
+    /// Returns the number of the last frame received, passed or not.
     pub fn previous(self) -> Option<u8>
         ensures { result ≡ self }
     {
         self.previous
     }
 
-    /// Takes a frame back, by the record that was kept of it.
+    /// Undoes a frame, by its record.
     pub fn take_back(&mut self, kept: Option<u8>)
         ensures { self.new ≡ kept }
     {

@@ -1,4 +1,4 @@
-//! Integrity checking at a receiver: on each network, a frame whose number does not follow the previous one is refused.
+//! Integrity checking at a receiver: on each network, it refuses a frame whose number does not follow the previous one.
 #![tactic(auto)]
 
 mod checking;

@@ -1,4 +1,4 @@
--- What the entry of a journal tells the laws of virtual time.
+-- What the entry of a journal means in the laws of virtual time.
 use Rattle.std.specs.Prelude.{ℕ, ◌≤◌, Option, length, take, ⊤}
 use Rattle.vlink.specs.declared.message.Message.{Message}
 use Rattle.virtual_time.specs.Law.{Deed, Collected, Posted, Published, Entry}

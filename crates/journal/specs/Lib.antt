@@ -1,4 +1,4 @@
--- The journal: what its entries tell, and the list of them.
+-- The journal: the meaning of its entries, and the list of them.
 pub mod Moves
 pub mod Deeds
 pub mod Listing

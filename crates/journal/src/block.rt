@@ -10,21 +10,21 @@ use std::alloc::Global;
 use std::marker::Model;
 use virtual_time::Move;
 
-/// A turn, and the steps behind it that no count of it takes.
+/// A turn, and the steps behind it that its counts do not cover.
 #[derive(Drop)]
 pub(crate) struct Longer {
     pub(crate) turn: Turn,
     pub(crate) rest: Vec<Move>,
 }
 
-/// How the steps are kept: a turn takes no allocation.
+/// How the steps are stored: a turn needs no allocation.
 #[derive(Drop)]
 pub(crate) enum MoveList {
     OneTurn(Turn),
     Listed(Box<Longer>),
 }
 
-/// The steps that a process did alone and that are not in the journal yet, in order.
+/// The steps that a process did alone and that are not yet in the journal, in order.
 #[derive(Drop)]
 pub struct Block {
     list: MoveList,
@@ -41,7 +41,7 @@ impl Model for Block {
 }
 
 impl Block {
-    /// No step.
+    /// Makes a block without steps.
     pub fn new() -> Self
         ensures { result ≡ [] }
     {
@@ -54,7 +54,7 @@ impl Block {
         }
     }
 
-    /// How many steps there are.
+    /// Returns the number of steps.
     pub fn len(&self) -> usize
         ensures { result ≡ length self.now }
     {
@@ -64,14 +64,14 @@ impl Block {
         }
     }
 
-    /// Whether there is no step.
+    /// Whether the block has no step.
     pub fn is_empty(&self) -> bool
         ensures { IsTrue result ↔ (self.now ≡ []) }
     {
         self.len() == 0
     }
 
-    /// The step number `at`, from 0. `None`: there are no more.
+    /// Returns the step number `at`, from 0, or none behind the last step.
     pub fn get(&self, at: usize) -> Option<Move>
         ensures { result ≡ slice_get self.now at }
     {
@@ -81,7 +81,7 @@ impl Block {
         }
     }
 
-    /// One step more. `OutOfMemory`: a growth was refused, and the steps are as they were.
+    /// Adds one step. `OutOfMemory` means that memory was refused; the steps are as before.
     pub fn push(&mut self, alloc: Global, moved: Move) -> Result<(), OutOfMemory>
         ensures pushed { OnOk result (self.new ≡ self.old ++ moved ∷ []) }
         ensures unchanged { OnErr result (self.new ≡ self.old) }
@@ -97,7 +97,7 @@ impl Block {
         }
     }
 
-    /// One step less: the last one goes.
+    /// Removes the last step.
     pub fn pop(&mut self)
         ensures { (moves : List Move) (last : Move) → self.old ≡ moves ++ last ∷ [] → self.new ≡ moves }
     {
@@ -109,7 +109,7 @@ impl Block {
 }
 
 impl Longer {
-    /// A turn, and one step behind it.
+    /// Makes a turn with one step behind it.
     fn new(alloc: Global, turn: Turn, moved: Move) -> Result<Longer, OutOfMemory>
         ensures { IfOk result (λ l. longer l ≡ turn_moves turn ++ moved ∷ []) }
     {
@@ -118,7 +118,7 @@ impl Longer {
         Ok(Longer { turn, rest })
     }
 
-    /// The same, as the steps are kept.
+    /// Makes the same, in the form in which the steps are stored.
     fn listed(alloc: Global, turn: Turn, moved: Move) -> Result<MoveList, OutOfMemory>
         ensures { IfOk result (λ list. moves_of list ≡ turn_moves turn ++ moved ∷ []) }
     {

@@ -12,23 +12,23 @@ use std::snapshot::Snapshot;
 use virtual_time::Move;
 use vlink::Step;
 
-/// What was done at one go, as an entry keeps it.
+/// What was done at one go, as an entry stores it.
 #[derive(Drop)]
 pub(crate) enum Content {
-    /// So many letters were taken from the front of the mail of the process. The mail was this one: it has no bytes here, and is read in proofs
-    /// alone.
+    /// This number of letters was taken from the front of the mail of the process. The snapshot is that mail: it has no bytes, and only
+    /// proofs read it.
     Letters(u32, Snapshot<Mail>),
     /// These steps were done, and then the outbox was posted.
     Block(Block),
-    /// GVT was set anew.
+    /// GVT was computed and set.
     Gvt,
 }
 
-/// An entry of the journal: what one process did at one go. A clause sees the entry of the law.
+/// An entry of the journal: what one process did at one go. Clauses see the entry of the law.
 #[derive(Drop)]
 pub struct Entry {
     process: u16,
-    /// The place of the entry of the same process before this one, from 0.
+    /// The place of the previous entry of the same process, from 0.
     prior: Option<u64>,
     content: Content,
 }
@@ -46,7 +46,7 @@ impl Model for Entry {
 }
 
 impl Entry {
-    /// A process took the first letters of its mail, so many. It takes no memory.
+    /// Makes the entry of a process that took the first `count` letters of its mail. Takes no memory.
     pub fn collected(process: u16, prior: Option<u64>, mail: &Mail, count: u32) -> Self
         requires { count ≤ length (letters_for process mail.now) }
         ensures { result ≡ entry_by process prior (Collected (take count (letters_for process mail.now))) }
@@ -59,7 +59,7 @@ impl Entry {
         }
     }
 
-    /// A process did these steps and posted its outbox.
+    /// Makes the entry of a process that did these steps and posted its outbox.
     pub fn posted(process: u16, prior: Option<u64>, block: Block) -> Self
         ensures { result ≡ entry_by process prior (Posted block) }
     {
@@ -70,7 +70,7 @@ impl Entry {
         }
     }
 
-    /// GVT was set anew. It is no process's entry.
+    /// Makes the entry of a new GVT. It belongs to no process.
     pub fn published() -> Self
         ensures { result ≡ entry_by 0 None Published }
     {
@@ -81,7 +81,7 @@ impl Entry {
         }
     }
 
-    /// For how many steps it stands.
+    /// Returns the number of steps that the entry represents.
     pub fn count(&self) -> u64
         requires { length (steps_of {M = Message} self.now.process self.now.deed) ≤ 2 ^ 62 }
         ensures { result ≡ length (steps_of {M = Message} self.now.process self.now.deed) }
@@ -89,7 +89,7 @@ impl Entry {
         count_in(self.process, &self.content)
     }
 
-    /// The step number `at`, from 0, of those for which it stands. None: there are no more.
+    /// Returns the step number `at`, from 0, of those that the entry represents, or none behind the last one.
     pub fn step(&self, at: u64) -> Option<Step>
         ensures { result ≡ slice_get (steps_of {M = Message} self.now.process self.now.deed) at }
     {
@@ -97,7 +97,7 @@ impl Entry {
     }
 }
 
-/// For how many steps it stands that a process did this.
+/// Returns the number of steps that the entry of a process with this content represents.
 fn count_in(process: u16, content: &Content) -> u64
     requires within_mail { IsWithinMail process content.now }
     requires few { length (steps_of {M = Message} process (deed_of process content.now)) ≤ 2 ^ 62 }
@@ -110,7 +110,7 @@ fn count_in(process: u16, content: &Content) -> u64
     }
 }
 
-/// The step number `at`, from 0, of those that a process did. None: there are no more.
+/// Returns the step number `at`, from 0, of the entry of a process with this content, or none behind the last one.
 fn step_in(process: u16, content: &Content, at: u64) -> Option<Step>
     requires { IsWithinMail process content.now }
     ensures { result ≡ slice_get (steps_of {M = Message} process (deed_of process content.now)) at }
@@ -141,7 +141,7 @@ fn step_in(process: u16, content: &Content, at: u64) -> Option<Step>
     }
 }
 
-/// The step of a process that it does alone.
+/// Returns the step for what a process did alone.
 fn step_of_move(process: u32, moved: Move) -> Step
     ensures { result ≡ step_by process moved }
 {

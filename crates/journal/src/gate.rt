@@ -1,16 +1,16 @@
-//! What is told of each message that is handled.
+//! A callback for each message that is handled.
 
-/// Is told when a process handles a message, before and after, by whoever has the process, or its group, in hand.
+/// Called before and after a process handles a message, by the code that holds the process or its group.
 pub trait Gate {
-    /// Whether it is to be told at all. Where not, a group counts nothing for it.
+    /// Whether the calls are wanted. If not, a group counts nothing for them.
     fn hears(&self) -> bool {
         true
     }
 
-    /// Process `process` is to handle a message, its `run`-th from 0, those that are handled again included. The count stops at its greatest
+    /// Process `process` will handle a message: its `run`-th from 0, counting those that it handles again. The count stops at its greatest
     /// value.
     fn before(&self, process: u16, run: u64);
 
-    /// It has handled it.
+    /// Process `process` has handled the message.
     fn after(&self, process: u16, run: u64);
 }

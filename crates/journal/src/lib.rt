@@ -1,4 +1,4 @@
-//! The journal of a run by workers: its entries, which proofs have always, and memory only where they are to be read.
+//! The journal of a run by workers. Its entries exist in proofs always, and in memory only if they are to be read.
 #![tactic(auto)]
 
 mod block;

@@ -9,15 +9,15 @@ use std::alloc::Global;
 use std::marker::Model;
 use std::snapshot::Snapshot;
 
-/// The entries that are kept, and the table whose places they have.
+/// The entries that are stored, and the table whose places they have.
 #[derive(Drop)]
 pub(crate) struct Kept {
     pub(crate) entries: Vec<Entry>,
     pub(crate) table: Table,
 }
 
-/// The entries of a journal, in order. Each is there as a snapshot, which has no bytes and is read in proofs alone; and, where they are kept,
-/// once more as it is.
+/// The entries of a journal, in order. Each exists as a snapshot, which has no bytes and is read by proofs alone. If the entries are
+/// stored, each exists once more as a value.
 #[derive(Drop)]
 pub struct Entries {
     told: Vec<Snapshot<Entry>>,
@@ -55,7 +55,7 @@ impl Kept {
 }
 
 impl Entries {
-    /// No entry. Those that come are kept where there is a table, and have its places.
+    /// Makes an empty list. If a table is given, later entries are stored and take its places.
     pub fn new(alloc: Global, table: Option<Table>) -> Self
         ensures entries { result.entries ≡ [] }
         ensures keeps { result.keeps ≡ is_some table }
@@ -73,15 +73,15 @@ impl Entries {
         }
     }
 
-    /// How many there are.
+    /// Returns the number of entries.
     pub fn len(&self) -> usize
         ensures { result ≡ length self.now.entries }
     {
         self.told.len()
     }
 
-    /// Makes room for one more, and then writes its place in the table. Where they are not kept it takes no memory and nothing is written.
-    /// `Torn`: another journal has written there before, which is looked at behind the growths.
+    /// Makes room for one more entry, and then writes its place in the table. If entries are not stored, it takes no memory and writes
+    /// nothing. `Torn` means that another journal wrote there before; this is checked after the room is made.
     pub fn reserve(&mut self) -> Result<(), PoolFault>
         ensures room { OnOk result (0 < self.new.room) }
         ensures entries { self.new.entries ≡ self.old.entries }
@@ -96,7 +96,7 @@ impl Entries {
         }
     }
 
-    /// One more, for which there is room.
+    /// Adds one entry, for which the room was made.
     pub fn push_reserved(&mut self, entry: Entry)
         requires { 0 < self.old.room }
         ensures entries { self.new.entries ≡ self.old.entries ++ entry ∷ [] }
@@ -108,7 +108,7 @@ impl Entries {
         }
     }
 
-    /// The entry number `at`, from 0, where they are kept.
+    /// Returns the entry number `at`, from 0, if entries are stored.
     pub fn get(&self, at: usize) -> &Entry
         requires keeps { self.now.keeps ≡ true }
         requires there { at < length self.now.entries }

@@ -6,7 +6,7 @@ ghost use Rattle.journal.specs.Moves.{turn_moves};
 
 use virtual_time::Move;
 
-/// So many arrivals, then so many runs, then so many commits: what a process does in a turn.
+/// What a process does in a turn: a number of arrivals, then a number of runs, then a number of commits.
 #[derive(Clone, Copy)]
 pub(crate) struct Turn {
     pub(crate) arrivals: u32,
@@ -15,7 +15,7 @@ pub(crate) struct Turn {
 }
 
 impl Turn {
-    /// How many steps there are.
+    /// Returns the number of steps.
     pub(crate) fn len(self) -> usize
         ensures count { result ≡ length (turn_moves self) }
         ensures few { result < 2 ^ 34 }
@@ -23,7 +23,7 @@ impl Turn {
         self.arrivals as usize + self.runs as usize + self.commits as usize
     }
 
-    /// The step number `at`, from 0.
+    /// Returns the step number `at`, from 0, or none behind the last one.
     pub(crate) fn get(self, at: usize) -> Option<Move>
         ensures { result ≡ slice_get (turn_moves self) at }
     {
@@ -40,7 +40,7 @@ impl Turn {
         }
     }
 
-    /// Counts one step more. `false`: it does not go behind the steps that are counted, or its count is at its greatest.
+    /// Counts one more step. Returns false if the step cannot follow the counted ones, or if its count is at its greatest value.
     pub(crate) fn add(&mut self, moved: Move) -> bool
         ensures added { result ≡ true → turn_moves self.new ≡ turn_moves self.old ++ moved ∷ [] }
         ensures unchanged { result ≡ false → self.new ≡ self.old }
@@ -68,7 +68,7 @@ impl Turn {
         true
     }
 
-    /// The last step goes.
+    /// Removes the last step.
     pub(crate) fn pop(&mut self)
         ensures { (moves : List Move) (last : Move) → turn_moves self.old ≡ moves ++ last ∷ [] → turn_moves self.new ≡ moves }
     {

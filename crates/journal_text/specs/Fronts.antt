@@ -1,4 +1,4 @@
--- What stands at the front of a text.
+-- What the front of a text is.
 use Rattle.std.specs.Prelude.{ℕ, ◌≢◌, ◌≤◌, ◌++◌, List, [], ◌∷◌}
 
 -- a digit other than 0 stands first

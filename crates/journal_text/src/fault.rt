@@ -1,4 +1,4 @@
-//! Why a text is no journal.
+//! Why a text is not a journal.
 use std::alloc::{AllocError, AllocFailed};
 use thiserror::Error;
 
@@ -8,10 +8,10 @@ pub enum LinesFault {
     /// The text has more lines than are allowed.
     #[error("too many lines")]
     TooMany,
-    /// The line with this number, from 1, is the first that is the text of no step.
+    /// The line with this number, from 1, is the first that is not the text of a step.
     #[error("line {0} is no step")]
     BadLine(u64),
-    /// A growth was refused.
+    /// Memory was refused.
     #[error("out of memory")]
     OutOfMemory,
 }

@@ -1,4 +1,4 @@
-//! One line of a journal's text as a step.
+//! Reads one line of a journal's text as a step.
 ghost use Rattle.std.specs.Prelude.{◌≡◌, ◌∷◌, ◌++◌, IfSome, IfNone};
 ghost use Rattle.journal_text.specs.Text.{Fits, step_line};
 ghost use Rattle.journal_text.specs.Fronts.{BeginsWithNone};
@@ -6,7 +6,7 @@ ghost use Rattle.journal_text.specs.Fronts.{BeginsWithNone};
 use crate::number::read_number;
 use vlink::Step;
 
-/// The letter and the place behind `T`.
+/// Reads the process and the place of a Take, which stand behind `T`.
 fn read_take(text: &[u8]) -> Option<(Step, &[u8])>
     ensures found { IfSome result (λ r. Fits r.0 × (84 ∷ 32 ∷ text.now ≡ step_line r.0 ++ r.1.now)) }
     ensures none { IfNone result (BeginsWithNone Fits step_line (84 ∷ 32 ∷ text.now)) }
@@ -16,7 +16,7 @@ fn read_take(text: &[u8]) -> Option<(Step, &[u8])>
     Some((Step::Take { process, place }, rest))
 }
 
-/// The step with this letter, whose numbers stand behind the blank.
+/// Reads the step with this letter, whose numbers stand behind the blank.
 fn read_numbers(letter: u8, text: &[u8]) -> Option<(Step, &[u8])>
     ensures found { IfSome result (λ r. Fits r.0 × (letter ∷ 32 ∷ text.now ≡ step_line r.0 ++ r.1.now)) }
     ensures none { IfNone result (BeginsWithNone Fits step_line (letter ∷ 32 ∷ text.now)) }
@@ -35,7 +35,7 @@ fn read_numbers(letter: u8, text: &[u8]) -> Option<(Step, &[u8])>
     Some((step, rest))
 }
 
-/// The step whose line is at the front of a text, and what is behind the line.
+/// Reads the step whose line is at the front of a text. Also returns the text behind the line.
 pub fn read_step(text: &[u8]) -> Option<(Step, &[u8])>
     ensures found { IfSome result (λ r. Fits r.0 × (text.now ≡ step_line r.0 ++ r.1.now)) }
     ensures none { IfNone result (BeginsWithNone Fits step_line text.now) }

@@ -1,8 +1,8 @@
-//! How many lines a text has.
+//! Counts the lines of a text.
 ghost use Rattle.std.specs.Prelude.{◌≡◌, length};
 ghost use Rattle.journal_text.specs.Lines.{lines};
 
-/// How many lines a text has. A last line without a line feed counts.
+/// Returns the number of lines of a text. A last line without a line feed counts.
 pub fn count_lines(text: &[u8]) -> usize
     ensures { result ≡ length (lines text.now) }
 {

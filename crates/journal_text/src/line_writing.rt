@@ -1,4 +1,4 @@
-//! The line of a step, put at the end of a text.
+//! Appends the line of a step to a text.
 ghost use Rattle.std.specs.Prelude.{◌≡◌, ◌∷◌, ◌++◌, ◌+◌, ◌≤◌, OnOk, IsOk, vec_len, vec_capacity};
 ghost use Rattle.journal_text.specs.declared.line_writing.TheConstants.{LONGEST_LINE};
 ghost use Rattle.journal_text.specs.Text.{number_then, step_line};
@@ -10,7 +10,7 @@ use vlink::Step;
 /// The most bytes of the line of a step: a letter, two numbers of ten digits, each behind a blank, and a line feed.
 pub const LONGEST_LINE: usize = 24;
 
-/// Puts a number and the byte that ends it at the end of a text.
+/// Appends a number and the byte that ends it to a text.
 fn push_number(text: &mut Vec<u8>, number: u32, end: u8) -> Result<(), AllocError>
     ensures number { OnOk result (text.new.items ≡ text.old.items ++ number_then end number) }
     ensures len { OnOk result (vec_len text.new ≤ vec_len text.old + 11) }
@@ -22,7 +22,7 @@ fn push_number(text: &mut Vec<u8>, number: u32, end: u8) -> Result<(), AllocErro
     text.extend_from_slice(&[end])
 }
 
-/// Puts a letter, a blank, a process and a line feed at the end of a text.
+/// Appends a letter, a blank, a process and a line feed to a text.
 fn push_process(text: &mut Vec<u8>, letter: u8, process: u32) -> Result<(), AllocError>
     ensures line { OnOk result (text.new.items ≡ text.old.items ++ letter ∷ 32 ∷ number_then 10 process) }
     ensures len { OnOk result (vec_len text.new ≤ vec_len text.old + 13) }
@@ -33,7 +33,7 @@ fn push_process(text: &mut Vec<u8>, letter: u8, process: u32) -> Result<(), Allo
     push_number(text, process, b'\n')
 }
 
-/// Puts `T`, a process, a place in its mail and a line feed at the end of a text, with a blank before each number.
+/// Appends `T`, a process, a place in its mail and a line feed to a text, with a blank before each number.
 fn push_take(text: &mut Vec<u8>, process: u32, place: u32) -> Result<(), AllocError>
     ensures line { OnOk result (text.new.items ≡ text.old.items ++ 84 ∷ 32 ∷ (number_then 32 process ++ number_then 10 place)) }
     ensures len { OnOk result (vec_len text.new ≤ vec_len text.old + 24) }
@@ -45,8 +45,8 @@ fn push_take(text: &mut Vec<u8>, process: u32, place: u32) -> Result<(), AllocEr
     push_number(text, place, b'\n')
 }
 
-/// Puts the line of a step at the end of a text. It takes no memory where the text has room for `LONGEST_LINE` bytes more. Where memory
-/// is refused, a beginning of the line may stand there.
+/// Appends the line of a step to a text. If the text has room for `LONGEST_LINE` more bytes, it takes no memory. If memory is refused, a
+/// beginning of the line may have been appended.
 pub fn push_step(text: &mut Vec<u8>, step: Step) -> Result<(), AllocError>
     ensures line { OnOk result (text.new.items ≡ text.old.items ++ step_line step) }
     ensures len { OnOk result (vec_len text.new ≤ vec_len text.old + LONGEST_LINE) }

@@ -4,7 +4,7 @@ ghost use Rattle.std.specs.Char.{is_ascii_digit};
 ghost use Rattle.journal_text.specs.Text.{number_then};
 ghost use Rattle.journal_text.specs.Fronts.{LeadingDigit, BeginsWithNone};
 
-/// What is behind this byte, if it stands at the front of a text.
+/// Returns the text behind this byte, if the byte stands at the front.
 fn behind_byte(text: &[u8], byte: u8) -> Option<&[u8]>
     ensures found { IfSome result (λ rest. text.now ≡ byte ∷ rest.now) }
     ensures none { IfNone result ((rest : List ℕ) → text.now ≢ byte ∷ rest) }
@@ -15,7 +15,7 @@ fn behind_byte(text: &[u8], byte: u8) -> Option<&[u8]>
     }
 }
 
-/// Whether a digit other than 0 stands first.
+/// Whether the text begins with a digit other than 0.
 fn is_leading(text: &[u8]) -> bool
     ensures { IsTrue result ↔ LeadingDigit text.now }
 {
@@ -25,7 +25,8 @@ fn is_leading(text: &[u8]) -> bool
     }
 }
 
-/// The number at the front of a text that this byte ends, where the text begins with a digit other than 0, and what is behind that byte.
+/// Reads the number at the front of a text, if it begins with a digit other than 0 and this byte ends it. Also returns the text behind that
+/// byte.
 fn read_digits(text: &[u8], end: u8) -> Option<(u32, &[u8])>
     requires leading { LeadingDigit text.now }
     requires end { is_ascii_digit end ≡ false }
@@ -50,7 +51,7 @@ fn read_digits(text: &[u8], end: u8) -> Option<(u32, &[u8])>
     None
 }
 
-/// The number at the front of a text that this byte ends, and what is behind that byte.
+/// Reads the number at the front of a text, if this byte ends it. Also returns the text behind that byte.
 pub fn read_number(text: &[u8], end: u8) -> Option<(u32, &[u8])>
     requires { is_ascii_digit end ≡ false }
     ensures found { IfSome result (λ r. (r.0 < 2 ^ 32) × (text.now ≡ number_then end r.0 ++ r.1.now)) }

@@ -1,4 +1,4 @@
-//! A whole text as a list of steps.
+//! Reads a whole text as a list of steps.
 ghost use Rattle.std.specs.Prelude.{ℕ, List, ◌≡◌, ◌<◌, ◌≤◌, All, length, IfOk, IfErr, IsErrOf};
 ghost use Rattle.virtual_time.specs.declared.step.Step.{Step};
 ghost use Rattle.journal_text.specs.declared.fault.LinesFault.TheVariants.{TooMany, BadLine};
@@ -11,7 +11,7 @@ use crate::line_counting::count_lines;
 use std::alloc::Global;
 use vlink::Step;
 
-/// The steps of a text with this many lines.
+/// Reads the steps of a text with this many lines.
 fn read_lines(alloc: Global, text: &[u8], count: usize) -> Result<Vec<Step>, LinesFault>
     requires { count ≡ length (lines text.now) }
     ensures steps { IfOk result (λ steps. steps_text steps.items ≡ text.now) }
@@ -32,19 +32,19 @@ fn read_lines(alloc: Global, text: &[u8], count: usize) -> Result<Vec<Step>, Lin
     Ok(steps)
 }
 
-/// The steps of a journal text, one a line, where at most `most` lines are allowed. A line is `T p i` (Take),
-/// `A p` (Arrive), `R p` (Run), `P p` (Post), `G` (Gvt) or `C p` (Commit), with one blank between, numbers from
-/// 0 to 4294967295 in decimal digits without leading zeros, and a line feed at its end. The empty text has no steps.
+/// Reads the steps of a journal text, one a line, if it has at most `most` lines. A line is `T p i` (Take), `A p` (Arrive), `R p` (Run), `P
+/// p` (Post), `G` (Gvt) or `C p` (Commit), with one blank between, numbers from 0 to 4294967295 in decimal digits without leading zeros,
+/// and a line feed at its end. The empty text has no steps.
 ///
-/// `TooMany` is tried first, and takes no memory; a last line without a line feed counts as a line.
-/// `BadLine` tells the first line, from 1, that has not this form. `OutOfMemory` is told where the steps,
-/// 12 bytes each and one for each line, found no room; it can come before a bad line is met.
+/// `TooMany` is checked first, and takes no memory; a last line without a line feed counts as a line. `BadLine` gives the first line, from
+/// 1, that does not have this form. `OutOfMemory` means that no memory was left for the steps, 12 bytes each and one for each line; it can
+/// come before a bad line is reached.
 pub fn read_steps(alloc: Global, text: &[u8], most: u64) -> Result<Vec<Step>, LinesFault>
     ensures steps { IfOk result (λ steps. steps_text steps.items ≡ text.now) }
     ensures fits { IfOk result (λ steps. All Fits steps.items) }
     ensures within { IfOk result (λ steps. length steps.items ≤ most) }
     ensures fault { IfErr result (HasCause text.now most) }
-    // So the text and the limit tell the result, unless memory is refused.
+    // So the text and the limit determine the result, unless memory is refused.
     ensures accepts { (steps : List Step) → All Fits steps → steps_text steps ≡ text.now → length steps ≤ most
         → AreRead steps result }
     ensures refuses { (n : ℕ) → length (lines text.now) ≤ most → IsFirstBad text.now n → IsRefused (BadLine n) result }

@@ -1,4 +1,4 @@
--- What a text describes: which faults it has, and which network where it has none.
+-- The meaning of a text as a description: its faults, and its network if it has no fault.
 use Rattle.std.specs.Prelude.{ℕ, ◌≡◌, ◌⊎◌, List, Some, slice_get}
 use Rattle.network_rows.specs.declared.fault.DescFault.{DescFault}
 use Rattle.network_rows.specs.declared.fault.DescFault.TheVariants.{OutOfMemory}

@@ -1,4 +1,4 @@
--- Which plans are accepted: those that rows without a fault stand for.
+-- Which plans are accepted: those of rows without a fault.
 use Rattle.std.specs.Prelude.{ℕ, ◌≡◌, List, [], map, IsPermutation}
 use Rattle.std.specs.List.Sorted.{IsNonDecreasing}
 use Rattle.network_rows.specs.declared.rows.Rows.{Rows}

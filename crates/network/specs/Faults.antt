@@ -1,4 +1,5 @@
--- What rows say of each other: the faults 5 to 9, in the order in which they are tried. Each line is a line of the table of refusals in docs/FORMATS.md.
+-- Faults between rows: the faults 5 to 9, in the order in which they are checked. Each line is a line of the table of refusals in
+-- docs/FORMATS.md.
 use Rattle.std.specs.Prelude.{ℕ, ◌≡◌, ◌⊎◌, ◌+◌, ◌*◌, ◌==◌, ◌&&◌, ◌||◌, not, nat_lt, Bool, List, ◌++◌, length, map, count_by, slice_get, Some, None}
 use Rattle.std.specs.List.{list_any}
 use Rattle.vlink.specs.declared.frame.Net.TheVariants as net

@@ -1,5 +1,5 @@
--- How large a network is at most, and which numbers it has, as the limits of the keys of its description leave them. Times are in ns, and the
--- bandwidth allocation gap is in ms.
+-- The greatest size of a network, and which numbers it has, as the limits of the keys of its description leave them. Times are in ns, and
+-- the bandwidth allocation gap is in ms.
 use Rattle.std.specs.Prelude.{ℕ, ◌≤◌, ⊤}
 use Rattle.vlink.specs.declared.time.TheConstants.{LATEST_NS}
 use Rattle.network_rows.specs.declared.table.TheConstants.{SECOND_NS}

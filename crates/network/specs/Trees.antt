@@ -1,4 +1,4 @@
--- The paths of a virtual link: when they make a tree, and where it ends.
+-- The paths of a virtual link: when they form a tree, and where it ends.
 use Rattle.std.specs.Prelude.{ℕ, ◌↔◌, Contains, ◌-◌, ◌==◌, ◌&&◌, ◌||◌, not, Bool, true, false, List, [], ◌∷◌, ◌++◌, length, take, Option, Some, None, slice_get, flat_map, option_to_list}
 use Rattle.std.specs.List.{list_any}
 use Rattle.std.specs.List.Sorted.{IsStrictlyIncreasing}

@@ -1,4 +1,4 @@
-//! A network: what it holds, what is looked up in it by number, and what follows from it.
+//! A network: its contents, the tables that answer questions by number, and what follows from them.
 #![tactic(auto)]
 
 mod limits;

@@ -1,6 +1,6 @@
-//! How large a network is at most.
+//! The greatest size of a network.
 
-/// The greatest number of processes: the nodes, and two for each link.
+/// The greatest number of processes: one for each node, and two for each link.
 pub const GREATEST_PROCESSES: usize = 4096;
 
 /// The greatest number of ports of a switch.

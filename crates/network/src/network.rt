@@ -1,4 +1,4 @@
-//! The network that an accepted description gives.
+//! The network of an accepted description.
 ghost use Rattle.std.specs.Prelude.{◌≡◌, ◌*◌, ◌<◌, ◌≤◌, true, Some, length, slice_get};
 ghost use Rattle.std.specs.List.Sorted.{IsStrictlyIncreasing};
 ghost use Rattle.std.specs.Option.{option_map, option_and_then};
@@ -22,7 +22,7 @@ use vlink::{Time, VlId, process_number};
 
 /// A network: end systems, switches, the links between them, and virtual links with their paths.
 ///
-/// Clauses see it as its plan. Its virtual links are in rising number.
+/// Clauses see it as its plan. Its virtual links ascend by number.
 #[derive(Drop)]
 pub struct Network {
     until: Time,
@@ -48,7 +48,7 @@ impl Network {
     ghost use Rattle.network.specs.Accepted.{IsAccepted};
     ghost use Rattle.network.specs.Code.Tables.{plan_with, AreTables};
 
-    /// A network of these parts: rows without a fault, and the tables that follow from them.
+    /// Makes a network of these parts: rows without a fault, and the tables that follow from them.
     pub fn new(
         until: Time,
         seed: u64,
@@ -69,14 +69,14 @@ impl Network {
         }
     }
 
-    /// Every network is that of rows without a fault, within the limits of their keys.
+    /// Every network comes from rows without a fault, within the limits of their keys.
     pub fn accepted_law(&self)
         ensures { IsAccepted self.now }
     {
         let _fields = &self.numbered;
     }
 
-    /// The end of a run: its last moment.
+    /// Returns the end of a run, which is its last moment.
     pub fn until(&self) -> Time
         ensures value { result ≡ self.now.until }
         ensures least { 1 ≤ result }
@@ -85,21 +85,21 @@ impl Network {
         self.until
     }
 
-    /// The seed of the drawn numbers.
+    /// Returns the seed of the drawn numbers.
     pub fn seed(&self) -> u64
         ensures { result ≡ self.now.seed }
     {
         self.seed
     }
 
-    /// How many nodes there are. They are the processes 0, 1, ..
+    /// Returns the number of nodes. They are the processes 0, 1, ..
     pub fn node_count(&self) -> usize
         ensures { result ≡ length self.now.nodes }
     {
         self.nodes.len()
     }
 
-    /// How many lines there are: two for each link. Line `k` is process `k` behind the nodes.
+    /// Returns the number of lines: two for each link. Line `k` is process `k` behind the nodes.
     pub fn line_count(&self) -> usize
         ensures value { result ≡ length (lines_of self.now) }
         ensures links { length (lines_of self.now) ≡ 2 * length self.now.links }
@@ -107,7 +107,7 @@ impl Network {
         self.tables.lines.len()
     }
 
-    /// How many processes there are: the nodes, and behind them the lines.
+    /// Returns the number of processes: the nodes, and behind them the lines.
     pub fn process_count(&self) -> u16
         ensures value { result ≡ process_count self.now }
         ensures few { process_count self.now ≤ GREATEST_PROCESSES }
@@ -115,7 +115,7 @@ impl Network {
         process_number(self.nodes.len() + 2 * self.numbered.links.len())
     }
 
-    /// What the node at this place is.
+    /// Returns the kind of the node at this place.
     pub fn kind(&self, node: usize) -> NodeKind
         requires { node < length self.now.nodes }
         ensures value { option_map (λ node. node.kind) (slice_get self.now.nodes node) ≡ Some result }
@@ -124,7 +124,7 @@ impl Network {
         self.nodes[node].kind
     }
 
-    /// How many bytes may wait at each port of the node at this place.
+    /// Returns how many bytes may wait at each port of the node at this place.
     pub fn port_bytes(&self, node: usize) -> u32
         requires { node < length self.now.nodes }
         ensures { option_map (λ node. node.port_bytes) (slice_get self.now.nodes node) ≡ Some result }
@@ -132,7 +132,7 @@ impl Network {
         self.nodes[node].port_bytes
     }
 
-    /// The name of the node at this place.
+    /// Returns the name of the node at this place.
     pub fn node_name(&self, node: usize) -> &str
         requires { node < length self.now.nodes }
         ensures { result.now ≡ node_name self.now.nodes node }
@@ -140,7 +140,7 @@ impl Network {
         self.nodes[node].name.as_str()
     }
 
-    /// The name of a line: those of its nodes with > between.
+    /// Returns the name of a line: those of its nodes with > between.
     pub fn line_name(&self, line: usize) -> &str
         requires { line < length (lines_of self.now) }
         ensures { option_map (line_name self.now.nodes) (slice_get (lines_of self.now) line) ≡ Some result.now }
@@ -148,7 +148,7 @@ impl Network {
         self.tables.line_names[line].as_str()
     }
 
-    /// A line: its nodes, its ports there, and its times.
+    /// Returns a line: its nodes, its ports there, and its times.
     pub fn line(&self, line: usize) -> LinePlan
         requires { line < length (lines_of self.now) }
         ensures value { slice_get (lines_of self.now) line ≡ Some result }
@@ -164,7 +164,7 @@ impl Network {
         self.tables.lines[line]
     }
 
-    /// The outages of a line, in the order of their rows.
+    /// Returns the outages of a line, in the order of their rows.
     pub fn outages(&self, line: usize) -> &[Outage]
         requires { line < length (lines_of self.now) }
         ensures { result.now ≡ outages_of self.now line }
@@ -172,7 +172,7 @@ impl Network {
         self.tables.outages[line].as_slice()
     }
 
-    /// How many virtual links there are. They have the places 0, 1, .. in the order of their numbers.
+    /// Returns the number of virtual links. They have the places 0, 1, .. in the order of their numbers.
     pub fn vl_count(&self) -> usize
         ensures value { result ≡ length self.now.vls }
         ensures rising { IsStrictlyIncreasing (ids_of self.now.vls) }
@@ -180,7 +180,7 @@ impl Network {
         self.numbered.vls.len()
     }
 
-    /// The place of the virtual link with this number, or none where no virtual link has it.
+    /// Returns the place of the virtual link with this number, or none if no virtual link has it.
     pub fn place_of(&self, id: VlId) -> Option<usize>
         ensures { result ≡ place_of_vl self.now.vls id.0 }
     {
@@ -190,7 +190,7 @@ impl Network {
         }
     }
 
-    /// What is agreed of the frames of the virtual link with this place.
+    /// Returns the parameters of the virtual link at this place.
     pub fn virtual_link(&self, vl: usize) -> VirtualLink
         requires { vl < length self.now.vls }
         ensures value { option_map (λ vl. vl.link) (slice_get self.now.vls vl) ≡ Some result }
@@ -199,7 +199,7 @@ impl Network {
         self.numbered.vls[vl].link()
     }
 
-    /// Where the frames of a virtual link begin: the number of an end system.
+    /// Returns the source of a virtual link: the number of an end system.
     pub fn source(&self, vl: usize) -> u16
         requires { vl < length self.now.vls }
         ensures value { option_and_then source_of (slice_get self.now.vls vl) ≡ Some result }
@@ -209,7 +209,7 @@ impl Network {
         process_number(self.numbered.vls[vl].source().unwrap())
     }
 
-    /// Where the frames of a virtual link end: the places of nodes, rising.
+    /// Returns the destinations of a virtual link: the places of nodes, in ascending order.
     pub fn destinations(&self, vl: usize) -> &[usize]
         requires { vl < length self.now.vls }
         ensures { option_map destinations_of (slice_get self.now.vls vl) ≡ Some result.now }
@@ -217,9 +217,10 @@ impl Network {
         self.tables.destinations[vl].as_slice()
     }
 
-    /// The ports by which virtual links leave the node at this place: by the number of the virtual link, then rising.
+    /// Returns the ports by which virtual links leave the node at this place, sorted by the number of the virtual link, then by port.
     ///
-    /// At a switch these are the output ports of each virtual link; at an end system the networks that its own ones go out on.
+    /// At a switch these are the output ports of each virtual link. At an end system they are the networks on which its own virtual links
+    /// go out.
     pub fn departures(&self, node: usize) -> &[Way]
         requires { node < length self.now.nodes }
         ensures { result.now ≡ departures_of self.now node }
@@ -227,9 +228,9 @@ impl Network {
         self.tables.meetings.departures[node].as_slice()
     }
 
-    /// The ports by which virtual links come in at the node at this place: by the number of the virtual link.
+    /// Returns the ports by which virtual links enter the node at this place, sorted by the number of the virtual link.
     ///
-    /// At a switch this is the input port of each virtual link; at an end system the networks on which it is a destination.
+    /// At a switch this is the input port of each virtual link. At an end system these are the networks on which it is a destination.
     pub fn arrivals(&self, node: usize) -> &[Way]
         requires { node < length self.now.nodes }
         ensures { result.now ≡ arrivals_of self.now node }

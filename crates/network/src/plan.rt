@@ -1,4 +1,4 @@
-//! What rows say beside their nodes, with numbers in place of names.
+//! The contents of the rows beside their nodes, with numbers in place of names.
 ghost use Rattle.std.specs.Prelude.{◌≡◌, map};
 ghost use Rattle.network.specs.Trees.{source_among, source_of};
 ghost use Rattle.network.specs.Code.Views.{items_of, lists_of};
@@ -27,35 +27,35 @@ impl Model for Routed {
 }
 
 impl Routed {
-    /// A virtual link with these paths.
+    /// Makes a virtual link with these paths.
     pub fn new(link: VirtualLink, a: Vec<Vec<usize>>, b: Vec<Vec<usize>>) -> Self
         ensures { result ≡ record { link = link; a = lists_of a; b = lists_of b } }
     {
         Routed { link, a, b }
     }
 
-    /// What is agreed of its frames.
+    /// Returns the parameters of its frames.
     pub fn link(&self) -> VirtualLink
         ensures { result ≡ self.now.link }
     {
         self.link
     }
 
-    /// Its paths on network A.
+    /// Returns its paths on network A.
     pub fn a(&self) -> &[Vec<usize>]
         ensures { map items_of result.now ≡ self.now.a }
     {
         self.a.as_slice()
     }
 
-    /// Its paths on network B.
+    /// Returns its paths on network B.
     pub fn b(&self) -> &[Vec<usize>]
         ensures { map items_of result.now ≡ self.now.b }
     {
         self.b.as_slice()
     }
 
-    /// Where its frames begin, if it has a path.
+    /// Returns the node at which its frames begin, if it has a path.
     pub fn source(&self) -> Option<usize>
         ensures { result ≡ source_of self.now }
     {
@@ -67,14 +67,14 @@ impl Routed {
     }
 }
 
-/// Where the first path begins.
+/// Returns the node at which the first path begins.
 pub fn source_among(paths: &[Vec<usize>]) -> Option<usize>
     ensures { result ≡ source_among (map items_of paths.now) }
 {
     paths.first()?.first().copied()
 }
 
-/// What rows say beside their nodes.
+/// The contents of the rows beside their nodes.
 #[derive(Drop)]
 pub struct Numbered {
     pub links: Vec<Link>,

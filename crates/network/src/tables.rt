@@ -1,15 +1,15 @@
-//! What is looked up in a network by number.
+//! The tables of a network, which answer questions by number.
 
 use crate::wiring::{LinePlan, Outage, Way};
 
-/// What is looked up in a network by number.
+/// The tables of a network, which answer questions by number.
 #[derive(Drop)]
 pub struct Tables {
     pub lines: Vec<LinePlan>,
     pub line_names: Vec<String>,
     /// The outages of each line.
     pub outages: Vec<Vec<Outage>>,
-    /// For each node the ports by which virtual links leave it and come in.
+    /// For each node the ports by which virtual links leave it and enter it.
     pub meetings: Meetings,
     /// The destinations of each virtual link.
     pub destinations: Vec<Vec<usize>>,
@@ -17,7 +17,7 @@ pub struct Tables {
     pub places: Vec<Option<usize>>,
 }
 
-/// For each node the ports by which virtual links leave it, and by which they come in.
+/// For each node the ports by which virtual links leave it, and those by which they enter it.
 #[derive(Drop)]
 pub struct Meetings {
     pub departures: Vec<Vec<Way>>,

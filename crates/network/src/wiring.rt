@@ -1,4 +1,4 @@
-//! What joins nodes: links, lines and hops, and the ports at which virtual links meet them.
+//! What joins nodes: links, lines and hops, and the ports at which virtual links pass nodes.
 
 use vlink::VlId;
 
@@ -7,13 +7,13 @@ use vlink::VlId;
 pub struct Link {
     pub a: usize,
     pub b: usize,
-    /// How long a byte takes, in ns.
+    /// The time on the wire of one byte, in ns.
     pub byte_ns: u16,
-    /// How long a frame is on the way, in ns.
+    /// The propagation time of the link, in ns.
     pub propagation_ns: u32,
 }
 
-/// A time in which the direction of a link from one node to another loses frames.
+/// An interval in which the direction of a link from one node to another loses frames.
 #[derive(Clone, Copy)]
 pub struct Outage {
     pub from: usize,
@@ -24,7 +24,7 @@ pub struct Outage {
     pub to_ns: u64,
 }
 
-/// From one node of a path to the next.
+/// A step from one node of a path to the next.
 #[derive(Clone, Copy)]
 pub struct Hop {
     pub from: usize,
@@ -40,9 +40,9 @@ pub struct LinePlan {
     /// The number of the node that it leads to, and its port there.
     pub to: u16,
     pub to_port: u16,
-    /// How long a byte takes, in ns.
+    /// The time on the wire of one byte, in ns.
     pub byte_ns: u16,
-    /// How long a frame is on the way, in ns.
+    /// The propagation time of the line, in ns.
     pub propagation_ns: u32,
 }
 

@@ -1,4 +1,4 @@
--- What maps and sets of the checks hold.
+-- The contents of the maps and sets of the checks.
 use Rattle.std.specs.Prelude.{ℕ, ◌≡◌, ◌==◌, ◌&&◌, Bool, List, bytes_eq}
 use Rattle.std.specs.Ordering.{nat_cmp}
 use Rattle.std.specs.List.{list_any}

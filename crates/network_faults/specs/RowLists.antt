@@ -1,4 +1,4 @@
--- What rows say beside their nodes, with numbers in place of names, and what a check that makes something of rows answers.
+-- The contents of the rows beside their nodes, with numbers in place of names, and the result of a check that makes something of rows.
 use Rattle.std.specs.Prelude.{◌≡◌, List, [], map, Result, Ok, Err}
 use Rattle.network_rows.specs.declared.rows.NodeRow.{NodeRow}
 use Rattle.network_rows.specs.declared.rows.Rows.{Rows}

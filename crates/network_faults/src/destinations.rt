@@ -1,4 +1,4 @@
-//! Where a virtual link goes: its destinations, rising.
+//! The destinations of a virtual link, in ascending order.
 ghost use Rattle.std.specs.Prelude.{◌≡◌, IfOk};
 ghost use Rattle.network.specs.Trees.{rising, destinations_of};
 
@@ -6,7 +6,7 @@ use network::Routed;
 use network_paths::push_ends;
 use std::alloc::{AllocError, Global};
 
-/// The numbers, each once, rising.
+/// Returns the numbers, each once, in ascending order.
 pub fn rising_of(numbers: Vec<usize>) -> Vec<usize>
     ensures { result.items ≡ rising numbers.items }
 {
@@ -16,7 +16,7 @@ pub fn rising_of(numbers: Vec<usize>) -> Vec<usize>
     found
 }
 
-/// Where the paths of a virtual link end, rising.
+/// Returns the nodes at which the paths of a virtual link end, in ascending order.
 pub fn destinations_of(alloc: Global, vl: &Routed) -> Result<Vec<usize>, AllocError>
     ensures { IfOk result (λ ends. ends.items ≡ destinations_of vl.now) }
 {

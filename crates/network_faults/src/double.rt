@@ -1,4 +1,4 @@
-//! A name of a node, a pair of linked nodes and a number of a virtual link that an earlier row has.
+//! Names of nodes, pairs of linked nodes and numbers of virtual links that an earlier row already has.
 ghost use Rattle.std.specs.Prelude.{◌≡◌, ℕ, ◌==◌, map};
 ghost use Rattle.std.specs.List.{list_any};
 ghost use Rattle.std.specs.Ordering.{nat_cmp};
@@ -16,7 +16,7 @@ use network_rows::{DescFault, Key, Section};
 use std::alloc::Global;
 use std::collections::BTreeSet;
 
-/// No two nodes have one name: the number of each name is that of its own node.
+/// Checks that no two nodes have one name: the number of each name is that of its own node.
 pub fn check_nodes(names: &Names) -> Result<(), DescFault>
     ensures { Finds result (each double_at_node (map node_plan names.now.nodes.now)) }
 {
@@ -29,7 +29,7 @@ pub fn check_nodes(names: &Names) -> Result<(), DescFault>
     Ok(())
 }
 
-/// No two links join the same nodes: the place that the nodes of each link have is its own.
+/// Checks that no two links join the same nodes: the place that the nodes of each link have is its own.
 pub fn check_links(joined: &Joined) -> Result<(), DescFault>
     ensures { Finds result (each double_at_link joined.now.links.now) }
 {
@@ -65,7 +65,7 @@ impl Review for Ids {
     }
 }
 
-/// No two virtual links have one number.
+/// Checks that no two virtual links have one number.
 pub fn check_vls(alloc: Global, vls: &[Routed]) -> Result<(), DescFault>
     ensures { Finds result (each double_at_vl vls.now) }
 {

@@ -1,4 +1,4 @@
-//! Rows that are checked one after another, and the places of their faults.
+//! Checks rows one after another, and gives the places of their faults.
 ghost use Rattle.std.specs.Prelude.{◌≡◌, ℕ, ◌+◌, ◌^◌, ◌<◌, [], ◌∷◌, ◌++◌, List, length, MatchResult};
 ghost use Rattle.network_rows.specs.declared.fault.DescFault.{DescFault as Fault};
 ghost use Rattle.network.specs.Rows.{each};
@@ -6,17 +6,17 @@ ghost use Rattle.network.specs.Faults.{Tells};
 
 use network_rows::{DescFault, Key, Place, Section};
 
-/// What is checked of each row of a list.
+/// A check of each row of a list.
 pub trait Review {
     type Row;
 
-    /// What is seen of the rows: what later ones are checked against, or what is made of them.
+    /// What the check keeps of the rows: what later rows are checked against, or what is made of them.
     type Seen;
 
-    /// The faults of a row, from the rows before it and the row itself.
+    /// The faults of a row, given the rows before it and the row itself.
     ghost faults: { Self → List Self.Row → Self.Row → List Fault };
 
-    /// This is seen of these rows.
+    /// The check keeps this of these rows.
     ghost saw: { Self → Self.Seen → List Self.Row → Type 0 };
 
     /// Checks the row with the place `i`.
@@ -27,7 +27,7 @@ pub trait Review {
             (λ fault. Tells fault (faults self.now earlier row.now)) };
 }
 
-/// Checks each row, and tells the first fault of them.
+/// Checks each row, and returns the first fault.
 pub fn check_each<R: Review>(
     review: &R,
     seen: &mut R::Seen,
@@ -43,7 +43,7 @@ pub fn check_each<R: Review>(
     Ok(())
 }
 
-/// The place of a row, whose place in its list is `i`.
+/// Returns the place of the row number `i` of a list, counted from 0.
 pub fn row_at(section: Section, i: usize) -> Place
     requires { i + 1 < 2 ^ 64 }
     ensures { result ≡ record { section = section; row = Some (i + 1); key = None } }
@@ -55,7 +55,7 @@ pub fn row_at(section: Section, i: usize) -> Place
     }
 }
 
-/// The place of a key of a row.
+/// Returns the place of a key of a row.
 pub fn key_at(section: Section, i: usize, key: Key) -> Place
     requires { i + 1 < 2 ^ 64 }
     ensures { result ≡ record { section = section; row = Some (i + 1); key = Some key } }

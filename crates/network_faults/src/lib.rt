@@ -1,4 +1,4 @@
-//! What rows say of each other: their first fault, or the rows with numbers in place of names.
+//! Faults between rows: finds the first one, or makes the rows with numbers in place of names.
 #![tactic(auto)]
 
 mod destinations;

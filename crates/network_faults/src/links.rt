@@ -9,7 +9,7 @@ use network::Link;
 use std::alloc::{AllocError, Global};
 use std::collections::HashMap;
 
-/// Links, with the place of the link for each two nodes that one joins.
+/// Links, and for each two nodes that a link joins the place of this link.
 #[derive(Drop)]
 pub struct Joined<'a> {
     pub links: &'a [Link],
@@ -18,7 +18,7 @@ pub struct Joined<'a> {
 }
 
 impl<'a> Joined<'a> {
-    /// These links: the place for two nodes is that of the first link that joins them.
+    /// Indexes these links: the place for two nodes is that of the first link that joins them.
     pub fn new(alloc: Global, links: &'a [Link]) -> Result<Self, AllocError>
         ensures { IfOk result (λ joined. joined.links.now ≡ links.now) }
     {
@@ -32,7 +32,7 @@ impl<'a> Joined<'a> {
         Ok(Joined { links, places })
     }
 
-    /// The place of the first link that joins these nodes, or none where no link does.
+    /// Returns the place of the first link that joins these nodes, or none if no link does.
     pub fn place(&self, x: usize, y: usize) -> Option<usize>
         ensures place { result ≡ link_between self.now.links.now x y }
         ensures linked { is_some result ≡ is_linked self.now.links.now x y }
@@ -54,7 +54,7 @@ fn put(
     Ok(())
 }
 
-/// One more at the place `k`, if there is such a place.
+/// Adds one at the place `k`, if the list has that place.
 fn count_up(counts: &mut Vec<usize>, k: usize)
     requires { (j : ℕ) → j < vec_len counts.old → slice_index counts.old.items j + 1 < 2 ^ 64 }
     ensures count_is { (j : ℕ) → j < vec_len counts.old → slice_index counts.new.items j ≡ slice_index counts.old.items j + (if k == j then 1 else 0) }
@@ -65,7 +65,7 @@ fn count_up(counts: &mut Vec<usize>, k: usize)
     }
 }
 
-/// One more for each node that the link names.
+/// Adds one for each node that the link names.
 pub fn count_link(counts: &mut Vec<usize>, link: Link)
     requires { (j : ℕ) → j < vec_len counts.old → slice_index counts.old.items j + 2 < 2 ^ 64 }
     ensures count_is { (j : ℕ) → j < vec_len counts.old → slice_index counts.new.items j ≡ slice_index counts.old.items j + (if touches j link then 1 else 0) }
@@ -77,7 +77,7 @@ pub fn count_link(counts: &mut Vec<usize>, link: Link)
     }
 }
 
-/// For each of `count` nodes none.
+/// Makes a list of `count` zeros, one for each node.
 pub fn no_counts(alloc: Global, count: usize) -> Result<Vec<usize>, AllocError>
     ensures counts { IfOk result (λ counts. (j : ℕ) → slice_index counts.items j ≡ 0) }
     ensures len { IfOk result (λ counts. vec_len counts ≡ count) }
@@ -85,7 +85,7 @@ pub fn no_counts(alloc: Global, count: usize) -> Result<Vec<usize>, AllocError>
     Ok(vec![in alloc; 0usize; count]?)
 }
 
-/// For each of `count` nodes, how many links name it.
+/// Counts, for each of `count` nodes, how many links name it.
 pub fn link_counts(alloc: Global, count: usize, links: &[Link]) -> Result<Vec<usize>, AllocError>
     ensures counts { IfOk result (λ counts. (j : ℕ) → j < count → slice_index counts.items j ≡ count_by (touches j) links.now) }
     ensures len { IfOk result (λ counts. vec_len counts ≡ count) }

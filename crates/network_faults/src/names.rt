@@ -1,5 +1,5 @@
-//! The names of nodes, and their numbers.
-//! The kit's hasher has a fixed seed, so names can be chosen that collide: such a description is read slowly, and as any other.
+//! The names of nodes, and their numbers. The kit's hasher has a fixed seed, so names can be chosen that collide. Reading such a
+//! description is slow, and its result is that of any other.
 ghost use Rattle.std.specs.Prelude.{◌≡◌, IfOk, IfSome, is_some};
 ghost use Rattle.network.specs.Names.{names_of, is_among, place_among, number_of};
 ghost use Rattle.network_faults.specs.Lookups.{AreNumbers};
@@ -17,7 +17,7 @@ pub struct Names<'a> {
 }
 
 impl<'a> Names<'a> {
-    /// The names of these nodes: the number of each is that of the first node with the name.
+    /// Indexes the names of these nodes: the number of each name is that of the first node with it.
     pub fn new(alloc: Global, nodes: &'a [NodeRow]) -> Result<Self, AllocError>
         ensures { IfOk result (λ names. names.nodes.now ≡ nodes.now) }
     {
@@ -31,7 +31,7 @@ impl<'a> Names<'a> {
         Ok(Names { nodes, numbers })
     }
 
-    /// The number of the first node with this name, or none where no node has it.
+    /// Returns the number of the first node with this name, or none if no node has it.
     pub fn number(&self, name: &str) -> Option<usize>
         ensures place { result ≡ place_among (names_of self.now.nodes.now) name.now }
         ensures known { is_some result ≡ is_among (names_of self.now.nodes.now) name.now }

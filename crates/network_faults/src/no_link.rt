@@ -1,4 +1,4 @@
-//! Links that may not be, and outages and paths that go where no link is.
+//! Links that are not allowed, and outages and paths that go where no link is.
 ghost use Rattle.std.specs.Prelude.{◌≡◌, ℕ, ⊤, List, ◌||◌, ◌++◌, map, not, OnOk};
 ghost use Rattle.std.specs.List.{list_any};
 ghost use Rattle.std.specs.Ordering.{nat_cmp};
@@ -23,14 +23,14 @@ use std::alloc::{AllocError, Global};
 use std::collections::BTreeSet;
 use vlink::Net;
 
-/// The nodes that links join to a switch of network A, and of network B.
+/// The nodes that links join to a switch of network A, and those that links join to a switch of network B.
 #[derive(Drop)]
 struct Attached {
     on_a: BTreeSet<usize>,
     on_b: BTreeSet<usize>,
 }
 
-/// The link is the second one of an end system on this network, where `attached` has the nodes with a link to a switch of it.
+/// Whether the link is a second one of an end system on this network. `attached` has the nodes that already have a link to a switch of it.
 fn is_second(nodes: &[NodeRow], net: Net, attached: &BTreeSet<usize>, link: Link) -> bool
     ensures { (earlier : List Link) → AreAttached (map node_plan nodes.now) net attached.now earlier → result ≡ is_second (map node_plan nodes.now) net earlier link }
 {
@@ -58,7 +58,7 @@ fn attach(
     Ok(())
 }
 
-/// The link may not be, where `on_a` and `on_b` have the nodes with a link to a switch of network A and of network B.
+/// Whether the link is not allowed. `on_a` and `on_b` have the nodes that already have a link to a switch of network A and of network B.
 fn is_no_link(nodes: &[NodeRow], on_a: &BTreeSet<usize>, on_b: &BTreeSet<usize>, link: Link) -> bool
     ensures { (earlier : List Link) → AreAttached (map node_plan nodes.now) A on_a.now earlier → AreAttached (map node_plan nodes.now) B on_b.now earlier →
         result ≡ is_no_link (map node_plan nodes.now) earlier link }
@@ -71,7 +71,7 @@ fn is_no_link(nodes: &[NodeRow], on_a: &BTreeSet<usize>, on_b: &BTreeSet<usize>,
         || is_second(nodes, Net::B, on_b, link)
 }
 
-/// Checks links between these nodes.
+/// Checks that links between these nodes are allowed.
 #[derive(Drop)]
 struct Links<'a> {
     nodes: &'a [NodeRow],
@@ -96,7 +96,7 @@ impl<'a> Review for Links<'a> {
     }
 }
 
-/// Each outage is of a link.
+/// Checks that each outage is of a link.
 #[derive(Drop)]
 struct Outages<'a, 'b> {
     joined: &'a Joined<'b>,
@@ -119,7 +119,7 @@ impl<'a, 'b> Review for Outages<'a, 'b> {
     }
 }
 
-/// Two neighbours of the path that begins with `from` have no link.
+/// Whether two neighbours of the path that begins with `from` have no link.
 fn has_gap_after(joined: &Joined, from: usize, others: &[usize]) -> bool
     ensures { result ≡ list_any (is_gap joined.now.links.now) (hops_after from others.now) }
 {
@@ -133,7 +133,7 @@ fn has_gap_after(joined: &Joined, from: usize, others: &[usize]) -> bool
     false
 }
 
-/// Two neighbours of a path have no link.
+/// Whether two neighbours of a path have no link.
 fn is_gapped(joined: &Joined, path: &[usize]) -> bool
     ensures { result ≡ list_any (is_gap joined.now.links.now) (hops_of path.now) }
 {
@@ -143,7 +143,7 @@ fn is_gapped(joined: &Joined, path: &[usize]) -> bool
     }
 }
 
-/// Two neighbours of a path of these have no link.
+/// Whether two neighbours on one of these paths have no link.
 fn has_gap(joined: &Joined, paths: &[Vec<usize>]) -> bool
     ensures { result ≡ has_gap joined.now.links.now (map items_of paths.now) }
 {
@@ -155,7 +155,7 @@ fn has_gap(joined: &Joined, paths: &[Vec<usize>]) -> bool
     false
 }
 
-/// The neighbours of each path have a link.
+/// Checks that the neighbours on each path have a link.
 #[derive(Drop)]
 struct Vls<'a, 'b> {
     joined: &'a Joined<'b>,
@@ -181,7 +181,7 @@ impl<'a, 'b> Review for Vls<'a, 'b> {
     }
 }
 
-/// Links, outages and paths go over links that may be.
+/// Checks that links are allowed, and that outages and paths go over links.
 pub fn check_no_link(
     alloc: Global,
     nodes: &[NodeRow],

@@ -1,4 +1,4 @@
-//! Virtual links whose paths are no trees.
+//! Finds virtual links whose paths are not trees.
 ghost use Rattle.std.specs.Prelude.{⊤, map};
 ghost use Rattle.network.specs.Rows.{each};
 ghost use Rattle.network.specs.Plan.{node_plan};
@@ -11,7 +11,7 @@ use network_paths::{Room, check_trees};
 use network_rows::{DescFault, Key, NodeRow, Section};
 use std::alloc::Global;
 
-/// The paths of each virtual link are trees from one source.
+/// Checks that the paths of each virtual link are trees from one source.
 #[derive(Drop)]
 struct Vls<'a> {
     nodes: &'a [NodeRow],
@@ -33,7 +33,7 @@ impl<'a> Review for Vls<'a> {
     }
 }
 
-/// The paths of each virtual link are trees from one source.
+/// Checks that the paths of each virtual link are trees from one source.
 pub fn check_no_tree(alloc: Global, nodes: &[NodeRow], vls: &[Routed]) -> Result<(), DescFault>
     ensures { Finds result (each (no_tree_at_vl (map node_plan nodes.now)) vls.now) }
 {

@@ -1,4 +1,4 @@
-//! Rows with numbers in place of names, where they make a network; or the first fault of what they say of each other.
+//! Makes the rows with numbers in place of names if they form a network, or finds the first fault between rows.
 ghost use Rattle.std.specs.Prelude.{◌++◌, map};
 ghost use Rattle.network.specs.Rows.{each};
 ghost use Rattle.network.specs.Plan.{node_plan};
@@ -17,7 +17,7 @@ use network::Numbered;
 use network_rows::{DescFault, Rows};
 use std::alloc::Global;
 
-/// The rows with numbers in place of names, where they make a network.
+/// Makes the rows with numbers in place of names, if they form a network.
 pub fn numbered_of(alloc: Global, rows: &Rows) -> Result<Numbered, DescFault>
     ensures { Gives row_lists_of result (faults_of rows.now) (row_lists_in rows.now) }
 {
@@ -27,7 +27,8 @@ pub fn numbered_of(alloc: Global, rows: &Rows) -> Result<Numbered, DescFault>
     Ok(numbered)
 }
 
-/// Rows with numbers in place of names have no double names, go over links that may be, have trees, and are within the limits.
+/// Checks rows with numbers in place of names: no double names, only links that are allowed, paths that are trees, and numbers within the
+/// limits.
 fn check_numbered(alloc: Global, names: &Names, numbered: &Numbered) -> Result<(), DescFault>
     ensures { Finds result
         (double_names (plan_in names.now.nodes.now numbered.now)
@@ -47,7 +48,7 @@ fn check_numbered(alloc: Global, names: &Names, numbered: &Numbered) -> Result<(
     )
 }
 
-/// The links, where no name, no pair of nodes and no number of a virtual link is there twice.
+/// Indexes the links, after a check that no name, no pair of nodes and no number of a virtual link occurs twice.
 fn join_links<'a>(
     alloc: Global,
     names: &Names,

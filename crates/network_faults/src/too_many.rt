@@ -1,4 +1,4 @@
-//! More processes, ports, outages or destinations than a network may have.
+//! Finds more processes, ports, outages or destinations than a network may have.
 ghost use Rattle.std.specs.Prelude.{◌≡◌, ◌+◌, ◌*◌, ◌≤◌, ⊤, true, length, map, nat_lt, not, ◌&&◌, ◌++◌};
 ghost use Rattle.network.specs.Limits.{greatest_processes, greatest_ports, greatest_outages, greatest_destinations};
 ghost use Rattle.network_rows.specs.declared.key.Section.TheVariants.{Outage};
@@ -19,21 +19,21 @@ use network_paths::is_end_system;
 use network_rows::{DescFault, NodeRow, Place, Section};
 use std::alloc::Global;
 
-/// There are more processes than a network may have: so many nodes, and two for each link.
+/// Whether this number of nodes, and two lines for each of this number of links, are more processes than a network may have.
 pub fn has_many_processes(nodes: usize, links: usize) -> bool
     ensures { result ≡ nat_lt greatest_processes (nodes + 2 * links) }
 {
     nodes > GREATEST_PROCESSES || links > (GREATEST_PROCESSES - nodes) / 2
 }
 
-/// The node is a switch, and so many links are more than it may have ports.
+/// Whether the node is a switch, and `count` links are more than it may have ports.
 fn has_many_links(nodes: &[NodeRow], n: usize, count: usize) -> bool
     ensures { result ≡ (not (is_end_system (map node_plan nodes.now) n) && nat_lt greatest_ports count) }
 {
     !is_end_system(nodes, n) && count > GREATEST_PORTS
 }
 
-/// No switch has more links than it may have ports.
+/// Checks that no switch has more links than it may have ports.
 pub fn check_nodes(alloc: Global, nodes: &[NodeRow], links: &[Link]) -> Result<(), DescFault>
     ensures { Finds result (each (too_many_at_node (map node_plan nodes.now) links.now) (map node_plan nodes.now)) }
 {
@@ -47,14 +47,15 @@ pub fn check_nodes(alloc: Global, nodes: &[NodeRow], links: &[Link]) -> Result<(
     Ok(())
 }
 
-/// The virtual link has no more paths than it may have destinations.
+/// Whether the virtual link has no more paths than it may have destinations.
 fn has_few_paths(vl: &Routed) -> bool
     ensures { result ≡ true → length vl.now.a + length vl.now.b ≤ greatest_destinations }
 {
     vl.a().len() <= GREATEST_DESTINATIONS && vl.b().len() <= GREATEST_DESTINATIONS - vl.a().len()
 }
 
-/// No virtual link has more destinations than it may have: no more than it has paths, or counted.
+/// Checks that no virtual link has more destinations than it may: either it has no more paths than that, or the check counts its
+/// destinations.
 #[derive(Drop)]
 struct Vls {
     alloc: Global,
@@ -81,7 +82,7 @@ impl Review for Vls {
     }
 }
 
-/// Processes, ports, outages and destinations are within their limits.
+/// Checks that processes, ports, outages and destinations are within their limits.
 pub fn check_too_many(
     alloc: Global,
     nodes: &[NodeRow],

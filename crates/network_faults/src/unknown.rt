@@ -1,4 +1,4 @@
-//! Rows with numbers in place of names, and the first key or name that is unknown.
+//! Makes rows with numbers in place of names, or finds the first key or name that is unknown.
 ghost use Rattle.std.specs.Prelude.{◌≡◌, ◌+◌, ◌^◌, ◌<◌, ⊤, List, length, map};
 ghost use Rattle.std.specs.List.{list_any};
 ghost use Rattle.network_rows.specs.declared.fault.DescFault.TheVariants.{UnknownName};
@@ -21,7 +21,7 @@ use network_rows::{
 };
 use std::alloc::Global;
 
-/// No key of a row, which is at this place, is unknown.
+/// Checks that the row at this place has no unknown key.
 fn check_keys(has_unknown_key: bool, place: Place) -> Result<(), DescFault>
     ensures { Finds result (when has_unknown_key (UnknownName place)) }
 {
@@ -31,7 +31,7 @@ fn check_keys(has_unknown_key: bool, place: Place) -> Result<(), DescFault>
     Ok(())
 }
 
-/// The number of the node with this name, which is at this place.
+/// Returns the number of the node with this name, which is at this place.
 fn node_at(names: &Names, name: &str, place: Place) -> Result<usize, DescFault>
     ensures { Gives (λ n. n) result (when (is_unknown (names_of names.now.nodes.now) name.now) (UnknownName place)) (number_of (names_of names.now.nodes.now) name.now) }
 {
@@ -41,7 +41,7 @@ fn node_at(names: &Names, name: &str, place: Place) -> Result<usize, DescFault>
     }
 }
 
-/// The numbers of a path, whose key is at this place.
+/// Returns the numbers of a path, whose key is at this place.
 fn path_at(alloc: Global, names: &Names, path: &Path, place: Place) -> Result<Vec<usize>, DescFault>
     ensures { Gives items_of result (when (list_any (is_unknown (names_of names.now.nodes.now)) path.now) (UnknownName place)) (path_numbers (names_of names.now.nodes.now) path.now) }
 {
@@ -52,7 +52,7 @@ fn path_at(alloc: Global, names: &Names, path: &Path, place: Place) -> Result<Ve
     Ok(numbers)
 }
 
-/// The numbers of the paths of one network, whose key is at this place.
+/// Returns the numbers of the paths of one network, whose key is at this place.
 fn paths_at(
     alloc: Global,
     names: &Names,
@@ -68,7 +68,7 @@ fn paths_at(
     Ok(numbered)
 }
 
-/// No row of a node has a key that no node has.
+/// Checks that no row of a node has an unknown key.
 #[derive(Drop)]
 struct NodeKeys {}
 
@@ -86,7 +86,7 @@ impl Review for NodeKeys {
     }
 }
 
-/// How long a byte takes at this rate, in ns.
+/// Returns how long a byte takes at this rate, in ns.
 fn byte_ns(rate: Rate) -> u16
     ensures { result ≡ byte_ns_of rate }
 {
@@ -96,7 +96,7 @@ fn byte_ns(rate: Rate) -> u16
     }
 }
 
-/// The link of a row, whose place is `i`.
+/// Makes the link of the row number `i`, counted from 0.
 fn link_of(names: &Names, i: usize, row: &LinkRow) -> Result<Link, DescFault>
     requires { i + 1 < 2 ^ 64 }
     ensures { (earlier : List LinkRow) → length earlier ≡ i →
@@ -135,7 +135,7 @@ impl<'a, 'b> Review for Links<'a, 'b> {
     }
 }
 
-/// The outage of a row, whose place is `i`.
+/// Makes the outage of the row number `i`, counted from 0.
 fn outage_of(names: &Names, i: usize, row: &OutageRow) -> Result<Outage, DescFault>
     requires { i + 1 < 2 ^ 64 }
     ensures { (earlier : List OutageRow) → length earlier ≡ i →
@@ -178,7 +178,7 @@ impl<'a, 'b> Review for Outages<'a, 'b> {
     }
 }
 
-/// The virtual link of a row, whose place is `i`.
+/// Makes the virtual link of the row number `i`, counted from 0.
 fn vl_of(alloc: Global, names: &Names, i: usize, row: &VlRow) -> Result<Routed, DescFault>
     requires { i + 1 < 2 ^ 64 }
     ensures { (earlier : List VlRow) → length earlier ≡ i →
@@ -213,7 +213,7 @@ impl<'a, 'b> Review for Vls<'a, 'b> {
     }
 }
 
-/// The rows with numbers in place of names, where each key and each name is known.
+/// Makes the rows with numbers in place of names, if each key and each name is known.
 pub fn number_rows(alloc: Global, names: &Names, rows: &Rows) -> Result<Numbered, DescFault>
     requires { names.now.nodes.now ≡ rows.now.nodes }
     ensures { Gives row_lists_of result (unknown_names rows.now) (row_lists_in rows.now) }

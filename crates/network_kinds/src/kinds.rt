@@ -1,4 +1,4 @@
-//! What nodes are: end systems, and switches of a network.
+//! The kinds of nodes: end systems, and switches of a network.
 ghost use Rattle.std.specs.Prelude.{◌≡◌, map};
 ghost use Rattle.network.specs.Plan.{node_plan};
 ghost use Rattle.network.specs.Wiring.{is_end_system, is_switch_of, is_end_kind, is_switch_kind};
@@ -6,7 +6,7 @@ ghost use Rattle.network.specs.Wiring.{is_end_system, is_switch_of, is_end_kind,
 use network_rows::{NodeKind, NodeRow};
 use vlink::Net;
 
-/// The kind is that of an end system.
+/// Whether the kind is an end system.
 fn is_end_kind(kind: NodeKind) -> bool
     ensures { result ≡ is_end_kind kind }
 {
@@ -16,7 +16,7 @@ fn is_end_kind(kind: NodeKind) -> bool
     }
 }
 
-/// The kind is that of a switch of this network.
+/// Whether the kind is a switch of this network.
 fn is_switch_kind(net: Net, kind: NodeKind) -> bool
     ensures { result ≡ is_switch_kind net kind }
 {
@@ -29,7 +29,7 @@ fn is_switch_kind(net: Net, kind: NodeKind) -> bool
     }
 }
 
-/// The node with this number is an end system.
+/// Whether the node with this number is an end system.
 pub fn is_end_system(nodes: &[NodeRow], n: usize) -> bool
     ensures { result ≡ is_end_system (map node_plan nodes.now) n }
 {
@@ -39,7 +39,7 @@ pub fn is_end_system(nodes: &[NodeRow], n: usize) -> bool
     }
 }
 
-/// The node with this number is a switch of this network.
+/// Whether the node with this number is a switch of this network.
 pub fn is_switch_of(nodes: &[NodeRow], net: Net, n: usize) -> bool
     ensures { result ≡ is_switch_of (map node_plan nodes.now) net n }
 {

@@ -1,4 +1,4 @@
-//! What the nodes of a network are: end systems, and switches of the network A or B.
+//! The kinds of the nodes of a network: end systems, and switches of network A or B.
 #![tactic(auto)]
 
 mod kinds;

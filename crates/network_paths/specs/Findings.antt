@@ -1,4 +1,4 @@
--- What checks answer, what a map of ways holds, and room for both.
+-- The results of checks, the contents of a map of ways, and room for both.
 use Rattle.std.specs.Prelude.{ℕ, ◌≡◌, ◌==◌, ⊤, Bool, List, [], Option, Some, Result, Ok, Err, Contains}
 use Rattle.std.specs.HashMap.{HashMap, get}
 use Rattle.network_rows.specs.declared.fault.DescFault.{DescFault}

@@ -1,4 +1,4 @@
-//! The paths of a virtual link: what nodes they pass, their hops and ends, and which are no tree.
+//! The paths of a virtual link: the nodes that they pass, their hops and ends, and a check that they form a tree.
 #![tactic(auto)]
 
 mod paths;

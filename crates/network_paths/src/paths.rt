@@ -1,4 +1,4 @@
-//! The hops of paths, and where paths end.
+//! The hops of paths, and the nodes at which paths end.
 ghost use Rattle.std.specs.Prelude.{◌≡◌, ◌++◌, map, OnOk};
 ghost use Rattle.network.specs.Trees.{hops_of, hops_after, all_hops, end_of, ends_of};
 ghost use Rattle.network.specs.Code.Views.{items_of};
@@ -6,7 +6,7 @@ ghost use Rattle.network.specs.Code.Views.{items_of};
 use network::Hop;
 use std::alloc::AllocError;
 
-/// Puts the hops of the path that begins with `from` at the end.
+/// Appends the hops of the path that begins with `from`.
 fn push_after(hops: &mut Vec<Hop>, from: usize, others: &[usize]) -> Result<(), AllocError>
     ensures { OnOk result (hops.new.items ≡ hops.old.items ++ hops_after from others.now) }
 {
@@ -18,7 +18,7 @@ fn push_after(hops: &mut Vec<Hop>, from: usize, others: &[usize]) -> Result<(), 
     Ok(())
 }
 
-/// Puts the hops of a path at the end.
+/// Appends the hops of a path.
 fn push_hops(hops: &mut Vec<Hop>, path: &[usize]) -> Result<(), AllocError>
     ensures { OnOk result (hops.new.items ≡ hops.old.items ++ hops_of path.now) }
 {
@@ -28,7 +28,7 @@ fn push_hops(hops: &mut Vec<Hop>, path: &[usize]) -> Result<(), AllocError>
     }
 }
 
-/// Puts the hops of these paths at the end, path by path.
+/// Appends the hops of these paths, path by path.
 pub fn push_all(hops: &mut Vec<Hop>, paths: &[Vec<usize>]) -> Result<(), AllocError>
     ensures { OnOk result (hops.new.items ≡ hops.old.items ++ all_hops (map items_of paths.now)) }
 {
@@ -38,7 +38,7 @@ pub fn push_all(hops: &mut Vec<Hop>, paths: &[Vec<usize>]) -> Result<(), AllocEr
     Ok(())
 }
 
-/// Puts the last node of a path at the end.
+/// Appends the last node of a path.
 fn push_end(ends: &mut Vec<usize>, path: &[usize]) -> Result<(), AllocError>
     ensures { OnOk result (ends.new.items ≡ ends.old.items ++ end_of path.now) }
 {
@@ -48,7 +48,7 @@ fn push_end(ends: &mut Vec<usize>, path: &[usize]) -> Result<(), AllocError>
     }
 }
 
-/// Puts the last nodes of these paths at the end, path by path.
+/// Appends the last nodes of these paths, path by path.
 pub fn push_ends(ends: &mut Vec<usize>, paths: &[Vec<usize>]) -> Result<(), AllocError>
     ensures { OnOk result (ends.new.items ≡ ends.old.items ++ ends_of (map items_of paths.now)) }
 {

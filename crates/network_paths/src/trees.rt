@@ -1,4 +1,4 @@
-//! Paths of a virtual link that are no tree.
+//! Checks whether the paths of a virtual link form a tree.
 ghost use Rattle.std.specs.Prelude.{◌≡◌, [], ◌∷◌, ◌++◌, true, List, Contains, MatchBool, map, not, ◌&&◌, ◌||◌, IfOk};
 ghost use Rattle.std.specs.List.{list_any};
 ghost use Rattle.std.specs.Option.{option_copied};
@@ -20,7 +20,7 @@ use std::alloc::{AllocError, Global};
 use std::collections::{HashMap, HashSet};
 use vlink::Net;
 
-/// There is a node, and it is an end system.
+/// Whether the node exists and is an end system.
 fn is_at_end_system(nodes: &[NodeRow], node: Option<&usize>) -> bool
     ensures { result ≡ passes (is_end_system (map node_plan nodes.now)) (option_copied node.entry) }
 {
@@ -30,7 +30,7 @@ fn is_at_end_system(nodes: &[NodeRow], node: Option<&usize>) -> bool
     }
 }
 
-/// One of these nodes is no switch of the network.
+/// Whether one of these nodes is not a switch of the network.
 fn has_other(nodes: &[NodeRow], net: Net, inner: &[usize]) -> bool
     ensures { result ≡ list_any (λ node. not (is_switch_of (map node_plan nodes.now) net node)) inner.now }
 {
@@ -42,7 +42,7 @@ fn has_other(nodes: &[NodeRow], net: Net, inner: &[usize]) -> bool
     false
 }
 
-/// What is between the two ends of a path.
+/// Returns the nodes between the two ends of a path.
 fn inner_of(path: &[usize]) -> &[usize]
     ensures { result.now ≡ inner_of path.now }
 {
@@ -55,7 +55,7 @@ fn inner_of(path: &[usize]) -> &[usize]
     }
 }
 
-/// The path does not begin and end at an end system, or an inner node is no switch of the network, or a node is there twice.
+/// Whether the path does not begin and end at an end system, or an inner node is not a switch of the network, or a node occurs twice.
 fn is_bad_path(nodes: &[NodeRow], net: Net, path: &[usize]) -> bool
     ensures { result ≡ is_bad_path (map node_plan nodes.now) net path.now }
 {
@@ -65,7 +65,7 @@ fn is_bad_path(nodes: &[NodeRow], net: Net, path: &[usize]) -> bool
         || has_double(path)
 }
 
-/// Both are there and they differ.
+/// Whether both exist and differ.
 fn differ(x: Option<usize>, y: Option<usize>) -> bool
     ensures { result ≡ differ x y }
 {
@@ -75,7 +75,7 @@ fn differ(x: Option<usize>, y: Option<usize>) -> bool
     }
 }
 
-/// A number is there twice. For few numbers: each is compared with all behind it.
+/// Whether a number occurs twice. Made for few numbers: it compares each with all behind it.
 pub fn has_double(numbers: &[usize]) -> bool
     ensures { result ≡ has_double numbers.now }
 {
@@ -89,7 +89,7 @@ pub fn has_double(numbers: &[usize]) -> bool
     false
 }
 
-/// A number is there twice. For any number of them: each is sought in `seen`, a set of those before it.
+/// Whether a number occurs twice. Made for any count of numbers: it looks each one up in `seen`, the set of those before it.
 fn has_repeat(seen: &mut HashSet<usize>, numbers: &[usize]) -> Result<bool, AllocError>
     ensures { Tests result (has_double numbers.now) }
 {
@@ -102,14 +102,14 @@ fn has_repeat(seen: &mut HashSet<usize>, numbers: &[usize]) -> Result<bool, Allo
     Ok(false)
 }
 
-/// One of these paths is a bad one, or begins at another node than the first one.
+/// Whether one of these paths is bad, or begins at another node than the first one.
 fn has_bad_path(nodes: &[NodeRow], net: Net, paths: &[Vec<usize>]) -> bool
     ensures { result ≡ (list_any (is_bad_path (map node_plan nodes.now) net) (map items_of paths.now) || begin_apart (map items_of paths.now)) }
 {
     has_bad(nodes, net, paths) || begin_apart(paths)
 }
 
-/// One of these paths is a bad one.
+/// Whether one of these paths is bad.
 fn has_bad(nodes: &[NodeRow], net: Net, paths: &[Vec<usize>]) -> bool
     ensures { result ≡ list_any (is_bad_path (map node_plan nodes.now) net) (map items_of paths.now) }
 {
@@ -121,7 +121,7 @@ fn has_bad(nodes: &[NodeRow], net: Net, paths: &[Vec<usize>]) -> bool
     false
 }
 
-/// Two of these paths begin at different nodes.
+/// Whether two of these paths begin at different nodes.
 fn begin_apart(paths: &[Vec<usize>]) -> bool
     ensures { result ≡ begin_apart (map items_of paths.now) }
 {
@@ -134,7 +134,7 @@ fn begin_apart(paths: &[Vec<usize>]) -> bool
     false
 }
 
-/// The hop leads to a node that was reached from another one; else it joins the ways that were found.
+/// Whether the hop leads to a node that was reached from another one. If not, the hop is added to `ways`.
 fn is_other_way(ways: &mut HashMap<usize, usize>, hop: Hop) -> Result<bool, AllocError>
     ensures { (hops : List Hop) → AreWays ways.old hops → IfOk result (λ other. MatchBool other
         ((s : Hop) × Contains hops s × (is_other_way s hop ≡ true)) (AreWays ways.new (hops ++ hop ∷ []))) }
@@ -148,7 +148,7 @@ fn is_other_way(ways: &mut HashMap<usize, usize>, hop: Hop) -> Result<bool, Allo
     }
 }
 
-/// Two of these hops lead to one node from different ones. `ways` is filled with where each node is reached from.
+/// Whether two of these hops lead to one node from different ones. Fills `ways` with the node from which each one is reached.
 fn has_other_way(ways: &mut HashMap<usize, usize>, hops: &[Hop]) -> Result<bool, AllocError>
     ensures { Tests result (has_other_way hops.now) }
 {
@@ -161,19 +161,19 @@ fn has_other_way(ways: &mut HashMap<usize, usize>, hops: &[Hop]) -> Result<bool,
     Ok(false)
 }
 
-/// Room for what is found out of the paths of one virtual link after another.
+/// Room to examine the paths of one virtual link after another.
 #[derive(Drop)]
 pub struct Room {
-    /// Where the paths end.
+    /// The nodes at which the paths end.
     ends: Vec<usize>,
     seen: HashSet<usize>,
     hops: Vec<Hop>,
-    /// From which node each one is reached.
+    /// The node from which each one is reached.
     ways: HashMap<usize, usize>,
 }
 
 impl Room {
-    /// Room in which nothing was found out yet.
+    /// Makes room in which nothing is stored yet.
     pub fn new(alloc: Global) -> Self
         ensures { IsFresh result }
     {
@@ -186,7 +186,7 @@ impl Room {
     }
 }
 
-/// The paths of one network are no tree.
+/// Whether the paths of one network do not form a tree.
 fn is_no_tree(
     room: &mut Room,
     nodes: &[NodeRow],
@@ -208,7 +208,7 @@ fn is_no_tree(
     has_other_way(&mut room.ways, room.hops.as_slice())
 }
 
-/// The paths of a virtual link are trees from one source. Paths that are not are a fault at the place of their network.
+/// Checks that the paths of a virtual link are trees from one source. A fault names the place of their network.
 pub fn check_trees(
     room: &mut Room,
     nodes: &[NodeRow],

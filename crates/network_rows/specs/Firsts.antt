@@ -1,4 +1,4 @@
--- The first place of each sort of fault, while a document is gone through.
+-- The first place of each kind of fault, while a document is read.
 use Rattle.std.specs.Prelude.{List, [], ◌∷◌, Option, Some, None, option_map, unwrap_or}
 use Rattle.network_rows.specs.declared.fault.Place.{Place}
 use Rattle.network_rows.specs.declared.fault.KeyFault.{KeyFault}

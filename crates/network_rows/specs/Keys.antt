@@ -1,4 +1,4 @@
--- How sections and keys are written.
+-- The texts of sections and keys.
 use Rattle.std.specs.Prelude.{ℕ, List, codes}
 use Rattle.network_rows.specs.declared.key.Section.{Section}
 use Rattle.network_rows.specs.declared.key.Section.TheVariants.{Top, Node, Link, Outage, Vl}

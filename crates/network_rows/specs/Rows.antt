@@ -1,6 +1,5 @@
--- The rows that a document means. No value is made up: a table that lacks a key which it has to have, or has another value there than the table of
--- keys asks for, means no row at all.
--- It is a relation and no function, so that no value is made up for a key that is absent.
+-- The rows that a document means. This is a relation and not a function, so that no value is invented: a table that lacks a key which it
+-- must have, or has a value there that the table of keys does not allow, means no row at all.
 use Rattle.std.specs.Prelude.{◌≡◌, ◌⊎◌, ℕ, Bool, true, not, List, [], ◌∷◌, ◌++◌, map, filter, Option, Some, None, bytes_eq}
 use Rattle.std.specs.List.{list_any, AllZip}
 use Rattle.toml.specs.Data.{Data, Items, Members, no_members, member, as_str, as_array, as_table, get_member}

@@ -1,4 +1,4 @@
--- Tables and lists at which nothing is wrong: rows are made of these alone.
+-- Tables and lists without a fault: rows are made of these alone.
 use Rattle.std.specs.Prelude.{◌≡◌, true, Option, Some, None, ⊤}
 use Rattle.std.specs.List.{AllByRecursion}
 use Rattle.toml.specs.Data.{Data, Items, Members, as_array, as_table}

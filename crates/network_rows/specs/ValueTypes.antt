@@ -1,4 +1,4 @@
--- What a type of values asks of a value: first that it is such a value at all, then that it is within the limit.
+-- What a type of values requires of a value: first that it is of the type, then that it is within the limit.
 use Rattle.std.specs.Prelude.{ℕ, Bool, true, ◌&&◌, ◌||◌, ◌==◌, nat_le, nat_lt, List, codes, length, Option, Some, None, is_some, option_and_then, bytes_eq}
 use Rattle.std.specs.List.{list_any, list_all}
 use Rattle.std.specs.Char.{is_ascii_alphanumeric}

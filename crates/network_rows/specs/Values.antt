@@ -1,4 +1,4 @@
--- What stands at a key of a table, and the plain values that data can be.
+-- The values at the keys of a table, and the plain values that data can be.
 use Rattle.std.specs.Prelude.{ℕ, pos, Bool, false, List, [], ◌∷◌, Option, Some, None, option_and_then, option_map, unwrap_or, bytes_eq}
 use Rattle.std.specs.Option.{option_map_or}
 use Rattle.toml.specs.Data.{Data, integer, Items, no_items, item, Members, as_str, as_array, get_member}

@@ -1,4 +1,4 @@
--- What the limits of the table of keys say of rows.
+-- What the limits of the table of keys imply for rows.
 use Rattle.std.specs.Prelude.{◌≡◌, ℕ, ◌<◌, true, List, All, ⊤}
 use Rattle.network_rows.specs.declared.rule.Rule.{Rule}
 use Rattle.network_rows.specs.declared.rows.NodeKind.{NodeKind}

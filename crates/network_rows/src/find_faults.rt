@@ -1,4 +1,4 @@
-//! A document is gone through once, and the first place of each sort of fault is stored.
+//! Reads a document once, and stores the first place of each kind of fault.
 ghost use Rattle.std.specs.Prelude.{◌≡◌, Some, map, option_map};
 ghost use Rattle.std.specs.List.{flat_map};
 ghost use Rattle.toml.specs.Data.{as_table};
@@ -41,7 +41,7 @@ fn note_lists(firsts: &mut FirstPlaces, document: &Table, sections: &[Section])
     }
 }
 
-// Notes the faults of what a document has for a section.
+// Notes the faults of the value that a document has for a section.
 fn note_list(firsts: &mut FirstPlaces, section: Section, value: Option<&Value>)
     ensures { firsts.new ≡ all_stored firsts.old (faults_in_list section (option_map (λ v. view v.now) value.entry)) }
 {
@@ -81,7 +81,7 @@ fn note_row(firsts: &mut FirstPlaces, section: Section, number: u64, value: &Val
     }
 }
 
-// Notes that a row, or with the number 0 a section, is not what it should be as a whole.
+// Notes that a whole row has the wrong type; with the number 0, that a whole section has.
 fn note_whole(firsts: &mut FirstPlaces, section: Section, number: u64)
     ensures { firsts.new ≡ all_stored firsts.old (fault_of_whole section number) }
 {

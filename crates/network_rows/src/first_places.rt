@@ -1,10 +1,10 @@
-//! The first fault of a document, sort by sort.
+//! The first fault of a document, kind by kind.
 ghost use Rattle.std.specs.Prelude.{◌≡◌};
 ghost use Rattle.network_rows.specs.Firsts.{nowhere, stored, told_fault};
 
 use crate::fault::{DescFault, KeyFault, Place};
 
-/// The first place of each sort of fault, while a document is gone through in its order.
+/// The first place of each kind of fault, while a document is read in its order.
 #[derive(Clone, Copy)]
 pub struct FirstPlaces {
     pub missing: Option<Place>,
@@ -13,7 +13,7 @@ pub struct FirstPlaces {
 }
 
 impl FirstPlaces {
-    /// Before the first fault.
+    /// No fault yet.
     pub fn none() -> Self
         ensures { result ≡ nowhere }
     {
@@ -35,7 +35,7 @@ impl FirstPlaces {
         }
     }
 
-    /// The fault that is told, if there is one: what is missing before what is of a wrong type, and this before what is out of its limit.
+    /// Returns the fault to report, if any: a missing key before a wrong type, and a wrong type before a value outside its limit.
     pub fn told_fault(&self) -> Option<DescFault>
         ensures { result ≡ told_fault self.now.missing self.now.wrong_kind self.now.out_of_limit }
     {

@@ -45,7 +45,7 @@ pub enum Key {
     JitterNs,
 }
 
-/// A word that a text of a description may be.
+/// A word that a description uses as a value.
 #[derive(Clone, Copy)]
 pub enum Word {
     Es,
@@ -59,7 +59,7 @@ pub enum Word {
 }
 
 impl Section {
-    /// The section as a description writes it; `top` for the top table, which a description does not name.
+    /// Returns the section as a description writes it; `top` for the top table, which a description does not name.
     pub fn text(self) -> &'static str
         ensures { result.now ≡ section_text self }
     {
@@ -74,7 +74,7 @@ impl Section {
 }
 
 impl Key {
-    /// The key as a description writes it.
+    /// Returns the key as a description writes it.
     pub fn text(self) -> &'static str
         ensures { result.now ≡ key_text self }
     {
@@ -112,7 +112,7 @@ impl Key {
 }
 
 impl Word {
-    /// The word as a description writes it.
+    /// Returns the word as a description writes it.
     pub fn text(self) -> &'static str
         ensures { result.now ≡ word_text self }
     {

@@ -21,7 +21,7 @@ impl Rule {
         }
     }
 
-    // Whether a row that may have this key has to have it.
+    // Whether a row that may have this key must have it.
     fn is_needed(&self) -> bool
         ensures { result ≡ is_needed self.now.presence }
     {
@@ -31,7 +31,7 @@ impl Rule {
         }
     }
 
-    /// What is wrong with this key of the row, if something is.
+    /// Returns what is wrong with this key of the row, if anything.
     pub fn fault_in(&self, row: &Table) -> Option<KeyFault>
         ensures { result ≡ fault_in self.now (table_view row.now) }
     {
@@ -44,7 +44,7 @@ impl Rule {
         }
     }
 
-    // What is wrong where a row that may have this key has it not.
+    // Returns what is wrong if a row that may have this key lacks it.
     fn fault_of_absence(&self) -> Option<KeyFault>
         ensures { result ≡ (if is_needed self.now.presence then (Some Missing) else None) }
     {
@@ -55,7 +55,7 @@ impl Rule {
         }
     }
 
-    // What is wrong with the value at this key of the row.
+    // Returns what is wrong with the value at this key of the row, if anything.
     fn fault_of_value(&self, row: &Table, value: &Value) -> Option<KeyFault>
         ensures { result ≡ fault_of_value self.now (table_view row.now) (Some (view value.now)) }
     {

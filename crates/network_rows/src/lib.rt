@@ -1,4 +1,4 @@
-//! From the text of a network description to its rows: what each key alone tells, and the first fault of a text that has one.
+//! From the text of a network description to its rows. It checks each key alone, and reports the first fault of a text that has one.
 #![tactic(auto)]
 
 mod fault;

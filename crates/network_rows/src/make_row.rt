@@ -1,4 +1,4 @@
-//! What the rows of each section are made of, where nothing is wrong with its table: numbers and words that are read, names and paths that are moved out of the table.
+//! Makes the rows of each section from tables without a fault. Numbers and words are read; names and paths are moved out of the table.
 ghost use Rattle.toml.specs.View.{table_view};
 ghost use Rattle.network_rows.specs.declared.key.Section.TheVariants.{Node, Link, Outage, Vl};
 ghost use Rattle.network_rows.specs.Table.{mbit, policing, priority};
@@ -17,7 +17,7 @@ use crate::value::has_word;
 use toml::Table;
 use vlink::{FrameSize, Net, VlId};
 
-/// The node of a row.
+/// Makes the node of a row.
 pub fn node_of(row: Table) -> NodeRow
     requires { IsSoundTable Node (table_view row) }
     ensures { MeansNode (table_view row) result }
@@ -31,7 +31,7 @@ pub fn node_of(row: Table) -> NodeRow
     }
 }
 
-/// The link of a row.
+/// Makes the link of a row.
 pub fn link_of(row: Table) -> LinkRow
     requires { IsSoundTable Link (table_view row) }
     ensures { MeansLink (table_view row) result }
@@ -46,7 +46,7 @@ pub fn link_of(row: Table) -> LinkRow
     }
 }
 
-/// The outage of a row.
+/// Makes the outage of a row.
 pub fn outage_of(row: Table) -> OutageRow
     requires { IsSoundTable Outage (table_view row) }
     ensures { MeansOutage (table_view row) result }
@@ -61,7 +61,7 @@ pub fn outage_of(row: Table) -> OutageRow
     }
 }
 
-/// The virtual link of a row.
+/// Makes the virtual link of a row.
 pub fn vl_of(row: Table) -> VlRow
     requires { IsSoundTable Vl (table_view row) }
     ensures { MeansVl (table_view row) result }
@@ -75,7 +75,7 @@ pub fn vl_of(row: Table) -> VlRow
     }
 }
 
-// What a row says of the frames of its virtual link.
+// Reads what a row states about the frames of its virtual link.
 fn virtual_link(row: &Table) -> VirtualLink
     requires { IsSoundTable Vl (table_view row.now) }
     ensures { MeansVirtualLink (table_view row.now) result }
@@ -97,7 +97,7 @@ fn virtual_link(row: &Table) -> VirtualLink
     }
 }
 
-// What the node of a row is.
+// Reads the kind of the node of a row.
 fn node_kind(row: &Table) -> NodeKind
     requires { IsSoundTable Node (table_view row.now) }
     ensures { MeansKind (table_view row.now) result }
@@ -116,7 +116,7 @@ fn node_kind(row: &Table) -> NodeKind
     }
 }
 
-// How fast the link of a row is.
+// Reads the rate of the link of a row.
 fn rate(row: &Table) -> Rate
     requires { IsSoundAt mbit (table_view row.now) }
     ensures { IsNumberAt mbit (table_view row.now) (mbit_of result) }
@@ -128,7 +128,7 @@ fn rate(row: &Table) -> Rate
     }
 }
 
-// Where the frames of the virtual link of a row wait.
+// Reads the priority of the virtual link of a row.
 fn priority(row: &Table) -> Priority
     requires { IsSoundAt priority (table_view row.now) }
     ensures { IsWordAt priority (table_view row.now) (word_of_priority result) }
@@ -140,7 +140,7 @@ fn priority(row: &Table) -> Priority
     }
 }
 
-// What switches count of the virtual link of a row.
+// Reads what switches count when they police the virtual link of a row.
 fn policing(row: &Table) -> Policing
     requires { IsSoundAt policing (table_view row.now) }
     ensures { IsWordOrDefaultAt policing (table_view row.now) (word_of_policing result) }

@@ -20,14 +20,14 @@ impl Model for Name {
 }
 
 impl Name {
-    /// The name of these bytes. It takes no memory.
+    /// Makes a name of this text. Takes no memory.
     pub fn from_string(text: String) -> Self
         ensures { result ≡ string_bytes text }
     {
         Name { text }
     }
 
-    /// The name as text.
+    /// Returns the name as text.
     pub fn as_str(&self) -> &str
         ensures { result.now ≡ self.now }
     {

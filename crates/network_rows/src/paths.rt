@@ -1,4 +1,4 @@
-//! The paths of a virtual link as the description has them: no name in them is copied.
+//! The paths of a virtual link as the description gives them. No name in them is copied.
 ghost use Rattle.std.specs.Prelude.{◌≡◌, ◌<◌, true, Some, is_some, [], length, slice_index_or};
 ghost use Rattle.toml.specs.View.{view};
 ghost use Rattle.network_rows.specs.Values.{as_paths};
@@ -25,14 +25,14 @@ impl<'a> Model for Path<'a> {
 }
 
 impl<'a> Path<'a> {
-    /// How many names it has.
+    /// Returns the number of names.
     pub fn len(&self) -> usize
         ensures { result ≡ length self.now }
     {
         self.names.len()
     }
 
-    /// The name at a place; behind the last one the empty text.
+    /// Returns the name at a place, or the empty text behind the last name.
     pub fn name(&self, place: usize) -> &'a str
         ensures { result.now ≡ slice_index_or self.now place [] }
     {
@@ -66,7 +66,7 @@ impl Model for Paths {
 }
 
 impl Paths {
-    /// The paths that a value is a list of.
+    /// Makes the paths of a value, which is a list of paths.
     pub(crate) fn from_value(value: Value) -> Self
         requires { is_some (as_paths (view value)) ≡ true }
         ensures { as_paths (view value) ≡ Some result }
@@ -77,14 +77,14 @@ impl Paths {
         }
     }
 
-    /// How many paths there are.
+    /// Returns the number of paths.
     pub fn len(&self) -> usize
         ensures { result ≡ length self.now }
     {
         self.paths.len()
     }
 
-    /// The path at a place.
+    /// Returns the path at a place.
     pub fn path(&self, place: usize) -> Path<'_>
         requires { place < length self.now }
         ensures { result ≡ slice_index_or self.now place [] }

@@ -14,9 +14,9 @@ use crate::rows::Rows;
 use std::alloc::Global;
 use toml::Table;
 
-/// The rows of a description.
+/// Reads the rows of a description.
 ///
-/// An error is the first fault of the text among those that each key alone tells, or it says that memory was refused.
+/// An error is the first fault of the text among the faults of single keys, or it means that memory was refused.
 pub fn read_rows(alloc: Global, text: &str) -> Result<Rows, DescFault>
     // The text means a document without such a fault, and these are its rows.
     ensures rows { IfOk result (Means text.now) }
@@ -31,7 +31,7 @@ pub fn read_rows(alloc: Global, text: &str) -> Result<Rows, DescFault>
     }
 }
 
-// The document that the text means.
+// Reads the document that the text represents.
 fn document_of(alloc: Global, text: &str) -> Result<Table, DescFault>
     ensures document { IfOk result (λ document. parse_document text.now ≡ Some (table_view document)) }
     ensures fault { IfErr result (IsFirstFault (faults_of_text text.now)) }
@@ -43,7 +43,7 @@ fn document_of(alloc: Global, text: &str) -> Result<Table, DescFault>
     }
 }
 
-// The rows of a document, or its first fault.
+// Reads the rows of a document, or finds its first fault.
 fn rows_of(alloc: Global, document: Table) -> Result<Rows, DescFault>
     ensures sound { OnOk result (faults_of_document (table_view document) ≡ []) }
     ensures rows { IfOk result (MeansRows (table_view document)) }

@@ -1,4 +1,4 @@
-//! The rows of a document, which it is taken apart into.
+//! Takes a document apart into its rows.
 ghost use Rattle.std.specs.Prelude.{◌≡◌, [], Some, All, option_map, IfOk};
 ghost use Rattle.std.specs.List.{AllZip};
 ghost use Rattle.toml.specs.Data.{Members};
@@ -21,7 +21,7 @@ use std::alloc::{AllocError, Global};
 use toml::{Table, Value};
 use vlink::Time;
 
-/// The rows of a document without a fault of a key, whose sections are taken out of it.
+/// Makes the rows of a document that has no fault of a key. Their sections are taken out of the document.
 pub fn rows(alloc: Global, document: &mut Table) -> Result<Rows, AllocError>
     requires { faults_of_document (table_view document.old) ≡ [] }
     ensures { IfOk result (MeansRows (table_view document.old)) }
@@ -44,7 +44,7 @@ pub fn rows(alloc: Global, document: &mut Table) -> Result<Rows, AllocError>
     })
 }
 
-// The rows of a section, which has this value or none.
+// Makes the rows of a section, which has this value or none.
 fn rows_in<R: ReadRow>(alloc: Global, value: Option<Value>) -> Result<Sequence<R>, AllocError>
     requires { IsSoundList R.section (option_map view value) }
     ensures { IfOk result (MeansList R.means (option_map view value)) }
@@ -55,7 +55,7 @@ fn rows_in<R: ReadRow>(alloc: Global, value: Option<Value>) -> Result<Sequence<R
     }
 }
 
-// The rows of a list.
+// Makes the rows of a list.
 fn rows_of_list<R: ReadRow>(alloc: Global, value: Value) -> Result<Sequence<R>, AllocError>
     requires { IsSoundList R.section (Some (view value)) }
     ensures { IfOk result (MeansList R.means (Some (view value))) }
@@ -66,7 +66,7 @@ fn rows_of_list<R: ReadRow>(alloc: Global, value: Value) -> Result<Sequence<R>, 
     }
 }
 
-// The rows that these values are.
+// Makes the rows of these values.
 #[tactic(auto, using(std::proofs::lemmas::Grind::common_steps, std::proofs::lemmas::Slice::Zip::all_zipped_more))]
 fn rows_of_values<R: ReadRow>(alloc: Global, values: Vec<Value>) -> Result<Sequence<R>, AllocError>
     requires { All (λ v. IsSoundRow R.section (view v)) values.items }
@@ -79,7 +79,7 @@ fn rows_of_values<R: ReadRow>(alloc: Global, values: Vec<Value>) -> Result<Seque
     Ok(Sequence::from_vec(rows))
 }
 
-// The row that a value is.
+// Makes the row of a value.
 fn row_of_value<R: ReadRow>(value: Value) -> R
     requires { IsSoundRow R.section (view value) }
     ensures { MeansRow R.means (view value) result }
@@ -90,14 +90,14 @@ fn row_of_value<R: ReadRow>(value: Value) -> R
     }
 }
 
-/// A row of a section, which a table means.
+/// A row of a section, which a table represents.
 trait ReadRow: Sized + Drop {
     ghost section: { Section };
 
-    /// The table means the row.
+    /// The table represents the row.
     ghost means: { Members → Self → Type 0 };
 
-    /// Makes it of a table at which nothing is wrong. It takes no memory.
+    /// Makes the row of a table without a fault. Takes no memory.
     fn read(row: Table) -> Self
         requires { IsSoundTable section (table_view row) }
         ensures { means (table_view row) result };

@@ -1,4 +1,4 @@
-//! What stands at the keys of a table at which nothing is wrong, made into values of rows.
+//! Reads the values at the keys of a table without a fault, and makes values of rows of them.
 ghost use Rattle.std.specs.Prelude.{◌≡◌, true, false, Some, is_some, option_map, option_and_then};
 ghost use Rattle.toml.specs.Data.{as_str};
 ghost use Rattle.toml.specs.View.{view, table_view};
@@ -15,7 +15,7 @@ use crate::rule::{Presence, Rule};
 use crate::value::number_in;
 use toml::{Table, Value};
 
-/// The number at the key of a line of the table of keys, or the default where an optional key is absent.
+/// Returns the number at this key, or the default if the key is optional and absent.
 pub fn number_at(rule: Rule, row: &Table) -> u64
     requires numbers { HasNumbers rule }
     requires sound { IsSoundAt rule (table_view row.now) }
@@ -29,7 +29,7 @@ pub fn number_at(rule: Rule, row: &Table) -> u64
 }
 
 impl Rule {
-    // The number that an absent key stands for.
+    // Returns the number that an absent key means.
     fn number_if_absent(self) -> u64
         requires absent { is_needed self.presence ≡ false }
         requires numbers { HasNumbers self }
@@ -43,7 +43,7 @@ impl Rule {
     }
 }
 
-/// The name that a value is.
+/// Makes the name of a value, which is a name.
 pub fn name_of(value: Option<Value>) -> Name
     requires { is_some (option_and_then as_str (option_map view value)) ≡ true }
     ensures { option_and_then as_str (option_map view value) ≡ Some result }
@@ -54,7 +54,7 @@ pub fn name_of(value: Option<Value>) -> Name
     }
 }
 
-// The name that a text is.
+// Makes the name of a text.
 fn name_of_value(value: Value) -> Name
     requires { is_some (as_str (view value)) ≡ true }
     ensures { as_str (view value) ≡ Some result }
@@ -65,7 +65,7 @@ fn name_of_value(value: Value) -> Name
     }
 }
 
-/// The paths that a value is a list of.
+/// Makes the paths of a value, which is a list of paths.
 pub fn paths_of(value: Option<Value>) -> Paths
     requires { is_some (option_and_then as_paths (option_map view value)) ≡ true }
     ensures { option_and_then as_paths (option_map view value) ≡ Some result }

@@ -4,22 +4,22 @@ use crate::paths::Paths;
 use crate::sequence::Sequence;
 use vlink::{FrameSize, Net, Time, VlId};
 
-/// What a node is.
+/// The kind of a node.
 #[derive(Clone, Copy)]
 pub enum NodeKind {
     EndSystem,
-    /// A switch belongs to one network, and a frame takes so many ns through it.
+    /// A switch belongs to one network, and a frame takes `latency_ns` ns through it.
     Switch { net: Net, latency_ns: u32 },
 }
 
-/// How fast a link is.
+/// The rate of a link.
 #[derive(Clone, Copy)]
 pub enum Rate {
     Mbit10,
     Mbit100,
 }
 
-/// Which of two lists of an output port the frames of a virtual link wait in.
+/// The priority of the frames of a virtual link. It selects one of the two lists of an output port.
 #[derive(Clone, Copy)]
 pub enum Priority {
     High,
@@ -40,7 +40,7 @@ pub struct NodeRow {
     pub kind: NodeKind,
     /// How many bytes may wait at each port.
     pub port_bytes: u32,
-    /// Whether the row has a key that such a row has not.
+    /// Whether the row has a key that a row of this section may not have.
     pub has_unknown_key: bool,
 }
 
@@ -51,41 +51,41 @@ pub struct LinkRow {
     pub b: Name,
     pub mbit: Rate,
     pub propagation_ns: u32,
-    /// Whether the row has a key that such a row has not.
+    /// Whether the row has a key that a row of this section may not have.
     pub has_unknown_key: bool,
 }
 
-/// A row of the section `outage`: from `from_ns` on, and until before `to_ns`, nothing goes from the one node to the other.
+/// A row of the section `outage`: from `from_ns` on, and until before `to_ns`, the line from one node to the other loses frames.
 #[derive(Drop)]
 pub struct OutageRow {
     pub from: Name,
     pub to: Name,
     pub from_ns: u64,
     pub to_ns: u64,
-    /// Whether the row has a key that such a row has not.
+    /// Whether the row has a key that a row of this section may not have.
     pub has_unknown_key: bool,
 }
 
-/// What is agreed of the frames of a virtual link.
-/// `netdesc` passes it on as it is, so a key of a virtual link is one field, one line of the table and one reader.
+/// The parameters of a virtual link. `netdesc` passes them on unchanged, so a key of a virtual link is one field, one line of the table and
+/// one reader.
 #[derive(Clone, Copy)]
 pub struct VirtualLink {
     pub id: VlId,
     /// The bandwidth allocation gap, in ms.
     pub bag_ms: u8,
-    /// The greatest size of a frame that passes a switch.
+    /// The greatest size of a frame that passes a switch (Smax).
     pub smax: FrameSize,
-    /// Which frames of it go first at a port of a switch.
+    /// The priority of its frames at the output ports of switches.
     pub priority: Priority,
-    /// How much earlier than the gap allows a switch lets a frame pass, in ns.
+    /// The policing jitter: how much earlier than the BAG allows a switch lets a frame pass, in ns.
     pub policing_jitter_ns: u32,
     /// What a switch counts when it polices.
     pub policing: Policing,
-    /// How long after one copy of a frame another may come, in ns.
+    /// The greatest skew: how long after one copy of a frame the other may come, in ns.
     pub skew_max_ns: u32,
     /// How many frames may wait at the source, in each sub-virtual link.
     pub depth: u16,
-    /// How many sub-virtual links there are.
+    /// The number of sub-virtual links.
     pub sub: u8,
     /// The size of the frames that are offered.
     pub size: FrameSize,
@@ -100,17 +100,17 @@ pub struct VirtualLink {
 /// A row of the section `vl`.
 #[derive(Drop)]
 pub struct VlRow {
-    /// What is agreed of its frames.
+    /// The parameters of its frames.
     pub link: VirtualLink,
     /// The paths on network A.
     pub a: Paths,
     /// The paths on network B.
     pub b: Paths,
-    /// Whether the row has a key that such a row has not.
+    /// Whether the row has a key that a row of this section may not have.
     pub has_unknown_key: bool,
 }
 
-/// What a description says, row by row.
+/// The contents of a description, row by row.
 #[derive(Drop)]
 pub struct Rows {
     /// The end of a run.
@@ -120,6 +120,6 @@ pub struct Rows {
     pub links: Sequence<LinkRow>,
     pub outages: Sequence<OutageRow>,
     pub vls: Sequence<VlRow>,
-    /// Whether the top table has a key that is neither one of its own nor a section.
+    /// Whether the top table has a key that is neither a key of its own nor a section.
     pub has_unknown_key: bool,
 }

@@ -1,4 +1,4 @@
-//! What a line of the table of keys says.
+//! A line of the table of keys.
 use crate::key::{Key, Word};
 
 /// Which rows have a key.
@@ -6,32 +6,32 @@ use crate::key::{Key, Word};
 pub enum Presence {
     /// Each row has it.
     Required,
-    /// Each row whose kind is `switch` has it, and no other.
+    /// Each row whose kind is `switch` has it; no other row may.
     ForSwitches,
-    /// Each row may have it. Where one has it not, the number is this.
+    /// Each row may have it. An absent key means this number.
     Optional(u64),
-    /// Each row may have it. Where one has it not, the text is this word.
+    /// Each row may have it. An absent key means this word.
     OptionalWord(Word),
 }
 
-/// What the value at a key has to be: its type, and with it the limit.
+/// What the value at a key must be: its type, and with it the limit.
 #[derive(Clone, Copy)]
 pub enum ValueType {
     /// An integer from the first number to the second.
     Integer(u64, u64),
     /// An integer from the first number to the second, greater than the one at another key of its row.
     IntegerAbove(Key, u64, u64),
-    /// An integer that is one of two.
+    /// An integer from the first number to the second, and greater than the integer at another key of its row.
     EitherInteger(u64, u64),
     /// An integer that is one of eight.
     OneOf([u64; 8]),
     /// A text that is one of two words.
     EitherWord(Word, Word),
-    /// A text that names a node: so many ASCII letters, digits, `_` and `-`, from the first number to the second.
+    /// A text that names a node: ASCII letters, digits, `_` and `-`, and as many of them as from the first number to the second.
     NodeName(u64, u64),
     /// Any text. It refers to a node by its name.
     Reference,
-    /// A list of paths. A path is a list of references, so many as from the first number to the second.
+    /// A list of paths. A path is a list of references; the two numbers are the least and the greatest number of them.
     Paths(u64, u64),
 }
 
@@ -41,6 +41,6 @@ pub struct Rule {
     pub key: Key,
     /// Which rows have the key.
     pub presence: Presence,
-    /// What its value has to be.
+    /// What its value must be.
     pub value_type: ValueType,
 }

@@ -3,7 +3,7 @@ ghost use Rattle.std.specs.Prelude.{◌≡◌, List};
 
 use std::marker::Model;
 
-/// Values in an order.
+/// Values in order.
 ///
 /// Clauses see it as their list.
 #[derive(Drop)]
@@ -18,21 +18,21 @@ impl<T> Model for Sequence<T> {
 }
 
 impl<T> Sequence<T> {
-    /// The values of a vector. It takes no memory.
+    /// Makes a sequence of the values of a vector. Takes no memory.
     pub fn from_vec(items: Vec<T>) -> Self
         ensures { result ≡ items.items }
     {
         Sequence { items }
     }
 
-    /// The values as a vector again. It takes no memory.
+    /// Returns the values as a vector. Takes no memory.
     pub fn into_vec(self) -> Vec<T>
         ensures { result.items ≡ self }
     {
         self.items
     }
 
-    /// The values, to read.
+    /// Returns the values to read.
     pub fn as_slice(&self) -> &[T]
         ensures { result.now ≡ self.now }
     {

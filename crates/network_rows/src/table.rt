@@ -1,4 +1,4 @@
-//! The keys of each section, in the order of checks, with their types and limits: the table of specs/Table.antt, line by line.
+//! The keys of each section, in the order of checks, with their types and limits. It is the table of specs/Table.antt, line by line.
 ghost use Rattle.std.specs.Prelude.{◌≡◌};
 ghost use Rattle.network_rows.specs.Table.{keys_of};
 
@@ -11,7 +11,7 @@ use crate::rule::ValueType::{
 };
 use vlink::{FrameSize, LATEST_NS};
 
-// A line of the table: the key, which rows have it, and what its value has to be.
+// A line of the table: the key, which rows have it, and what its value must be.
 macro_rules! rule {
     ($key:ident, $presence:expr, $value_type:expr) => {
         Rule {
@@ -25,7 +25,7 @@ macro_rules! rule {
 /// The sections that are lists of tables, in the order of checks.
 pub const LISTS: [Section; 4] = [Section::Node, Section::Link, Section::Outage, Section::Vl];
 
-/// The greatest time that something takes, and the greatest jitter, in ns.
+/// One second in ns: the greatest latency, propagation time, skew or jitter.
 pub const SECOND_NS: u64 = 1_000_000_000;
 
 // The bandwidth allocation gaps, in ms (ARINC 664 Part 7).
@@ -121,7 +121,7 @@ const VL_KEYS: [Rule; 15] = [
     PATHS_B,
 ];
 
-/// The keys of a section, in the order of checks.
+/// Returns the keys of a section, in the order of checks.
 pub fn keys_of(section: Section) -> &'static [Rule]
     ensures { result.now ≡ keys_of section }
 {

@@ -1,4 +1,4 @@
-//! Values are moved out of a table, one after another.
+//! Moves values out of a table, one after another.
 ghost use Rattle.std.specs.Prelude.{◌≡◌, ℕ, List, false, option_map};
 ghost use Rattle.toml.specs.Data.{get_member, same_key};
 ghost use Rattle.toml.specs.View.{view, table_view};
@@ -18,7 +18,7 @@ pub fn take_value(row: &mut Table, key: Key) -> Option<Value>
     take(row, key.text())
 }
 
-/// Takes what a document has for a section out of it.
+/// Takes the value of a section out of a document.
 pub fn take_list(document: &mut Table, section: Section) -> Option<Value>
     ensures value { option_map view result ≡ get_member (section_text section) (table_view document.old) }
     ensures others { (other : Section) → same_key (section_text section) (section_text other) ≡ false → get_member (section_text other) (table_view document.new) ≡ get_member (section_text other) (table_view document.old) }
@@ -26,7 +26,7 @@ pub fn take_list(document: &mut Table, section: Section) -> Option<Value>
     take(document, section.text())
 }
 
-// Takes what has this name out of a table.
+// Takes the value with this name out of a table.
 fn take(table: &mut Table, name: &str) -> Option<Value>
     ensures value { option_map view result ≡ get_member name.now (table_view table.old) }
     ensures others { (other : List ℕ) → same_key name.now other ≡ false → get_member other (table_view table.new) ≡ get_member other (table_view table.old) }

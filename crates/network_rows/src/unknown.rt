@@ -28,7 +28,7 @@ fn is_known(section: Section, row: &Table, name: &str) -> bool
     is_key(keys_of(section), row, name) || section == Section::Top && is_list(name)
 }
 
-// Whether the name is the key of one of these lines, and the row has to have it.
+// Whether the name is the key of one of these lines, and the row may have this key.
 fn is_key(rules: &[Rule], row: &Table, name: &str) -> bool
     ensures { result ≡ list_any (λ rule. applies rule.presence (table_view row.now) && bytes_eq name.now (key_text rule.key)) rules.now }
 {

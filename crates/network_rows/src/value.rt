@@ -1,4 +1,4 @@
-//! What stands at a key of a table, read without copying.
+//! Reads the value at a key of a table, without copying.
 ghost use Rattle.std.specs.Prelude.{◌≡◌, is_some, length, option_map, option_and_then};
 ghost use Rattle.std.specs.List.{list_all};
 ghost use Rattle.std.specs.Str.{bytes_eq};
@@ -10,21 +10,21 @@ ghost use Rattle.network_rows.specs.Values.{value_at, passes, as_number, all_as,
 use crate::key::{Key, Section, Word};
 use toml::{Table, Value};
 
-/// The value at a key.
+/// Returns the value at a key.
 pub fn value_at<'a>(row: &'a Table, key: Key) -> Option<&'a Value>
     ensures { option_map (λ v. view v.now) result ≡ value_at key (table_view row.now) }
 {
     row.get(key.text())
 }
 
-/// The value that a document has for a section that is a list.
+/// Returns the value that a document has for a section that is a list.
 pub fn list_at<'a>(document: &'a Table, section: Section) -> Option<&'a Value>
     ensures { option_map (λ v. view v.now) result ≡ get_member (section_text section) (table_view document.now) }
 {
     document.get(section.text())
 }
 
-/// The number, if the value is an integer that is not negative.
+/// Returns the number, if the value is an integer that is not negative.
 pub fn number_of(value: &Value) -> Option<u64>
     ensures { result ≡ as_number (view value.now) }
 {
@@ -34,7 +34,7 @@ pub fn number_of(value: &Value) -> Option<u64>
     }
 }
 
-/// The number at a key.
+/// Returns the number at a key.
 pub fn number_in(row: &Table, key: Key) -> Option<u64>
     ensures { result ≡ option_and_then as_number (value_at key (table_view row.now)) }
 {
@@ -64,7 +64,7 @@ fn is_word(value: &Value, word: Word) -> bool
     }
 }
 
-/// How many texts the value is a list of, if it is one.
+/// Returns the number of texts, if the value is a list of texts.
 pub fn path_len(value: &Value) -> Option<usize>
     ensures { result ≡ option_map length (as_list as_str (view value.now)) }
 {
@@ -74,7 +74,7 @@ pub fn path_len(value: &Value) -> Option<usize>
     }
 }
 
-/// Whether each of these is a text.
+/// Whether each of these values is a text.
 pub fn are_texts(texts: &[Value]) -> bool
     ensures { result ≡ list_all (λ v. is_some (as_str (view v))) texts.now }
 {
@@ -91,7 +91,7 @@ pub fn are_paths(value: &Value) -> bool
     }
 }
 
-/// Whether each of these is a path.
+/// Whether each of these values is a path.
 pub fn are_each_path(paths: &[Value]) -> bool
     ensures { result ≡ list_all (λ v. is_some (as_list as_str (view v))) paths.now }
 {

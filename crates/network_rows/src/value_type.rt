@@ -75,14 +75,14 @@ impl ValueType {
     }
 }
 
-// Whether the number is from the least to the greatest, both among them.
+// Whether the number is at least `least` and at most `greatest`.
 fn is_within(least: u64, greatest: u64, n: u64) -> bool
     ensures { result ≡ is_within least greatest n }
 {
     least <= n && n <= greatest
 }
 
-// Whether the number is greater than the other, if there is one.
+// Whether the number is greater than the other, if the other is present.
 fn is_above(other: Option<u64>, n: u64) -> bool
     ensures { result ≡ is_above other n }
 {
@@ -92,28 +92,28 @@ fn is_above(other: Option<u64>, n: u64) -> bool
     }
 }
 
-// Whether a name may have the byte.
+// Whether a name may contain the byte.
 fn is_name_byte(byte: u8) -> bool
     ensures { result ≡ is_name_byte byte }
 {
     byte.is_ascii_alphanumeric() || b"_-".contains(&byte)
 }
 
-// Whether a name may have each of the bytes.
+// Whether a name may contain each of the bytes.
 fn are_name_bytes(bytes: &[u8]) -> bool
     ensures { result ≡ list_all is_name_byte bytes.now }
 {
     bytes.iter().all(|byte| is_name_byte(*byte))
 }
 
-// Whether the text is a name of so many bytes.
+// Whether the text is a name of at least `least` and at most `greatest` bytes.
 fn is_name(least: u64, greatest: u64, text: &str) -> bool
     ensures { result ≡ is_name least greatest text.now }
 {
     is_within(least, greatest, text.len() as u64) && are_name_bytes(text.as_bytes())
 }
 
-// Whether the value is a path with so many names.
+// Whether the value is a path with at least `least` and at most `greatest` names.
 fn is_path_within(least: u64, greatest: u64, path: &Value) -> bool
     ensures { result ≡ passes (λ names. is_within least greatest (length names)) (as_list as_str (view path.now)) }
 {
@@ -123,7 +123,7 @@ fn is_path_within(least: u64, greatest: u64, path: &Value) -> bool
     }
 }
 
-// Whether the value is a list of paths, each with so many names.
+// Whether the value is a list of paths, each with a number of names within these limits.
 fn are_paths_within(least: u64, greatest: u64, value: &Value) -> bool
     ensures { result ≡ passes (list_all (λ names. is_within least greatest (length names))) (as_paths (view value.now)) }
 {
@@ -133,7 +133,7 @@ fn are_paths_within(least: u64, greatest: u64, value: &Value) -> bool
     }
 }
 
-// Whether each of these is a path with so many names.
+// Whether each of these values is a path with a number of names within these limits.
 fn are_each_within(least: u64, greatest: u64, paths: &[Value]) -> bool
     ensures { result ≡ list_all (λ v. passes (λ names. is_within least greatest (length names)) (as_list as_str (view v))) paths.now }
 {

@@ -1,4 +1,4 @@
--- Where virtual links meet nodes, as the tables have it.
+-- Where virtual links pass nodes, as the tables list it.
 use Rattle.std.specs.Prelude.{ℕ, ◌≡◌, ◌<◌, List, Option, flat_map, vec_len}
 use Rattle.vlink.specs.declared.frame.VlId.{VlId}
 use Rattle.network.specs.declared.wiring.Link.{Link}

@@ -1,4 +1,4 @@
--- Where a virtual link is configured at a node: the ports by which it comes in and leaves, and its paths.
+-- Where a virtual link is configured at a node: the ports by which it enters and leaves, and its paths.
 use Rattle.std.specs.Prelude.{ℕ, ◌≡◌, false, true, List, ◌∷◌, ◌++◌, Contains}
 use Rattle.vlink.specs.declared.frame.Net.{Net}
 use Rattle.vlink.specs.declared.frame.Net.TheVariants.{A, B}

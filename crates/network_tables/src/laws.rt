@@ -1,4 +1,4 @@
-//! Where the virtual links of a network are configured, and which list is a rising one.
+//! Where the virtual links of a network are configured, and which list ascends.
 ghost use Rattle.std.specs.Prelude.{ℕ, ◌≡◌, ◌↔◌, true, List, Contains};
 ghost use Rattle.vlink.specs.declared.frame.Net.{Net};
 ghost use Rattle.network.specs.declared.wiring.Way.{Way};
@@ -10,10 +10,10 @@ ghost use Rattle.network_tables.specs.PortLaws.{IsInput, IsOutput, FacesPredeces
 
 use network::Network;
 
-/// The ports at which a virtual link is configured at a node are those that its paths say: it comes in just at the ports that face the
-/// node's predecessor on a path, and leaves just by those that face a successor; what `arrivals` and `departures` tell of a node is just
-/// that. A switch on its way has exactly one input port for it. The port of an end system that faces its neighbour on a path is 0 on
-/// network A, and 1 on network B.
+/// A virtual link is configured at the ports of a node that its paths give, and at no others. It enters at just the ports that face the
+/// node's predecessor on a path, and leaves by just those that face a successor; `arrivals` and `departures` list just these ports. A
+/// switch on its way has exactly one input port for it. The port of an end system that faces its neighbour on a path is 0 on network A, and
+/// 1 on network B.
 pub fn port_law(network: &Network)
     ensures inputs { (vl : VlPlan) (node port : ℕ) → IsInput network.now vl node port ↔ FacesPredecessor network.now vl node port }
     ensures outputs { (vl : VlPlan) (node port : ℕ) → IsOutput network.now vl node port ↔ FacesSuccessor network.now vl node port }
@@ -28,8 +28,8 @@ pub fn port_law(network: &Network)
     network.accepted_law();
 }
 
-/// The destinations of a virtual link, and the lines that it goes over, are told by `rising`: of some numbers it is the one strictly
-/// increasing list with the same members.
+/// The list `rising` of some numbers is the one strictly increasing list with the same members. It gives the destinations of a virtual
+/// link, and the lines that it uses.
 pub fn rising_law()
     ensures rising { (numbers : List ℕ) → IsRisingOf numbers (rising numbers) }
     ensures only { (numbers list : List ℕ) → IsRisingOf numbers list → list ≡ rising numbers }

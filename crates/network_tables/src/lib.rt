@@ -1,4 +1,4 @@
-//! The network that rows make, with its tables; and where its virtual links are configured.
+//! The network of some rows, with its tables, and the ports at which its virtual links are configured.
 #![tactic(auto)]
 
 mod laws;

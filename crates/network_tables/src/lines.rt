@@ -15,7 +15,7 @@ use network_rows::NodeRow;
 use std::alloc::{AllocError, Global};
 use vlink::{Net, process_number};
 
-/// The port of a node for its link to `other`, where `count` earlier links name the node.
+/// Returns the port of a node for its link to `other`, if `count` earlier links name the node.
 fn port_at(nodes: &[NodeRow], count: usize, node: usize, other: usize) -> u16
     requires { count < 2 ^ 16 }
     ensures { result ≡ cond (is_end_system (map node_plan nodes.now) node) (cond (is_switch_of (map node_plan nodes.now) A other) 0 1) count }
@@ -31,7 +31,7 @@ fn port_at(nodes: &[NodeRow], count: usize, node: usize, other: usize) -> u16
     }
 }
 
-/// Puts the two directions of a link at the end, which has these ports at its two nodes.
+/// Appends the two directions of a link, which has these ports at its two nodes.
 fn push_both(
     lines: &mut Vec<LinePlan>,
     link: Link,
@@ -63,7 +63,7 @@ fn push_both(
     Ok(())
 }
 
-/// The two directions of each link, link by link.
+/// Makes the two directions of each link, link by link.
 pub fn lines_of(
     alloc: Global,
     nodes: &[NodeRow],
@@ -87,7 +87,7 @@ pub fn lines_of(
     Ok(lines)
 }
 
-/// The name of a node; of no node the empty text.
+/// Returns the name of a node, or the empty text if the node does not exist.
 fn node_name(nodes: &[NodeRow], n: usize) -> &str
     ensures { result.now ≡ node_name (map node_plan nodes.now) n }
 {
@@ -97,7 +97,7 @@ fn node_name(nodes: &[NodeRow], n: usize) -> &str
     }
 }
 
-/// The names of two nodes with > between.
+/// Joins the names of two nodes, with > between.
 fn name_between(alloc: Global, from: &str, to: &str) -> Result<String, AllocError>
     ensures { IfOk result (λ name. string_bytes name ≡ from.now ++ 62 ∷ to.now) }
 {
@@ -107,7 +107,7 @@ fn name_between(alloc: Global, from: &str, to: &str) -> Result<String, AllocErro
     Ok(name)
 }
 
-/// The name of a line.
+/// Makes the name of a line.
 fn line_name(alloc: Global, nodes: &[NodeRow], line: LinePlan) -> Result<String, AllocError>
     ensures { IfOk result (λ name. string_bytes name ≡ line_name (map node_plan nodes.now) line) }
 {
@@ -117,7 +117,7 @@ fn line_name(alloc: Global, nodes: &[NodeRow], line: LinePlan) -> Result<String,
     Ok(name)
 }
 
-/// The names of lines.
+/// Makes the names of lines.
 pub fn line_names(
     alloc: Global,
     nodes: &[NodeRow],
@@ -133,7 +133,7 @@ pub fn line_names(
     Ok(names)
 }
 
-/// The line from one node to another, or none where no link joins them.
+/// Returns the line from one node to another, or none if no link joins them.
 pub fn line_between(joined: &Joined, from: usize, to: usize) -> Option<usize>
     requires { length joined.now.links.now < 2 ^ 32 }
     ensures { result ≡ line_between joined.now.links.now from to }
@@ -144,7 +144,7 @@ pub fn line_between(joined: &Joined, from: usize, to: usize) -> Option<usize>
     Some(2 * place + back)
 }
 
-/// Puts an outage at the end of the list of its line, if it has one.
+/// Appends an outage to the list of its line, if it has one.
 fn put_outage(
     table: &mut Vec<Vec<Outage>>,
     joined: &Joined,
@@ -160,7 +160,7 @@ fn put_outage(
     }
 }
 
-/// For each of `count` lines its outages, in their order.
+/// Lists the outages of each of `count` lines, in their order.
 pub fn outage_table(
     alloc: Global,
     count: usize,

@@ -1,4 +1,4 @@
-//! The network that rows make, with its tables; or their first fault.
+//! Makes the network of some rows, with its tables, or finds their first fault.
 ghost use Rattle.std.specs.Prelude.{◌≡◌, IsPermutation, MatchResult, OnOk, IfOk};
 ghost use Rattle.std.specs.List.Sorted.{IsNonDecreasing};
 ghost use Rattle.network_rows.specs.Within.{AreWithin};
@@ -13,9 +13,9 @@ use network_rows::{DescFault, NodeRow, Rows};
 use std::alloc::{AllocError, Global};
 use vlink::Time;
 
-/// The network that these rows describe.
+/// Makes the network that these rows describe.
 ///
-/// An error is the first fault of what they say of each other; or a growth was refused.
+/// An error is the first fault between the rows, or it means that memory was refused.
 pub fn network_of(alloc: Global, rows: Rows) -> Result<Network, DescFault>
     requires { AreWithin rows }
     ensures { MatchResult result (IsPlanOf rows) (λ fault. Tells fault (faults_of rows)) }
@@ -32,7 +32,7 @@ pub fn network_of(alloc: Global, rows: Rows) -> Result<Network, DescFault>
     Ok(network)
 }
 
-/// Puts virtual links into the order of their numbers.
+/// Sorts virtual links by their numbers.
 fn sort_vls(vls: &mut Vec<Routed>) -> Result<(), AllocError>
     ensures moved { IsPermutation vls.old.items vls.new.items }
     ensures in_order { OnOk result (IsNonDecreasing (ids_of vls.new.items)) }
@@ -41,7 +41,7 @@ fn sort_vls(vls: &mut Vec<Routed>) -> Result<(), AllocError>
     Ok(())
 }
 
-/// A network of these parts, with its tables.
+/// Makes a network of these parts, with its tables.
 fn network_with(
     alloc: Global,
     until: Time,

@@ -15,7 +15,7 @@ use network_rows::NodeRow;
 use std::alloc::{AllocError, Global};
 use vlink::VlId;
 
-/// Puts a value at the end of the list at a place.
+/// Appends a value to the list at a place.
 pub fn put<T: Drop>(table: &mut Vec<Vec<T>>, place: usize, value: T) -> Result<(), AllocError>
     requires { place < vec_len table.old }
     ensures put { OnOk result (lists_of table.new ≡ slice_set (lists_of table.old) place (slice_index_or (lists_of table.old) place [] ++ value ∷ [])) }
@@ -26,7 +26,7 @@ pub fn put<T: Drop>(table: &mut Vec<Vec<T>>, place: usize, value: T) -> Result<(
     Ok(())
 }
 
-/// So many empty lists.
+/// Makes `count` empty lists.
 pub fn no_lists<T: Drop>(alloc: Global, count: usize) -> Result<Vec<Vec<T>>, AllocError>
     ensures empty { IfOk result (λ table. (k : ℕ) → slice_index_or (lists_of table) k [] ≡ []) }
     ensures len { IfOk result (λ table. vec_len table ≡ count) }
@@ -38,7 +38,7 @@ pub fn no_lists<T: Drop>(alloc: Global, count: usize) -> Result<Vec<Vec<T>>, All
     Ok(table)
 }
 
-/// The list reaches as far as this number; the numbers that come to it have no place.
+/// Extends the list up to this number. The numbers that are added have no place.
 fn reach(places: &mut Vec<Option<usize>>, id: VlId) -> Result<(), AllocError>
     ensures reached { OnOk result (id.0 < vec_len places.new) }
     ensures same { OnOk result ((n : ℕ) → slice_index_or places.new.items n None ≡ slice_index_or places.old.items n None) }
@@ -49,7 +49,7 @@ fn reach(places: &mut Vec<Option<usize>>, id: VlId) -> Result<(), AllocError>
     Ok(())
 }
 
-/// The number has this place, if it had none.
+/// Gives the number this place, if it has none.
 fn note_place(places: &mut Vec<Option<usize>>, id: usize, place: usize)
     requires { id < vec_len places.old }
     ensures stored { (n : ℕ) → slice_index_or places.new.items n None ≡ (if (id == n) && is_none (slice_index_or places.old.items n None) then Some place else slice_index_or places.old.items n None) }
@@ -60,7 +60,7 @@ fn note_place(places: &mut Vec<Option<usize>>, id: usize, place: usize)
     }
 }
 
-/// For each number the place of the virtual link that has it, as far as the greatest number: so few numbers that are small take little
+/// Makes a list with the place of the virtual link for each number, up to the greatest number in use. So a few small numbers take little
 /// memory.
 pub fn places_of(alloc: Global, vls: &[Routed]) -> Result<Vec<Option<usize>>, AllocError>
     ensures { IfOk result (λ places. (id : ℕ) → slice_index_or places.items id None ≡ place_of_vl vls.now id) }
@@ -75,7 +75,7 @@ pub fn places_of(alloc: Global, vls: &[Routed]) -> Result<Vec<Option<usize>>, Al
     Ok(places)
 }
 
-/// The tables of a network with these nodes, links, outages and virtual links.
+/// Makes the tables of a network with these nodes, links, outages and virtual links.
 pub fn tables_of(
     alloc: Global,
     nodes: &[NodeRow],
@@ -89,7 +89,7 @@ pub fn tables_of(
     tables_over(alloc, nodes, numbered, &joined)
 }
 
-/// The same, where these are the links by the nodes that they join.
+/// Does the same, with the links already indexed by the nodes that they join.
 fn tables_over(
     alloc: Global,
     nodes: &[NodeRow],
@@ -127,7 +127,7 @@ fn tables_over(
     })
 }
 
-/// The names of these lines, and for each its outages.
+/// Makes the names of these lines, and the outages of each.
 fn tables_by_line(
     alloc: Global,
     nodes: &[NodeRow],
@@ -145,7 +145,7 @@ fn tables_by_line(
     Ok((names, outages))
 }
 
-/// For each virtual link its destinations, and for each number the place of the virtual link that has it.
+/// Makes the destinations of each virtual link, and for each number the place of the virtual link that has it.
 fn tables_by_vl(
     alloc: Global,
     vls: &[Routed],

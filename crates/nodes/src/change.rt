@@ -1,5 +1,5 @@
 //! What an event changed in a node, and where.
-//! A change is returned from inlined functions, and not written behind `&mut`: one that is dropped is then never made.
+//! Inlined functions return a change, and do not write it behind `&mut`: a change that is dropped is then never made.
 ghost use Rattle.std.specs.Prelude.{◌≡◌, option_map};
 ghost use Rattle.output_port.specs.declared.event.PortRecord.TheVariants as saved;
 ghost use Rattle.output_port.specs.declared.event.PutRecord.{PutRecord};
@@ -12,12 +12,12 @@ use bag_regulator::RegRecord;
 use output_port::{PortRecord, PutRecord};
 use policer::AccountRecord;
 
-/// What an event changed in a node: the place of the element that it changed, and what that kept of it.
+/// What an event changed in a node: the place of the element that it changed, and the record of that element.
 #[derive(Clone, Copy)]
 pub enum Change {
     /// No element changed.
     Nothing,
-    /// The regulator of a virtual link that the node sends, and the ports that copies of its frame were put to.
+    /// The regulator of a virtual link that the node sends, and the ports to which copies of its frame were put.
     Source {
         place: u16,
         copies: CopiesRecord,
@@ -41,7 +41,7 @@ pub enum Change {
 }
 
 impl Change {
-    /// What an account kept of a frame, if it judged it.
+    /// Makes the change of an account, if it judged the frame.
     #[inline(always)]
     pub(crate) fn of_transit(place: u16, kept: Option<AccountRecord>) -> Self
         ensures { result ≡ transit_change place kept }
@@ -52,7 +52,7 @@ impl Change {
         }
     }
 
-    /// What a port kept of a frame put, if there is such a port.
+    /// Makes the change of a frame put to a port, if the port exists.
     #[inline(always)]
     pub(crate) fn of_put(port: u8, kept: Option<PutRecord>) -> Self
         ensures { result ≡ port_change port (option_map (λ (k : PutRecord). saved.Put k) kept) }
@@ -66,7 +66,7 @@ impl Change {
         }
     }
 
-    /// What a port kept of an event, if there is such a port.
+    /// Makes the change of an event at a port, if the port exists.
     #[inline(always)]
     pub(crate) fn of_port(port: u8, kept: Option<PortRecord>) -> Self
         ensures { result ≡ port_change port kept }

@@ -15,7 +15,7 @@ use output_port::{Priority, PutRecord};
 use reverse::Outbound;
 use vlink::{Frame, Net, Time};
 
-/// What became of the copies of a frame at the ports of A and B: nothing, where none was put.
+/// What became of the copies of a frame at the ports of A and B; nothing, if none was put.
 #[derive(Clone, Copy)]
 pub struct CopiesRecord {
     pub a: PutRecord,
@@ -23,7 +23,7 @@ pub struct CopiesRecord {
 }
 
 impl CopiesRecord {
-    /// Takes both copies back, B before A.
+    /// Undoes both copies, B before A.
     pub fn take_back(self, ports: &mut Ports)
         ensures { ports.new ≡ uncopied self ports.old }
     {
@@ -32,7 +32,7 @@ impl CopiesRecord {
     }
 }
 
-/// Both copies of the frame that a regulator releases go out, A before B.
+/// Sends both copies of the frame that a regulator releases, A before B.
 pub fn release(
     at: Time,
     end: &VlEnd,
@@ -58,7 +58,7 @@ pub fn release(
     CopiesRecord { a, b }
 }
 
-/// The copy of a frame for this network is put to the network's port, where the virtual link is on it.
+/// Puts the copy of a frame for this network to the network's port, if the virtual link is on it.
 fn copy_out(
     at: Time,
     end: &VlEnd,
@@ -82,14 +82,14 @@ fn copy_out(
     kept.unwrap_or(PutRecord::Nothing)
 }
 
-/// The copy of a frame for this network. All frames of an end system have low priority at its ports (profile).
+/// Makes the copy of a frame for this network. All frames of an end system have low priority at its ports (profile).
 fn copy(net: Net, frame: &Frame) -> Frame
     ensures { result ≡ record frame.now { net = net } }
 {
     Frame { net, ..*frame }
 }
 
-/// The number of the port of this network.
+/// Returns the number of the port of this network.
 fn port_of(net: Net) -> u8
     ensures { result ≡ port_of net }
 {

@@ -25,17 +25,17 @@ use reverse::Outbound;
 use std::marker::Model;
 use vlink::{Body, Cause, Frame, FrameSize, Message, Net, Time, VlId};
 
-/// An end system: it releases the frames that are offered by the regulators of its virtual links, a copy on each network, and
-/// checks and delivers those that come (ARINC 664 Part 7).
+/// An end system. The regulators of its virtual links release the frames that are offered, a copy on each network. It checks and delivers
+/// the frames that arrive (ARINC 664 Part 7).
 ///
-/// Its virtual links stand by rising number.
+/// Its virtual links are sorted by number.
 #[derive(Drop)]
 pub struct EndSystem {
     sources: Vec<Source>,
     /// The numbers of the virtual links that it sends.
     sent: Vec<u16>,
     receptions: Vec<Reception>,
-    /// The numbers of those that it receives.
+    /// The numbers of the virtual links that it receives.
     received: Vec<u16>,
     ports: Ports,
 }
@@ -52,7 +52,7 @@ impl Model for EndSystem {
 }
 
 impl EndSystem {
-    /// An end system of these parts.
+    /// Makes an end system of these parts.
     pub(crate) fn new(
         sources: Vec<Source>,
         sent: Vec<u16>,
@@ -73,7 +73,7 @@ impl EndSystem {
         }
     }
 
-    /// Handles a message, and tells what it changed.
+    /// Handles a message, and returns what it changed.
     #[inline(always)]
     pub fn handle(&mut self, message: &Message, out: &mut Outbound) -> Change
         requires messages { out.old.messages ≡ [] }
@@ -96,7 +96,7 @@ impl EndSystem {
         }
     }
 
-    /// Takes the last change back.
+    /// Undoes the last change.
     pub fn take_back(&mut self, change: &Change)
         requires { IsLastOfEndSystem change.now self.old }
         ensures { self.new ≡ end_system_undone change.now self.old }
@@ -116,7 +116,7 @@ impl EndSystem {
         }
     }
 
-    /// Takes back what the regulator at a place was asked.
+    /// Undoes an event of the regulator at a place.
     #[tactic(auto, using(std::proofs::lemmas::Grind::common_steps, crate::proofs::PortLemmas::reads, crate::proofs::NumberLemmas::numbers_stay))]
     fn take_back_source(&mut self, place: u16, kept: RegRecord)
         requires { IfSome (slice_get self.old.sources place) (IsLastOfSource kept) }
@@ -128,7 +128,7 @@ impl EndSystem {
         source.regulator.take_back(kept);
     }
 
-    /// Takes back that a frame came to the checks at a place.
+    /// Undoes that a frame came to the checks at a place.
     #[tactic(auto, using(std::proofs::lemmas::Grind::common_steps, crate::proofs::PortLemmas::reads, crate::proofs::NumberLemmas::numbers_stay))]
     fn take_back_reception(&mut self, place: u16, kept: ReceivingRecord)
         ensures { self.new ≡ record self.old { receptions = modified place (reception_undone kept) self.old.receptions } }
@@ -139,7 +139,7 @@ impl EndSystem {
         reception.receiving.take_back(kept);
     }
 
-    /// The regulator of a virtual link is asked to do something. A frame of a virtual link that does not begin here is lost.
+    /// Passes an event to the regulator of a virtual link. A frame of a virtual link that does not begin here is lost.
     #[tactic(auto, using(crate::proofs::NumberLemmas::numbers_stay))]
     #[inline(always)]
     fn regulate(&mut self, at: Time, vl: VlId, event: &RegEvent, out: &mut Outbound) -> Change
@@ -159,7 +159,7 @@ impl EndSystem {
         source.regulate(at, event, place as u16, &mut self.ports, out)
     }
 
-    /// A frame has come. It is lost where its virtual link does not end here on its network.
+    /// Receives a frame. It is lost if its virtual link does not end here on its network.
     #[tactic(auto, using(crate::proofs::NumberLemmas::numbers_stay))]
     #[inline(always)]
     fn take(&mut self, at: Time, frame: &Frame, out: &mut Outbound) -> Change
@@ -180,7 +180,7 @@ impl EndSystem {
         }
     }
 
-    /// The regulator of a virtual link, if the end system sends it.
+    /// Returns the regulator of a virtual link, if the end system sends it.
     pub fn regulator(&self, vl: VlId) -> Option<&BagRegulator>
         ensures { option_copied result ≡ option_map (λ (found : Found Source). found.entry.regulator) (source_at self.now vl) }
     {
@@ -188,14 +188,14 @@ impl EndSystem {
         Some(&self.sources[place].regulator)
     }
 
-    /// A port, if there is such a port.
+    /// Returns a port, if it exists.
     pub fn port(&self, port: u8) -> Option<&Port>
         ensures { option_copied result ≡ port_at self.now.ports port }
     {
         self.ports.port(port)
     }
 
-    /// The place of a virtual link among those that the end system sends.
+    /// Returns the place of a virtual link among those that the end system sends.
     #[inline(always)]
     fn source(&self, vl: VlId) -> Option<usize>
         ensures place { result ≡ place_of (map source_number self.now.sources) vl.0 }
@@ -205,7 +205,7 @@ impl EndSystem {
         place_of(self.sent.as_slice(), vl)
     }
 
-    /// The place of a virtual link among those that the end system receives.
+    /// Returns the place of a virtual link among those that the end system receives.
     #[inline(always)]
     fn ending(&self, vl: VlId) -> Option<usize>
         ensures place { result ≡ place_of (map reception_number self.now.receptions) vl.0 }
@@ -215,7 +215,7 @@ impl EndSystem {
         place_of(self.received.as_slice(), vl)
     }
 
-    /// The place of a virtual link that ends here on this network among those that the end system receives.
+    /// Returns the place of a virtual link that ends here on this network among those that the end system receives.
     #[inline(always)]
     fn reception(&self, vl: VlId, net: Net) -> Option<usize>
         ensures place { result ≡ option_map (λ (found : Found Reception). found.place) (reception_at self.now vl net) }
@@ -230,7 +230,7 @@ impl EndSystem {
     }
 }
 
-/// A frame of this size is offered to a sub-virtual link of the regulator of a virtual link.
+/// Makes the event of a frame of this size that is offered to a sub-virtual link.
 fn offer(at: Time, vl: VlId, size: FrameSize, sub: u8) -> RegEvent
     ensures { result ≡ Offer at sub (offered_frame at vl size) }
 {

@@ -1,4 +1,4 @@
-//! What a node is: an end system, a switch or a line.
+//! The equipment of a node: an end system, a switch or a line.
 ghost use Rattle.std.specs.Prelude.{◌≡◌, ◌+◌, ◌≤◌, []};
 ghost use Rattle.vlink.specs.Numbering.{greatest_number};
 ghost use Rattle.std.specs.Option.{option_copied};
@@ -16,7 +16,7 @@ use output_port::Port;
 use reverse::Outbound;
 use vlink::{Message, VlId};
 
-/// What a node is.
+/// The equipment of a node.
 #[derive(Drop)]
 pub enum Equipment {
     EndSystem(EndSystem),
@@ -25,7 +25,7 @@ pub enum Equipment {
 }
 
 impl Equipment {
-    /// Handles a message, and tells what it changed.
+    /// Handles a message, and returns what it changed.
     #[inline(always)]
     pub(crate) fn handle(&mut self, message: &Message, out: &mut Outbound) -> Change
         requires messages { out.old.messages ≡ [] }
@@ -46,7 +46,7 @@ impl Equipment {
         }
     }
 
-    /// Takes the last change back.
+    /// Undoes the last change.
     pub(crate) fn take_back(&mut self, change: &Change)
         requires { IsLastChange change.now self.old }
         ensures { self.new ≡ undone change.now self.old }
@@ -58,7 +58,7 @@ impl Equipment {
         }
     }
 
-    /// The regulator of a virtual link that the node sends.
+    /// Returns the regulator of a virtual link that the node sends.
     pub(crate) fn regulator(&self, vl: VlId) -> Option<&BagRegulator>
         ensures { option_copied result ≡ regulator_in self.now vl }
     {
@@ -68,7 +68,7 @@ impl Equipment {
         }
     }
 
-    /// A port, if there is such a port.
+    /// Returns a port, if it exists.
     pub(crate) fn port(&self, port: u8) -> Option<&Port>
         ensures { option_copied result ≡ port_in self.now port }
     {

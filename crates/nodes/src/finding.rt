@@ -1,11 +1,11 @@
-//! Where a virtual link stands among the entries that a node has for virtual links.
+//! Finds a virtual link among the entries that a node has for virtual links.
 ghost use Rattle.std.specs.Prelude.{◌≡◌, ◌<◌, ◌≤◌, ◌^◌, ℕ, map, length, IfOk, IfSome};
 ghost use Rattle.nodes.specs.rules.Finding.{place_of, IsRising};
 
 use std::alloc::{AllocError, Global};
 use vlink::VlId;
 
-/// What a node has for one virtual link.
+/// An entry of a node for one virtual link.
 pub trait Numbered {
     /// The number of the virtual link.
     ghost number: { Self → ℕ };
@@ -14,7 +14,7 @@ pub trait Numbered {
         ensures { result ≡ number self.now };
 }
 
-/// A number stands for itself, in a list of numbers alone.
+/// A number is its own entry, in a list of numbers alone.
 impl Numbered for u16 {
     ghost number = { λ number. number };
 
@@ -24,7 +24,7 @@ impl Numbered for u16 {
     }
 }
 
-/// The numbers of the entries, in one dense list beside them: a search in it touches fewer lines of memory than one in the entries.
+/// Returns the numbers of the entries in one dense list: a search in it touches fewer cache lines than one in the entries.
 pub fn numbers_of<T: Numbered>(alloc: Global, entries: &[T]) -> Result<Vec<u16>, AllocError>
     ensures { IfOk result (λ numbers. numbers.items ≡ map T.number entries.now) }
 {
@@ -35,7 +35,7 @@ pub fn numbers_of<T: Numbered>(alloc: Global, entries: &[T]) -> Result<Vec<u16>,
     Ok(numbers)
 }
 
-/// The place of the entry of a virtual link, where their numbers rise.
+/// Returns the place of the entry of a virtual link. The numbers of the entries must ascend.
 #[inline(always)]
 pub fn place_of<T: Numbered>(entries: &[T], vl: VlId) -> Option<usize>
     requires { IsRising (map T.number entries.now) }
@@ -46,7 +46,7 @@ pub fn place_of<T: Numbered>(entries: &[T], vl: VlId) -> Option<usize>
     search(entries, vl)
 }
 
-/// The same, as the search gives it: a place that is not beyond the number.
+/// Does the same, as the search returns it: a place that is not beyond the number.
 #[inline(always)]
 fn search<T: Numbered>(entries: &[T], vl: VlId) -> Option<usize>
     requires { IsRising (map T.number entries.now) }

@@ -29,7 +29,7 @@ impl Model for Line {
 }
 
 impl Line {
-    /// A line to a port of a node.
+    /// Makes a line to a port of a node.
     pub(crate) fn new(to: u16, to_port: u8, propagation_ns: u32, outages: Vec<Outage>) -> Self
         ensures { result ≡ record { to = to; to_port = to_port; propagation = propagation_ns; outages = outages.items } }
     {
@@ -41,7 +41,7 @@ impl Line {
         }
     }
 
-    /// Whether this moment lies in an outage. It looks at each outage of the line.
+    /// Whether this moment lies in an outage. It checks each outage of the line.
     fn is_out(&self, at: Time) -> bool
         ensures { result ≡ list_any (is_within at) self.now.outages }
     {
@@ -51,7 +51,7 @@ impl Line {
             .any(|outage| outage.from_ns <= ns && ns < outage.to_ns)
     }
 
-    /// The last bit of a frame leaves into the line.
+    /// Handles that the last bit of a frame leaves into the line.
     #[inline(always)]
     fn carry(&self, at: Time, frame: &Frame, out: &mut Outbound)
         requires room { length out.old.messages < MOST_SENT }
@@ -75,7 +75,7 @@ impl Line {
         );
     }
 
-    /// Handles a message: a frame that it carries arrives after the propagation time, or is lost in an outage.
+    /// Handles a message: a frame that the line carries arrives after the propagation time, or is lost in an outage.
     #[inline(always)]
     pub fn handle(&self, message: &Message, out: &mut Outbound)
         requires room { length out.old.messages < MOST_SENT }

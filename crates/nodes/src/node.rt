@@ -17,7 +17,7 @@ use sender::Sender;
 use std::marker::Model;
 use vlink::{Message, Time, VlId};
 
-/// What undoing an event of a node takes: how many messages it sent, and what it changed.
+/// What an undo of an event of a node needs: how many messages the event sent, and what it changed.
 #[derive(Clone, Copy)]
 pub struct NodeRecord {
     pub sends: u8,
@@ -26,7 +26,7 @@ pub struct NodeRecord {
 
 /// A node of a network, or one direction of a link, as a process that handles messages.
 ///
-/// Clauses see its number, the end of the run and the number of its next message, and the state of what it is.
+/// Clauses see its number, the end of the run and the number of its next message, and the state of its equipment.
 #[derive(Drop)]
 pub struct Node {
     sender: Sender,
@@ -45,7 +45,7 @@ impl Model for Node {
 }
 
 impl Node {
-    /// A process that has sent nothing yet.
+    /// Makes a process that has sent nothing yet.
     pub(crate) fn of_equipment(number: u16, until: Time, equipment: Equipment) -> Self
         requires placed { IsPlacedEquipment equipment }
         requires until { until < GREATEST_NS }
@@ -57,8 +57,8 @@ impl Node {
         }
     }
 
-    /// Handles a message, and leaves in `out` what the node sends and notes, in place of what was there. The answer is the record by which
-    /// the message is taken back.
+    /// Handles a message, and leaves in `out` what the node sends and notes, in place of the previous contents. Returns the record by which
+    /// the message is undone.
     #[inline(always)]
     fn step(&mut self, event: &Message, out: &mut Outbound) -> NodeRecord
         requires { self.old.sender.counter + MOST_SENT ≤ greatest_number }
@@ -77,21 +77,22 @@ impl Node {
         }
     }
 
-    /// The number of the next message that the node sends.
+    /// Returns the number of the next message that the node sends.
     pub fn counter(&self) -> u64
         ensures { result ≡ self.now.sender.counter }
     {
         self.sender.counter()
     }
 
-    /// The regulator of a virtual link, if the node is an end system that sends it.
+    /// Returns the regulator of a virtual link, if the node is an end system that sends it.
     pub fn regulator(&self, vl: VlId) -> Option<&BagRegulator>
         ensures { option_copied result ≡ regulator_in self.now.equipment vl }
     {
         self.equipment.regulator(vl)
     }
 
-    /// The output port with this number, if the node has one. Port 0 of an end system is that of network A, port 1 that of network B.
+    /// Returns the output port with this number, if the node has one. Port 0 of an end system is that of network A, port 1 that of network
+    /// B.
     pub fn port(&self, port: u8) -> Option<&Port>
         ensures { option_copied result ≡ port_in self.now.equipment port }
     {

@@ -1,4 +1,4 @@
-//! All processes of a network in their opening states.
+//! Makes all processes of a network in their opening states.
 ghost use Rattle.std.specs.Prelude.{◌≡◌, ◌<◌, length, slice_get, IfOk};
 ghost use Rattle.network.specs.declared.limits.TheConstants.{GREATEST_PORTS};
 ghost use Rattle.network.specs.Words.{process_count, lines_of};
@@ -20,7 +20,7 @@ use network::{GREATEST_PORTS, Network, NodeKind};
 use std::alloc::{AllocError, Global};
 use wiring::ports_of;
 
-/// An end system at each of whose ports so many bytes may wait.
+/// Makes an end system, at each of whose ports at most `port_bytes` bytes may wait.
 fn end_system(
     alloc: Global,
     network: &Network,
@@ -46,7 +46,7 @@ fn end_system(
     ))
 }
 
-/// A switch with this delay, at each of whose ports so many bytes may wait.
+/// Makes a switch with this delay, at each of whose ports at most `port_bytes` bytes may wait.
 fn switch(
     alloc: Global,
     network: &Network,
@@ -66,7 +66,7 @@ fn switch(
     Ok(Switch::new(latency_ns, transits, numbers, ports))
 }
 
-/// A line, with its outages.
+/// Makes a line, with its outages.
 fn line(alloc: Global, network: &Network, line: usize) -> Result<Line, AllocError>
     requires { line < length (lines_of network.now) }
     ensures { IfOk result (λ s. s ≡ line_opening network.now line (slice_get (lines_of network.now) line)) }
@@ -76,7 +76,7 @@ fn line(alloc: Global, network: &Network, line: usize) -> Result<Line, AllocErro
     Ok(Line::new(row.to, row.to_port as u8, row.propagation_ns, outages))
 }
 
-/// A node.
+/// Makes a node.
 fn node(alloc: Global, network: &Network, node: u16) -> Result<Equipment, AllocError>
     requires { node < length network.now.nodes }
     ensures { IfOk result (λ equipment. equipment ≡ equipment_opening network.now node (slice_get network.now.nodes node)) }
@@ -91,7 +91,7 @@ fn node(alloc: Global, network: &Network, node: u16) -> Result<Equipment, AllocE
     }
 }
 
-/// A node, or a line behind them.
+/// Makes a node, or a line behind the nodes.
 fn equipment(alloc: Global, network: &Network, process: u16) -> Result<Equipment, AllocError>
     requires { process < process_count network.now }
     ensures { IfOk result (λ equipment. equipment ≡ equipment_opening network.now process (slice_get network.now.nodes process)) }
@@ -106,9 +106,9 @@ fn equipment(alloc: Global, network: &Network, process: u16) -> Result<Equipment
 }
 
 impl Node {
-    /// The process with this number, as it is before any message. All memory is taken here, and want of it is the only error.
+    /// Makes the process with this number, as it is before any message. All memory is taken here, and lack of it is the only error.
     ///
-    /// It looks at each line of the network, and at each virtual link that meets the node.
+    /// It looks at each line of the network, and at each virtual link that passes the node.
     pub fn new(alloc: Global, network: &Network, process: u16) -> Result<Self, AllocError>
         requires { process < process_count network.now }
         ensures { IfOk result (λ node. node ≡ opening network.now process) }

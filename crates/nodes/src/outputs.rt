@@ -7,7 +7,7 @@ use arrayvec::ArrayVec;
 use network::GREATEST_PORTS;
 use std::marker::Model;
 
-/// The output ports of a virtual link at a switch. They stand also in a list, so that a frame goes to each without a look at the others.
+/// The output ports of a virtual link at a switch. A list has them too, so that a frame goes to each without a look at the others.
 ///
 /// Clauses see them as a mark for each port.
 #[derive(Drop)]
@@ -28,7 +28,7 @@ impl Model for Outputs {
 }
 
 impl Outputs {
-    /// The ports with these marks.
+    /// Makes the ports with these marks.
     pub(crate) fn new(marks: [bool; GREATEST_PORTS]) -> Self
         ensures { result ≡ marks }
     {
@@ -41,7 +41,7 @@ impl Outputs {
         Outputs { ports, marks }
     }
 
-    /// The ports that are marked, rising.
+    /// Returns the ports that are marked, in ascending order.
     pub(crate) fn ports(&self) -> &[u8]
         ensures ports { result.now ≡ marked_from 0 self.now }
         ensures few { length result.now ≤ GREATEST_PORTS }

@@ -16,23 +16,23 @@ use reverse::Outbound;
 use std::marker::Model;
 use vlink::{Body, Cause, Frame, Time, busy_ns, last_bit_ns};
 
-/// The line that a port leads into.
+/// The line into which a port leads.
 #[derive(Clone, Copy)]
 pub struct LineAhead {
     /// The process of the line.
     pub line: u16,
-    /// How long a byte takes, in ns.
+    /// The time on the wire of one byte, in ns.
     pub byte_ns: u16,
 }
 
-/// An output port, and the line that it leads into.
+/// An output port, and the line into which it leads.
 #[derive(Drop)]
 pub struct Outlet {
     pub ahead: LineAhead,
     pub port: Port,
 }
 
-/// The output ports of a node: for each port number the port and its line, if there is such a port.
+/// The output ports of a node: for each port number the port and its line, if the port exists.
 #[derive(Drop)]
 pub struct Ports {
     outlets: Vec<Option<Outlet>>,
@@ -47,14 +47,14 @@ impl Model for Ports {
 }
 
 impl Ports {
-    /// The ports with these outlets, by rising number.
+    /// Makes the ports with these outlets, by ascending number.
     pub(crate) fn new(outlets: Vec<Option<Outlet>>) -> Self
         ensures { result ≡ outlets.items }
     {
         Ports { outlets }
     }
 
-    /// A port with its line, if there is such a port.
+    /// Returns a port with its line, if the port exists.
     fn outlet(&self, port: u8) -> Option<&Outlet>
         ensures { option_copied result ≡ outlet_at self.now port }
     {
@@ -64,14 +64,14 @@ impl Ports {
         }
     }
 
-    /// Whether there is such a port.
+    /// Whether the port exists.
     pub fn exists(&self, port: u8) -> bool
         ensures { result ≡ exists self.now port }
     {
         self.outlet(port).is_some()
     }
 
-    /// A port, if there is such a port.
+    /// Returns a port, if it exists.
     pub fn port(&self, port: u8) -> Option<&Port>
         ensures { option_copied result ≡ port_at self.now port }
     {
@@ -81,7 +81,7 @@ impl Ports {
         }
     }
 
-    /// Puts a frame to a port at this moment, and sends and notes what follows. Nothing happens where there is no such port.
+    /// Puts a frame to a port at this moment, and sends and notes what follows. If the port does not exist, nothing happens.
     #[tactic(auto, using(std::proofs::lemmas::Grind::common_steps, crate::proofs::PortLemmas::reads))]
     pub fn put(
         &mut self,
@@ -109,7 +109,7 @@ impl Ports {
         }
     }
 
-    /// Frees a port at this moment, and sends what follows. Nothing happens where there is no such port.
+    /// Frees a port at this moment, and sends what follows. If the port does not exist, nothing happens.
     #[tactic(auto, using(std::proofs::lemmas::Grind::common_steps, crate::proofs::PortLemmas::reads))]
     #[inline(always)]
     pub fn free(&mut self, at: Time, port: u8, out: &mut Outbound) -> Option<PortRecord>
@@ -131,7 +131,7 @@ impl Ports {
         }
     }
 
-    /// Takes the last event at a port back.
+    /// Undoes the last event at a port.
     #[tactic(auto, using(std::proofs::lemmas::Grind::common_steps, crate::proofs::PortLemmas::reads))]
     pub fn take_back(&mut self, port: u8, kept: PortRecord)
         requires { IsLastAtPort port kept self.old }
@@ -145,7 +145,7 @@ impl Ports {
         }
     }
 
-    /// Takes back that a frame was put to a port.
+    /// Undoes that a frame was put to a port.
     #[tactic(auto, using(std::proofs::lemmas::Grind::common_steps, crate::proofs::PortLemmas::reads))]
     pub fn take_back_put(&mut self, port: u8, kept: PutRecord)
         ensures { self.new ≡ restored port (saved.Put kept) self.old }
@@ -192,7 +192,7 @@ fn answer_free(out: &mut Outbound, at: Time, port: u8, ahead: LineAhead, kept: &
     }
 }
 
-/// The frame starts: its last bit is carried into the line, and then the port is free.
+/// Starts the frame: its last bit is carried into the line, and then the port is free.
 fn start(out: &mut Outbound, at: Time, port: u8, ahead: LineAhead, frame: &Frame)
     requires room { length out.old.messages + 2 ≤ MOST_SENT }
     requires numbers { out.old.sender.counter + 2 ≤ greatest_number }

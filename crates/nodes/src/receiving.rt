@@ -11,7 +11,7 @@ use redundancy::{Delivery, Received, Redundancy};
 use reverse::{Outbound, Reversible};
 use vlink::{Cause, Frame, Net, Note, Time};
 
-/// What undoing a frame takes: the check of its network as it was, and redundancy management as it was if it saw the frame.
+/// What an undo of a frame needs: the check of its network as it was, and redundancy management as it was if it saw the frame.
 #[derive(Clone, Copy)]
 pub struct ReceivingRecord {
     pub net: Net,
@@ -19,8 +19,8 @@ pub struct ReceivingRecord {
     pub delivery: Option<Option<(u8, Time)>>,
 }
 
-/// What checks the frames of one virtual link at a receiver: integrity checking on each network, and then redundancy
-/// management (ARINC 664 Part 7).
+/// The checks of the frames of one virtual link at a receiver: integrity checking on each network, and then redundancy management (ARINC
+/// 664 Part 7).
 #[derive(Clone, Copy)]
 pub struct Receiving {
     pub a: Integrity,
@@ -29,8 +29,8 @@ pub struct Receiving {
 }
 
 impl Receiving {
-    /// A frame has come: it is delivered if it passes the check of its network and redundancy management then lets it
-    /// through, and lost otherwise.
+    /// Receives a frame. It is delivered if it passes the check of its network and redundancy management then passes it; otherwise it is
+    /// lost.
     #[inline(always)]
     pub fn receive(&mut self, at: Time, frame: &Frame, out: &mut Outbound) -> ReceivingRecord
         requires { length out.old.notes < 2 }
@@ -53,7 +53,7 @@ impl Receiving {
         }
     }
 
-    /// Takes a frame back, by the record that was kept of it.
+    /// Undoes a frame, by its record.
     pub fn take_back(&mut self, kept: ReceivingRecord)
         ensures { self.new ≡ unreceived kept self.old }
     {
@@ -71,7 +71,7 @@ impl Receiving {
         }
     }
 
-    /// Integrity checking on the network of the frame.
+    /// Does the integrity check on the network of the frame.
     #[inline(always)]
     fn check(&mut self, frame: &Frame) -> (Checked, Option<u8>)
         ensures state { self.new ≡ with_check frame.now.net (integrity.after (check_of frame.now.net self.old) frame.now.number) self.old }
@@ -84,7 +84,7 @@ impl Receiving {
         }
     }
 
-    /// Redundancy management of a frame that has passed the check of its network. The latency counts from the offer, in ns.
+    /// Does redundancy management of a frame that passed the check of its network. The latency counts from the offer, in ns.
     #[inline(always)]
     fn deliver(&mut self, at: Time, frame: &Frame, out: &mut Outbound) -> Option<(u8, Time)>
         requires { length out.old.notes < 2 }

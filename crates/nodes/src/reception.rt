@@ -1,11 +1,11 @@
-//! A virtual link where it ends.
+//! A virtual link at its destination.
 ghost use Rattle.nodes.specs.rules.EndSystem.{reception_number};
 
 use crate::finding::Numbered;
 use crate::receiving::Receiving;
 use crate::vl_end::VlEnd;
 
-/// A virtual link at an end system where it ends.
+/// A virtual link at an end system that is its destination.
 #[derive(Drop)]
 pub struct Reception {
     pub end: VlEnd,

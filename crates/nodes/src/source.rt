@@ -1,4 +1,4 @@
-//! A virtual link where it begins, and what follows when its regulator is asked to do something.
+//! A virtual link at its source, and what follows from an event of its regulator.
 ghost use Rattle.std.specs.Prelude.{◌≡◌, ◌+◌, ◌<◌, ◌≤◌, [], length};
 ghost use Rattle.vlink.specs.Numbering.{greatest_number};
 ghost use Rattle.bag_regulator.specs.Regulator.{regulator as plain, IsRegulator};
@@ -15,7 +15,7 @@ use bag_regulator::{BagRegulator, RegAnswer, RegEvent};
 use reverse::{Outbound, Reversible};
 use vlink::{Body, Cause, Time, VlId};
 
-/// A virtual link at the end system where it begins.
+/// A virtual link at the end system that is its source.
 #[derive(Drop)]
 pub struct Source {
     pub end: VlEnd,
@@ -31,8 +31,8 @@ impl Numbered for Source {
 }
 
 impl Source {
-    /// Asks the regulator to do something. A frame that finds its queue full is lost, the Release that it asks for is sent, and copies of the
-    /// frame that it releases go out. The virtual link stands at this place of those that the end system sends.
+    /// Passes an event to the regulator. A frame that finds its queue full is lost, the Release for which the regulator asks is sent, and
+    /// copies of the frame that it releases go out. The virtual link stands at this place of those that the end system sends.
     pub fn regulate(
         &mut self,
         at: Time,
@@ -63,7 +63,7 @@ impl Source {
     }
 }
 
-/// A frame that is offered is lost for this cause.
+/// Notes that an offered frame is lost for this cause.
 pub fn lose_offered(cause: Cause, event: &RegEvent, out: &mut Outbound)
     requires { length out.old.notes < 2 }
     ensures { out.new ≡ replied out.old (lost cause event.now) }
@@ -73,7 +73,7 @@ pub fn lose_offered(cause: Cause, event: &RegEvent, out: &mut Outbound)
     }
 }
 
-/// A frame that finds the queue full is lost.
+/// Notes that a frame is lost, if it finds the queue full.
 fn lose_if_full(event: &RegEvent, answer: RegAnswer, out: &mut Outbound)
     requires { length out.old.notes < 2 }
     ensures { out.new ≡ replied out.old (full event.now answer) }
@@ -83,7 +83,7 @@ fn lose_if_full(event: &RegEvent, answer: RegAnswer, out: &mut Outbound)
     }
 }
 
-/// Sends the Release that a regulator asks for at the moment `release_at` in ns, if it asks for one.
+/// Sends the Release for which a regulator asks, at the moment `release_at` in ns, if it asks for one.
 fn ask(vl: VlId, release_at: Option<u64>, out: &mut Outbound)
     requires room { length out.old.messages < MOST_SENT }
     requires numbers { out.old.sender.counter < greatest_number }

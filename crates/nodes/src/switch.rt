@@ -20,10 +20,10 @@ use reverse::{Outbound, Reversible};
 use std::marker::Model;
 use vlink::{Body, Cause, Frame, Message, Time, VlId};
 
-/// A switch: it polices each frame that comes in, and after its delay puts it to the output ports of its virtual link
-/// (ARINC 664 Part 7; that the delay is one fixed time is this project's profile).
+/// A switch. It polices each frame that comes in, and after its delay puts it to the output ports of its virtual link (ARINC 664 Part 7;
+/// that the delay is one fixed time is this project's profile).
 ///
-/// The virtual links that go through it stand by rising number.
+/// The virtual links that go through it are sorted by number.
 #[derive(Drop)]
 pub struct Switch {
     latency_ns: u32,
@@ -45,7 +45,7 @@ impl Model for Switch {
 }
 
 impl Switch {
-    /// A switch of these parts.
+    /// Makes a switch of these parts.
     pub(crate) fn new(
         latency_ns: u32,
         transits: Vec<Transit>,
@@ -63,7 +63,7 @@ impl Switch {
         }
     }
 
-    /// Handles a message, and tells what it changed.
+    /// Handles a message, and returns what it changed.
     #[inline(always)]
     pub fn handle(&mut self, message: &Message, out: &mut Outbound) -> Change
         requires messages { out.old.messages ≡ [] }
@@ -87,7 +87,7 @@ impl Switch {
         }
     }
 
-    /// Takes the last change back.
+    /// Undoes the last change.
     pub fn take_back(&mut self, change: &Change)
         requires { IsLastOfSwitch change.now self.old }
         ensures { self.new ≡ switch_undone change.now self.old }
@@ -99,7 +99,7 @@ impl Switch {
         }
     }
 
-    /// Takes back that the account at a place judged a frame.
+    /// Undoes that the account at a place judged a frame.
     #[tactic(auto, using(std::proofs::lemmas::Grind::common_steps, crate::proofs::PortLemmas::reads, crate::proofs::NumberLemmas::numbers_stay))]
     fn take_back_transit(&mut self, place: u16, kept: AccountRecord)
         requires { IfSome (slice_get self.old.transits place) (IsLastOfTransit kept) }
@@ -111,14 +111,14 @@ impl Switch {
         transit.account.take_back(kept);
     }
 
-    /// A port, if there is such a port.
+    /// Returns a port, if it exists.
     pub fn port(&self, port: u8) -> Option<&Port>
         ensures { option_copied result ≡ port_at self.now.ports port }
     {
         self.ports.port(port)
     }
 
-    /// A frame has come to a port.
+    /// Receives a frame at a port.
     #[tactic(auto, using(crate::proofs::NumberLemmas::numbers_stay))]
     #[inline(always)]
     fn take(&mut self, at: Time, port: u8, frame: &Frame, out: &mut Outbound) -> Change
@@ -141,7 +141,7 @@ impl Switch {
         )
     }
 
-    /// A frame is put to a port, with the priority of its virtual link.
+    /// Puts a frame to a port, with the priority of its virtual link.
     #[inline(always)]
     fn put(&mut self, at: Time, port: u8, frame: &Frame, out: &mut Outbound) -> Change
         requires messages { out.old.messages ≡ [] }
@@ -159,7 +159,7 @@ impl Switch {
         Change::of_put(port, self.ports.put(at, port, frame, priority, out))
     }
 
-    /// The priority of a virtual link that goes through the switch.
+    /// Returns the priority of a virtual link that goes through the switch.
     #[inline(always)]
     fn priority(&self, vl: VlId) -> Option<Priority>
         ensures { result ≡ option_map (λ (found : Found Transit). found.entry.priority) (transit_at self.now vl) }
@@ -168,7 +168,7 @@ impl Switch {
         Some(self.transits[place].priority)
     }
 
-    /// The place of a virtual link among those that go through the switch.
+    /// Returns the place of a virtual link among those that go through the switch.
     #[inline(always)]
     fn place(&self, vl: VlId) -> Option<usize>
         ensures place { result ≡ place_of (map transit_number self.now.transits) vl.0 }
@@ -179,8 +179,8 @@ impl Switch {
     }
 }
 
-/// A frame of a virtual link has come to a port: it is lost where the virtual link does not come in there, where it is too
-/// long, or where the account refuses it.
+/// Receives a frame of a virtual link at a port. It is lost if the virtual link does not come in there, if the frame is too long, or if the
+/// account refuses it.
 #[inline(always)]
 fn enter(
     at: Time,
@@ -217,7 +217,7 @@ fn enter(
     Some(kept)
 }
 
-/// A frame that has passed goes on at the moment `ns`, and one that the account refused is lost.
+/// Sends a frame that passed on at the moment `ns`, and notes one that the account refused as lost.
 #[inline(always)]
 fn answer_verdict(ns: u64, frame: &Frame, transit: &Transit, verdict: Verdict, out: &mut Outbound)
     requires messages { out.old.messages ≡ [] }
@@ -231,7 +231,7 @@ fn answer_verdict(ns: u64, frame: &Frame, transit: &Transit, verdict: Verdict, o
     }
 }
 
-/// A frame that has passed is put to the output ports of its virtual link at the moment `ns`, the ports rising.
+/// Puts a frame that passed to the output ports of its virtual link at the moment `ns`, the ports in ascending order.
 #[inline(always)]
 fn forward(ns: u64, frame: &Frame, transit: &Transit, out: &mut Outbound)
     requires messages { out.old.messages ≡ [] }

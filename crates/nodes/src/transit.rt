@@ -1,4 +1,4 @@
-//! A virtual link at a switch on its way.
+//! A virtual link at a switch on its path.
 ghost use Rattle.nodes.specs.rules.Switch.{transit_number};
 
 use crate::finding::Numbered;
@@ -15,7 +15,7 @@ pub struct Transit {
     pub smax: FrameSize,
     /// The port at which its frames come in.
     pub input: u8,
-    /// Which of its output ports' lists its frames wait in.
+    /// The list of its output ports in which its frames wait.
     pub priority: Priority,
     /// The ports at which its frames go out.
     pub outputs: Outputs,

@@ -1,4 +1,4 @@
--- What the plain functions of the port come to, over any list of events.
+-- What the plain functions of the port imply, over any list of events.
 use Rattle.std.specs.Prelude.{◌≡◌, ◌⊎◌, true, false, List, [], ◌∷◌, ◌++◌}
 use Rattle.vlink.specs.declared.frame.Frame.{Frame}
 use Rattle.output_port.specs.declared.event.Priority.{Priority}

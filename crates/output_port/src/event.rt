@@ -1,4 +1,4 @@
-//! What an output port is asked, what it answers, and what it keeps for an undo.
+//! The events of an output port, its answers, and what it keeps for an undo.
 use vlink::Frame;
 
 /// The priority of a frame at an output port.
@@ -8,10 +8,10 @@ pub enum Priority {
     Low,
 }
 
-/// What a port is asked to do.
+/// An event of a port.
 #[derive(Clone, Copy)]
 pub enum PortEvent {
-    /// A frame, whole in the switch or end system, is put to the port.
+    /// A whole frame in the switch or end system is put to the port.
     Put { frame: Frame, priority: Priority },
     /// The frame in transmission and the gap behind it have left.
     Free,
@@ -24,7 +24,7 @@ pub enum PortAnswer {
     Started(Frame),
     /// The frame put waits.
     Kept,
-    /// The frame put is dropped, since it would make more bytes wait than may.
+    /// The frame put is dropped, since with it more bytes would wait than may.
     Dropped,
     /// No frame waits: the port becomes idle.
     Idle,
@@ -32,7 +32,7 @@ pub enum PortAnswer {
     Nothing,
 }
 
-/// What undoing a frame put takes: what became of it.
+/// What an undo of a frame put needs: what became of the frame.
 #[derive(Clone, Copy)]
 pub enum PutRecord {
     /// The frame put started at once: the port became busy.
@@ -43,7 +43,7 @@ pub enum PutRecord {
     Nothing,
 }
 
-/// What undoing a Free takes: what it changed.
+/// What an undo of a Free needs: what the Free changed.
 #[derive(Clone, Copy)]
 pub enum FreeRecord {
     /// This frame left the front of the list of this priority.
@@ -54,7 +54,7 @@ pub enum FreeRecord {
     Nothing,
 }
 
-/// What undoing an event takes.
+/// What an undo of an event needs.
 #[derive(Clone, Copy)]
 pub enum PortRecord {
     Put(PutRecord),

@@ -1,4 +1,4 @@
-//! An output port with two priorities: frames that wait for one line, the high ones first, within a limit of bytes.
+//! An output port with two priorities: frames wait for one line, within a limit of bytes, and the high ones leave first.
 #![tactic(auto)]
 
 mod event;

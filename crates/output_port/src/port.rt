@@ -14,15 +14,15 @@ use std::alloc::{AllocError, Global};
 use std::marker::Model;
 use vlink::{Frame, FrameSize};
 
-/// An output port of a switch or an end system: it stores each frame whole, sends one at a time, and when the line
-/// is free takes the frames of high priority before those of low, each list in the order of arrival (ARINC 664
-/// Part 7). That the waiting frames of both priorities share one limit of bytes is this project's profile.
+/// An output port of a switch or an end system. It stores each frame whole and sends one at a time. When the line becomes free it takes the
+/// frames of high priority before those of low, each list in the order of arrival (ARINC 664 Part 7). The waiting frames of both priorities
+/// share one limit of bytes (profile).
 ///
 /// Clauses see it as whether it is busy, its two lists and its limit of bytes.
 #[derive(Drop)]
 pub struct Port {
     busy: bool,
-    /// False only where nothing waits. So a port that becomes free with nothing to send, as most do, does not look into its lists.
+    /// False only if nothing waits. So a port that becomes free with nothing to send, as most do, does not look into its lists.
     waits: bool,
     port_bytes: u32,
     high: FrameRing,
@@ -41,9 +41,9 @@ impl Model for Port {
 }
 
 impl Port {
-    /// An idle port in which nothing waits, and at most `port_bytes` bytes may, from destination address to check
-    /// sequence of each frame. All memory is taken here: in each list for as many frames of the least size as
-    /// `port_bytes` bytes hold. An error means that there is no memory for them, and leaves nothing behind.
+    /// Makes an idle port in which nothing waits, and in which at most `port_bytes` bytes may wait, counted from destination address to
+    /// check sequence of each frame. All memory is taken here: in each list for as many frames of the least size as `port_bytes` bytes
+    /// hold. An error means that there is no memory for them; nothing is left behind.
     pub fn new(alloc: Global, port_bytes: u32) -> Result<Self, AllocError>
         ensures { IfOk result (λ p. p ≡ opening port_bytes) }
     {
@@ -67,7 +67,7 @@ impl Port {
         self.busy
     }
 
-    /// How many bytes wait, in both lists together. A frame in transmission does not count.
+    /// Returns the number of bytes that wait, in both lists together. A frame in transmission does not count.
     pub fn waiting_bytes(&self) -> u64
         ensures value { result ≡ waiting_bytes self.now }
         ensures within { waiting_bytes self.now ≤ self.now.bytes }
@@ -75,7 +75,7 @@ impl Port {
         // Each frame has at least 64 bytes.
         ensures least { 64 * (length self.now.high + length self.now.low) ≤ waiting_bytes self.now }
     {
-        // The two counts lie within the limit, so that their sum does.
+        // The two counts lie within the limit, so their sum does.
         let _limit = self.port_bytes;
         self.high.bytes() + self.low.bytes()
     }
@@ -116,7 +116,7 @@ impl Port {
         }
     }
 
-    /// The last frame of a list is taken away, if there is one.
+    /// Removes the last frame of a list, if it has one.
     fn take_last(&mut self, priority: Priority)
         ensures { self.new ≡ with_waiting priority (without_last (waiting priority self.old)) self.old }
     {
@@ -126,7 +126,7 @@ impl Port {
         };
     }
 
-    /// A frame is put to the port: it starts at once, waits or is dropped, as the record tells.
+    /// A frame is put to the port: it starts at once, waits or is dropped, as the record states.
     pub fn put(&mut self, frame: &Frame, priority: Priority) -> PutRecord
         ensures state { self.new ≡ (put self.old frame.now priority).state }
         ensures answer { put_answer frame.now result ≡ (put self.old frame.now priority).answer }
@@ -145,7 +145,7 @@ impl Port {
         PutRecord::Kept(priority)
     }
 
-    /// The line is free: the record tells the frame that starts, if one does.
+    /// The line is free. The record states which frame starts, if one does.
     #[inline(always)]
     pub fn free(&mut self) -> FreeRecord
         ensures state { self.new ≡ (free self.old).state }
@@ -163,9 +163,9 @@ impl Port {
         self.become_idle()
     }
 
-    /// The line of a busy port is free: the first frame of high priority starts, or where none waits the first of low priority.
+    /// The line of a busy port is free: the first frame of high priority starts, or if none waits the first of low priority.
     ///
-    /// It stays a call, since most ports become free with no frame waiting.
+    /// It stays a call of its own, since most ports become free with no frame waiting.
     #[inline(never)]
     fn start_next(&mut self) -> FreeRecord
         requires { self.old.busy ≡ true }
@@ -193,7 +193,7 @@ impl Port {
         FreeRecord::Idle
     }
 
-    /// Takes an event back, by the record that was kept of it.
+    /// Undoes an event, by its record.
     pub fn take_back(&mut self, kept: PortRecord)
         requires { (e : PortEvent) × CameFrom port (λ p e. IsWithinBytes p) self.old e kept }
         ensures { self.new ≡ undone self.old kept }
@@ -206,7 +206,7 @@ impl Port {
         }
     }
 
-    /// Takes back that a frame was put, by the record that was kept of it. This asks for nothing.
+    /// Undoes that a frame was put, by its record. Requires nothing.
     pub fn take_back_put(&mut self, kept: PutRecord)
         ensures { self.new ≡ undone self.old (saved.Put kept) }
     {

@@ -1,4 +1,4 @@
-//! What the plain functions of the port come to: strict priority, and first in, first out within a priority.
+//! What the plain functions of the port imply: strict priority, and first in, first out within a priority.
 ghost use Rattle.std.specs.Prelude.{◌≡◌, true, List, ◌∷◌, ◌++◌};
 ghost use Rattle.vlink.specs.declared.frame.Frame.{Frame};
 ghost use Rattle.output_port.specs.declared.event.Priority.{Priority};
@@ -8,17 +8,17 @@ ghost use Rattle.output_port.specs.declared.event.PortAnswer.TheVariants.{Starte
 ghost use Rattle.output_port.specs.Port.{PortState, port, waiting, IsWithinBytes};
 ghost use Rattle.output_port.specs.StrictPriority.{StartsNothing, kept_frames, started_frames, reached, IsWorkConserving};
 
-/// A busy port starts nothing when a frame is put, so the frame in transmission is never interrupted. When the line
-/// becomes free the first high frame starts while one waits (strict priority, as ARINC 664 Part 7 has it). Of one
-/// priority the frames start in the order in which they were kept, and each that was kept has started or waits. No
-/// event makes more bytes wait than may, and none leaves a frame waiting at an idle port.
+/// A busy port starts nothing when a frame is put, so the frame in transmission is never interrupted. When the line becomes free and a high
+/// frame waits, the first high frame starts (strict priority, ARINC 664 Part 7). The frames of one priority start in the order in which
+/// they were kept, and each frame kept has started or waits. No event makes more bytes wait than may, and none leaves a frame waiting at an
+/// idle port.
 pub fn strict_priority_law()
     ensures uninterrupted { (p : PortState) (frame : Frame) (priority : Priority) →
         p.busy ≡ true → StartsNothing p (Put frame priority) }
     ensures high_first { (p : PortState) (frame : Frame) (rest : List Frame) →
         p.busy ≡ true → p.high ≡ frame ∷ rest → port.out p Free ≡ Started frame }
 
-    // What waits at the start and what is kept is what starts and what waits at the end.
+    // The frames that wait at the start, and those that are kept, are those that start and those that wait at the end.
     ensures in_order { (priority : Priority) (p : PortState) (events : List PortEvent) →
         waiting priority p ++ kept_frames priority p events
         ≡ started_frames priority p events ++ waiting priority (reached p events) }

@@ -1,4 +1,4 @@
-//! Worst-case bounds of an output port: how long a frame waits there, and how much waits, from what can come to it. No product code.
+//! Worst-case bounds of an output port: how long a frame waits there, and how many bytes wait, from what can arrive. No product code.
 #![tactic(auto)]
 
 mod arrivals;

@@ -1,4 +1,4 @@
--- What an Exchange and a Held keep, between all calls.
+-- What stays true of an Exchange and a Held at all calls.
 use Rattle.std.specs.Prelude.{◌≡◌, ℕ, ◌<◌, ◌≤◌, List, length, Some, slice_get, slice_index}
 use Rattle.vlink.specs.declared.message.Message.{Message}
 use Rattle.vlink.specs.declared.note.Note.{Note}

@@ -19,11 +19,12 @@ use gvt::Floors;
 use journal::{Entry, PoolFault};
 use reverse::{Actor, actor_law};
 
-/// The first letters of the mail of a process, `most` or all where there are fewer, go to its tray, with one entry in the journal
-/// where there are any. Both marks note the GVT of the exchange. The answer is how many letters were taken.
+/// Moves the first letters of the mail of a process to its tray: `most` of them, or all if they are fewer. If it moves any, the journal
+/// gets one entry. Both marks note the GVT of the exchange. Returns how many letters were taken.
 ///
-/// Any refusal leaves both as they were. `JournalFull`: exactly where the steps would pass the limit, which is looked at before any growth.
-/// `Torn`: the journal is kept, and another one has written the entry's place in the table, which is seen behind all growths.
+/// Any refusal leaves both as they were. `JournalFull` comes exactly if the steps would pass the limit, which is checked before memory is
+/// requested. `Torn` means that the journal is stored and another one wrote the entry's place in the table, which is checked after the room
+/// is made.
 pub fn collect<R: Actor, J: ActorRun<R>>(
     held: &mut Held<R, J>,
     exchange: &mut Exchange<R, J>,
@@ -92,7 +93,7 @@ fn see<R: Actor, J: ActorRun<R>>(held: &mut Held<R, J>, exchange: &mut Exchange<
     );
 }
 
-/// The floor of a process falls to the least time of the first letters in its mail, so many.
+/// Lowers the floor of a process to the least time of the first `count` letters in its mail, if that is lower.
 fn lower_floor(floors: &mut Floors, mail: &Mail, process: u16, count: usize)
     requires within { process < length floors.old.floors }
     requires enough { count ≤ length (letters_for process mail.now) }

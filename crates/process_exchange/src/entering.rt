@@ -1,4 +1,4 @@
-//! An entry comes behind the journal.
+//! Appends an entry to the journal.
 ghost use Rattle.std.specs.Prelude.{◌≡◌, ◌<◌, ◌≤◌, ◌⊎◌, ◌++◌, ◌∷◌, ℕ, [], All, Some, map, set, length, slice_index, true, OnOk, IfErr};
 ghost use Rattle.virtual_time.specs.Law.{own_in};
 ghost use Rattle.antimessages.specs.Mailing.{HasRoom, letters_for};
@@ -13,7 +13,7 @@ use process_queues::Process;
 use reverse::Actor;
 use vlink::Time;
 
-/// Makes room for an entry, and for so many letters in the tray of a process.
+/// Makes room for an entry, and for `letters` letters in the tray of a process.
 pub(crate) fn reserve_to_collect<R: Actor>(
     process: &mut Process<R>,
     journal: &mut Entries,
@@ -53,7 +53,7 @@ pub(crate) fn reserve_to_post<R: Actor>(
     }
 }
 
-/// The entry of a process, for which there is room, comes behind the journal, and both halves of the mark of the process tell where it stands
+/// Appends the entry of a process to the journal, which has room for it. Both halves of the mark of the process then state where it stands,
 /// and that GVT was seen at this moment, in ns.
 pub(crate) fn enter(
     journal: &mut Entries,

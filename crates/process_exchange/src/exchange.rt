@@ -15,14 +15,15 @@ use reverse::Actor;
 use std::marker::{Model, PhantomData};
 use vlink::{Letter, Time};
 
-/// Mail, floors and GVT of all processes, the journal of what they did, and a mark for each. Where the journal is not kept it is there in proofs alone.
+/// Mail, floors and GVT of all processes, the journal of what they did, and a mark for each process. A journal that is not stored exists in
+/// proofs alone.
 #[derive(Drop)]
 pub struct Exchange<R: Actor, J: ActorRun<R>> {
     pub(crate) mail: Mail,
     pub(crate) floors: Floors,
     pub(crate) gvt: Time,
     pub(crate) journal: Entries,
-    /// For how many steps the entries stand.
+    /// The number of steps that the entries represent.
     pub(crate) steps: u64,
     /// The half of the mark of each process, in order. They have no bytes.
     pub(crate) marks: Vec<LeftHalf<Standing>>,
@@ -47,21 +48,22 @@ impl<R: Actor, J: ActorRun<R>> Model for Exchange<R, J> {
 }
 
 impl<R: Actor, J: ActorRun<R>> Exchange<R, J> {
-    /// How many processes there are.
+    /// Returns the number of processes.
     pub fn processes(&self) -> u16
         ensures { result ≡ J.setting.processes }
     {
         self.floors.processes()
     }
 
-    /// GVT, in ns.
+    /// Returns GVT, in ns.
     pub fn gvt(&self) -> Time
         ensures { result ≡ (reach (simulation_of (rules_of R.plain) J.setting) self.now.entries).gvt }
     {
         self.gvt
     }
 
-    /// The letter number `place`, from 0, of the mail of process `process`. None where there is none, or no such process.
+    /// Returns the letter number `place`, from 0, of the mail of process `process`. None if no letter has that number, or the process does
+    /// not exist.
     pub fn look(&self, process: u16, place: usize) -> Option<Letter>
         ensures letter { process < J.setting.processes → result
             ≡ slice_get ((reach (simulation_of (rules_of R.plain) J.setting) self.now.entries).mail process) place }

@@ -1,4 +1,4 @@
-//! Whether a process in hand is the one of the journal.
+//! Whether a process in hand is the process of the journal.
 ghost use Rattle.std.specs.Prelude.{◌≡◌, true, map};
 ghost use Rattle.virtual_time.specs.Law.{local, after_moves, own_in, reach, AreEnabled};
 ghost use Rattle.reverse.specs.Rules.{rules_of};
@@ -12,8 +12,8 @@ use halves::agree_law;
 use reverse::Actor;
 
 impl<R: Actor, J: ActorRun<R>> Exchange<R, J> {
-    /// Whether both marks are equal: always, since they are the halves of one value, and each call writes both. So the process in hand is what the
-    /// journal and then its block make of it, and each step of the block can be done there. It takes no memory.
+    /// Whether both marks are equal. They always are, since they are the halves of one value, and each call writes both. So the process in
+    /// hand is what the journal and then its block make of it, and each step of the block is enabled there. Takes no memory.
     pub fn fits(&self, held: &Held<R, J>) -> bool
         ensures yes { result ≡ true }
         ensures same { held.now.mark ≡ mark_of self.now.marks held.now.number }
@@ -28,7 +28,7 @@ impl<R: Actor, J: ActorRun<R>> Exchange<R, J> {
         true
     }
 
-    /// One half of a mark tells what the other tells, so that both speak of one entry.
+    /// One half of a mark states what the other half states, so both refer to one entry.
     pub(crate) fn join_law(&self, held: &Held<R, J>)
         ensures same { held.now.mark ≡ mark_of self.now.marks held.now.number }
         ensures part { held.now.part ≡ after_moves (rules_of R.plain) (J.setting.opening held.now.number) held.now.block

@@ -11,17 +11,17 @@ use std::alloc::Global;
 use std::marker::{Model, PhantomData};
 use vlink::Time;
 
-/// A process, the block of the steps that it did alone since its last post, and its mark: where the journal tells of it last, and the GVT
-/// that it saw. Rows of its committed events can leave it, the oldest ones first.
+/// A process, the block of the steps that it did alone since its last post, and its mark: its last entry in the journal, and the GVT that
+/// it saw. Rows of its committed events can leave it, the oldest ones first.
 #[derive(Drop)]
 pub struct Held<R: Actor, J: ActorRun<R>> {
     pub(crate) process: Process<R>,
     pub(crate) number: u16,
-    /// How many messages it handled, those that were handled again included.
+    /// How many messages it handled, counting those that it handled again.
     pub(crate) runs: u64,
     pub(crate) block: Block,
     pub(crate) standing: Standing,
-    /// Its half of it. It has no bytes.
+    /// The process's half of the mark. It has no bytes.
     pub(crate) mark: RightHalf<Standing>,
     /// The rows of committed events that have left are of moments before this one.
     pub(crate) gone: Time,
@@ -56,7 +56,7 @@ impl<R: Actor, J: ActorRun<R>> Model for Held<R, J> {
 }
 
 impl<R: Actor, J: ActorRun<R>> Held<R, J> {
-    /// Its number, from 0.
+    /// Returns its number, from 0.
     pub fn number(&self) -> u16
         ensures number { result ≡ self.now.number }
         ensures within { self.now.number < J.setting.processes }
@@ -64,14 +64,14 @@ impl<R: Actor, J: ActorRun<R>> Held<R, J> {
         self.number
     }
 
-    /// How many steps its block has: those that it did alone since its last post.
+    /// Returns the number of steps of its block, which it did alone since its last post.
     pub fn pending(&self) -> u64
         ensures { result ≡ length self.now.block }
     {
         self.block.len() as u64
     }
 
-    /// Its mark.
+    /// Returns its mark.
     pub fn mark(&self) -> Mark
         ensures { result ≡ self.now.mark }
     {
@@ -85,7 +85,7 @@ impl<R: Actor, J: ActorRun<R>> Held<R, J> {
         }
     }
 
-    /// The moment, in ns, before which rows of its committed events may have left. None has where it is 0.
+    /// Returns the moment, in ns, before which rows of its committed events may have left. None has left if it is 0.
     pub fn gone_before(&self) -> Time
         ensures { result ≡ self.now.gone }
     {

@@ -1,5 +1,5 @@
-//! The exchange of letters between processes that run each for itself, and the journal of what they did, over lent values: no thread and
-//! no lock. A process in hand (`Held`) collects letters, works alone and posts; the `Exchange` has mail, floors, GVT and the journal.
+//! The exchange of letters between processes that each run alone, and the journal of what they did, over borrowed values: no thread and no
+//! lock. A process in hand (`Held`) collects letters, works alone and posts. The `Exchange` has mail, floors, GVT and the journal.
 #![tactic(auto)]
 
 mod collecting;

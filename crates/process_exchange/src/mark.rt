@@ -1,4 +1,4 @@
-//! What an exchange and a process in hand both say of the process.
+//! What an exchange and a process in hand both state of the process.
 ghost use Rattle.std.specs.Prelude.{◌≡◌, ◌<◌, ℕ, Some, map, set, length, slice_index};
 ghost use Rattle.virtual_time.specs.Law.{own_in};
 ghost use Rattle.process_exchange.specs.Views.{place_of, own_of};
@@ -8,10 +8,10 @@ use journal::Entries;
 use std::snapshot::Snapshot;
 use vlink::Time;
 
-/// Where the last entry of a process stands, and the GVT that its last `collect` saw.
+/// The place of the last entry of a process, and the GVT that its last `collect` saw.
 #[derive(Clone, Copy, PartialEq, Eq)]
 pub struct Mark {
-    /// The place of its last entry, from 0; none where there is none.
+    /// The place of its last entry, from 0, or none before the first.
     pub place: Option<u64>,
     /// The GVT that its last `collect` saw, in ns; 0 before any.
     pub seen: Time,
@@ -26,17 +26,17 @@ pub struct Last {
     pub journal: Snapshot<Entries>,
 }
 
-/// The mark of a process, with what the journal told of it then. A process in hand has one, and the exchange has one for each process. Both are
-/// halves of one value, and always equal.
+/// The mark of a process, with the journal up to its last entry. A process in hand has one, and the exchange has one for each process. Both
+/// are halves of one value, and always equal.
 #[derive(Drop)]
 pub struct Standing {
-    /// Its last entry, by which it collected or posted; none where there is none.
+    /// Its last entry, by which it collected or posted, or none before the first.
     pub last: Option<Last>,
     /// The GVT that its last `collect` saw, in ns; 0 before any.
     pub seen: Time,
 }
 
-/// The two halves of the standing of a process tell another one.
+/// Sets the two halves of the standing of a process to another value.
 pub(crate) fn tell_both(
     marks: &mut Vec<LeftHalf<Standing>>,
     half: &mut RightHalf<Standing>,
@@ -54,7 +54,7 @@ pub(crate) fn tell_both(
     tell(own, half, mark);
 }
 
-/// The standing of a process whose entry at this place is the last one of the journal, and that has seen GVT at this moment, in ns.
+/// Makes the standing of a process whose entry at this place is the last one of the journal, and that has seen GVT at this moment, in ns.
 pub(crate) fn standing_at(place: u64, journal: &Entries, seen: Time) -> Standing
     ensures place { place_of result.last ≡ Some place }
     ensures own { (p : ℕ) → own_of p result.last ≡ own_in p journal.now.entries }

@@ -25,9 +25,9 @@ use std::marker::PhantomData;
 use vlink::{Message, Time, process_number};
 
 impl<R: Actor + Drop, J: ActorRun<R>> Exchange<R, J> {
-    /// An exchange with no entry, and a process in hand for each actor, in order: each actor is in its opening state, the offers are in the
-    /// mail, every floor is the moment after the end, and GVT is 0. The journal can have `limit` steps; it is kept where there is a table,
-    /// and has its places there. It is refused for memory alone.
+    /// Makes an exchange without entries, and a process in hand for each actor, in order. Each actor is in its opening state, the offers
+    /// are in the mail, every floor is the moment after the end, and GVT is 0. The journal can have `limit` steps. If a table is given, the
+    /// journal is stored and has its places there. Only memory can be refused.
     pub fn open(
         alloc: Global,
         actors: Vec<R>,
@@ -59,7 +59,7 @@ impl<R: Actor + Drop, J: ActorRun<R>> Exchange<R, J> {
         Ok((exchange, helds))
     }
 
-    /// An exchange with no entry, of so many processes.
+    /// Makes an exchange without entries for this number of processes.
     fn at_start(
         alloc: Global,
         processes: u16,
@@ -98,7 +98,7 @@ impl<R: Actor + Drop, J: ActorRun<R>> Exchange<R, J> {
     }
 }
 
-/// The mail of so many processes that has the offers, and their floors: each is the moment after the end.
+/// Makes the mail of this number of processes, with the offers in it, and their floors: each is the moment after the end.
 fn mail_and_floors(
     alloc: Global,
     processes: u16,
@@ -120,7 +120,7 @@ fn mail_and_floors(
     Ok((mail, floors))
 }
 
-/// A process in hand for each actor, in order.
+/// Makes a process in hand for each actor, in order.
 fn helds_of<R: Actor + Drop, J: ActorRun<R>>(
     alloc: Global,
     actors: Vec<R>,
@@ -149,7 +149,7 @@ fn helds_of<R: Actor + Drop, J: ActorRun<R>>(
 }
 
 impl<R: Actor, J: ActorRun<R>> Held<R, J> {
-    /// The process with this number, which has done nothing.
+    /// Makes the process with this number, which has done nothing.
     fn open(
         alloc: Global,
         number: u16,

@@ -10,7 +10,7 @@ use std::alloc::Global;
 use std::marker::Model;
 use vlink::Time;
 
-/// The two halves of marks, in order, before an exchange and its processes have them. They have no bytes. A clause sees their names.
+/// Pairs of halves of marks, in order, before an exchange and its processes get them. They have no bytes. Clauses see their names.
 #[derive(Drop)]
 pub struct Pairs {
     pub(crate) lefts: Vec<LeftHalf<Standing>>,
@@ -31,7 +31,7 @@ impl Model for Pairs {
 }
 
 impl Pairs {
-    /// So many of them, of new names. They tell of no entry yet. It is refused for memory alone.
+    /// Makes `count` pairs, under new names. They state no entry yet. Only memory can be refused.
     pub fn new(alloc: Global, count: usize) -> Result<Pairs, PoolFault>
         ensures count { IfOk result (λ pairs. length pairs ≡ count) }
         ensures memory { IfErr result (λ fault. fault ≡ OutOfMemory) }
@@ -50,7 +50,7 @@ impl Pairs {
         Ok(pairs)
     }
 
-    /// One more, which tells of no entry.
+    /// Adds one pair, which states no entry.
     fn add(&mut self, mark: &Standing) -> Result<(), PoolFault>
         requires { mark.now ≡ unplaced }
         ensures more { OnOk result (length self.new ≡ length self.old + 1) }

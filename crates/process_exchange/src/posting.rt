@@ -14,11 +14,12 @@ use journal::{Block, Entry, PoolFault};
 use reverse::{Actor, actor_law};
 use std::mem;
 
-/// The block of a process goes to the journal as one entry, its outbox goes to the mail, and its floor is what it has left. With
-/// an empty block nothing changes.
+/// Appends the block of a process to the journal as one entry, moves its outbox to the mail, and sets its floor to the least moment of what
+/// it has left. If the block is empty it changes nothing.
 ///
-/// Any refusal leaves both as they were. `JournalFull`: exactly where the steps would pass the limit, which is looked at before any growth.
-/// `Torn`: the journal is kept, and another one has written the entry's place in the table, which is seen behind all growths.
+/// Any refusal leaves both as they were. `JournalFull` comes exactly if the steps would pass the limit, which is checked before memory is
+/// requested. `Torn` means that the journal is stored and another one wrote the entry's place in the table, which is checked after the room
+/// is made.
 pub fn post<R: Actor, J: ActorRun<R>>(
     held: &mut Held<R, J>,
     exchange: &mut Exchange<R, J>,

@@ -1,4 +1,4 @@
-//! GVT is set.
+//! Sets GVT.
 ghost use Rattle.std.specs.Prelude.{◌≡◌, ◌<◌, ◌≤◌, ◌⊎◌, ℕ, length, IfOk, IfErr, OnErr, Err, true};
 ghost use Rattle.virtual_time.specs.Law.{steps};
 ghost use Rattle.reverse.specs.Rules.{rules_of};
@@ -13,11 +13,12 @@ use journal::{Entry, PoolFault};
 use reverse::{Actor, actor_law};
 use vlink::{Note, Time};
 
-/// Sets GVT to the least of all floors and of the times of all letters in the mail, with an entry in the journal; where that is the GVT of
-/// before, there is no entry. The answer is GVT, in ns.
+/// Sets GVT to the least of all floors and of the times of all letters in the mail, with an entry in the journal. If GVT does not change,
+/// no entry is made. Returns GVT, in ns.
 ///
-/// Any refusal leaves the exchange as it was. `JournalFull`: exactly where the steps would pass the limit, which is looked at before any
-/// growth. `Torn`: the journal is kept, and another one has written the entry's place in the table, which is seen behind all growths.
+/// Any refusal leaves the exchange as it was. `JournalFull` comes exactly if the steps would pass the limit, which is checked before memory
+/// is requested. `Torn` means that the journal is stored and another one wrote the entry's place in the table, which is checked after the
+/// room is made.
 pub fn publish<R: Actor, J: ActorRun<R>>(exchange: &mut Exchange<R, J>) -> Result<Time, PoolFault>
     ensures ok { IfOk result (λ gvt. Publishes (simulation_of (rules_of R.plain) J.setting) exchange.old exchange.new gvt) }
     ensures unchanged { OnErr result (exchange.new ≡ exchange.old) }

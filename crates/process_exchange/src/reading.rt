@@ -13,15 +13,15 @@ use std::alloc::{AllocError, Global};
 use vlink::Step;
 
 impl<R: Actor, J: ActorRun<R>> Exchange<R, J> {
-    /// How many steps the journal has.
+    /// Returns the number of steps of the journal.
     pub fn steps(&self) -> u64
         ensures { result ≡ length (steps self.now.entries) }
     {
         self.steps
     }
 
-    /// The step number `place`, from 0, of a journal that is kept. None: there are no more. Its time goes by the number of entries: all steps are listed
-    /// by `step_list`.
+    /// Returns the step number `place`, from 0, of a stored journal, or none behind the last step. Its time is proportional to the number
+    /// of entries; `step_list` lists all steps.
     pub fn step_at(&self, place: u64) -> Option<Step>
         requires { J.keeps ≡ true }
         ensures { result ≡ slice_get (steps self.now.entries) place }
@@ -38,7 +38,7 @@ impl<R: Actor, J: ActorRun<R>> Exchange<R, J> {
         None
     }
 
-    /// All steps of a journal that is kept, in order. It is refused for memory alone.
+    /// Lists all steps of a stored journal, in order. Only memory can be refused.
     pub fn step_list(&self, alloc: Global) -> Result<Vec<Step>, PoolFault>
         requires { J.keeps ≡ true }
         ensures list { IfOk result (λ list. list.items ≡ steps self.now.entries) }
@@ -51,14 +51,14 @@ impl<R: Actor, J: ActorRun<R>> Exchange<R, J> {
         Ok(list)
     }
 
-    /// How many entries the journal has.
+    /// Returns the number of entries of the journal.
     fn entry_count(&self) -> usize
         ensures { result ≡ length self.now.entries }
     {
         self.journal.len()
     }
 
-    /// The entry at this place of a journal that is kept, from 0.
+    /// Returns the entry at this place of a stored journal, from 0.
     fn entry_at(&self, at: usize) -> &Entry
         requires keeps { J.keeps ≡ true }
         requires there { at < length self.now.entries }
@@ -70,7 +70,7 @@ impl<R: Actor, J: ActorRun<R>> Exchange<R, J> {
     }
 }
 
-/// The steps for which an entry stands join the list, in order.
+/// Appends the steps that an entry represents to the list, in order.
 fn add_steps(list: &mut Vec<Step>, entry: &Entry) -> Result<(), AllocError>
     requires few { length (steps_of {M = Message} entry.now.process entry.now.deed) ≤ 2 ^ 62 }
     ensures { OnOk result (list.new.items ≡ list.old.items ++ steps_of {M = Message} entry.now.process entry.now.deed) }

@@ -1,7 +1,8 @@
-//! Of which run an exchange and its processes are.
+//! The run to which an exchange and its processes belong.
 use reverse::Actor;
 
-/// A run of actors, known by its type: an `Exchange` and its `Held`s, which have it as a parameter, are of one run. It has no bytes.
+/// A run of actors, identified by its type: an `Exchange` and its `Held`s, which have it as a parameter, belong to one run. It has no
+/// bytes.
 pub trait ActorRun<R: Actor> {
     ghost use Rattle.std.specs.Prelude.{ℕ, Bool, List};
     ghost use Rattle.reverse.specs.Setting.{Setting};
@@ -9,7 +10,7 @@ pub trait ActorRun<R: Actor> {
     /// What is simulated.
     ghost setting: { Setting R };
 
-    /// Whether the entries of its journal are kept, to be read at its end.
+    /// Whether the entries of its journal are stored, to be read at its end.
     ghost keeps: { Bool };
 
     /// The names of the marks, one for each process.

@@ -1,4 +1,4 @@
-//! The rows of a process in hand that are for good.
+//! The rows of a process in hand that can no longer change.
 ghost use Rattle.std.specs.Prelude.{◌≡◌, ◌≤◌, ◌↔◌, ℕ, [], map, max, IsTrue};
 ghost use Rattle.vlink.specs.Order.{message_order};
 ghost use Rattle.virtual_time.specs.Law.{rowed, rows_at, earlier, one};
@@ -13,8 +13,8 @@ use reverse::{Actor, actor_law, actor_rules_law};
 use vlink::{Row, Time};
 
 impl<R: Actor, J: ActorRun<R>> Held<R, J> {
-    /// Whether its events before a moment, in ns, are all committed and are for good: the moment is not later than the GVT that it saw, and no
-    /// done event is earlier.
+    /// Whether its events before a moment, in ns, are all committed and can no longer change: the moment is not later than the GVT that it
+    /// saw, and no done event is earlier.
     pub fn is_committed_before(&self, moment: Time) -> bool
         ensures { IsTrue result ↔ ((moment ≤ self.now.mark.seen) × (earlier message_order moment self.now.part.done ≡ [])) }
     {
@@ -22,11 +22,12 @@ impl<R: Actor, J: ActorRun<R>> Held<R, J> {
         moment.ns() <= self.standing.seen.ns() && !is_early(self.process.oldest(), moment)
     }
 
-    /// The rows of its committed events of the moments from `from` on and before `to`, in ns, in their order. None of these has left, since
-    /// `from` is not earlier than `gone`.
+    /// Returns the rows of its committed events whose moments are at or after `from` and before `to`, in ns, in their order. None of these
+    /// has left, since `from` is not earlier than `gone`.
     ///
     /// - `rows`: they are such rows of its committed events.
-    /// - `whole`: where its events before `to` are all committed and are for good, they are all such rows that the one-thread run has of it.
+    /// - `whole`: if its events before `to` are all committed and can no longer change, they are all such rows that the one-thread run has
+    ///   of it.
     pub fn rows_between(&self, from: Time, to: Time) -> &[Row]
         requires { self.now.gone ≤ from }
         ensures rows { result.now
@@ -40,7 +41,7 @@ impl<R: Actor, J: ActorRun<R>> Held<R, J> {
         rows_between(&self.process, from, to)
     }
 
-    /// The rows of its committed events that are earlier than a moment, in ns, leave. It takes no memory.
+    /// Lets the rows of its committed events leave that are earlier than a moment, in ns. Takes no memory.
     pub fn let_rows_go(&mut self, moment: Time)
         ensures { self.new ≡ record self.old { gone = max self.old.gone moment } }
     {
@@ -50,7 +51,7 @@ impl<R: Actor, J: ActorRun<R>> Held<R, J> {
     }
 }
 
-/// The later of two moments.
+/// Returns the later of two moments.
 fn later_of(one: Time, other: Time) -> Time
     ensures { result ≡ max one other }
 {

@@ -18,13 +18,13 @@ use reverse::{Actor, actor_law};
 use virtual_time::Move;
 use vlink::Time;
 
-/// All letters of the tray arrive; then messages that are earlier than the GVT seen and `window`, in ns, are handled, `turn` at most, as long
-/// as there are any; then all done events below the GVT seen are committed. Each step joins the block. The answer is how many did. The gate
-/// is told of each message that is handled.
+/// Does three things in turn. All letters of the tray arrive. Then at most `turn` messages are handled, as long as they are earlier than
+/// the GVT seen plus `window`, in ns. Then all done events below the GVT seen are committed. Each step joins the block. Returns the number
+/// of steps. Calls the gate for each message that is handled.
 ///
 /// A refusal comes at the first step that could not be done, and the block holds just those before it: letters that arrived, then messages
-/// that were handled, then events that were committed. `Exhausted` comes exactly where a message is to be handled and its actor has too few
-/// numbers left, `OutOfMemory` only where a growth was refused for a step that is to be done.
+/// that were handled, then events that were committed. `Exhausted` comes exactly if a message is to be handled and its actor has too few
+/// numbers left, `OutOfMemory` only if memory was refused for a step that is to be done.
 pub fn work<R: Actor, J: ActorRun<R>, G: Gate>(
     held: &mut Held<R, J>,
     turn: u32,
@@ -57,14 +57,14 @@ impl<R: Actor, J: ActorRun<R>> Held<R, J> {
         Ok(())
     }
 
-    /// How many letters its tray has.
+    /// Returns the number of letters in its tray.
     fn tray_len(&self) -> usize
         ensures { result ≡ length self.now.part.tray }
     {
         self.process.tray_len()
     }
 
-    /// The front letter of the tray, which there is, arrives.
+    /// The front letter of the tray, which must exist, arrives.
     fn arrive(&mut self) -> Result<(), PoolFault>
         requires { 0 < length self.old.part.tray }
         ensures arrived { OnOk result (self.new ≡ moved_by (simulation_of (rules_of R.plain) J.setting) (Arrived ∷ []) self.old) }
@@ -85,7 +85,7 @@ impl<R: Actor, J: ActorRun<R>> Held<R, J> {
         }
     }
 
-    /// Messages that are earlier than the GVT seen and `window`, in ns, are handled, `turn` at most, as long as there are any.
+    /// Handles at most `turn` messages, as long as they are earlier than the GVT seen plus `window`, in ns.
     fn run_early<G: Gate>(&mut self, turn: u32, window: u64, gate: &G) -> Result<(), PoolFault>
         ensures ran { OnOk result (Runs (simulation_of (rules_of R.plain) J.setting) turn (self.old.mark.seen + window) self.old self.new) }
         ensures some { IfErr result (λ fault. StopsAtRun (simulation_of (rules_of R.plain) J.setting) turn (self.old.mark.seen + window) self.old self.new fault) }
@@ -100,7 +100,7 @@ impl<R: Actor, J: ActorRun<R>> Held<R, J> {
         Ok(())
     }
 
-    /// Whether there is a message that can be handled and is earlier than the GVT seen and `window`, in ns.
+    /// Whether the next message exists and is earlier than the GVT seen plus `window`, in ns.
     fn is_due(&self, window: u64) -> bool
         ensures due { result ≡ true → IsDueBefore (simulation_of (rules_of R.plain) J.setting) (self.now.mark.seen + window) self.now.part }
         ensures idle { result ≡ false → IsIdleBefore (simulation_of (rules_of R.plain) J.setting) (self.now.mark.seen + window) self.now.part }
@@ -111,7 +111,7 @@ impl<R: Actor, J: ActorRun<R>> Held<R, J> {
         }
     }
 
-    /// The next message, which there is, is handled.
+    /// Handles the next message, which must exist.
     fn run_next<G: Gate>(&mut self, gate: &G) -> Result<(), PoolFault>
         requires { is_some (next_of message_order self.old.part) ≡ true }
         ensures ran { OnOk result (self.new ≡ moved_by (simulation_of (rules_of R.plain) J.setting) (Ran ∷ []) self.old) }
@@ -140,7 +140,7 @@ impl<R: Actor, J: ActorRun<R>> Held<R, J> {
         }
     }
 
-    /// All done events that are earlier than the GVT seen are committed.
+    /// Commits all done events that are earlier than the GVT seen.
     fn commit_all(&mut self) -> Result<(), PoolFault>
         ensures committed { OnOk result ((commits : ℕ) × (self.new ≡ moved_by (simulation_of (rules_of R.plain) J.setting) (replicate commits Committed) self.old)
             × (earlier message_order self.old.mark.seen self.new.part.done ≡ [])) }
@@ -153,7 +153,7 @@ impl<R: Actor, J: ActorRun<R>> Held<R, J> {
         Ok(())
     }
 
-    /// The oldest done event is committed. There is one that is earlier than the GVT seen.
+    /// Commits the oldest done event, which must exist and be earlier than the GVT seen.
     fn commit_oldest(&mut self) -> Result<(), PoolFault>
         requires { earlier message_order self.old.mark.seen self.old.part.done ≢ [] }
         ensures committed { OnOk result (self.new ≡ moved_by (simulation_of (rules_of R.plain) J.setting) (Committed ∷ []) self.old) }
@@ -175,7 +175,7 @@ impl<R: Actor, J: ActorRun<R>> Held<R, J> {
     }
 }
 
-/// Whether the moment is earlier than another one and `window`, in ns.
+/// Whether the moment is earlier than `from` plus `window`, in ns.
 fn is_within(moment: Time, from: Time, window: u64) -> bool
     ensures { IsTrue result ↔ (moment < from + window) }
 {

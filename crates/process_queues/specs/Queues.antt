@@ -1,4 +1,4 @@
--- What a process has in hand, and when that stands for a part of the law of virtual time.
+-- What a process has in hand, and when that represents a part of the laws of virtual time.
 use Rattle.std.specs.Prelude.{◌≡◌, ℕ, ◌+◌, drop, List, [], ◌∷◌, ◌++◌, length, map, Option, ⊤}
 use Rattle.vlink.specs.declared.message.Message.{Message}
 use Rattle.vlink.specs.declared.note.Note.{Note}

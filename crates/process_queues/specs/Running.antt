@@ -1,4 +1,4 @@
--- What running the next event does, and what it answers.
+-- What running the next event does, and what it returns.
 use Rattle.std.specs.Prelude.{◌≡◌, ◌+◌, ◌<◌, ◌↔◌, Option, None, Result, Err, IsSome, IfOk, OnErr}
 use Rattle.vlink.specs.declared.message.Message.{Message}
 use Rattle.vlink.specs.declared.note.Note.{Note}

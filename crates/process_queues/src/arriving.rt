@@ -1,4 +1,4 @@
-//! A letter arrives: it is tallied, and where it comes late the process rolls back.
+//! A letter arrives: it is tallied, and if it comes late the process rolls back.
 ghost use Rattle.std.specs.Prelude.{map, ◌≡◌, ◌≢◌, ◌+◌, ◌≤◌, [], ◌∷◌, ◌++◌, true, false, drop, length, slice_get, Some, IsTrue, MatchOption, OnOk, OnErr, IfOk, IfErr};
 ghost use Rattle.vlink.specs.declared.message.Message.{Message};
 ghost use Rattle.virtual_time.specs.Law.{IsIn, IsAscending, plus_of, pluses, minuses, Part, arrive, rolled_back, undone_by};
@@ -21,9 +21,9 @@ use std::collections::VecDeque;
 use vlink::Letter;
 
 impl<R: Actor> Process<R> {
-    /// The front letter of the tray is tallied. Where its message became present or absent by that, every done event that does not come
-    /// before it is undone, the newest first, and what these events sent goes to the outbox as antimessages, the last sent first. The
-    /// answer is how many events that undid, or none where the tray is empty.
+    /// Tallies the front letter of the tray. If its message thereby becomes present or absent, undoes every done event that does not come
+    /// before it, the newest first; what these events sent goes to the outbox as antimessages, the last sent first. Returns how many events
+    /// that undid, or none if the tray is empty.
     pub fn arrive(&mut self) -> Result<Option<u64>, ProcFault>
         ensures arrived { OnOk result (Does (rules_of R.plain) R.is_value (arrive (rules_of R.plain)) self.old.queues self.new.queues) }
         ensures answer { IfOk result (λ undone. AtEachPart (rules_of R.plain) R.is_value self.old.queues
@@ -41,7 +41,7 @@ impl<R: Actor> Process<R> {
         Ok(Some(undone))
     }
 
-    /// The front letter of the tray arrives. The answer is how many events that undid. A refusal changes nothing.
+    /// The front letter of the tray arrives. Returns how many events that undid. A refusal changes nothing.
     fn arrive_first(&mut self, letter: Letter) -> Result<u64, antimessages::OutOfMemory>
         requires { slice_get self.old.queues.tray 0 ≡ Some letter }
         ensures arrived { IfOk result (λ undone. Arrives (rules_of R.plain) R.is_value undone self.old.queues self.new.queues) }
@@ -56,7 +56,7 @@ impl<R: Actor> Process<R> {
         }
     }
 
-    /// Does what `arrive_first` does with a letter that comes after all done events.
+    /// Does what `arrive_first` does, for a letter that comes after all done events.
     fn arrive_ahead(&mut self, letter: Letter) -> Result<u64, antimessages::OutOfMemory>
         requires first { slice_get self.old.queues.tray 0 ≡ Some letter }
         requires ahead { is_after message_order (newest_of (map (λ e. e.message) self.old.queues.past.done)) letter.message ≡ true }
@@ -71,7 +71,7 @@ impl<R: Actor> Process<R> {
         Ok(0)
     }
 
-    /// Does what `arrive_first` does with a letter whose message stays present or absent by it.
+    /// Does what `arrive_first` does, for a letter whose message stays present or stays absent.
     fn arrive_still(&mut self, letter: Letter) -> Result<u64, antimessages::OutOfMemory>
         requires first { slice_get self.old.queues.tray 0 ≡ Some letter }
         requires same { change_by message_order letter self.old.queues.tally ≡ Same }
@@ -83,7 +83,7 @@ impl<R: Actor> Process<R> {
         Ok(0)
     }
 
-    /// Does what `arrive_first` does with a letter by which its message becomes present or absent: the process rolls back.
+    /// Does what `arrive_first` does, for a letter that makes its message present or absent: the process rolls back.
     fn arrive_late(&mut self, letter: Letter) -> Result<u64, antimessages::OutOfMemory>
         requires first { slice_get self.old.queues.tray 0 ≡ Some letter }
         requires toggled { change_by message_order letter self.old.queues.tally ≢ Same }
@@ -97,8 +97,8 @@ impl<R: Actor> Process<R> {
         Ok(undone)
     }
 
-    /// Whether the letter makes its message, which does not come after all done events, present or absent. Such a message is present just
-    /// where it is done.
+    /// Whether the letter makes its message present or absent. The message does not come after all done events, and such a message is
+    /// present just if it is done.
     fn is_toggled(&self, letter: &Letter) -> bool
         requires { is_after message_order (newest_of (map (λ e. e.message) self.now.queues.past.done)) letter.now.message ≡ false }
         ensures toggled { IsTrue result → change_by message_order letter.now self.now.queues.tally ≢ Same }
@@ -109,9 +109,9 @@ impl<R: Actor> Process<R> {
     }
 }
 
-/// The done events that do not come before the letter's message are undone, the newest first, and what they sent goes to the outbox as
-/// antimessages, the last sent first. Their messages are tallied, and the letter is. The answer is how many events were undone. A refusal
-/// changes nothing.
+/// Undoes the done events that do not come before the letter's message, the newest first; what they sent goes to the outbox as
+/// antimessages, the last sent first. Tallies their messages and the letter. Returns how many events were undone. A refusal changes
+/// nothing.
 fn undo_since<R: Actor>(
     past: &mut Past<R>,
     tally: &mut Tally,
@@ -136,7 +136,7 @@ fn undo_since<R: Actor>(
     Ok(past.roll_back(&letter.message, outbox))
 }
 
-/// The front letter of the tray, if there is one.
+/// Returns the front letter of the tray, or none if the tray is empty.
 fn front_of(tray: &VecDeque<Letter>) -> Option<Letter>
     ensures { result ≡ slice_get tray.now.items 0 }
 {

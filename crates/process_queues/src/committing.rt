@@ -1,4 +1,4 @@
-//! Events are committed, the oldest first: how many can be, room for them, and one after another.
+//! Commits events, the oldest first: how many it can commit, room for them, and one after another.
 ghost use Rattle.std.specs.Prelude.{◌≡◌, ◌+◌, ◌<◌, ◌≤◌, false, true, map, take, Ok, OnOk, OnErr, IfOk, IfErr};
 ghost use Rattle.virtual_time.specs.Law.{IsAscending, can_commit, commit_oldest};
 ghost use Rattle.reverse.specs.Rules.{rules_of};
@@ -16,8 +16,8 @@ use std::collections::VecDeque;
 use vlink::{Time, order_law};
 
 impl<R: Actor> Process<R> {
-    /// How many of the done events, the oldest first and `most` at most, come before the first one that is not earlier than the moment,
-    /// in ns, or whose signed count is not 1. So many can be committed one after another. It takes no memory.
+    /// Returns how many of the done events, the oldest first and `most` at most, come before the first one that is not earlier than the
+    /// moment, in ns, or whose signed count is not 1. That many can be committed one after another. Takes no memory.
     pub fn committable(&self, moment: Time, most: usize) -> usize
         ensures within { result ≤ most }
         ensures stands { AtEachPart (rules_of R.plain) R.is_value self.now.queues
@@ -27,8 +27,8 @@ impl<R: Actor> Process<R> {
         committable_of(&self.tally, moment, self.past.done_events(), most)
     }
 
-    /// Sees that there is room for so many committed events, which are counted to 2^64 - 1: as long as no other call comes between, so many
-    /// calls of `seal_oldest` succeed. It takes no memory.
+    /// Makes sure that `events` more committed events can be counted; the count goes to 2^64 - 1. As long as no other call comes between,
+    /// this many calls of `seal_oldest` then succeed. Takes no memory.
     pub fn reserve_rows(&mut self, events: usize) -> Result<(), ProcFault>
         ensures room { OnOk result (events ≤ self.new.committed_room) }
         ensures same { self.new.queues ≡ self.old.queues }
@@ -42,8 +42,8 @@ impl<R: Actor> Process<R> {
         Ok(())
     }
 
-    /// The oldest done event is committed, where its signed count is just 1: it leaves the done events and the counts, and its rows are
-    /// sealed. The answer is whether there was one. Where there is room for a committed event this succeeds. It takes no memory.
+    /// Commits the oldest done event if its signed count is 1: it leaves the done events and the counts, and its rows are sealed. Returns
+    /// whether such an event existed. If `reserve_rows` made sure of it, this succeeds. Takes no memory.
     pub fn seal_oldest(&mut self) -> Result<bool, ProcFault>
         ensures sealed { OnOk result (Does (rules_of R.plain) R.is_value (λ opening. commit_oldest (rules_of R.plain)) self.old.queues self.new.queues) }
         ensures answer { IfOk result (λ done. AtEachPart (rules_of R.plain) R.is_value self.old.queues
@@ -72,7 +72,7 @@ impl<R: Actor> Process<R> {
         Ok(true)
     }
 
-    /// Whether there is a done event and the signed count of the oldest one is just 1.
+    /// Whether a done event exists and the signed count of the oldest one is 1.
     fn can_seal(&self) -> bool
         ensures { AtEachPart (rules_of R.plain) R.is_value self.now.queues (λ opening part. result ≡ can_commit message_order part part.done) }
     {
@@ -84,7 +84,8 @@ impl<R: Actor> Process<R> {
     }
 }
 
-/// How many of these done events, `most` at most, come before the first one that cannot be committed. The tally is that beside them.
+/// Returns how many of these done events, `most` at most, come before the first one that cannot be committed. The tally does not contain
+/// them.
 fn committable_of<K: Copy>(
     tally: &Tally,
     moment: Time,

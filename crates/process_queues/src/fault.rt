@@ -5,10 +5,10 @@ use thiserror::Error;
 /// Why a process refused a call, which then left it as it was.
 #[derive(Clone, Copy, Debug, Error)]
 pub enum ProcFault {
-    /// A growth was refused.
+    /// Memory was refused.
     #[error("out of memory")]
     OutOfMemory,
-    /// The actor has not enough numbers left for what one event can send.
+    /// The actor does not have enough numbers left for what one event can send.
     #[error("numbers used up")]
     Exhausted,
 }

@@ -1,4 +1,4 @@
-//! Where a message stands among the done events, and these tallied again from there on.
+//! The place of a message among the done events, and tallying these again from there on.
 ghost use Rattle.std.specs.Prelude.{◌≡◌, ◌≤◌, ◌++◌, ◌∷◌, IsTrue, false, length, map, OnOk, OnErr};
 ghost use Rattle.vlink.specs.declared.message.Message.{Message};
 ghost use Rattle.vlink.specs.Order.{message_order};
@@ -15,7 +15,7 @@ use std::collections::VecDeque;
 use vlink::{Letter, Message, order_law};
 
 impl<R: Actor> Past<R> {
-    /// Whether the message is that of a done event: of the first one that does not come before it.
+    /// Whether a done event has this message. It would be the first one that does not come before the message.
     pub(crate) fn has_done(&self, message: &Message) -> bool
         requires { IsAscending message_order (map (λ e. e.message) self.now.done) }
         ensures done { IsTrue result → times_in message_order message.now (map (λ e. e.message) self.now.done) ≡ 1 }
@@ -29,8 +29,8 @@ impl<R: Actor> Past<R> {
         }
     }
 
-    /// The messages of the done events that do not come before the letter's are tallied, and the letter is. A refusal changes nothing: what
-    /// was tallied till then is taken out again, which takes no memory.
+    /// Tallies the messages of the done events that do not come before the letter's, and the letter. A refusal changes nothing: it takes
+    /// what was tallied out again, which needs no memory.
     pub(crate) fn count_again(&self, tally: &mut Tally, letter: Letter) -> Result<(), OutOfMemory>
         requires ascending { IsAscending message_order (map (λ e. e.message) self.now.done) }
         requires not_owed { (m : Message) → IsIn message_order m (map (λ e. e.message) self.now.done) → minuses message_order m tally.old ≤ pluses message_order m tally.old }
@@ -46,7 +46,7 @@ impl<R: Actor> Past<R> {
     }
 }
 
-/// How many of these done events come before the message. They are looked at from the newest on: most letters that come late come little
+/// Returns how many of these done events come before the message. It looks from the newest on, since most late letters are only a little
 /// late.
 fn done_before<K: Copy>(done: &VecDeque<Event<K>>, message: &Message) -> usize
     requires { IsAscending message_order (map (λ e. e.message) done.now.items) }

@@ -1,5 +1,5 @@
-//! One process of a Time Warp run: its letters, its events with their records, and what it does alone. Late letters and antimessages
-//! make it roll back (Jefferson, "Virtual Time", ACM TOPLAS 7(3), 1985), by undo records in place of saved states.
+//! One process of a Time Warp run: its letters, its events with their records, and what it does alone. Late letters and antimessages make
+//! it roll back (Jefferson, "Virtual Time", ACM TOPLAS 7(3), 1985), by undo records instead of saved states.
 #![tactic(auto)]
 
 mod arriving;

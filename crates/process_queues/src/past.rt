@@ -1,6 +1,5 @@
-//! The done events of a process.
-//! What was sent is one queue, so a rollback takes from its back without asking the actor again; rows of done events stand behind the
-//! committed ones, so a commit copies none.
+//! The done events of a process. One queue holds what was sent, so a rollback takes messages from its back and need not ask the actor
+//! again. Rows of done events stand behind those of committed ones, so a commit copies none.
 ghost use Rattle.std.specs.Prelude.{◌≡◌, ◌+◌, ◌<◌, ◌≤◌, ◌-◌, List, [], ◌∷◌, ◌++◌, length, map, drop, reverse, vec_len, vec_capacity, OnOk, OnErr, slice_get};
 ghost use Rattle.std.specs.Option.{option_map, option_copied};
 ghost use Rattle.std.specs.VecDeque.{deque_len, deque_capacity};
@@ -21,8 +20,8 @@ use std::collections::VecDeque;
 use std::marker::Model;
 use vlink::{Letter, Message, Note, Row, Sign, Time};
 
-/// The actor with the events that it has done and not committed, oldest first, and all that they sent, in order. The rows are those of
-/// the committed events, but the oldest ones that are forgotten, and then those of the done ones.
+/// The actor with the events that it has done and not committed, the oldest first, and all that they sent, in order. The rows are those of
+/// the committed events, without the oldest ones that were dropped, and then those of the done events.
 #[derive(Drop)]
 pub(crate) struct Past<R: Actor> {
     pub(crate) actor: R,
@@ -41,7 +40,7 @@ impl<R: Actor> Model for Past<R> {
 }
 
 impl<R: Actor> Past<R> {
-    /// No event and no row.
+    /// Makes a past without events and rows.
     pub(crate) fn new(alloc: Global, actor: R) -> Self
         ensures { result ≡ record { state = actor; done = []; sends = []; rows = [] } }
     {
@@ -53,21 +52,21 @@ impl<R: Actor> Past<R> {
         }
     }
 
-    /// The actor.
+    /// Returns the actor.
     pub(crate) fn actor(&self) -> &R
         ensures { result.now ≡ self.now.state }
     {
         &self.actor
     }
 
-    /// The rows of the committed events, but those that are forgotten, and of the done ones.
+    /// Returns the rows of the committed events, without those that were dropped, and of the done events.
     pub(crate) fn rows(&self) -> &[Row]
         ensures { result.now ≡ self.now.rows }
     {
         &self.rows
     }
 
-    /// The oldest rows, so many, are forgotten.
+    /// Drops the oldest `count` rows.
     pub(crate) fn forget_rows(&mut self, count: usize)
         requires { count ≤ length self.old.rows }
         ensures { self.new ≡ record self.old { rows = drop count self.old.rows } }
@@ -75,14 +74,14 @@ impl<R: Actor> Past<R> {
         forget_first_rows(&mut self.rows, count);
     }
 
-    /// The oldest done event, if there is one.
+    /// Returns the oldest done event, if any.
     pub(crate) fn oldest(&self) -> Option<&Event<R::Record>>
         ensures { option_copied result ≡ slice_get self.now.done 0 }
     {
         self.done.front()
     }
 
-    /// The moment of the oldest done event, if there is one.
+    /// Returns the moment of the oldest done event, if any.
     pub(crate) fn oldest_time(&self) -> Option<Time>
         ensures { result ≡ option_map (λ e. e.message.time) (slice_get self.now.done 0) }
     {
@@ -92,21 +91,21 @@ impl<R: Actor> Past<R> {
         }
     }
 
-    /// The done events, the oldest at the front.
+    /// Returns the done events, the oldest at the front.
     pub(crate) fn done_events(&self) -> &VecDeque<Event<R::Record>>
         ensures { result.now.items ≡ self.now.done }
     {
         &self.done
     }
 
-    /// How many done events there are.
+    /// Returns the number of done events.
     pub(crate) fn done_len(&self) -> usize
         ensures { result ≡ length self.now.done }
     {
         self.done.len()
     }
 
-    /// The message of the newest done event, if there is one.
+    /// Returns the message of the newest done event, if any.
     pub(crate) fn newest(&self) -> Option<&Message>
         ensures { option_copied result ≡ newest_of (map (λ e. e.message) self.now.done) }
     {
@@ -116,7 +115,7 @@ impl<R: Actor> Past<R> {
         }
     }
 
-    /// Whether the message comes after the newest done event, if there is one.
+    /// Whether the message comes after the newest done event, or no event is done.
     pub(crate) fn is_before(&self, message: &Message) -> bool
         ensures { result ≡ is_after message_order (newest_of (map (λ e. e.message) self.now.done)) message.now }
     {
@@ -141,7 +140,7 @@ impl<R: Actor> Past<R> {
         ensures kept { OnErr result (outbox.new.letters ≡ outbox.old.letters) }
     {
         make_room(&mut self.done, &mut self.sends, &mut self.rows, outbox)?;
-        // The fields are found in this order: what was sent and noted is told once the message is handled.
+        // The order of these fields matters: what was sent and noted is known once the message is handled.
         self.done.push_back_reserved(Event {
             message: *message,
             kept: self.actor.handle(message, out),
@@ -153,7 +152,7 @@ impl<R: Actor> Past<R> {
         Ok(())
     }
 
-    /// The oldest event, which there is, is forgotten; its rows stay, behind those of the events before it. The answer is how many they are.
+    /// Forgets the oldest event, which must exist. Its rows stay, behind those of the events before it. Returns their number.
     pub(crate) fn forget_oldest(&mut self) -> u8
         requires { FirstDone (rules_of R.plain) R.is_value self.old }
         ensures forgotten { (start : R) (ms : List Message) (e : Message) (earlier : Rows) →
@@ -175,7 +174,7 @@ impl<R: Actor> Past<R> {
     }
 }
 
-/// Makes room for one event more: for what is kept of it, and for as much as it can send and note.
+/// Makes room for one more event: for its stored data, and for all that one event can send and note.
 fn make_room<K: Copy>(
     done: &mut VecDeque<Event<K>>,
     sends: &mut VecDeque<Message>,
@@ -198,7 +197,7 @@ fn make_room<K: Copy>(
     Ok(())
 }
 
-/// The messages go behind those that were sent, and as letters to the outbox. There is room for them.
+/// Puts the messages behind those that were sent, and as letters into the outbox. The room for them was made before.
 fn send_all(sends: &mut VecDeque<Message>, outbox: &mut Outbox, messages: &[Message])
     requires room { deque_len sends.old + length messages.now ≤ deque_capacity sends.old }
     requires outbox_room { length messages.now ≤ outbox.old.room }
@@ -214,7 +213,7 @@ fn send_all(sends: &mut VecDeque<Message>, outbox: &mut Outbox, messages: &[Mess
     }
 }
 
-/// The notes that the message's event gave go behind the rows, which have room for them.
+/// Puts the notes of the message's event behind the rows. The room for them was made before.
 fn note_all(rows: &mut Vec<Row>, message: &Message, notes: &[Note])
     requires { vec_len rows.old + length notes.now ≤ vec_capacity rows.old }
     ensures { rows.new.items ≡ rows.old.items ++ rows_of message_order message.now notes.now }
@@ -228,7 +227,7 @@ fn note_all(rows: &mut Vec<Row>, message: &Message, notes: &[Note])
     }
 }
 
-/// The first rows, so many, are forgotten.
+/// Drops the first `count` rows.
 fn forget_first_rows(rows: &mut Vec<Row>, count: usize)
     requires { count ≤ vec_len rows.old }
     ensures { rows.new.items ≡ drop count rows.old.items }
@@ -236,7 +235,7 @@ fn forget_first_rows(rows: &mut Vec<Row>, count: usize)
     rows.drain(..count);
 }
 
-/// The first messages that were sent, so many, are forgotten.
+/// Drops the first `count` messages that were sent.
 fn forget_first(sends: &mut VecDeque<Message>, count: usize)
     requires { count ≤ deque_len sends.old }
     ensures { sends.new.items ≡ drop count sends.old.items }

@@ -14,7 +14,7 @@ use reverse::Actor;
 
 impl<R: Actor> Process<R> {
     /// Makes room in the mail for the letters of the outbox: as long as no other call comes between, the next `post` into that mail takes
-    /// no memory. It is refused only where some receiver's mail had less room.
+    /// no memory. It can be refused only if some receiver's mail has less room.
     pub fn reserve_post(&self, mail: &mut Mail) -> Result<(), ProcFault>
         requires { All (λ letter. letter.message.receiver < length mail.old) self.now.queues.outbox }
         ensures room { OnOk result (HasRoom mail.new self.now.queues.outbox) }
@@ -28,8 +28,8 @@ impl<R: Actor> Process<R> {
         Ok(())
     }
 
-    /// The letters of the outbox go in order to the back of their receivers' mail, and the outbox is left empty. Where the mail has room
-    /// for them this takes no memory and succeeds.
+    /// Moves the letters of the outbox, in order, to the back of their receivers' mail, and leaves the outbox empty. If the room was made
+    /// before, it takes no memory and succeeds.
     pub fn post(&mut self, mail: &mut Mail) -> Result<(), ProcFault>
         requires { All (λ letter. letter.message.receiver < length mail.old) self.old.queues.outbox }
         ensures emptied { OnOk result (Does (rules_of R.plain) R.is_value (λ opening. emptied) self.old.queues self.new.queues) }

@@ -1,5 +1,5 @@
-//! A process that runs ahead and rolls back.
-//! A done message that is tallied once is not in the map: it leaves the map as it is handled, and a commit changes no map.
+//! A process that runs ahead and rolls back. A done message that is tallied once is not in the map: it leaves the map when it is handled,
+//! and a commit changes no map.
 ghost use Rattle.std.specs.Prelude.{◌≡◌, ◌≢◌, false, pos, ◌+ℤ◌, ◌+◌, ◌<◌, ◌≤◌, ◌^◌, ◌-◌, ◌↔◌, [], ◌∷◌, ◌++◌, ℕ, length, map, min, take, drop, All, IsTrue, IsOk, OnOk, OnErr, IfOk, IfErr, slice_get};
 ghost use Rattle.std.specs.Option.{option_map};
 ghost use Rattle.std.specs.VecDeque.{deque_len, deque_capacity};
@@ -23,21 +23,21 @@ use std::collections::VecDeque;
 use std::marker::Model;
 use vlink::{Letter, Message, Row, Time, earlier};
 
-/// A process that runs ahead of the others, and rolls back where a letter comes late.
+/// A process that runs ahead of the others, and rolls back if a letter comes late.
 ///
-/// Nothing of the opening state is kept, and an actor has no `Clone`: a rollback that goes back to a kept copy of the opening state does
-/// not compile. It goes by the records alone, and a record is `Copy`: one that keeps a whole node, which holds memory, does not compile.
+/// Nothing of the opening state is kept, and an actor has no `Clone`: a rollback to a saved copy of the opening state does not compile. A
+/// rollback uses the records alone. A record is `Copy`: one that contains a whole node, which holds memory, does not compile.
 #[derive(Drop)]
 pub struct Process<R: Actor> {
     pub(crate) past: Past<R>,
-    /// How many rows of committed events have left, and how many are still there.
+    /// How many rows of committed events have left, and how many are still here.
     pub(crate) left: usize,
     pub(crate) sealed: usize,
     /// How many events are committed.
     pub(crate) committed: u64,
-    /// The signed counts of the messages, less 1 for each done event: a done message that is tallied once has none here.
+    /// The signed counts of the messages, minus 1 for each done event: a done message that is tallied once has no count here.
     pub(crate) tally: Tally,
-    /// The message that is handled next, if there is one: it is looked for once, and kept until something changes it.
+    /// The next message to handle, if any. It is searched once, and kept until something changes it.
     pub(crate) next: Option<Message>,
     pub(crate) tray: VecDeque<Letter>,
     pub(crate) outbox: Outbox,
@@ -77,7 +77,7 @@ impl<R: Actor> Model for Process<R> {
 }
 
 impl<R: Actor> Process<R> {
-    /// A process that has done nothing, with this actor in its opening state. It takes no memory yet, so that it succeeds.
+    /// Makes a process that has done nothing, with this actor in its opening state. It takes no memory yet, so it succeeds.
     pub fn new(alloc: Global, actor: R) -> Result<Self, ProcFault>
         ensures stands { IfOk result (λ process. StandsFor (rules_of R.plain) R.is_value actor (opened actor) process.queues) }
         ensures left { IfOk result (λ process. process.queues.left ≡ 0) }
@@ -96,15 +96,16 @@ impl<R: Actor> Process<R> {
         })
     }
 
-    /// A process stands for a part of a process that opened in some state: what other clauses say of such a part holds of one.
+    /// A process represents a part of a process that opened in some state. What other clauses state of such a part holds for some opening
+    /// state.
     pub fn stands_law(&self)
         ensures { (opening : R) × (part : Part Message R) × StandsFor (rules_of R.plain) R.is_value opening part self.now.queues }
     {
         let _tray = &self.tray;
     }
 
-    /// The signed count of a message: how many plus letters of it arrived, less the minus letters. A committed event's letter does not
-    /// count any more.
+    /// Returns the signed count of a message: the number of its plus letters that arrived, minus the number of its minus letters. The
+    /// letter of a committed event does not count any more.
     pub fn count(&self, message: &Message) -> i128
         ensures { AtEachPart (rules_of R.plain) R.is_value self.now.queues (λ opening part. result ≡ signed_count message_order message.now part.tally) }
     {
@@ -112,21 +113,21 @@ impl<R: Actor> Process<R> {
         count_with(&self.tally, message, self.past.has_done(message))
     }
 
-    /// The moment of the oldest done event, if there is one.
+    /// Returns the moment of the oldest done event, if any.
     pub fn oldest(&self) -> Option<Time>
         ensures { AtEachPart (rules_of R.plain) R.is_value self.now.queues (λ opening part. result ≡ option_map (λ m. m.time) (slice_get part.done 0)) }
     {
         self.past.oldest_time()
     }
 
-    /// How many events are committed.
+    /// Returns the number of committed events.
     pub fn committed(&self) -> u64
         ensures { AtEachPart (rules_of R.plain) R.is_value self.now.queues (λ opening part. result ≡ length part.committed) }
     {
         self.committed
     }
 
-    /// The rows of the committed events but those that have left, in their order.
+    /// Returns the rows of the committed events, without those that have left, in their order.
     pub fn sealed(&self) -> &[Row]
         ensures { AtEachPart (rules_of R.plain) R.is_value self.now.queues
             (λ opening part. result.now ≡ rows_there (rules_of R.plain) opening part self.now.queues) }
@@ -134,15 +135,15 @@ impl<R: Actor> Process<R> {
         &self.past.rows()[..self.sealed]
     }
 
-    /// How many rows of committed events have left, the oldest ones.
+    /// Returns how many rows of committed events have left. They are the oldest ones.
     pub fn rows_left(&self) -> u64
         ensures { result ≡ self.now.queues.left }
     {
         self.left as u64
     }
 
-    /// The oldest rows of committed events leave, `count` or all that are still there where these are fewer. The answer is how many. None
-    /// leaves beyond the greatest number that `rows_left` can tell. It takes no memory.
+    /// Lets the oldest rows of committed events leave: `count` of them, or all that are still here if these are fewer. Returns how many
+    /// left. None leaves beyond the greatest number that `rows_left` can return. Takes no memory.
     pub fn let_rows_go(&mut self, count: usize) -> usize
         ensures stands { Does (rules_of R.plain) R.is_value (λ opening part. part) self.old.queues self.new.queues }
         ensures left { self.new.queues.left ≡ self.old.queues.left + result }
@@ -162,22 +163,21 @@ impl<R: Actor> Process<R> {
         gone
     }
 
-    /// The letters that wait to be posted, in order.
+    /// Returns the letters that wait to be posted, in order.
     pub fn outbox(&self) -> &[Letter]
         ensures { result.now ≡ self.now.queues.outbox }
     {
         self.outbox.letters()
     }
 
-    /// Whether each letter of the outbox is for one of the processes 0, 1, .. of which there are so many. Then `post` can be called with
-    /// their mail.
+    /// Whether each letter of the outbox is for one of the processes 0 to `processes` - 1. Then `post` can be called with their mail.
     pub fn goes_within(&self, processes: usize) -> bool
         ensures { IsTrue result ↔ All (λ letter. letter.message.receiver < processes) self.now.queues.outbox }
     {
         self.outbox.goes_within(processes)
     }
 
-    /// How many letters were taken from the mail and have not arrived.
+    /// Returns how many letters were taken from the mail and have not arrived.
     pub fn tray_len(&self) -> usize
         ensures value { result ≡ length self.now.queues.tray }
         ensures small { length self.now.queues.tray < 2 ^ 63 }
@@ -185,7 +185,7 @@ impl<R: Actor> Process<R> {
         self.tray.len()
     }
 
-    /// The message that is handled next: the first present one that is not done, if there is one.
+    /// Returns the next message to handle: the first present one that is not done, if any.
     pub fn next(&self) -> Option<Message>
         ensures next { result ≡ next_in self.now.queues }
         ensures stands { AtEachPart (rules_of R.plain) R.is_value self.now.queues (λ opening part. result ≡ next_of message_order part) }
@@ -194,15 +194,15 @@ impl<R: Actor> Process<R> {
         self.next
     }
 
-    /// Whether its actor has enough numbers left for what one event can send. Where it has not, `run` is refused for that.
+    /// Whether the actor has enough numbers left for what one event can send. If not, `run` is refused for that reason.
     pub fn has_numbers(&self) -> bool
         ensures { IsTrue result ↔ (R.plain.counter (state_in self.now.queues) + MOST_SENT ≤ greatest_number) }
     {
         self.past.actor().has_numbers()
     }
 
-    /// A moment that nothing in hand is earlier than, as a post sets it: the least time of the tray's letters and of the present messages
-    /// that are not done, or the moment after the end.
+    /// Returns a moment such that nothing in hand is earlier, as a post sets it: the least time of the tray's letters and of the present
+    /// messages that are not done, or the moment after the end.
     pub fn floor(&self) -> Time
         ensures { AtEachPart (rules_of R.plain) R.is_value self.now.queues
             (λ opening part. result ≡ floor_of message_order (R.end (state_in self.now.queues)) part) }
@@ -210,7 +210,7 @@ impl<R: Actor> Process<R> {
         floor_of_tray(&self.tray, self.floor_of_messages())
     }
 
-    /// The least time of the present messages that are not done, or the moment after the end.
+    /// Returns the least time of the present messages that are not done, or the moment after the end.
     fn floor_of_messages(&self) -> Time
         ensures { AtEachPart (rules_of R.plain) R.is_value self.now.queues
             (λ opening part. result ≡ floor_of message_order (R.end (state_in self.now.queues)) (record part { tray = [] })) }
@@ -223,7 +223,7 @@ impl<R: Actor> Process<R> {
         }
     }
 
-    /// Makes room for so many letters: as long as no other call comes between, so many calls of `deliver` take no memory.
+    /// Makes room for `letters` letters: as long as no other call comes between, this many calls of `deliver` take no memory.
     pub fn reserve_letters(&mut self, letters: usize) -> Result<(), ProcFault>
         ensures room { OnOk result (letters ≤ self.new.room) }
         ensures same { self.new.queues ≡ self.old.queues }
@@ -234,7 +234,7 @@ impl<R: Actor> Process<R> {
         Ok(())
     }
 
-    /// The letter comes to the back of the tray.
+    /// Puts the letter at the back of the tray.
     pub fn deliver(&mut self, letter: Letter) -> Result<(), ProcFault>
         ensures delivered { OnOk result (Does (rules_of R.plain) R.is_value (λ opening. delivered letter) self.old.queues self.new.queues) }
         ensures tray { OnOk result (self.new.queues ≡ record self.old.queues { tray = self.old.queues.tray ++ letter ∷ [] }) }
@@ -248,8 +248,8 @@ impl<R: Actor> Process<R> {
         Ok(())
     }
 
-    /// Takes the first letters for process `process` from the mail, `most` or all where there are fewer, to the back of the tray,
-    /// one after another. The answer is how many.
+    /// Moves the first letters for process `process` from the mail to the back of the tray, one after another: `most` of them, or all if
+    /// they are fewer. Returns how many.
     pub fn collect(
         &mut self,
         mail: &mut Mail,
@@ -275,8 +275,8 @@ impl<R: Actor> Process<R> {
     }
 }
 
-/// The first `count` letters for this process go from the mail to the back of the tray, which has room for them. Where that are all and the tray
-/// has none, none is copied.
+/// Moves the first `count` letters for this process from the mail to the back of the tray. The room for them was made before. If these are
+/// all letters and the tray is empty, none is copied.
 fn collect_letters<R: Actor>(
     tray: &mut VecDeque<Letter>,
     mail: &mut Mail,
@@ -299,8 +299,8 @@ fn collect_letters<R: Actor>(
     }
 }
 
-/// The first letter for this process goes from the mail to the back of the tray, which has room for it. It has a type parameter so that the borrow
-/// checker follows it.
+/// Moves the first letter for this process from the mail to the back of the tray. The room for it was made before. The type parameter is
+/// there for the borrow checker.
 fn take_letter<R: Actor>(tray: &mut VecDeque<Letter>, mail: &mut Mail, process: u16)
     requires room { deque_len tray.old < deque_capacity tray.old }
     requires some { 0 < length (letters_for process mail.old) }
@@ -317,7 +317,7 @@ fn take_letter<R: Actor>(tray: &mut VecDeque<Letter>, mail: &mut Mail, process: 
     }
 }
 
-/// The signed count of a message, by the tally beside the done events and by whether it is done.
+/// Returns the signed count of a message. The tally does not contain the done events; `is_done` states whether the message is done.
 fn count_with(tally: &Tally, message: &Message, is_done: bool) -> i128
     ensures done { IsTrue is_done → result ≡ signed_count message_order message.now tally.now +ℤ pos 1 }
     ensures not_done { is_done ≡ false → result ≡ signed_count message_order message.now tally.now }
@@ -326,7 +326,7 @@ fn count_with(tally: &Tally, message: &Message, is_done: bool) -> i128
     if is_done { tallied + 1 } else { tallied }
 }
 
-/// The least time of these letters, or the given moment where that is earlier.
+/// Returns the least time of these letters, or the given moment if that is earlier.
 fn floor_of_tray(tray: &VecDeque<Letter>, moment: Time) -> Time
     ensures { result ≡ lowest moment (map (λ l. l.message.time) tray.now.items) }
 {

@@ -1,4 +1,4 @@
-//! Undoing what a process has done, the newest event first.
+//! Undoes what a process has done, the newest event first.
 ghost use Rattle.std.specs.Prelude.{◌≡◌, ◌+◌, ◌≤◌, List, [], ◌∷◌, ◌++◌, length, map, reverse};
 ghost use Rattle.vlink.specs.declared.message.Message.{Message};
 ghost use Rattle.virtual_time.specs.Law.{reached, minus_of, Part, rolled_back, undo_all};
@@ -15,7 +15,7 @@ use reverse::{Actor, actor_rules_law};
 use vlink::Message;
 
 impl<R: Actor> Past<R> {
-    /// How many messages the done events sent that do not come before the message: so many antimessages their undoing gives.
+    /// Returns how many messages the done events sent that do not come before the message. Undoing these events gives as many antimessages.
     pub(crate) fn sent_since(&self, message: &Message) -> usize
         requires { (opening : R) × (there : Rows) × (part : Part Message R) × BelongsTo (rules_of R.plain) R.is_value opening there part self.now }
         ensures { result ≡ sent_since message.now (reverse self.now.done) }
@@ -33,8 +33,8 @@ impl<R: Actor> Past<R> {
         sent
     }
 
-    /// Every done event that does not come before the message is undone, the newest first; what it sent goes to the outbox as
-    /// antimessages, the last sent first. The outbox has room for them. The answer is how many events were undone.
+    /// Undoes every done event that does not come before the message, the newest first; what they sent goes to the outbox as antimessages,
+    /// the last sent first. The outbox has room for them. Returns how many events were undone.
     pub(crate) fn roll_back(&mut self, message: &Message, outbox: &mut Outbox) -> u64
         requires some { (opening : R) × (there : Rows) × (part : Part Message R) × BelongsTo (rules_of R.plain) R.is_value opening there part self.old }
         requires room { sent_since message.now (reverse self.old.done) ≤ outbox.old.room }
@@ -52,7 +52,7 @@ impl<R: Actor> Past<R> {
         (events - self.done_len()) as u64
     }
 
-    /// Undoes all done events, the newest first, each by its record, and gives the actor back. Nothing is sent.
+    /// Undoes all done events, the newest first, each by its record, and returns the actor. Sends nothing.
     pub(crate) fn undo_all(self) -> R
         requires { (start : R) × (ms : List Message) × (earlier : Rows) × IsPastOf (rules_of R.plain) R.is_value start ms earlier self }
         ensures { (start : R) (ms : List Message) (earlier : Rows) → IsPastOf (rules_of R.plain) R.is_value start ms earlier self → result ≡ start }
@@ -69,8 +69,8 @@ impl<R: Actor> Past<R> {
         actor
     }
 
-    /// The newest event, which there is, is undone by its record; what it sent goes to the outbox as antimessages, the last sent first.
-    /// The outbox has room for it.
+    /// Undoes the newest event, which must exist, by its record; what it sent goes to the outbox as antimessages, the last sent first. The
+    /// outbox has room for it.
     pub(crate) fn undo_newest(&mut self, outbox: &mut Outbox)
         requires some { LastDone (rules_of R.plain) R.is_value self.old }
         requires room { (front : List (Event R.Record)) (event : Event R.Record) → self.old.done ≡ front ++ event ∷ [] → event.sent ≤ outbox.old.room }
@@ -94,7 +94,7 @@ impl<R: Actor> Past<R> {
 }
 
 impl<R: Actor> Process<R> {
-    /// Undoes all done events, the newest first, each by its record, and gives the actor back. Nothing is sent.
+    /// Undoes all done events, the newest first, each by its record, and returns the actor. Sends nothing.
     pub fn undo_all(self) -> R
         ensures undone { AtEachPart (rules_of R.plain) R.is_value self.queues (λ opening part. result ≡ undo_all (rules_of R.plain) opening part) }
         ensures committed { AtEachPart (rules_of R.plain) R.is_value self.queues (λ opening part. result ≡ reached (rules_of R.plain) opening part.committed) }

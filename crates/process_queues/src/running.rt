@@ -1,4 +1,4 @@
-//! The next event is run.
+//! Runs the next event.
 ghost use Rattle.reverse.specs.Rules.{rules_of};
 ghost use Rattle.process_queues.specs.Running.{IsRun};
 
@@ -8,8 +8,8 @@ use reverse::{Actor, Outbound, actor_rules_law};
 use vlink::{Message, Time};
 
 impl<R: Actor> Process<R> {
-    /// The first present message that is not done is handled: it joins the done events, and what it sends goes to the outbox.
-    /// The answer is that message, or none where there is none.
+    /// Handles the first present message that is not done: it joins the done events, and what it sends goes to the outbox. Returns that
+    /// message, or none if no such message exists.
     pub fn run(&mut self) -> Result<Option<Message>, ProcFault>
         ensures { IsRun (rules_of R.plain) R.is_value self.old.queues self.new.queues result }
     {
@@ -17,7 +17,7 @@ impl<R: Actor> Process<R> {
         self.run_with(&mut out)
     }
 
-    /// Does what `run` does. `out` is room for what the event sends and notes: a caller that handles one event after another makes it once.
+    /// Does what `run` does. `out` is room for what the event sends and notes: a caller that handles many events makes it once.
     pub fn run_with(&mut self, out: &mut Outbound) -> Result<Option<Message>, ProcFault>
         ensures { IsRun (rules_of R.plain) R.is_value self.old.queues self.new.queues result }
     {

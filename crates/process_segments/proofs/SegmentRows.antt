@@ -8,7 +8,7 @@ use Rattle.process_exchange.specs.Views.{HeldState}
 use Rattle.trace_segments.specs.Words.{interval_width, cut, HasInterval, rows_within, SegmentRows, segment_of}
 use Rattle.trace_segments.proofs.IntervalLemmas.{cut-inside, cut-rises}
 use Rattle.seqsim.specs.Networks.{AreRowsOf}
-use Rattle.run_rows.proofs.Beginnings.{begins-one}
+use Rattle.network_runs.proofs.Beginnings.{begins-one}
 use Rattle.process_segments.specs.Segments.{IsIntervalSealed, IsSegmentOfRun}
 
 -- what passed two tests passes them again

@@ -1,5 +1,5 @@
-//! What a network gives to the exchange of single processes: how it is opened, and the segments of its trace that a process gives. `worker_pool`
-//! passes on the names.
+//! What a network provides for the exchange of single processes: its opening, and the segments of its trace that a process gives.
+//! `worker_pool` re-exports these names.
 #![tactic(auto)]
 
 mod network_run;

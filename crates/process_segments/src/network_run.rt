@@ -1,7 +1,7 @@
-//! Of which run of a network an exchange and its processes are.
+//! The run of a network to which an exchange and its processes belong.
+use network_runs::NetworkRun;
 use nodes::Node;
 use process_exchange::ActorRun;
-use run_rows::NetworkRun;
 use std::marker::PhantomData;
 
 /// The run of a network, as a run of its nodes and lines.

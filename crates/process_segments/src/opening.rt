@@ -8,16 +8,16 @@ ghost use Rattle.process_exchange.specs.Views.{blank, opened_held};
 use crate::network_run::Of;
 use journal::{PoolFault, Table};
 use network::Network;
+use network_runs::NetworkRun;
 use nodes::Node;
 use process_exchange::{Exchange, Held, Pairs};
-use run_rows::NetworkRun;
 use seqsim::{layout_law, nodes_of};
 use std::alloc::Global;
 use traffic::offers;
 
-/// The exchange of a network, with no entry in its journal, and each of its nodes and lines in hand, in order, in its opening state: the
-/// offers are in the mail, every floor is the moment after the end, and GVT is 0. The journal can have `limit` steps; it is
-/// kept where there is a table, and has its places there. Each process has the other half of its mark. It is refused for memory alone.
+/// Makes the exchange of a network without entries in its journal, and each of its nodes and lines in hand, in order, in its opening state:
+/// the offers are in the mail, every floor is the moment after the end, and GVT is 0. The journal can have `limit` steps. If a table is
+/// given, the journal is stored and has its places there. Each process has the other half of its mark. Only memory can be refused.
 pub fn open_network<J: NetworkRun>(
     alloc: Global,
     network: &Network,

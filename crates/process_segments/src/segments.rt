@@ -1,5 +1,5 @@
-//! The segments of the trace that a process gives while the run goes on.
-//! The moment before which rows have left says where the next segment begins; a number beside it could say something else.
+//! The segments of the trace that a process gives while the run goes on. The moment before which rows have left is where the next segment
+//! begins; a number of its own could contradict it.
 ghost use Rattle.std.specs.Prelude.{◌≡◌, ◌+◌, ◌<◌, ◌↔◌, ℕ, IsSome, MatchOption, IfSome, IfOk, IfErr, OnErr};
 ghost use Rattle.vlink.specs.declared.time.TheConstants.{GREATEST_NS};
 ghost use Rattle.journal.specs.declared.fault.PoolFault.TheVariants.{OutOfMemory};
@@ -8,22 +8,22 @@ ghost use Rattle.process_segments.specs.Segments.{IsIntervalSealed, IsNextSegmen
 
 use crate::network_run::Of;
 use journal::PoolFault;
+use network_runs::{NetworkRun, interval_at};
 use nodes::Node;
 use process_exchange::Held;
-use run_rows::{NetworkRun, interval_at};
 use std::alloc::{AllocError, Global};
 use trace_tables::{Segment, cut};
 use vlink::Time;
 
-/// The next segment of the trace that a process gives, as a segment of run 0: that of the interval which begins where its last segment ended. Its rows
-/// leave the process. `until` is the end time of the network, in ns. None: events of the interval can still come or be undone, as far as the
-/// process saw, or there is no such interval.
+/// Returns the next segment of the trace that a process gives, as a segment of run 0. Its interval begins where its last segment ended. Its
+/// rows leave the process. `until` is the end time of the network, in ns. None means that events of the interval can still come or be
+/// undone, as far as the process saw, or that the interval does not exist.
 ///
-/// It is refused for memory alone, and then nothing changes.
+/// Only memory can be refused, and then nothing changes.
 ///
-/// - `own`: a segment is one of run 0 and of the process.
+/// - `own`: a segment is of run 0 and of the process.
 /// - `segment`: it has just the rows of the process and of the interval that the one-thread run of the network has.
-/// - `some`: when there is one.
+/// - `some`: when it returns a segment.
 /// - `given`: the next one begins where this one ends.
 pub fn next_segment<J: NetworkRun>(
     alloc: Global,
@@ -49,7 +49,8 @@ pub fn next_segment<J: NetworkRun>(
     Ok(Some(segment))
 }
 
-/// The segment of interval `k`, as a segment of run 0, if the interval is for good at the process, whose rows are there from its beginning on.
+/// Returns the segment of interval `k`, as a segment of run 0, if the interval can no longer change at the process, whose rows are still
+/// here from its beginning on.
 fn sealed_segment<J: NetworkRun>(
     alloc: Global,
     held: &Held<Node, Of<J>>,

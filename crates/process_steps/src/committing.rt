@@ -8,8 +8,8 @@ ghost use Rattle.antimessages.specs.Counting.{signed_count};
 use antimessages::Tally;
 use vlink::{Message, Time};
 
-/// Whether a done event with this message can be committed: it is earlier than the moment, in ns, and nothing counts of its message beside
-/// the letter that brought it.
+/// Whether a done event with this message can be committed: it is earlier than the moment, in ns, and its signed count is 1. The tally does
+/// not contain the done events.
 pub fn is_committable(tally: &Tally, moment: Time, message: &Message) -> bool
     ensures { (all : List Letter) → signed_count message_order message.now all ≡ signed_count message_order message.now tally.now +ℤ pos 1 →
         result ≡ (nat_lt message.now.time moment && (pluses message_order message.now all == minuses message_order message.now all + 1)) }
@@ -17,8 +17,7 @@ pub fn is_committable(tally: &Tally, moment: Time, message: &Message) -> bool
     message.time < moment && counts_once(tally, message)
 }
 
-/// Whether the signed count of a done message is just 1: nothing counts of it beside the letter that brought it. The tally is that beside the
-/// done events.
+/// Whether the signed count of a done message is 1. The tally does not contain the done events.
 pub fn counts_once(tally: &Tally, message: &Message) -> bool
     ensures { (all : List Letter) → signed_count message_order message.now all ≡ signed_count message_order message.now tally.now +ℤ pos 1 →
         result ≡ (pluses message_order message.now all == minuses message_order message.now all + 1) }

@@ -1,9 +1,9 @@
-//! What is kept of a done event.
+//! The stored data of a done event.
 use std::alloc::AllocError;
 use vlink::Message;
 
-/// What is kept of a done event: its message, how many messages it sent, how many rows it gave, and the record by which it is undone.
-/// The record, which can be large, comes last, since an event that is committed needs it no more.
+/// The stored data of a done event: its message, how many messages it sent, how many rows it gave, and the record by which it is undone.
+/// The record can be large. It comes last, since a commit does not read it.
 #[derive(Copy)]
 pub struct Event<K: Copy> {
     pub message: Message,

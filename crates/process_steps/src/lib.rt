@@ -1,4 +1,4 @@
-//! What an arrival, a rollback and a commit do to single queues and to the tally of a process, whatever its actor is.
+//! What an arrival, a rollback and a commit do to the queues and the tally of a process, for any actor.
 #![tactic(auto)]
 
 mod committing;

@@ -1,4 +1,4 @@
-//! Before done events are undone, their messages are tallied again beside the letters that were tallied.
+//! Tallies the messages of done events again, beside the letters that are tallied, before the events are undone.
 ghost use Rattle.std.specs.Prelude.{◌≡◌, ◌≤◌, ◌++◌, ◌∷◌, List, map, drop, length, OnOk, OnErr, IfErr};
 ghost use Rattle.vlink.specs.declared.message.Message.{Message};
 ghost use Rattle.virtual_time.specs.Law.{IsIn, plus_of, pluses, minuses};
@@ -12,8 +12,8 @@ use antimessages::{OutOfMemory, Tally};
 use std::collections::VecDeque;
 use vlink::{Letter, Sign, order_law};
 
-/// The messages of the done events from this place on are tallied, as they are when these are undone, and the letter is. A refusal changes
-/// nothing: what was tallied till then is taken out again, which takes no memory.
+/// Tallies the messages of the done events from this place on, as they must be once these are undone, and the letter. A refusal changes
+/// nothing: it takes what was tallied out again, which needs no memory.
 pub fn tally_again<K: Copy>(
     done: &VecDeque<Event<K>>,
     place: usize,
@@ -35,8 +35,8 @@ pub fn tally_again<K: Copy>(
     }
 }
 
-/// The messages of the done events from this place on are tallied, and then the letter. Where memory is refused the answer is the place from
-/// which on those are that are tallied.
+/// Tallies the messages of the done events from this place on, and then the letter. If memory is refused, returns the place from which on
+/// messages are tallied.
 fn tally_all<K: Copy>(
     done: &VecDeque<Event<K>>,
     place: usize,
@@ -59,8 +59,8 @@ fn tally_all<K: Copy>(
     }
 }
 
-/// The messages of the done events are tallied, from the newest back to this place, or to where memory is refused. The answer is the
-/// place of the last one that is tallied.
+/// Tallies the messages of the done events, from the newest back to this place, or until memory is refused. Returns the place of the last
+/// one that is tallied.
 fn tally_back<K: Copy>(done: &VecDeque<Event<K>>, place: usize, tally: &mut Tally) -> usize
     requires { place ≤ length done.now.items }
     ensures within { result ≤ length done.now.items }
@@ -82,7 +82,7 @@ fn tally_back<K: Copy>(done: &VecDeque<Event<K>>, place: usize, tally: &mut Tall
     place
 }
 
-/// The messages of the done events from this place on are taken out again, so that the tally is what it was before they were tallied.
+/// Takes the messages of the done events from this place on out of the tally, so that it is what it was before.
 fn take_out<K: Copy>(done: &VecDeque<Event<K>>, place: usize, tally: &mut Tally)
     requires { place ≤ length done.now.items }
     ensures { (before : List Letter) → IsTally before →

@@ -1,4 +1,4 @@
-//! The newest event is taken back: it leaves the done events, and what it sent goes out as antimessages.
+//! Takes the newest event back: it leaves the done events, and what it sent goes out as antimessages.
 ghost use Rattle.std.specs.Prelude.{◌≡◌, ◌+◌, ◌<◌, ◌≤◌, ◌-◌, [], ◌∷◌, ◌++◌, map, take, drop, reverse};
 ghost use Rattle.std.specs.VecDeque.{deque_len};
 ghost use Rattle.virtual_time.specs.Law.{minus_of};
@@ -8,7 +8,7 @@ use antimessages::Outbox;
 use std::collections::VecDeque;
 use vlink::{Letter, Message, Sign};
 
-/// The newest of these events, of which there is one, leaves them.
+/// Removes the newest of these events, of which at least one must exist.
 pub fn take_newest<K: Copy>(done: &mut VecDeque<Event<K>>) -> Event<K>
     requires { 0 < deque_len done.old }
     ensures { done.old.items ≡ done.new.items ++ result ∷ [] }
@@ -16,7 +16,7 @@ pub fn take_newest<K: Copy>(done: &mut VecDeque<Event<K>>) -> Event<K>
     done.pop_back().unwrap()
 }
 
-/// The last messages that were sent, so many, go to the outbox as antimessages, the last first. There is room for them.
+/// Moves the last `count` messages that were sent to the outbox as antimessages, the last first. The room for them was made before.
 pub fn take_back(sends: &mut VecDeque<Message>, outbox: &mut Outbox, count: usize)
     requires enough { count ≤ deque_len sends.old }
     requires room { count ≤ outbox.old.room }

@@ -1,4 +1,4 @@
-//! The front letter of the tray is tallied.
+//! Tallies the front letter of the tray.
 ghost use Rattle.std.specs.Prelude.{◌≡◌, ◌≢◌, ◌↔◌, ◌+ℤ◌, pos, not, drop, IsTrue, OnOk, OnErr, IfOk};
 ghost use Rattle.vlink.specs.declared.message.Message.{Message};
 ghost use Rattle.virtual_time.specs.Law.{is_plus};
@@ -10,8 +10,8 @@ use antimessages::{Change, OutOfMemory, Tally, rewind};
 use std::collections::VecDeque;
 use vlink::{Letter, Sign};
 
-/// Whether the letter brings a message that is not done, or takes back one that is, and nothing counts of it in the tally, which is that
-/// beside the done events.
+/// Whether the letter brings a message that is not done, or cancels one that is done, and no letter of that message counts in the tally.
+/// The tally does not contain the done events.
 pub fn is_change(tally: &Tally, letter: &Letter, is_done: bool) -> bool
     ensures { IsTrue result ↔ (is_done ≡ not (is_plus letter.now.sign)) × (signed_count message_order letter.now.message tally.now ≡ pos 0) }
 {
@@ -21,7 +21,7 @@ pub fn is_change(tally: &Tally, letter: &Letter, is_done: bool) -> bool
     }
 }
 
-/// The letter, which is the front one of the tray, is tallied, and leaves the tray. The answer tells what it made of its message. A refusal
+/// Tallies the letter, which is the front one of the tray, and removes it from the tray. Returns what it did to its message. A refusal
 /// changes nothing.
 pub fn tally_front(
     tally: &mut Tally,
@@ -40,7 +40,7 @@ pub fn tally_front(
     Ok(change)
 }
 
-/// The front letter leaves the tray. A tray that is left empty begins at its front again.
+/// Removes the front letter of the tray. A tray that becomes empty begins at its front again.
 pub fn pop_front(tray: &mut VecDeque<Letter>)
     ensures { tray.new.items ≡ drop 1 tray.old.items }
 {

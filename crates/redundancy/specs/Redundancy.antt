@@ -1,4 +1,4 @@
--- Redundancy management at a receiver: a frame is delivered if its number is new, or if the last one is long ago.
+-- Redundancy management at a receiver: it delivers a frame if its number is new, or if the last delivery was long ago.
 use Rattle.std.specs.Prelude.{ℕ, ◌-◌, Option, None, Some, Bool, true, not, nat_le, nat_lt, ◌==◌, ◌&&◌, ◌||◌, if◌then◌else◌}
 use Rattle.vlink.specs.Numbering.{steps_between}
 use Rattle.reverse.specs.Plain.{Plain}

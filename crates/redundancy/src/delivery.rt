@@ -9,12 +9,12 @@ use vlink::{Time, steps};
 /// The greatest skew that can be set for a virtual link, in ns (profile).
 pub const GREATEST_SKEW_NS: u64 = 1_000_000_000;
 
-/// A frame of the virtual link, from either network, that has passed the integrity check of its network.
+/// A frame of the virtual link, from either network, that passed the integrity check of its network.
 #[derive(Clone, Copy)]
 pub struct Received {
     /// Its sequence number.
     pub number: u8,
-    /// When it came.
+    /// When it arrived.
     pub at: Time,
 }
 
@@ -27,9 +27,9 @@ pub enum Delivery {
 
 /// Redundancy management of one virtual link at a receiver: the first valid copy of a frame wins (ARINC 664 Part 7).
 ///
-/// A frame is delivered if none was; or if it comes more than the greatest skew after the last one delivered; or if
-/// its number is new, 1 to 127 steps after that one's and not 0 (profile). Any other frame is a duplicate, and
-/// leaves the state as it was.
+/// A frame is delivered if none was delivered before; or if it arrives more than the greatest skew after the last one delivered; or if its
+/// number is new, which means 1 to 127 steps after that one's and not 0 (profile). Any other frame is a duplicate, and leaves the state as
+/// it was.
 ///
 /// Clauses see it as the greatest skew in ns, and the number and moment of the last frame delivered, or none.
 #[derive(Clone, Copy)]
@@ -53,7 +53,7 @@ impl Model for Redundancy {
 }
 
 impl Redundancy {
-    /// Management before any frame is delivered, or `None` where the skew is beyond the greatest.
+    /// The state before any frame is delivered, or `None` if the skew is beyond the greatest.
     pub fn new(skew_max_ns: u64) -> Option<Self>
         ensures within { IsSome result ↔ (skew_max_ns ≤ GREATEST_SKEW_NS) }
         ensures skew { IfSome result (λ r. r.skew_max ≡ skew_max_ns) }
@@ -69,14 +69,14 @@ impl Redundancy {
         }
     }
 
-    /// The number and the moment of the last frame delivered.
+    /// Returns the number and the moment of the last frame delivered.
     pub fn last(self) -> Option<(u8, Time)>
         ensures { result ≡ self.last }
     {
         self.last
     }
 
-    /// Takes a frame back, by the record that was kept of it.
+    /// Undoes a frame, by its record.
     pub fn take_back(&mut self, kept: Option<(u8, Time)>)
         ensures { self.new ≡ record self.old { last = kept } }
     {

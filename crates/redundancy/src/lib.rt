@@ -1,4 +1,4 @@
-//! Redundancy management at a receiver: of the two copies of a frame the first is delivered, the other is a duplicate.
+//! Redundancy management at a receiver: it delivers the first of the two copies of a frame, and drops the other as a duplicate.
 #![tactic(auto)]
 
 mod delivery;

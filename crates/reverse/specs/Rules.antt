@@ -1,4 +1,4 @@
--- The rules that an actor gives to the law of virtual time: messages in their order, and the actor's plain functions.
+-- The rules that an actor gives to the laws of virtual time: messages in their order, and the actor's plain functions.
 use Rattle.std.specs.Prelude.{Bool, List, [], ◌∷◌, ⊤}
 use Rattle.vlink.specs.declared.message.Message.{Message}
 use Rattle.vlink.specs.declared.note.Note.{Note}

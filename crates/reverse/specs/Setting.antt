@@ -1,5 +1,4 @@
--- Actors in a simulation: what is simulated besides the rules that they give, when actors and messages open it, and how it must be laid
--- out.
+-- Actors in a simulation: the setting besides the rules that they give, when actors and messages open it, and how it must be laid out.
 use Rattle.std.specs.Prelude.{◌≡◌, ℕ, ◌<◌, ◌≤◌, List, length, slice_get, Some}
 use Rattle.vlink.specs.declared.message.Message.{Message}
 use Rattle.vlink.specs.declared.note.Note.{Note}

@@ -1,4 +1,4 @@
-//! Several events, there and back.
+//! Several events, handled and then undone.
 ghost use Rattle.std.specs.Prelude.{◌≡◌, ◌++◌, OnOk};
 ghost use Rattle.reverse.specs.Answers.{answers_of, answers_within};
 
@@ -8,9 +8,9 @@ use crate::sends::Sends;
 use std::alloc::AllocError;
 use vlink::Message;
 
-/// Handles the events in turn, puts the answers behind those in `answers`, and undoes the events, the newest first: the
-/// element is back where it was. An error means that an answer found no memory; the events behind it are not handled.
-/// Its use is to look at an element's answers; the call stack grows with the number of events.
+/// Handles the events in turn and puts their answers behind those in `answers`. Then it undoes the events, the newest first, so that the
+/// element is as it was. An error means that an answer found no memory; the events behind it are not handled. It serves to look at an
+/// element's answers. The call stack grows with the number of events.
 pub fn forth_and_back<R: Reversible>(
     element: &mut R,
     events: &[R::Event],
@@ -32,7 +32,7 @@ pub fn forth_and_back<R: Reversible>(
     done
 }
 
-/// The same for an actor, as long as it has numbers for what it sends.
+/// Does the same for an actor, as long as the actor has numbers for what it sends.
 pub fn act_and_undo<R: Actor>(
     actor: &mut R,
     messages: &[Message],

@@ -1,5 +1,5 @@
-//! What can be undone: elements that take an event back by the record that it left, and actors, which send messages; and when
-//! actors are those of a simulation.
+//! What can be undone: elements that undo an event by the record that it left, and actors, which also send messages. `actor_law` states
+//! when actors form a simulation.
 #![tactic(auto)]
 
 mod actor;

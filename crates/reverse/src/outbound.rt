@@ -1,4 +1,4 @@
-//! What one event sends and notes, while it is handled, in a room that is used again.
+//! What one event sends and notes while it is handled, in a room that later events use again.
 ghost use Rattle.std.specs.Prelude.{◌≡◌, ◌+◌, ◌<◌, ◌≤◌, ◌^◌, [], ◌∷◌, ◌++◌, length};
 ghost use Rattle.vlink.specs.Numbering.{greatest_number};
 ghost use Rattle.reverse.specs.Sending.{loss, replied};
@@ -9,8 +9,8 @@ use arrayvec::ArrayVec;
 use std::marker::Model;
 use vlink::{Body, Cause, Frame, Message, Note, Time};
 
-/// What one event makes a process send and note. It can be used again for the next event, so that no event copies the room for all that
-/// one event can send, and none wipes what the last one sent.
+/// What one event makes a process send and note. The next event uses it again. So no event copies or clears the room for all that one event
+/// can send.
 ///
 /// Clauses see the sender, with the number of its next message, and the messages and notes so far.
 #[derive(Drop)]
@@ -18,10 +18,10 @@ pub struct Outbound {
     number: u16,
     until: Time,
     counter: u64,
-    /// The messages sent, at the front. Behind them lies what earlier events sent.
+    /// The messages sent, at the front. Behind them are those that earlier events sent.
     messages: [Message; MOST_SENT],
     sent: usize,
-    /// The notes, at the front. Behind them lies what earlier events noted.
+    /// The notes, at the front. Behind them are those that earlier events noted.
     notes: [Note; MOST_NOTED],
     noted: usize,
 }
@@ -43,7 +43,7 @@ impl Model for Outbound {
 }
 
 impl Outbound {
-    /// Nothing sent yet by the process with this number, whose next message has the number `counter`.
+    /// An empty room for the process with this number, whose next message has the number `counter`.
     pub fn new(number: u16, until: Time, counter: u64) -> Self
         ensures sender { result.sender ≡ record { number = number; until = until; counter = counter } }
         ensures messages { result.messages ≡ [] }
@@ -60,7 +60,7 @@ impl Outbound {
         }
     }
 
-    /// Forgets what was sent and noted, for an event of the process with this number, whose next message has the number `counter`.
+    /// Discards what was sent and noted, for an event of the process with this number, whose next message has the number `counter`.
     pub fn open(&mut self, number: u16, until: Time, counter: u64)
         ensures sender { self.new.sender ≡ record { number = number; until = until; counter = counter } }
         ensures messages { self.new.messages ≡ [] }
@@ -73,7 +73,7 @@ impl Outbound {
         self.noted = 0;
     }
 
-    /// Holds what was sent and noted, in place of what it held.
+    /// Stores these sends and notes in place of its previous contents.
     pub fn hold(&mut self, sends: Sends)
         ensures sender { self.new.sender ≡ self.old.sender }
         ensures messages { self.new.messages ≡ sends.messages.items }
@@ -87,21 +87,21 @@ impl Outbound {
         self.noted = notes.len();
     }
 
-    /// The number of the process.
+    /// Returns the number of the process.
     pub fn number(&self) -> u16
         ensures { result ≡ self.now.sender.number }
     {
         self.number
     }
 
-    /// The number of the next message.
+    /// Returns the number of the next message.
     pub fn counter(&self) -> u64
         ensures { result ≡ self.now.sender.counter }
     {
         self.counter
     }
 
-    /// The messages sent, in the order of their numbers.
+    /// Returns the messages sent, in the order of their numbers.
     pub fn messages(&self) -> &[Message]
         ensures messages { result.now ≡ self.now.messages }
         ensures few { length result.now ≤ MOST_SENT }
@@ -109,7 +109,7 @@ impl Outbound {
         &self.messages[..self.sent]
     }
 
-    /// The notes, in their order.
+    /// Returns the notes, in their order.
     pub fn notes(&self) -> &[Note]
         ensures notes { result.now ≡ self.now.notes }
         ensures few { length result.now ≤ 2 }
@@ -129,8 +129,8 @@ impl Outbound {
         }
     }
 
-    /// Sends two messages, of which the second is not before the first: so one look at the end of the run mostly serves both. Each that
-    /// is after the end is left out.
+    /// Sends two messages, of which the second is not before the first: mostly one comparison with the end of the run serves both. A
+    /// message after the end is left out.
     #[inline(always)]
     pub fn send_both(
         &mut self,
@@ -198,7 +198,7 @@ impl Outbound {
         });
     }
 
-    /// All that was sent and noted.
+    /// Returns all that was sent and noted.
     pub fn close(self) -> Sends
         ensures messages { result.messages.items ≡ self.messages }
         ensures notes { result.notes.items ≡ self.notes }

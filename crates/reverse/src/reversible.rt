@@ -2,8 +2,8 @@
 ghost use Rattle.std.specs.Prelude.{◌≡◌};
 ghost use Rattle.reverse.specs.Plain.{Plain, CameFrom, IsReversible};
 
-/// An element whose events can be undone, newest first, each by the record that it left (reverse computation
-/// after Carothers, Perumalla and Fujimoto).
+/// An element whose events can be undone, the newest first, each by the record that it left (reverse computation after Carothers, Perumalla
+/// and Fujimoto).
 pub trait Reversible {
     type Event;
 
@@ -14,13 +14,13 @@ pub trait Reversible {
     /// What the element does, as plain functions of a state and an event.
     ghost plain: { Plain Self Self.Event Self.Out Self.Record };
 
-    /// The state and the event are values of their types: lengths within their room, and the like.
+    /// The state and the event are values of their types; for instance, lengths lie within their room.
     ghost is_value: { Self → Self.Event → Type 0 };
 
-    /// What `apply` asks of its caller.
+    /// What `apply` requires of its caller.
     ghost can_apply: { Self → Type 0 };
 
-    /// Handles the event: gives the answer, and the record by which it is undone.
+    /// Handles the event. Returns the answer, and the record by which the event is undone.
     fn apply(&mut self, event: &Self::Event) -> (Self::Out, Self::Record)
         requires { can_apply self.old }
         ensures state { self.new ≡ plain.after self.old event.now }
@@ -28,11 +28,11 @@ pub trait Reversible {
         ensures saved { result.1 ≡ plain.saves self.old event.now }
         ensures valid { is_value self.old event.now };
 
-    /// Undoes the event. The state and the record must have come from it.
+    /// Undoes the event. The state and the record must come from it.
     fn undo(&mut self, event: &Self::Event, kept: Self::Record)
         requires { CameFrom plain is_value self.old event.now kept }
         ensures { self.new ≡ plain.before self.old event.now kept };
 
-    /// The inverse law, of every state and event.
+    /// The inverse law, for every state and event.
     ghost undoes: { IsReversible plain };
 }

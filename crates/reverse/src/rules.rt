@@ -1,4 +1,4 @@
-//! What an actor gives to the law of virtual time.
+//! What an actor contributes to the laws of virtual time.
 ghost use Rattle.std.specs.Prelude.{◌≡◌, ◌+◌, ◌<◌, ◌≤◌, length};
 ghost use Rattle.vlink.specs.Order.{message_order};
 ghost use Rattle.vlink.specs.declared.message.Message.{Message};
@@ -8,9 +8,9 @@ ghost use Rattle.reverse.specs.Rules.{rules_of};
 use crate::actor::Actor;
 use vlink::order_law;
 
-/// The rules of an actor are what the law of virtual time asks of one actor: its order of messages is total and by
-/// time first; what an event sends has the actor as its sender, is later than the event, not later than the end
-/// time and numbered on from the counter; and undoing an event gives back the state before it.
+/// The rules of an actor meet what the laws of virtual time require of one actor. Its order of messages is total, and time decides first.
+/// What an event sends has the actor as its sender, is later than the event, is not later than the end time, and is numbered on from the
+/// counter. Undoing an event restores the state before it.
 pub fn actor_rules_law<R: Actor>()
     ensures order { IsOrder message_order }
     ensures sender { (s : R) (e m : Message) → IsIn message_order m ((rules_of R.plain).sends s e) → m.sender ≡ R.number s }

@@ -20,7 +20,7 @@ pub struct Sends {
 }
 
 impl Sends {
-    /// None of either.
+    /// Neither messages nor notes.
     pub fn new() -> Self
         ensures messages { result.messages.items ≡ [] }
         ensures notes { result.notes.items ≡ [] }

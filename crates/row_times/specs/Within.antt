@@ -1,4 +1,4 @@
--- Rows of a process that are of moments from one on and before another. Times are in ns.
+-- Rows of a process whose moments are at or after one moment and before another. Times are in ns.
 use Rattle.std.specs.Prelude.{ℕ, ◌&&◌, ◌<◌, ◌≤◌, nat_le, nat_lt, Bool, List, All, filter, take}
 use Rattle.std.specs.List.Sorted.{IsNonDecreasingBy}
 use Rattle.virtual_time.specs.Law.{Rules}

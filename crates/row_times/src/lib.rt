@@ -1,4 +1,4 @@
-//! Rows of committed events by their moments, whoever keeps them.
+//! Searches rows of committed events by their moments.
 #![tactic(auto)]
 
 mod rows;

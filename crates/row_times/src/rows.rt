@@ -1,11 +1,11 @@
-//! Rows whose moments do not fall: those between two moments.
+//! Rows in ascending order of their moments: those between two moments.
 ghost use Rattle.std.specs.Prelude.{◌≡◌, ◌≤◌, ◌&&◌, filter, length, nat_le, nat_lt, true, false};
 ghost use Rattle.std.specs.List.Sorted.{IsNonDecreasingBy, IsPartitionPoint};
 
 use vlink::{Row, Time};
 
-/// Of rows whose moments do not fall those of the moments from `from` on and before `to`, in ns, in their order. It takes no memory, and its time goes
-/// by the logarithm of their number.
+/// Returns those of the rows whose moments are at or after `from` and before `to`, in ns, in their order. The moments of the rows must not
+/// fall. Takes no memory; its time is logarithmic in the number of rows.
 pub fn rows_in_time(rows: &[Row], from: Time, to: Time) -> &[Row]
     requires { IsNonDecreasingBy (λ row. row.message.time) rows.now }
     ensures { result.now ≡ filter (λ row. nat_le from row.message.time && nat_lt row.message.time to) rows.now }
@@ -15,7 +15,7 @@ pub fn rows_in_time(rows: &[Row], from: Time, to: Time) -> &[Row]
     &rows[begin..end]
 }
 
-/// How many of these rows, whose moments do not fall, are earlier than a moment.
+/// Returns how many of these rows are earlier than a moment. The moments of the rows must not fall.
 pub fn count_before(rows: &[Row], moment: Time) -> usize
     requires { IsNonDecreasingBy (λ row. row.message.time) rows.now }
     ensures within { result ≤ length rows.now }

@@ -23,7 +23,7 @@ known-so-far plan tables rows some =
       split = ∥∥₁_elim some (hlevel props) (λ s. s.split ∙ ap (λ (xs : List Row). xs ++ tables.rest) (sym (same s)));
       many = ∥∥₁_elim some (hlevel props) (λ s. s.many ∙ ap length (sym (same s)));
       few = ∥∥₁_elim some (hlevel props) (λ s. subst (λ (xs : List Row). length xs ≤ 2 ^ 63) (sym (same s)) s.few);
-      counts = ∥∥₁_elim some (hlevel props) (λ s. subst (λ (xs : List Row). AreInTables plan xs tables.latencies tables.drops) (sym (same s)) s.counts);
+      counts = ∥∥₁_elim some (hlevel props) (λ s. subst (λ (xs : List Row). AreInTables plan xs tables.cells tables.drops) (sym (same s)) s.counts);
     }
   where
     same : (s : IsSoFar plan tables rows) → take tables.counted rows ≡ s.first

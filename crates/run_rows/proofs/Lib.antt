@@ -6,4 +6,3 @@ pub mod WrittenRun
 pub mod FinishedRun
 pub mod Written
 pub mod CountedRun
-pub mod Beginnings

@@ -8,10 +8,6 @@ use Rattle.trace_segments.specs.Words.{rows_within, rows_before, AreInMessageOrd
 use Rattle.trace_writer.specs.WrittenTrace.{WrittenTrace}
 use Rattle.seqsim.specs.Networks.{AreRowsOf}
 
--- a network of nothing
-abbrev pub empty_plan : Plan
-empty_plan = record { until = 0; seed = 0; nodes = []; links = []; outages = []; vls = [] }
-
 -- rows in message order, each of the process that received its message, none of a process that the network lacks, and none later than the
 -- end of the run
 pub record AreLawfulRows (plan : Plan) (rows : List Row) : Type 0 where

@@ -3,10 +3,10 @@ ghost use Rattle.std.specs.Prelude.{◌≡◌, ◌<◌, ◌≤◌, ℕ, length, 
 ghost use Rattle.run_rows.specs.Counts.{moment_at, moment_of, AreCountedBefore, IsPartOfGroup};
 
 use crate::lawful_rows::rows_law;
-use crate::network_run::NetworkRun;
 use crate::row_tables::RowTables;
 use crate::run_batch::RunBatch;
 use network::Network;
+use network_runs::NetworkRun;
 use std::alloc::{AllocError, Global};
 use std::marker::PhantomData;
 use trace_tables::batches_in_order_law;

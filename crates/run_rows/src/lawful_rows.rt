@@ -1,4 +1,4 @@
-//! What a trace rests on: the rows of a run are lawful.
+//! The rows of a run are lawful, which a trace relies on.
 ghost use Rattle.vlink.specs.Order.{message_order};
 ghost use Rattle.run_rows.specs.Traces.{HasLawfulRows};
 

@@ -3,18 +3,14 @@
 #![tactic(auto)]
 
 mod counted;
-mod interval;
 mod lawful_rows;
-mod network_run;
 mod row_tables;
 mod run_batch;
 mod trace_run;
 mod writing;
 
 pub use counted::{Counted, moment_of};
-pub use interval::interval_at;
 pub use lawful_rows::rows_law;
-pub use network_run::NetworkRun;
 pub use row_tables::RowTables;
 pub use run_batch::RunBatch;
 pub use trace_run::TraceRun;

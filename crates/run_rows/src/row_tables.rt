@@ -2,8 +2,8 @@
 ghost use Rattle.std.specs.Prelude.{◌≡◌, [], ◌++◌, map, IfOk, OnOk};
 ghost use Rattle.trace_tables.specs.Tables.{tables_of};
 
-use crate::network_run::NetworkRun;
 use network::Network;
+use network_runs::NetworkRun;
 use std::alloc::{AllocError, Global};
 use std::marker::{Model, PhantomData};
 use std::snapshot::Snapshot;

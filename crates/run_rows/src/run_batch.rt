@@ -2,7 +2,7 @@
 ghost use Rattle.std.specs.Prelude.{◌≡◌};
 ghost use Rattle.run_rows.specs.Traces.{IsBatchOfRun};
 
-use crate::network_run::NetworkRun;
+use network_runs::NetworkRun;
 use std::marker::PhantomData;
 use trace_tables::Batch;
 

@@ -12,10 +12,10 @@ ghost use Rattle.run_rows.specs.Traces.{HasLawfulRows, IsTraceOfRun};
 ghost use Rattle.run_rows.specs.Written.{outcome_of, IsPlaceFault, IsFaultOfTrace, IsWritten};
 
 use crate::lawful_rows::rows_law;
-use crate::network_run::NetworkRun;
 use crate::run_batch::RunBatch;
 use crate::trace_run::TraceRun;
 use network::Network;
+use network_runs::NetworkRun;
 use std::alloc::Global;
 use std::marker::PhantomData;
 use trace_tables::{OutFault, SegmentFault, Sink, TraceFault, TraceWriter, batches_in_order_law};

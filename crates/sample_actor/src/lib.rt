@@ -1,4 +1,4 @@
-//! Actors for the tests of the crates that are generic in one: one adds up the moments of its messages, the other passes them on besides.
+//! Actors for the tests of generic crates: one adds up the moments of its messages, the other also passes the messages on.
 #![tactic(auto)]
 
 mod passing;

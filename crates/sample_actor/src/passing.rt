@@ -6,8 +6,8 @@ use crate::passing_on::pass_on;
 use reverse::{Actor, MOST_SENT, Reversible, Sends};
 use vlink::{GREATEST_NS, Message, Note, Time, VlId};
 
-/// Process `number`: a message at t adds t to a sum, notes it, and is passed on twice, for t + 5 and for t + 7, unless that is after the end. What
-/// comes at t goes to process t modulo 5.
+/// Process `number`: it adds the moment t of a message to a sum, notes it, and passes it on twice, for t + 5 and for t + 7, unless that is
+/// after the end. A message for the moment t goes to process t modulo 5.
 #[derive(Drop)]
 pub struct Passing {
     pub number: u16,
@@ -28,7 +28,7 @@ pub struct PassRecord {
 }
 
 impl Passing {
-    /// Nothing summed up and nothing sent yet.
+    /// Makes an actor that has summed up nothing and sent nothing.
     pub fn new(number: u16, until: Time) -> Self
         requires { until < GREATEST_NS }
         ensures number { result.number ≡ number }

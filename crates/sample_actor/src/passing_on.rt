@@ -8,7 +8,7 @@ use crate::passing::Passing;
 use reverse::Sends;
 use vlink::{Body, Message, Time, process_number};
 
-/// How many processes messages go to.
+/// The number of processes that receive messages.
 const RECEIVERS: u64 = 5;
 
 /// Passes on a message for this moment, unless that is after the end.

@@ -5,7 +5,7 @@ ghost use Rattle.vlink.specs.declared.time.TheConstants.{GREATEST_NS};
 use reverse::{Actor, MOST_SENT, Reversible, Sends};
 use vlink::{Body, GREATEST_NS, Message, Time};
 
-/// Process 0: a message at t adds t to a sum, and sends one message to process 1 at t + 5, unless that is after the end.
+/// Process 0: it adds the moment t of a message to a sum, and sends one message to process 1 for t + 5, unless that is after the end.
 #[derive(Drop)]
 pub struct Summing {
     /// The sum of the moments so far, modulo 2^64, in ns.
@@ -25,7 +25,7 @@ pub struct SumRecord {
 }
 
 impl Summing {
-    /// Nothing summed up and nothing sent yet.
+    /// Makes an actor that has summed up nothing and sent nothing.
     pub fn new(until: Time) -> Self
         requires { until < GREATEST_NS }
         ensures sum { result.sum ≡ 0 }

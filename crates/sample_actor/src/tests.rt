@@ -1,8 +1,9 @@
-//! Scripts for the test actors, a line each: its words, and behind the arrow what they tell (`player.rt` and `hands.rt` say how). A word for which memory is
-//! refused is done again: each line holds with ample memory, and where any one request for memory is refused. A line with an arrival that is
-//! not done again, `arrive?`, has behind a bar what it tells where that is refused. `tools/refuse_memory.py` refuses each request in turn.
+//! Scripts for the test actors, one a line: its words, and behind the arrow their answers (`player.rt` and `hands.rt` describe both). A
+//! word for which memory is refused is done again. So each line holds with ample memory, and if any one request for memory is refused. A
+//! line with an arrival that is not done again, `arrive?`, has behind a bar the answers if that arrival is refused.
+//! `tools/gate/refuse_memory.py` refuses each request in turn.
 //!
-//! A script does not let go what it had in hand (`forget`): that it can is proved where its type is, and here once more it would take long.
+//! A script does not release what it held (`forget`): the crates of these types prove that it can, and a second proof here would take long.
 mod alone;
 mod asking;
 mod hands;
@@ -14,7 +15,7 @@ use std::alloc::Global;
 use std::io::{BufRead, BufReader};
 use std::test::Fail;
 
-// The scripts, each set of them under a line that says what it shows.
+// The scripts. A line without an arrow states what the scripts below it show.
 const SCRIPTS: &str = "\
 Messages are handled in their order, and undone to the opening state; committed events are not undone.
 run +10 +20 +30 tray arrive arrive arrive arrive tray run run run run outbox => none 3 0 0 0 none 0 10 20 30 none +15.0 +25.1 +35.2 sum 0 counter 0
@@ -97,7 +98,7 @@ hand:0 +10:0 arrive next floor run:90 commit:50 rows abroad states => . . none .
 hand:1 +999999999999994:0 arrive run:1000000000000000 abroad next floor states => . A0 . ran R0 . +999999999999999:4:0:0 . none . 1000000000000001 . 999999999999994.1 .
 hand:2 +10:0 +11:1 run:90 next floor arrive run:90 run:90 +1:0 +2:1 arrive states next => . . idle . none . 10 . A0 A1 . ran R0 H0 . ran R1 H1 . . . A0 T0 A1 T1 A0 A1 . 0.0 0.0 . 1:0:9:0 .";
 
-// What the words of a script tell. A script that could not begin for want of memory begins once more.
+// Returns the answers of the words of a script. A script that could not begin for lack of memory begins once more.
 fn play_line(rt: &HostRuntime, script: &str) -> String {
     let mut told = with_room(rt.alloc());
     if !has_begun(rt, script, &mut told) {
@@ -106,7 +107,7 @@ fn play_line(rt: &HostRuntime, script: &str) -> String {
     told
 }
 
-// There is room for all that rows tell, also where it is refused once.
+// Makes room for all that rows write, also if it is refused once.
 fn with_room(alloc: Global) -> String {
     let mut told = String::new(alloc);
     let _ = told.reserve(4096);
@@ -114,7 +115,7 @@ fn with_room(alloc: Global) -> String {
     told
 }
 
-// Plays a script on a group where it opens one, and else on a process, if that can be had.
+// Plays a script on a group if it opens one, and otherwise on a process, if memory for it is available.
 fn has_begun(rt: &HostRuntime, script: &str, told: &mut String) -> bool {
     if script.starts_with("hand:") {
         hands::play(rt, script, told)
@@ -123,14 +124,14 @@ fn has_begun(rt: &HostRuntime, script: &str, told: &mut String) -> bool {
     }
 }
 
-// Whether this is what the row says, or what it says where an arrival that is not done again is refused memory.
+// Whether these are the answers of the row, or those for the case that an arrival that is not done again is refused memory.
 fn is_said(played: &str, row: &str) -> bool {
     let (done, refused) = row.split_once(" | ").unwrap_or((row, row));
     let played = played.trim_end();
     played == done || played == refused
 }
 
-// A line that is no script says what those below it show.
+// Tries one line. A line that is not a script states what those below it show.
 fn try_line(rt: &HostRuntime, line: &str, wrong: &mut String) {
     let is_right = match line.split_once(" => ") {
         Some((script, row)) => is_said(&play_line(rt, script), row),
@@ -151,7 +152,7 @@ fn scripts_tell_what_their_lines_say(rt: HostRuntime) {
     assert!(rt; wrong.is_empty(), "{wrong}");
 }
 
-// What the scripts of standard input tell, a line each. There are none but where `tools/test_processes.py` draws some.
+// Writes the answers of the scripts of standard input, one a line. Only `tools/tests/test_processes.py` gives some.
 #[test]
 fn scripts_of_standard_input_are_played(rt: HostRuntime) -> Result<(), Fail> {
     for line in BufReader::new(rt.alloc(), rt.reader())?.lines(rt.alloc()) {

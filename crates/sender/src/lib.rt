@@ -1,4 +1,4 @@
-//! A process as it sends: who it is, until when it sends, and with which number it goes on.
+//! A process as a sender: its number, the moment until which it sends, and the number of its next message.
 #![tactic(auto)]
 
 ghost use Rattle.std.specs.Prelude.{◌≡◌, ◌+◌, ◌-◌, ◌<◌, ◌≤◌, ◌↔◌, [], IsTrue};
@@ -10,7 +10,7 @@ use reverse::{MOST_SENT, Outbound};
 use std::marker::Model;
 use vlink::Time;
 
-/// A process as it sends: its number, the end of the run, and the number of its next message.
+/// A process as a sender: its number, the end of the run, and the number of its next message.
 #[derive(Drop)]
 pub struct Sender {
     number: u16,
@@ -31,7 +31,7 @@ impl Model for Sender {
 }
 
 impl Sender {
-    /// A process that has sent nothing yet.
+    /// Makes a process that has sent nothing yet.
     pub fn new(number: u16, until: Time) -> Self
         requires { until < GREATEST_NS }
         ensures { result ≡ record { number = number; until = until; counter = 0 } }
@@ -43,7 +43,7 @@ impl Sender {
         }
     }
 
-    /// The number of the process.
+    /// Returns the number of the process.
     #[inline(always)]
     pub fn number(&self) -> u16
         ensures { result ≡ self.now.number }
@@ -51,7 +51,7 @@ impl Sender {
         self.number
     }
 
-    /// The end of the run: later messages are left out.
+    /// Returns the end of the run: later messages are left out.
     #[inline(always)]
     pub fn until(&self) -> Time
         ensures until { result ≡ self.now.until }
@@ -60,7 +60,7 @@ impl Sender {
         self.until
     }
 
-    /// The number of the next message.
+    /// Returns the number of the next message.
     #[inline(always)]
     pub fn counter(&self) -> u64
         ensures { result ≡ self.now.counter }
@@ -68,7 +68,7 @@ impl Sender {
         self.counter
     }
 
-    /// Whether there are numbers left for `MOST_SENT` messages.
+    /// Whether numbers are left for `MOST_SENT` messages.
     #[inline(always)]
     pub fn has_numbers(&self) -> bool
         ensures { IsTrue result ↔ (self.now.counter + MOST_SENT ≤ greatest_number) }
@@ -76,7 +76,7 @@ impl Sender {
         self.counter <= (1 << 62) - MOST_SENT as u64
     }
 
-    /// Opens the room for what an event sends and notes: nothing is in it.
+    /// Opens the room for what an event sends and notes, with nothing in it.
     #[inline(always)]
     pub fn open(&self, out: &mut Outbound)
         ensures sender { out.new.sender ≡ self.now }
@@ -86,7 +86,7 @@ impl Sender {
         out.open(self.number, self.until, self.counter);
     }
 
-    /// Goes on behind what an event has sent.
+    /// Continues behind what an event has sent.
     #[inline(always)]
     pub fn go_on(&mut self, out: &Outbound)
         ensures { self.new ≡ record self.old { counter = out.now.sender.counter } }
@@ -94,7 +94,7 @@ impl Sender {
         self.counter = out.counter();
     }
 
-    /// Takes the last messages back, so many as an event has sent: the numbers go on where they stood before it.
+    /// Undoes the last `sends` messages: the numbers go on where they stood before.
     #[inline(always)]
     pub fn take_back(&mut self, sends: u8)
         requires { sends ≤ self.old.counter }

@@ -1,4 +1,4 @@
-//! The rows of a run, counted as they come.
+//! Counts the rows of a run as they come.
 ghost use Rattle.std.specs.Prelude.{◌≡◌, [], List, IfOk};
 ghost use Rattle.vlink.specs.Letters.{Row};
 ghost use Rattle.trace_tables.specs.SoFar.{IsSoFar};
@@ -10,7 +10,7 @@ use std::alloc::{AllocError, Global};
 use trace_tables::{Tables, TablesSoFar};
 use vlink::{Message, Note};
 
-/// Counts each row in the tables of a network, and forgets it.
+/// Counts each row in the tables of a network, and drops it.
 #[derive(Drop)]
 pub(crate) struct Counted<'a> {
     network: &'a Network,
@@ -18,7 +18,7 @@ pub(crate) struct Counted<'a> {
 }
 
 impl<'a> Counted<'a> {
-    /// Counts the rows in the tables of this network.
+    /// Makes a counter of rows for the tables of this network.
     pub(crate) fn none(alloc: Global, network: &'a Network) -> Result<Self, AllocError>
         ensures none { IfOk result (λ counted. IsSoFar counted.network.now counted.tables []) }
         ensures network { IfOk result (λ counted. counted.network.now ≡ network.now) }
@@ -29,7 +29,7 @@ impl<'a> Counted<'a> {
         })
     }
 
-    /// The tables of the rows. It fails only where memory is refused.
+    /// Returns the tables of the rows. It fails only if memory is refused.
     pub(crate) fn into_tables(self) -> Result<Tables, AllocError>
         requires { (rows : List Row) × IsSoFar self.network.now self.tables rows }
         ensures { IfOk result (λ tables. (rows : List Row) → IsSoFar self.entry.network.now self.entry.tables rows →
@@ -46,7 +46,8 @@ impl<'a> Recorder for Counted<'a> {
 
     ghost purpose = { λ counted. counted.network.now };
 
-    /// It stays a call, so that the message is kept whole in memory: in the loop of the run its fields would be copied one by one.
+    /// It stays a call of its own, so that the message stays whole in memory: inlined into the loop of the run, its fields would be copied
+    /// one by one.
     #[inline(never)]
     fn take(&mut self, message: &Message, note: &Note) -> Result<(), AllocError> {
         self.tables.count_note(self.network, message, note)

@@ -10,7 +10,7 @@ use reverse::{actor_law, actor_rules_law};
 use traffic::offers_law;
 use vlink::Note;
 
-/// The layout of a network is what a simulation of actors asks: its nodes and lines know their places and send to processes, and its
+/// The layout of a network meets what a simulation of actors requires: its nodes and lines know their places and send to processes, and its
 /// offers are as they must be.
 pub fn layout_law(network: &Network)
     ensures { IsLaidOut (simulation_of network.now).rules (λ s. s.sender.number) (λ s. s.sender.until) IsPlaced (setting_of network.now) }
@@ -20,7 +20,7 @@ pub fn layout_law(network: &Network)
     offers_law::<Node, NodeRecord, Note>(network);
 }
 
-/// Every network is simulated as the law of virtual time asks: its layout is what actors need, and they meet their own laws.
+/// Every network meets the laws of virtual time: its layout is what actors need, and they meet their own laws.
 pub fn network_law(network: &Network)
     ensures { Laws (simulation_of network.now) }
 {

@@ -1,4 +1,4 @@
-//! The rows of the one-thread run of a network are told by those of each process.
+//! The rows of each process determine the rows of the one-thread run of a network.
 ghost use Rattle.std.specs.Prelude.{◌≡◌, ◌<◌, ℕ, [], map, List};
 ghost use Rattle.vlink.specs.Order.{message_order};
 ghost use Rattle.vlink.specs.Letters.{Row};
@@ -21,10 +21,10 @@ use vlink::{Message, Note, message_order_law};
 /// gathers rows process by process has the very list of the one-thread run.
 ///
 /// - `in_order`: the rows of the one-thread run are in message order.
-/// - `by_process`: rows in message order which at each process are those of the one-thread run, after which nothing waits, are its rows.
+/// - `by_process`: rows in message order that at each process are those of the one-thread run, after which nothing waits, are its rows.
 /// - `gathered`: the rows of the committed events of each process, put one process after another, are the committed rows.
-/// - `finished`: the committed rows of a finished world, put in message order so that those of each event stay in their order, are the
-///   rows of the one-thread run. So `trace_tables::put_in_message_order` leaves them.
+/// - `finished`: the committed rows of a finished world, sorted into message order so that those of each event stay in their order, are the
+///   rows of the one-thread run. `trace_tables::put_in_message_order` sorts them so.
 pub fn rows_by_process_law(network: &Network)
     ensures in_order { (rows : List Row) → AreRowsOf network.now rows → AreInMessageOrder rows }
     ensures by_process { (n : ℕ) → (one (simulation_of network.now) n).waiting ≡ [] → (rows : List Row) → AreInMessageOrder rows →

@@ -17,14 +17,14 @@ use trace_tables::Tables;
 use traffic::offers;
 use vlink::Row;
 
-/// What a run has found: a row for each frame that was delivered or dropped, in the order of the events, and their tables.
+/// The results of a run: a row for each frame that was delivered or dropped, in the order of the events, and their tables.
 #[derive(Drop)]
 pub struct Finished {
     pub tables: Tables,
     pub rows: Vec<Row>,
 }
 
-/// All processes of a network, each as it is before any message: process p is in place p. It fails only where memory is refused.
+/// Makes all processes of a network, each as it is before any message: process p is in place p. It fails only if memory is refused.
 pub fn nodes_of(alloc: Global, network: &Network) -> Result<Vec<Node>, AllocError>
     ensures { IfOk result (λ nodes. AreInStates (process_count network.now) (opening network.now) nodes.items) }
 {
@@ -35,11 +35,11 @@ pub fn nodes_of(alloc: Global, network: &Network) -> Result<Vec<Node>, AllocErro
     Ok(nodes)
 }
 
-/// Simulates a network on one thread: the first of all waiting messages is handled, until none waits. The rows are those of the
-/// one-thread run of the law of virtual time, and after it nothing waits. `watch` is shown how far the run is.
+/// Simulates a network on one thread: the receiver of the first waiting message handles it, until none waits. The rows are those of the
+/// one-thread run of the laws of virtual time, and after it nothing waits. `watch` is shown how far the run is.
 ///
-/// `OutOfMemory` comes only where a growth was refused, and `Exhausted` only where the process that is next has not enough numbers
-/// left for what one event can send. Where that happens anywhere in the run, there is no answer but a fault.
+/// `OutOfMemory` comes only if memory was refused, and `Exhausted` only if the process that is next does not have enough numbers left for
+/// what one event can send. If that happens anywhere in the run, the result is a fault and nothing else.
 pub fn run<W: Watch>(alloc: Global, network: &Network, watch: &mut W) -> Result<Finished, SimFault>
     ensures whole { IfOk result (λ finished. AreRowsOf network.now finished.rows.items) }
     ensures tables { IfOk result (λ finished. finished.tables ≡ tables_of network.now finished.rows.items) }

@@ -1,4 +1,4 @@
-//! The tables of the run of a network, where its rows are not asked for.
+//! The tables of the run of a network, if its rows are not asked for.
 ghost use Rattle.std.specs.Prelude.{◌≡◌, ℕ, [], List, Err, OnOk, IfOk};
 ghost use Rattle.vlink.specs.Letters.{Row};
 ghost use Rattle.nodes.specs.Words.{simulation_of};
@@ -17,7 +17,7 @@ use std::alloc::Global;
 use trace_tables::Tables;
 use traffic::offers;
 
-/// The messages are handled, one after another, until none waits. Their rows are counted, and not kept.
+/// Handles the messages, one after another, until none waits. Their rows are counted, and not stored.
 fn count_all<W: Watch>(
     alloc: Global,
     network: &Network,
@@ -37,12 +37,12 @@ fn count_all<W: Watch>(
     Ok(counted.into_tables()?)
 }
 
-/// Simulates a network on one thread, as `run` does, where only the tables are asked for: a note is counted as soon as it is found, and
-/// no row of it is kept. The tables are those of the rows of the one-thread run of the law of virtual time, and after it nothing waits.
+/// Simulates a network on one thread, as `run` does, if only the tables are asked for: a note is counted as soon as it is found, and its
+/// row is not stored. The tables are those of the rows of the one-thread run of the laws of virtual time, and after it nothing waits.
 /// `watch` is shown how far the run is.
 ///
-/// `OutOfMemory` comes only where a growth was refused, and `Exhausted` only where the process that is next has not enough numbers
-/// left for what one event can send. Where that happens anywhere in the run, there is no answer but a fault.
+/// `OutOfMemory` comes only if memory was refused, and `Exhausted` only if the process that is next does not have enough numbers left for
+/// what one event can send. If that happens anywhere in the run, the result is a fault and nothing else.
 pub fn run_tables<W: Watch>(
     alloc: Global,
     network: &Network,

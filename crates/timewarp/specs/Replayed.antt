@@ -1,4 +1,4 @@
--- What a replay has found after steps of a journal.
+-- The results of a replay after steps of a journal.
 use Rattle.std.specs.Prelude.{◌≡◌, ℕ, List, Some, slice_get, take}
 use Rattle.virtual_time.specs.declared.step.Step.{Step}
 use Rattle.virtual_time.specs.Law.{start}

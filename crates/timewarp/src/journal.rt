@@ -1,4 +1,4 @@
-//! Journals: all their steps in order, and what holds of them.
+//! Journals: does all their steps in order, and states what holds then.
 ghost use Rattle.std.specs.Prelude.{◌≡◌, ◌≢◌, ◌≤◌, ◌+◌, ℕ, [], map, take, true, Err, IfOk, OnOk, slice_get, Some, length};
 ghost use Rattle.vlink.specs.declared.message.Message.{Message};
 ghost use Rattle.virtual_time.specs.declared.step.Step.{Step};
@@ -18,8 +18,8 @@ use network::Network;
 use std::alloc::Global;
 use vlink::Step;
 
-/// Does all these steps where none was done yet, in their order, and counts them. A refusal comes at a step that is not done, and leaves
-/// the replay as it stands before it: `Exhausted` where numbers are wanting there, and `OutOfMemory` where they are not.
+/// Does all these steps in their order, from a replay that has done none yet, and counts them. A refusal comes at a step that is not done,
+/// and leaves the replay as it stood before that step: `Exhausted` if numbers are lacking there, and `OutOfMemory` if they are not.
 fn do_all(replay: &mut Replay, steps: &[Step]) -> Result<(), StepFault>
     requires none { IsReplayed replay.old [] }
     requires totals { replay.old.did + replay.old.not_enabled + replay.old.refused ≡ 0 }
@@ -41,15 +41,14 @@ fn do_all(replay: &mut Replay, steps: &[Step]) -> Result<(), StepFault>
     Ok(())
 }
 
-/// Does all steps of a journal on a network, in their order, and counts them. A step that is not enabled, or names a process that there
-/// is not, is counted and passed over: it changes nothing. The first other refusal ends the replay: `OutOfMemory` comes only where a
-/// growth was refused, and `Exhausted` only at `Run` of a process that has a next message, and not enough numbers left for what one
-/// event can send.
+/// Does all steps of a journal on a network, in their order, and counts them. A step that is not enabled, or that names a process that does
+/// not exist, is counted and changes nothing. The first other refusal ends the replay: `OutOfMemory` comes only if memory was refused, and
+/// `Exhausted` only at `Run` of a process that has a next message, and not enough numbers left for what one event can send.
 ///
-/// Whatever the steps are, and in whatever order, after each beginning of them (clauses `safe` to `balances`):
-/// undoing the events of a process that are not committed, the newest first, gives its state in the one-thread run after just its
-/// committed events, which are the first ones there; its events below GVT are those of the one-thread run, and are never undone; GVT
-/// never falls; and messages and antimessages balance. A run that is finished has the events and the rows of the whole one-thread run.
+/// Whatever the steps are, and in whatever order, this holds after each beginning of them (clauses `safe` to `balances`). Undoing the
+/// events of a process that are not committed, the newest first, gives its state in the one-thread run after just its committed events,
+/// which are the first ones there. Its events below GVT are those of the one-thread run, and are never undone. GVT never falls. Messages
+/// and antimessages balance. A run that is finished has the events and the rows of the whole one-thread run.
 pub fn replay(alloc: Global, network: Network, steps: &[Step]) -> Result<Replay, StepFault>
     ensures network { IfOk result (λ replay. replay.world.plan ≡ network) }
     ensures after { IfOk result (λ replay. IsAfter replay.world steps.now) }

@@ -1,4 +1,4 @@
-//! What holds of every run of a network, whatever its steps.
+//! What holds for every run of a network, whatever its steps.
 ghost use Rattle.std.specs.Prelude.{ℕ, ◌≡◌, ◌<◌, ◌≤◌, List, ◌++◌};
 ghost use Rattle.vlink.specs.declared.message.Message.{Message};
 ghost use Rattle.virtual_time.specs.Law.{rowed, rows_at, IsAscending, IsIn, earlier, times_in, made, IsBelow, one, events, IsNamed, Safe, history, CountLaw, NothingBefore, IsFinished, IsWhole};
@@ -13,17 +13,17 @@ use seqsim::network_law;
 use virtual_time::headline_law;
 use vlink::{Message, Note};
 
-/// The law of virtual time for a network: what holds after any steps, done in any order. It is the headline of `virtual_time`, for
-/// the simulation of the network, whose one-thread run is that of `seqsim::run`.
+/// The law of virtual time for a network: what holds after any steps, done in any order. It is the headline of `virtual_time`, for the
+/// simulation of the network, whose one-thread run is that of `seqsim::run`.
 ///
-/// - `safe`: at each process the committed events are the first ones of the one-thread run, and undoing all others leaves the state
-///   after just these; with the done events below GVT they are all its events below GVT; nothing that is earlier than GVT waits.
+/// - `safe`: at each process the committed events are the first ones of the one-thread run, and undoing all others leaves the state after
+///   just these. With the done events below GVT they are all its events below GVT. Nothing that is earlier than GVT waits.
 /// - `counts`: messages and antimessages balance. `once`: no message is made twice. `handled_once`: none is handled twice.
 /// - `seen`: also before any moment that is not above GVT, the events are those of the one-thread run.
 /// - `rises`: GVT never falls. `never_undone`: the events below GVT are the same after all later steps.
 /// - `ascend`: the events of a process, first the committed ones and then the done ones, ascend in the message order.
 /// - `committed_early`: each committed event is earlier than GVT.
-/// - `floors`: nothing that a process has in hand is earlier than its floor, no letter of its tray or outbox and no unhandled message.
+/// - `floors`: no letter of the tray or outbox of a process, and no unhandled message, is earlier than its floor.
 /// - `gvt_low`: GVT is at most the floor of each process.
 /// - `outboxes`: each letter of an outbox, of either sign, goes to a process of the network.
 /// - `rows`: the rows of the one-thread run are, at each process, those of its events in their order, from its opening state on.

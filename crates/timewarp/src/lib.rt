@@ -1,5 +1,5 @@
-//! The world of a Time Warp run of a network: all processes with their mail, their floors and GVT, and the six steps, done in any order;
-//! and the replay of journals.
+//! The world of a Time Warp run of a network: all processes with their mail, their floors and GVT, and the six steps, which can be done in
+//! any order. It also replays journals.
 #![tactic(auto)]
 
 mod journal;

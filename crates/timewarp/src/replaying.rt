@@ -1,4 +1,4 @@
-//! What a replay has found, step by step.
+//! The results of a replay, step by step.
 ghost use Rattle.std.specs.Prelude.{◌≡◌, ◌≢◌, ◌↔◌, ◌<◌, ◌≤◌, ◌+◌, ◌^◌, ℕ, true, List, ◌∷◌, ◌++◌, [], map, Err, IsOk, OnOk, OnErr, IfOk, IfErr};
 ghost use Rattle.vlink.specs.declared.message.Message.{Message};
 ghost use Rattle.virtual_time.specs.declared.step.Step.{Step};
@@ -17,8 +17,8 @@ use network::Network;
 use std::alloc::Global;
 use vlink::Step;
 
-/// What a replay has found: the world after the steps, and how many of them were done, were not enabled, and named a process that
-/// there is not.
+/// The results of a replay: the world after the steps, and how many steps were done, were not enabled, and named a process that does not
+/// exist.
 #[derive(Drop)]
 pub struct Replay {
     pub world: World,
@@ -28,12 +28,12 @@ pub struct Replay {
 }
 
 impl Replay {
-    /// A replay that has done no step yet. It fails only where memory is refused.
+    /// Makes a replay that has done no step yet. It fails only if memory is refused.
     ///
-    /// Whatever steps `do_step` is given, and in whatever order, after each of them (clauses `safe` to `balances`): undoing the events of a
-    /// process that are not committed, the newest first, gives its state in the one-thread run after just its committed events, which are
-    /// the first ones there; its events below GVT are those of the one-thread run, and are never undone; GVT never falls; and messages and
-    /// antimessages balance. A run that is finished has the events and the rows of the whole one-thread run.
+    /// Whatever steps `do_step` receives, and in whatever order, this holds after each of them (clauses `safe` to `balances`). Undoing the
+    /// events of a process that are not committed, the newest first, gives its state in the one-thread run after just its committed events,
+    /// which are the first ones there. Its events below GVT are those of the one-thread run, and are never undone. GVT never falls.
+    /// Messages and antimessages balance. A run that is finished has the events and the rows of the whole one-thread run.
     pub fn new(alloc: Global, network: Network) -> Result<Self, StepFault>
         ensures network { IfOk result (λ replay. replay.world.plan ≡ network) }
         ensures replayed { IfOk result (λ replay. IsReplayed replay []) }
@@ -57,10 +57,10 @@ impl Replay {
         })
     }
 
-    /// Does one more step, and counts it. A step that is not enabled, or names a process that there is not, is counted and passed over: it
-    /// changes nothing. `OutOfMemory` comes only where a growth was refused, at a step that is enabled and not `Gvt`, and `Exhausted` exactly
-    /// at `Run` of a process that has a next message, and not enough numbers left for what one event can send; both leave the world and the
-    /// counts as they were.
+    /// Does one more step, and counts it. A step that is not enabled, or that names a process that does not exist, is counted and changes
+    /// nothing. `OutOfMemory` comes only if memory was refused, at a step that is enabled and not `Gvt`. `Exhausted` comes exactly at `Run`
+    /// of a process that has a next message, and not enough numbers left for what one event can send. Both leave the world and the counts
+    /// as they were.
     pub fn do_step(&mut self, step: Step) -> Result<(), StepFault>
         requires { self.old.did + self.old.not_enabled + self.old.refused < 2 ^ 63 }
         ensures replayed { OnOk result ((steps : List Step) → IsReplayed self.old steps → IsReplayed self.new (steps ++ step ∷ [])) }

@@ -18,7 +18,7 @@ use std::alloc::{AllocError, Global};
 use trace_tables::{Tables, TablesSoFar, tables_by_place_law};
 
 impl World {
-    /// The tables of the rows of all committed events, counted process by process.
+    /// Makes the tables of the rows of all committed events, counted process by process.
     fn committed_tables(&self, alloc: Global) -> Result<Tables, AllocError>
         ensures { IfOk result (λ tables. (rows : List Row) × (tables ≡ tables_of self.now.plan rows) ×
             ((steps : List Step) → IsAfter self.now steps → AreCommittedRows self.now.plan steps rows)) }
@@ -32,7 +32,7 @@ impl World {
         tables.tables(&self.network)
     }
 
-    /// The tables of the committed events. In a finished world they are those of the one-thread run. It fails only where memory is
+    /// Makes the tables of the committed events. In a finished world they are those of the one-thread run. It fails only if memory is
     /// refused.
     pub fn tables(&self, alloc: Global) -> Result<Tables, StepFault>
         ensures sealed { IfOk result (λ tables. (steps : List Step) → IsAfter self.now steps → (rows : List Row) →

@@ -23,9 +23,9 @@ use std::marker::Model;
 use traffic::offers;
 use vlink::{Letter, Step, Time};
 
-/// A network in a Time Warp run: all its processes with their mail, their floors and GVT, from the start on after some steps.
+/// A network in a Time Warp run: all its processes with their mail, their floors and GVT, from the start or after some steps.
 ///
-/// Clauses see it as the plan of its network and what is held, which is the world of the law of virtual time after those steps.
+/// Clauses see it as the plan of its network and the world of the laws of virtual time after those steps.
 #[derive(Drop)]
 pub struct World {
     pub(crate) network: Network,
@@ -45,8 +45,8 @@ impl Model for World {
 }
 
 impl World {
-    /// The world at the start: the offers are in the mail in their order, each process is in its opening state, every floor is the
-    /// moment after the end, and GVT is 0. It fails only where memory is refused.
+    /// Makes the world at the start: the offers are in the mail in their order, each process is in its opening state, every floor is the
+    /// moment after the end, and GVT is 0. It fails only if memory is refused.
     pub fn new(alloc: Global, network: Network) -> Result<World, StepFault>
         ensures opens { IfOk result (λ world. IsAfter world []) }
         ensures network { IfOk result (λ world. world.plan ≡ network) }
@@ -58,9 +58,9 @@ impl World {
 
     /// Does one step, if it is enabled. A step that is not enabled, and one that is refused, change nothing.
     ///
-    /// `NoProcess` comes exactly where the step names a process that there is not. `OutOfMemory` comes only where a growth was refused:
-    /// neither at `Gvt` nor at a step that is not enabled. `Exhausted` comes exactly at `Run` of a process that has a next message, and
-    /// not enough numbers left for what one event can send.
+    /// `NoProcess` comes exactly if the step names a process that does not exist. `OutOfMemory` comes only if memory was refused: neither
+    /// at `Gvt` nor at a step that is not enabled. `Exhausted` comes exactly at `Run` of a process that has a next message, and not enough
+    /// numbers left for what one event can send.
     pub fn step(&mut self, step: Step) -> Result<Done, StepFault>
         ensures network { self.new.plan ≡ self.old.plan }
         ensures after { OnOk result ((steps : List Step) → IsAfter self.old steps → IsAfter self.new (steps ++ step ∷ [])) }
@@ -79,22 +79,22 @@ impl World {
         self.actors.step(step)
     }
 
-    /// The law of a world: what is held is the world of its network after some steps, so that a caller who was handed one can use the
-    /// clauses on a world after steps.
+    /// The law of a world: it is the world of its network after some steps. So a caller who receives a world can use the clauses on a world
+    /// after steps.
     pub fn reached_law(&self)
         ensures { (steps : List Step) × IsAfter self.now steps }
     {
         let _ = &self.network;
     }
 
-    /// The network.
+    /// Returns the network.
     pub fn network(&self) -> &Network
         ensures { result.now ≡ self.now.plan }
     {
         &self.network
     }
 
-    /// GVT: the moment below which nothing is undone any more.
+    /// Returns GVT: the moment below which nothing is undone any more.
     pub fn gvt(&self) -> Time
         ensures { (steps : List Step) → IsAfter self.now steps → result ≡ (after self.now.plan steps).gvt }
     {
@@ -109,8 +109,8 @@ impl World {
         self.actors.is_finished(self.network.until())
     }
 
-    /// The letter number `place`, from 0, of the mail of process `process`: the one that the step Take would take. None where there is
-    /// none, or no such process.
+    /// Returns the letter number `place`, from 0, of the mail of process `process`: the one that the step Take would take. None if no
+    /// letter has that number, or the process does not exist.
     pub fn look(&self, process: u16, place: usize) -> Option<Letter>
         ensures letter { process < process_count self.now.plan → (steps : List Step) → IsAfter self.now steps →
             result ≡ slice_get ((after self.now.plan steps).mail process) place }
@@ -120,9 +120,9 @@ impl World {
         self.actors.look(process, place)
     }
 
-    /// Undoes all done events of process `process`, the newest first, each by its record, and gives its node back; none where there is
-    /// no such process. Nothing is sent, and no memory is taken. What is left is the state of the one-thread run after just the events
-    /// that were committed.
+    /// Undoes all done events of process `process`, the newest first, each by its record, and returns its node; none if the process does
+    /// not exist. Sends nothing and takes no memory. The node then has its state in the one-thread run after just the events that were
+    /// committed.
     pub fn undo_all(self, process: u16) -> Option<Node>
         ensures none { IsNone result ↔ (process_count self.plan ≤ process) }
         ensures undone { IfSome result (λ node. (steps : List Step) → IsAfter self steps →
@@ -136,7 +136,7 @@ impl World {
     }
 }
 
-/// The processes of a network at the start, with their offers in the mail.
+/// Makes the processes of a network at the start, with their offers in the mail.
 fn opened(alloc: Global, network: &Network) -> Result<ActorWorld<Node>, StepFault>
     ensures opens { IfOk result (λ actors. IsAfter (record { plan = network.now; held = actors }) []) }
     ensures memory { IfErr result (λ fault. fault ≡ OutOfMemory) }

@@ -1,4 +1,4 @@
--- Segments that wait, where each process's segments have the rows that it has.
+-- Segments that wait, if each process's segments have the rows that it has.
 use Rattle.std.specs.Prelude.{◌≡◌, ℕ, ◌+◌, ◌<◌, List, length, map}
 use Rattle.std.specs.List.{range_with_len}
 use Rattle.vlink.specs.Letters.{Row}

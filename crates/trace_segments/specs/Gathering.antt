@@ -1,4 +1,4 @@
--- The segments of a trace that wait until those of all processes are there. Times are in ns.
+-- The segments of a trace that wait until those of all processes have come. Times are in ns.
 use Rattle.std.specs.Prelude.{◌≡◌, ℕ, zero, suc, ◌+◌, ◌==◌, ◌||◌, ◌≤◌, All, cond, not, nat_le, nat_lt, Bool, true, false, List, [], ◌∷◌, ◌++◌, length, map, drop, slice_set, Option, Some, None, flat_map, Vec}
 use Rattle.std.specs.List.{list_all, repeat}
 use Rattle.std.specs.declared.alloc.Global.{Global}

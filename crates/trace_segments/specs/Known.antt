@@ -1,4 +1,4 @@
--- What of a row a network has.
+-- Which parts of a row a network has.
 use Rattle.std.specs.Prelude.{ℕ, ◌&&◌, Bool, is_some, nat_lt}
 use Rattle.vlink.specs.declared.frame.VlId.{VlId}
 use Rattle.vlink.specs.declared.note.Note.{Note}

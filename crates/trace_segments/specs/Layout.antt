@@ -1,4 +1,4 @@
--- What an error of the library that lays out rows is told as.
+-- The fault for an error of the library that lays out rows.
 use Rattle.std.specs.IoError.{error_kind}
 use Rattle.std.specs.declared.io.ErrorKind.{ErrorKind as WriteKind}
 use Rattle.std.specs.declared.io.ErrorKind.TheVariants as write

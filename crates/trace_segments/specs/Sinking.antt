@@ -1,4 +1,4 @@
--- What a sink holds of a text.
+-- How much of a text a sink has.
 use Rattle.std.specs.Prelude.{ℕ, ◌≡◌, ◌≤◌, List, Option, length, take}
 use Rattle.std.specs.Io.KnownBytes.{append_known}
 

@@ -4,8 +4,8 @@ ghost use Rattle.std.specs.Prelude.{◌≡◌};
 use std::marker::Model;
 use vlink::{Row, Time};
 
-/// The rows of all processes of a run from one moment on and before another, in the order of their messages, those of one message by
-/// process and then as the segment of the process has them.
+/// The rows of all processes of a run at or after one moment and before another, in the order of their messages. Rows of one message are
+/// sorted by process, and then are as the segment of the process has them.
 ///
 /// Clauses see it as the two moments in ns, and the rows.
 #[derive(Drop)]
@@ -24,28 +24,28 @@ impl Model for Batch {
 }
 
 impl Batch {
-    /// These rows, of this interval.
+    /// Makes a batch of these rows, for this interval.
     pub(crate) fn new(from: Time, to: Time, rows: Vec<Row>) -> Self
         ensures { result ≡ record { from = from; to = to; rows = rows.items } }
     {
         Batch { from, to, rows }
     }
 
-    /// Where the batch begins.
+    /// Returns the moment at which the batch begins.
     pub fn from(&self) -> Time
         ensures { result ≡ self.now.from }
     {
         self.from
     }
 
-    /// The moment before which it ends.
+    /// Returns the moment before which it ends.
     pub fn to(&self) -> Time
         ensures { result ≡ self.now.to }
     {
         self.to
     }
 
-    /// The rows, in their order.
+    /// Returns the rows, in their order.
     pub fn rows(&self) -> &[Row]
         ensures { result.now ≡ self.now.rows }
     {

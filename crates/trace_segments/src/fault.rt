@@ -1,4 +1,4 @@
-//! Why a text does not go out.
+//! Why a text was not written.
 use std::alloc::AllocError;
 use thiserror::Error;
 
@@ -7,17 +7,17 @@ use thiserror::Error;
 #[error("cannot write")]
 pub struct SinkFault;
 
-/// Why a text did not go out whole.
+/// Why a text was not written whole.
 #[derive(Clone, Copy, Debug, Error)]
 pub enum OutFault {
-    /// The sink failed. What went out is a beginning of the text.
+    /// The sink failed. What was written is a beginning of the text.
     #[error("cannot write")]
     Device,
-    /// A growth was refused. Nothing went out.
+    /// Memory was refused. Nothing was written.
     #[error("out of memory")]
     OutOfMemory,
-    /// The writer of rows over a text in memory was refused, and its error is not want of memory. Nothing went out. Nothing is known that
-    /// brings it about.
+    /// The writer of rows over a text in memory failed, and its error is not lack of memory. Nothing was written. No cause of this fault is
+    /// known.
     #[error("cannot lay out rows")]
     Layout,
 }

@@ -1,4 +1,4 @@
-//! Segments of a trace that wait until those of all processes are there.
+//! Stores segments of a trace until those of all processes have come.
 ghost use Rattle.std.specs.Prelude.{◌≡◌, ◌<◌, None, Some, Ok, Err, IfOk, IfErr, IfSome, IfNone, OnErr};
 ghost use Rattle.trace_segments.specs.declared.segment_fault.SegmentFault.{SegmentFault};
 ghost use Rattle.trace_segments.specs.declared.segment_fault.SegmentFault.TheVariants.{OutOfMemory};
@@ -14,10 +14,10 @@ use std::alloc::{AllocError, Global};
 use std::marker::Model;
 use vlink::{GREATEST_NS, Time};
 
-/// The segments of a run that were taken and wait until those of the other processes are there. Processes are numbered from 0.
+/// The segments of a run that were taken and wait until those of the other processes have come. Processes are numbered from 0.
 ///
-/// Clauses see it as the run and its end, how many batches were given, and for each process the rows of its segments of the intervals from
-/// there on, without a gap.
+/// Clauses see it as the run and its end, how many batches were returned, and for each process the rows of its segments of the following
+/// intervals, without a gap.
 #[derive(Drop)]
 pub struct Gather {
     run: u64,
@@ -38,7 +38,8 @@ impl Model for Gather {
     ghost invariant = { λ g. (g.until < GREATEST_NS) × AreFew g.given g.waiting.items };
 }
 
-/// Why a segment from one moment to another is not taken, where the last segment of its process ended at `end` and the next cut is at `next`.
+/// Returns why a segment from one moment to another is not taken, if the last segment of its process ended at `end` and the next cut is at
+/// `next`.
 fn place_fault(until: Time, end: Time, next: Time, from: Time, to: Time) -> Option<SegmentFault>
     ensures { result ≡ place_fault until end next from to }
 {
@@ -52,7 +53,7 @@ fn place_fault(until: Time, end: Time, next: Time, from: Time, to: Time) -> Opti
 }
 
 impl Gather {
-    /// No segment yet, of so many processes of this run until `until`. It fails only where memory is refused.
+    /// Makes a gathering without segments, for this number of processes of this run until `until`. It fails only if memory is refused.
     pub fn new(alloc: Global, run: u64, processes: u16, until: Time) -> Result<Gather, AllocError>
         requires { until < GREATEST_NS }
         ensures { IfOk result (λ gather. gather ≡ no_segments run processes until) }
@@ -65,7 +66,7 @@ impl Gather {
         })
     }
 
-    /// Why a segment is not taken, if memory is not the cause.
+    /// Returns why a segment is not taken, if memory is not the cause.
     fn fault_of(&self, segment: &Segment) -> Option<SegmentFault>
         ensures { result ≡ segment_fault self.now segment.now }
     {
@@ -79,14 +80,15 @@ impl Gather {
         place_fault(self.until, end, next, segment.from(), segment.to())
     }
 
-    /// Takes the next segment of a process. Once the segments of all processes for an interval are there, the batch of the interval is given: their
-    /// rows in the order of their messages, those of one message by process and then as the segment has them.
+    /// Takes the next segment of a process. Once the segments of all processes for an interval have come, it returns the batch of the
+    /// interval: their rows in the order of their messages. Rows of one message are sorted by process, and then are as the segment has
+    /// them.
     ///
-    /// The faults are tried in this order, and a refusal changes nothing:
+    /// The faults are checked in this order, and a refusal changes nothing:
     ///
-    /// - `Stranger`: the segment is of another run, or there is no such process.
+    /// - `Stranger`: the segment is of another run, or its process does not exist.
     /// - `Double`: it begins before the end of the last segment of its process.
-    /// - `Gap`: it begins behind that end, or does not end at the next cut, or that end is the end of the trace.
+    /// - `Gap`: it begins after that end, or does not end at the next cut, or that end is the end of the trace.
     /// - `OutOfMemory`: memory is refused.
     pub fn take(&mut self, segment: Segment) -> Result<Option<Batch>, SegmentFault>
         ensures refused { (fault : SegmentFault) → segment_fault self.old segment ≡ Some fault → result ≡ Err fault }

@@ -1,4 +1,4 @@
-//! What the segments of a gathering and its batches are, where the segments have the rows of their processes.
+//! Properties of the segments of a gathering and of its batches, if the segments have the rows of their processes.
 ghost use Rattle.std.specs.Prelude.{ℕ, ◌≡◌, None, List, length};
 ghost use Rattle.vlink.specs.Letters.{Row};
 ghost use Rattle.trace_segments.specs.Places.{gathered};
@@ -8,10 +8,10 @@ ghost use Rattle.trace_segments.specs.Intervals.{rows_within};
 ghost use Rattle.trace_segments.specs.Ordered.{IsInOrder};
 ghost use Rattle.trace_segments.specs.Segments.{SegmentRows, BatchRows};
 
-/// What `Gather::take` keeps and gives, where each segment that it takes has the rows of its process and interval.
+/// What `Gather::take` stores and returns, if each segment that it takes has the rows of its process and interval.
 ///
-/// - `none`: where no segment waits, what waits are rows of each process.
-/// - `waits`, `gives`: so they are after a segment that is taken.
+/// - `none`: if no segment waits, what waits are rows of each process.
+/// - `waits`, `gives`: this stays so after a segment is taken.
 /// - `batch`: a batch has the rows of all processes and of its interval, in message order.
 pub fn segments_of_rows_law()
     ensures none { (run processes until : ℕ) (rows_of : ℕ → List Row) → IsOfRows (no_segments run processes until) rows_of }

@@ -4,13 +4,13 @@ ghost use Rattle.trace_segments.specs.Intervals.{interval_width, cut, HasInterva
 
 use vlink::{GREATEST_NS, Time};
 
-/// So many intervals there are at most.
+/// The greatest number of intervals.
 const MOST: u64 = 1024;
 
-/// How long an interval of the trace is, in ns, where a run ends at `until`. Interval `k` is from `k` times the width to before the lesser of
-/// `k + 1` times the width and the moment behind the end.
+/// Returns the length of an interval of the trace, in ns, for a run that ends at `until`. Interval `k` begins at `k` times this width. It
+/// ends before `k + 1` times the width, or before the moment after the end if that is earlier.
 ///
-/// - `few`: intervals that begin at the end or before it are at most 1,024.
+/// - `few`: at most 1,024 intervals begin at the end or before it.
 pub fn width(until: Time) -> Time
     ensures value { result ≡ interval_width until }
     ensures few { (k : ℕ) → HasInterval until k → k < 1024 }
@@ -18,14 +18,15 @@ pub fn width(until: Time) -> Time
     Time::of_known(until.ns() / MOST + 1)
 }
 
-/// There is an interval `k`.
+/// Whether interval `k` exists.
 pub(crate) fn has_interval(until: Time, k: u64) -> bool
     ensures { IsTrue result ↔ HasInterval until k }
 {
     k <= until.ns() / width(until).ns()
 }
 
-/// Where interval `k` begins and the one before it ends, in ns: at `k` times the width, but at the latest at the moment behind the end `until`.
+/// Returns where interval `k` begins and the one before it ends, in ns: at `k` times the width, but at the latest at the moment after the
+/// end `until`.
 pub fn cut(until: Time, k: u64) -> Time
     requires { until < GREATEST_NS }
     ensures { result ≡ cut until k }

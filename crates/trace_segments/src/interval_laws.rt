@@ -1,4 +1,4 @@
-//! What the batches of a trace are, one after another.
+//! Properties of the batches of a trace, one after another.
 ghost use Rattle.std.specs.Prelude.{ℕ, ◌≡◌, ◌+◌, ◌<◌, ◌≤◌, ◌++◌, [], Bool, List, All};
 ghost use Rattle.std.specs.List.{filter, flat_map, range_with_len};
 ghost use Rattle.virtual_time.specs.Law.{rows_at};
@@ -10,15 +10,15 @@ ghost use Rattle.trace_segments.specs.Ordered.{AreInMessageOrder, AreAtReceivers
 
 use vlink::message_order_law;
 
-/// What the batches of a run are, where the segments of each process have the rows that it has in the run.
+/// Properties of the batches of a run, if the segments of each process have the rows that the process has in the run.
 ///
 /// - `batch`: the batch of an interval has the run's rows of that interval, in message order.
 /// - `batches`: the first batches, one after another, are the rows before a cut, in message order.
-/// - `beginning`: those are a beginning of all rows in message order.
-/// - `whole`: before the last cut are all rows, where none is later than the end.
-/// - `by_process`: rows in message order are, in order, what the processes have, where each row is of the process that received its message, and
-///   only these processes have rows.
-/// - `by_group`: so are, in order, what groups of these processes have, where each process is of just one group.
+/// - `beginning`: these rows are a beginning of all rows in message order.
+/// - `whole`: the rows before the last cut are all rows, if none is later than the end.
+/// - `by_process`: rows in message order are, in order, what the processes have, if each row is of the process that received its message,
+///   and only these processes have rows.
+/// - `by_group`: they are also, in order, what groups of these processes have, if each process is in just one group.
 pub fn batches_in_order_law()
     ensures batch { (processes from to : ℕ) (rows_of : ℕ → List Row) (rows batch : List Row)
         → IsInOrder (gathered processes rows_of) rows → IsInOrder (gathered processes (λ p. rows_within from to (rows_of p))) batch → batch ≡ rows_within from to rows }

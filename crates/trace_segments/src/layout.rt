@@ -1,4 +1,4 @@
-//! What an error of the library that lays out rows is told as: want of memory only where it is that.
+//! Turns an error of the library that lays out rows into a fault: lack of memory only if it is that.
 ghost use Rattle.std.specs.Prelude.{◌≡◌};
 ghost use Rattle.std.specs.IoError.{error_kind};
 ghost use Rattle.csv.specs.Reading.{error_kind as kind_of_row};
@@ -8,7 +8,7 @@ use crate::fault::OutFault;
 use csv::{Error, ErrorKind};
 use std::io;
 
-/// An error of a write to the text.
+/// Returns the fault for an error of a write to the text.
 fn write_fault(error: &io::Error) -> OutFault
     ensures { result ≡ write_fault (error_kind error.now) }
 {
@@ -18,7 +18,7 @@ fn write_fault(error: &io::Error) -> OutFault
     }
 }
 
-/// An error of a row.
+/// Returns the fault for an error of a row.
 pub fn row_fault(error: &Error) -> OutFault
     ensures { result ≡ row_fault (kind_of_row error.now) }
 {

@@ -1,4 +1,4 @@
-//! The trace of a run: its rows in order, its segments by process and interval, and its text, whole or the next lines of it.
+//! The trace of a run: its rows in order, its segments by process and interval, and its text, whole or in parts.
 #![tactic(auto)]
 
 mod batch;

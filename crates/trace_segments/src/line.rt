@@ -6,21 +6,21 @@ ghost use Rattle.trace_segments.specs.Writing.{Holds, Adds};
 use csv::{Error, Writer, WriterBuilder};
 use std::alloc::Global;
 
-/// A writer of rows, which holds no text.
+/// Makes a writer of rows without text.
 pub fn empty(alloc: Global) -> Writer<Vec<u8>>
     ensures { Holds result [] }
 {
     WriterBuilder::new().from_writer(Vec::new(alloc))
 }
 
-/// Puts a row of these fields at the end. An error is the library's own.
+/// Appends a row of these fields. An error is the library's own.
 pub fn push(out: &mut Writer<Vec<u8>>, fields: &[&[u8]]) -> Result<(), Error>
     ensures { OnOk result (Adds out.old out.new (line (map (λ f. f.now) fields.now))) }
 {
     out.write_fields(fields)
 }
 
-/// The text that a writer holds, if all was put. An error is the library's own.
+/// Returns the text that a writer holds, if all rows were appended. An error is the library's own.
 pub fn text_of(out: Writer<Vec<u8>>, put: Result<(), Error>) -> Result<Vec<u8>, Error>
     ensures text { IfOk result (λ bytes. (text : List ℕ) → Holds out text → bytes.items ≡ text) }
     ensures put { OnErr put (IsErr result) }
@@ -31,7 +31,7 @@ pub fn text_of(out: Writer<Vec<u8>>, put: Result<(), Error>) -> Result<Vec<u8>, 
     }
 }
 
-/// The text that a writer holds.
+/// Returns the text that a writer holds.
 fn held(out: Writer<Vec<u8>>) -> Result<Vec<u8>, Error>
     ensures { IfOk result (λ bytes. (text : List ℕ) → Holds out text → bytes.items ≡ text) }
 {

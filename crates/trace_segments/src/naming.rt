@@ -1,11 +1,11 @@
-//! The names of processes.
+//! The names of processes and of causes of loss.
 ghost use Rattle.std.specs.Prelude.{◌≡◌};
 ghost use Rattle.trace_segments.specs.Text.{place_name, cause_name};
 
 use network::Network;
 use vlink::Cause;
 
-/// The name of a process: that of the node, or of the line behind the nodes. Of no process it is the empty text.
+/// Returns the name of a process: that of the node, or of the line behind the nodes. If the process does not exist it is the empty text.
 pub fn place_name(network: &Network, place: usize) -> &str
     ensures { result.now ≡ place_name network.now place }
 {
@@ -19,7 +19,7 @@ pub fn place_name(network: &Network, place: usize) -> &str
     }
 }
 
-/// How a cause is written.
+/// Returns the name of a cause as texts write it.
 pub fn cause_name<'a>(cause: Cause) -> &'a str
     ensures { result.now ≡ cause_name cause }
 {

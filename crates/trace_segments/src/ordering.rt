@@ -20,15 +20,15 @@ fn by_message(a: &Row, b: &Row) -> Ordering
     compare(&a.message, &b.message)
 }
 
-/// Puts rows in message order, as the one-thread run has them. So rows that were gathered process by process become one list, in which
+/// Sorts rows into message order, as the one-thread run has them. So rows that were gathered process by process become one list, in which
 /// the rows of each process are as they were gathered.
 ///
-/// It fails only where memory is refused, and then leaves the rows as they were.
+/// It fails only if memory is refused, and then leaves the rows as they were.
 ///
 /// - `ascending`: no row's message comes before that of the row before it.
 /// - `moved`: the rows are the same ones.
 /// - `each_event`: the rows of one event, which have one message, stay in their order.
-/// - `each_process`: so do those of a process, if they were in message order.
+/// - `each_process`: the rows of a process stay in their order, if they were in message order.
 pub fn put_in_message_order(rows: &mut Vec<Row>) -> Result<(), AllocError>
     ensures ascending { OnOk result (AreInMessageOrder rows.new.items) }
     ensures moved { IsPermutation rows.old.items rows.new.items }

@@ -1,4 +1,4 @@
-//! The segments of one process that wait until those of the others are there.
+//! The segments of one process that wait for those of the others.
 ghost use Rattle.std.specs.Prelude.{◌≡◌, ◌∷◌, ◌++◌, ◌-◌, [], length, take, drop, OnOk, OnErr};
 ghost use Rattle.trace_segments.specs.Gathering.{first_of};
 
@@ -26,7 +26,7 @@ impl Model for SegmentQueue {
 }
 
 impl SegmentQueue {
-    /// No segment.
+    /// Makes a queue without segments.
     pub(crate) fn new(alloc: Global) -> Self
         ensures { result ≡ [] }
     {
@@ -35,14 +35,14 @@ impl SegmentQueue {
         }
     }
 
-    /// How many segments wait.
+    /// Returns the number of segments that wait.
     pub(crate) fn len(&self) -> usize
         ensures { result ≡ length self.now }
     {
         self.segments.len()
     }
 
-    /// One more segment, behind the others. A refusal changes nothing.
+    /// Adds one segment behind the others. A refusal changes nothing.
     pub(crate) fn push(&mut self, rows: Vec<Row>) -> Result<(), AllocError>
         ensures pushed { OnOk result (self.new ≡ self.old ++ rows.items ∷ []) }
         ensures unchanged { OnErr result (self.new ≡ self.old) }
@@ -51,14 +51,14 @@ impl SegmentQueue {
         Ok(())
     }
 
-    /// Without the segment that came last.
+    /// Removes the segment that came last.
     pub(crate) fn pop_last(&mut self)
         ensures { self.new ≡ take (length self.old - 1) self.old }
     {
         let _ = self.segments.pop_back();
     }
 
-    /// The rows of the first segment; none where no segment waits.
+    /// Returns the rows of the first segment, or no rows if no segment waits.
     pub(crate) fn first(&self) -> &[Row]
         ensures { result.now ≡ first_of self.now }
     {
@@ -68,7 +68,7 @@ impl SegmentQueue {
         }
     }
 
-    /// Without the first segment.
+    /// Removes the first segment.
     pub(crate) fn pop_first(&mut self)
         ensures { self.new ≡ drop 1 self.old }
     {

@@ -1,4 +1,4 @@
-//! That rows in message order depend on the rows of each process alone.
+//! Rows in message order depend on the rows of each process alone.
 ghost use Rattle.std.specs.Prelude.{ℕ, ◌≡◌, List};
 ghost use Rattle.virtual_time.specs.Law.{rows_at};
 ghost use Rattle.vlink.specs.Order.{message_order};
@@ -8,11 +8,12 @@ ghost use Rattle.trace_segments.specs.Ordered.{AreInMessageOrder, AreAtReceivers
 
 use vlink::message_order_law;
 
-/// Rows in message order depend on the rows of each process alone, in their order there. So a run whose rows are gathered process by
+/// Rows in message order depend only on the rows of each process, in their order there. So a run whose rows are gathered process by
 /// process, and put in message order, has the very rows of the one-thread run, if each process has the rows that it has there.
 ///
-/// - `by_place`: rows in message order that are the same at each process are the same, if each is of the process that received its message.
-/// - `by_event`: so are rows in message order that are the same for each event.
+/// - `by_place`: rows in message order that are the same at each process are the same, if each row is of the process that received its
+///   message.
+/// - `by_event`: rows in message order that are the same for each event are the same.
 /// - `events`: in any order, rows that are the same at each process are the same for each event.
 pub fn rows_by_place_law()
     ensures by_place { (xs ys : List Row) → AreAtReceivers xs → AreInMessageOrder xs → AreInMessageOrder ys → ((p : ℕ) → rows_at p xs ≡ rows_at p ys) → xs ≡ ys }

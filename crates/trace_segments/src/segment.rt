@@ -9,7 +9,7 @@ use std::alloc::{AllocError, Global};
 use std::marker::Model;
 use vlink::{GREATEST_NS, Row, Time};
 
-/// The rows of one process of a run, or of one group of processes, from one moment on and before another.
+/// The rows of one process of a run, or of one group of processes, at or after one moment and before another.
 ///
 /// Clauses see it as the run, the number of the process or group, the two moments in ns, and the rows.
 #[derive(Drop)]
@@ -29,7 +29,7 @@ impl Model for Segment {
     ghost view = { λ p. record { run = p.run; process = p.process; from = p.from; to = p.to; rows = p.rows.items } };
 }
 
-/// The row is of this process and of a moment from `from` on and before `to`.
+/// Whether the row is of this process, and of a moment at or after `from` and before `to`.
 fn is_within(row: &Row, process: u16, from: Time, to: Time) -> bool
     ensures { result ≡ is_at_within process from to row.now }
 {
@@ -37,7 +37,7 @@ fn is_within(row: &Row, process: u16, from: Time, to: Time) -> bool
     row.place == process && from.ns() <= time && time < to.ns()
 }
 
-/// The rows of this process of the moments from `from` on and before `to`, in their order.
+/// Returns the rows of this process whose moments are at or after `from` and before `to`, in their order.
 fn rows_of_process(
     alloc: Global,
     rows: &[Row],
@@ -53,7 +53,7 @@ fn rows_of_process(
         .collect(alloc)
 }
 
-/// Whether the row is of a moment from `from` on and before `to`.
+/// Whether the row is of a moment at or after `from` and before `to`.
 fn is_between(row: &Row, from: Time, to: Time) -> bool
     ensures { result ≡ is_between from to row.now }
 {
@@ -61,7 +61,7 @@ fn is_between(row: &Row, from: Time, to: Time) -> bool
     from.ns() <= time && time < to.ns()
 }
 
-/// The rows of the moments from `from` on and before `to`, in their order.
+/// Returns the rows whose moments are at or after `from` and before `to`, in their order.
 fn rows_between(alloc: Global, rows: &[Row], from: Time, to: Time) -> Result<Vec<Row>, AllocError>
     ensures { IfOk result (λ found. found.items ≡ rows_within from to rows.now) }
 {
@@ -72,8 +72,8 @@ fn rows_between(alloc: Global, rows: &[Row], from: Time, to: Time) -> Result<Vec
 }
 
 impl Segment {
-    /// The segment of interval `k` of a run until `until`, in the place of a group: of these rows, which are of the group's processes, those of the
-    /// interval, in their order. None where there is no such interval. It fails only where memory is refused.
+    /// Makes the segment of interval `k` of a run until `until`, for a group. The rows given are of the group's processes; the segment has
+    /// those of the interval, in their order. None if the interval does not exist. It fails only if memory is refused.
     pub fn of_group(
         alloc: Global,
         rows: &[Row],
@@ -101,8 +101,8 @@ impl Segment {
         }))
     }
 
-    /// The segment of interval `k` of a run until `until`: the rows of the process and of the interval, among these rows and in their order. None
-    /// where there is no such interval. It fails only where memory is refused.
+    /// Makes the segment of interval `k` of a run until `until`: the rows of the process and of the interval among these rows, in their
+    /// order. None if the interval does not exist. It fails only if memory is refused.
     pub fn cut(
         alloc: Global,
         rows: &[Row],
@@ -130,42 +130,42 @@ impl Segment {
         }))
     }
 
-    /// The number of the run.
+    /// Returns the number of the run.
     pub fn run(&self) -> u64
         ensures { result ≡ self.now.run }
     {
         self.run
     }
 
-    /// The process.
+    /// Returns the number of the process or group.
     pub fn process(&self) -> u16
         ensures { result ≡ self.now.process }
     {
         self.process
     }
 
-    /// Where the segment begins.
+    /// Returns the moment at which the segment begins.
     pub fn from(&self) -> Time
         ensures { result ≡ self.now.from }
     {
         self.from
     }
 
-    /// The moment before which it ends.
+    /// Returns the moment before which it ends.
     pub fn to(&self) -> Time
         ensures { result ≡ self.now.to }
     {
         self.to
     }
 
-    /// The rows, in their order.
+    /// Returns the rows, in their order.
     pub fn rows(&self) -> &[Row]
         ensures { result.now ≡ self.now.rows }
     {
         self.rows.as_slice()
     }
 
-    /// The rows alone.
+    /// Returns the rows, and drops the rest.
     pub(crate) fn into_rows(self) -> Vec<Row>
         ensures { result.items ≡ self.rows }
     {

@@ -5,16 +5,16 @@ use thiserror::Error;
 /// Why a segment of the trace, or a batch, is not taken.
 #[derive(Clone, Copy, Debug, Error)]
 pub enum SegmentFault {
-    /// It does not begin where the last one ended, but later, or it does not end where it should.
+    /// The segment begins after the end of the last one, or does not end where it should.
     #[error("rows of the trace are missing")]
     Gap,
-    /// It begins before the end of the last one.
+    /// The segment begins before the end of the last one.
     #[error("rows of the trace come twice")]
     Double,
-    /// It is of another run, or there is no such process.
+    /// The segment is of another run, or its process does not exist.
     #[error("rows of another run or of no process")]
     Stranger,
-    /// A growth was refused.
+    /// Memory was refused.
     #[error("out of memory")]
     OutOfMemory,
 }

@@ -13,7 +13,7 @@ use itoa::Buffer;
 use network::Network;
 use vlink::{Note, Row, VlId};
 
-/// The first line of a trace.
+/// Appends the first line of a trace.
 fn push_head(out: &mut Writer<Vec<u8>>) -> Result<(), Error>
     ensures { OnOk result (Adds out.old out.new trace_head) }
 {
@@ -29,7 +29,7 @@ fn push_head(out: &mut Writer<Vec<u8>>) -> Result<(), Error>
     )
 }
 
-/// A line of the trace.
+/// Appends a line of the trace.
 fn push_fields(
     out: &mut Writer<Vec<u8>>,
     time: u64,
@@ -55,7 +55,7 @@ fn push_fields(
     )
 }
 
-/// What a row tells.
+/// Appends the line of a note.
 fn push_note(out: &mut Writer<Vec<u8>>, time: u64, place: &str, note: &Note) -> Result<(), Error>
     ensures { OnOk result (Adds out.old out.new (line (decimal time ∷ place.now ∷ note_fields note.now))) }
 {
@@ -70,7 +70,7 @@ fn push_note(out: &mut Writer<Vec<u8>>, time: u64, place: &str, note: &Note) -> 
     }
 }
 
-/// The virtual link of a note.
+/// Returns the virtual link of a note.
 fn vl_of(note: Note) -> VlId
     ensures { result ≡ vl_of note }
 {
@@ -80,7 +80,7 @@ fn vl_of(note: Note) -> VlId
     }
 }
 
-/// A row, if it is one of the network.
+/// Appends the line of a row, if the network has its virtual link and its process.
 fn push_row(out: &mut Writer<Vec<u8>>, network: &Network, row: &Row) -> Result<(), Error>
     ensures { OnOk result (Adds out.old out.new (trace_line network.now row.now)) }
 {
@@ -91,7 +91,7 @@ fn push_row(out: &mut Writer<Vec<u8>>, network: &Network, row: &Row) -> Result<(
     push_note(out, row.message.time.ns(), place, &row.note)
 }
 
-/// These rows, in their order.
+/// Appends the lines of these rows, in their order.
 pub fn push_rows(out: &mut Writer<Vec<u8>>, network: &Network, rows: &[Row]) -> Result<(), Error>
     ensures { OnOk result (Adds out.old out.new (flat_map (trace_line network.now) rows.now)) }
 {
@@ -101,7 +101,7 @@ pub fn push_rows(out: &mut Writer<Vec<u8>>, network: &Network, rows: &[Row]) -> 
     Ok(())
 }
 
-/// The first line, and these rows behind it.
+/// Appends the first line, and the lines of these rows.
 pub fn push_trace(out: &mut Writer<Vec<u8>>, network: &Network, rows: &[Row]) -> Result<(), Error>
     ensures { OnOk result (Adds out.old out.new (trace_text network.now rows.now)) }
 {

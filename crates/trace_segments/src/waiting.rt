@@ -9,7 +9,7 @@ use crate::queue::SegmentQueue;
 use std::alloc::{AllocError, Global};
 use vlink::Row;
 
-/// No segment of any of so many processes.
+/// Makes an empty queue for each of this number of processes.
 pub(crate) fn none_waiting(alloc: Global, processes: u16) -> Result<Vec<SegmentQueue>, AllocError>
     ensures { IfOk result (λ waiting. waiting.items ≡ repeat processes ([] ∷ [])) }
 {
@@ -20,14 +20,14 @@ pub(crate) fn none_waiting(alloc: Global, processes: u16) -> Result<Vec<SegmentQ
     Ok(waiting)
 }
 
-/// A segment of each process waits.
+/// Whether a segment of each process waits.
 fn are_all_there(waiting: &[SegmentQueue]) -> bool
     ensures { result ≡ are_all_there waiting.now }
 {
     waiting.iter().all(|segments| segments.len() > 0)
 }
 
-/// The rows of the first segment of each process, process by process.
+/// Returns the rows of the first segment of each process, process by process.
 fn first_rows(alloc: Global, waiting: &[SegmentQueue]) -> Result<Vec<Row>, AllocError>
     ensures { IfOk result (λ rows. rows.items ≡ first_rows waiting.now) }
 {
@@ -38,7 +38,7 @@ fn first_rows(alloc: Global, waiting: &[SegmentQueue]) -> Result<Vec<Row>, Alloc
     Ok(rows)
 }
 
-/// The same rows in message order.
+/// Returns the same rows in message order.
 fn rows_in_order(alloc: Global, waiting: &[SegmentQueue]) -> Result<Vec<Row>, AllocError>
     ensures { IfOk result (λ rows. IsInOrder (first_rows waiting.now) rows.items) }
 {
@@ -47,7 +47,7 @@ fn rows_in_order(alloc: Global, waiting: &[SegmentQueue]) -> Result<Vec<Row>, Al
     Ok(rows)
 }
 
-/// The first segment of each process goes.
+/// Removes the first segment of each process.
 fn pop_firsts(waiting: &mut Vec<SegmentQueue>)
     ensures { waiting.new.items ≡ map (drop 1) waiting.old.items }
 {
@@ -56,8 +56,8 @@ fn pop_firsts(waiting: &mut Vec<SegmentQueue>)
     }
 }
 
-/// One more segment of a process. Where those of all processes are there now, the first of each goes, and their rows are given in message
-/// order. A refusal changes nothing.
+/// Adds one segment of a process. If a segment of each process waits now, removes the first segment of each, and returns their rows in
+/// message order. A refusal changes nothing.
 pub(crate) fn put_segment(
     alloc: Global,
     waiting: &mut Vec<SegmentQueue>,

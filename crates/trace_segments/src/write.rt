@@ -1,4 +1,4 @@
-//! The trace as a whole text, into a sink.
+//! Writes the whole text of a trace into a sink.
 ghost use Rattle.std.specs.Prelude.{◌≡◌, ◌≢◌, ◌+◌, OnOk, IfOk, IfErr};
 ghost use Rattle.std.specs.List.{flat_map};
 ghost use Rattle.std.specs.Io.KnownBytes.{append_known};
@@ -15,7 +15,7 @@ use network::Network;
 use std::alloc::Global;
 use vlink::Row;
 
-/// The text of a trace. An error is the library's own.
+/// Makes the text of a trace. An error is the library's own.
 fn trace_bytes(alloc: Global, network: &Network, rows: &[Row]) -> Result<Vec<u8>, Error>
     ensures { IfOk result (λ bytes. bytes.items ≡ trace_text network.now rows.now) }
 {
@@ -24,7 +24,7 @@ fn trace_bytes(alloc: Global, network: &Network, rows: &[Row]) -> Result<Vec<u8>
     text_of(out, put)
 }
 
-/// The lines of these rows alone. An error is the library's own.
+/// Makes the lines of these rows alone. An error is the library's own.
 fn line_bytes(alloc: Global, network: &Network, rows: &[Row]) -> Result<Vec<u8>, Error>
     ensures { IfOk result (λ bytes. bytes.items ≡ flat_map (trace_line network.now) rows.now) }
 {
@@ -33,8 +33,8 @@ fn line_bytes(alloc: Global, network: &Network, rows: &[Row]) -> Result<Vec<u8>,
     text_of(out, put)
 }
 
-/// The lines of these rows, behind the first line of the trace unless that is written. An error is the library's own, so that it is told
-/// as want of memory or as `Layout` where it is turned into a fault, and nowhere before.
+/// Makes the lines of these rows, behind the first line of the trace unless that was written. An error is the library's own: only the place
+/// that turns it into a fault decides between lack of memory and `Layout`.
 pub fn next_bytes(
     alloc: Global,
     network: &Network,
@@ -52,13 +52,13 @@ pub fn next_bytes(
 
 /// Writes the trace of these rows, in their order, as comma-separated rows, each with a line feed at its end.
 ///
-/// First `time_ns,where,vl,what,value`. Then for each row `TIME,NAME,VL,delivered,LATENCY` or `TIME,NAME,VL,CAUSE,SIZE`; times and
-/// latencies are in ns, sizes in bytes. A row whose virtual link or process the network lacks gives no line. NAME is that of the node,
-/// or `from>to` for a line.
+/// The first line is `time_ns,where,vl,what,value`. Then each row gives `TIME,NAME,VL,delivered,LATENCY` or `TIME,NAME,VL,CAUSE,SIZE`;
+/// times and latencies are in ns, sizes in bytes. A row whose virtual link or process the network lacks gives no line. NAME is that of the
+/// node, or `from>to` for a line.
 ///
-/// The text is made whole before the first byte goes out. `Device` comes only where the sink failed; what went out is a beginning
-/// of the text. `OutOfMemory` comes only where memory was refused, and `Layout` only where the
-/// library that lays out rows failed otherwise; then nothing went out.
+/// The text is made whole before its first byte is written. `Device` comes only if the sink failed; what was written is a beginning of the
+/// text. `OutOfMemory` comes only if memory was refused, and `Layout` only if the library that lays out rows failed otherwise; then nothing
+/// was written.
 pub fn write_trace<S: Sink>(
     alloc: Global,
     network: &Network,

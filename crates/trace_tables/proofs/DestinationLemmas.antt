@@ -1,4 +1,4 @@
--- The order of destinations, and the table of no latency.
+-- The order of destinations, and the table of latencies that is made in it.
 use Rattle.std.proofs.Common.{◌≡◌, ℕ, zero, suc, ◌+◌, ◌<◌, ◌==◌, List, [], ◌∷◌, ◌++◌, length, map, take, get_or, Some, refl, ap, subst, sym, ◌∙◌, arith, append_assoc, ◌&&◌, slice_get, option_map, nat_cmp, is_eq, Ordering, Less, Equal, Greater, append-nil}
 use Rattle.std.specs.Cmp.{IsTotalOrder}
 use Rattle.std.specs.List.{AllByRecursion}
@@ -11,11 +11,12 @@ use Rattle.std.proofs.lemmas.Cmp.{nat_cmp_total, on_total, then_total, ranked, t
 use Rattle.std.proofs.lemmas.List.{map-append, take_more}
 use Rattle.std.proofs.lemmas.Map.Lookups.{CmpEqualImpliesEq, exact_unsigned}
 use Rattle.vlink.specs.declared.frame.VlId.{VlId}
+use Rattle.vlink.specs.Letters.{Row}
 use Rattle.network_rows.specs.declared.rows.VirtualLink.{VirtualLink}
 use Rattle.network.specs.Words.{ids_of, VlPlan, destinations_of, ends_of}
 use Rattle.trace_tables.specs.declared.destination.Destination.{Destination}
 use Rattle.trace_tables.specs.Destinations.{destination_cmp, destination, destinations_at, destinations_in, with_destinations}
-use Rattle.trace_tables.specs.Latencies.{Counts, counts_of}
+use Rattle.trace_tables.specs.Latencies.{Counts, counts_of, latencies_of}
 use Rattle.trace_tables.specs.Tables.{counted_at, latency_table}
 use Rattle.trace_tables.proofs.ListLemmas.{AllAbove, Rises, rising-rises}
 use Rattle.trace_tables.proofs.LossOrderLemmas.{then-equal, is_eq-then, is_eq-nat}
@@ -24,7 +25,7 @@ pub destinations_total : IsTotalOrder destination_cmp
 destinations_total = then_total (on_total (λ (a : Destination). a.vl.0) nat_cmp_total) (on_total (λ (a : Destination). a.place) nat_cmp_total)
 
 -- destinations are the same where their two fields are
-destination-is : (a b : Destination) → a.vl.0 ≡ b.vl.0 → a.place ≡ b.place → a ≡ b
+pub destination-is : (a b : Destination) → a.vl.0 ≡ b.vl.0 → a.place ≡ b.place → a ≡ b
 destination-is a b v p =
     let made = λ (v : ℕ) (p : ℕ). (let vl : VlId = record { 0 = v } in let at : Destination = record { vl = vl; place = p } in at) in
     ap (λ (v : ℕ). made v a.place) v ∙ ap (λ (p : ℕ). made b.vl.0 p) p
@@ -92,34 +93,32 @@ middle : {X : Type 0} (P : X → Type 0) (xs : List X) (y : X) (ys : List X) →
 middle P [] y ys h = h.0
 middle P (x ∷ xs) y ys h = middle P xs y ys h.1
 
-abbrev none_at : List Destination → List (Destination × Counts)
-none_at ds = map (counted_at []) ds
-
 -- what is behind all others is put in at the end
-put-last : (ds : List Destination) (at : Destination) (others : List Destination) → AreOrdered (ds ++ at ∷ others)
-    → insert_entry destination_cmp (none_at ds) at (counts_of []) ≡ none_at (ds ++ at ∷ [])
+put-last : (rows : List Row) (ds : List Destination) (at : Destination) (others : List Destination) → AreOrdered (ds ++ at ∷ others)
+    → insert_entry destination_cmp (map (counted_at rows) ds) at (counts_of (latencies_of at.vl.0 at.place rows)) ≡ map (counted_at rows) (ds ++ at ∷ [])
 unfolding IsStrictlySortedBy
-put-last [] at others h = refl
-put-last (d ∷ ds) at others h =
+put-last rows [] at others h = refl
+put-last rows (d ∷ ds) at others h =
     let greater : destination_cmp at d ≡ Greater = destinations_total.antisymm at d ∙ ap ordering_reverse (middle (λ x. destination_cmp d x ≡ Less) ds at others h.0) in
-    let table = none_at ds in
-    ap (λ (r : Ordering). match_ordering r ((at, counts_of []) ∷ (d, counts_of []) ∷ table) ((d, counts_of []) ∷ table) ((d, counts_of []) ∷ insert_entry destination_cmp table at (counts_of []))) greater
-    ∙ ap (λ (es : List (Destination × Counts)). (d, counts_of []) ∷ es) (put-last ds at others h.1)
+    let table = map (counted_at rows) ds in
+    let here = counts_of (latencies_of at.vl.0 at.place rows) in
+    ap (λ (r : Ordering). match_ordering r ((at, here) ∷ counted_at rows d ∷ table) ((d, here) ∷ table) (counted_at rows d ∷ insert_entry destination_cmp table at here)) greater
+    ∙ ap (λ (es : List (Destination × Counts)). counted_at rows d ∷ es) (put-last rows ds at others h.1)
 
-with-all : (ds others : List Destination) → AreOrdered (ds ++ others) → with_destinations (none_at ds) others ≡ none_at (ds ++ others)
-with-all ds [] h = ap none_at (sym (append-nil ds))
-with-all ds (at ∷ others) h =
-    ap (λ (table : List (Destination × Counts)). with_destinations table others) (put-last ds at others h)
-    ∙ with-all (ds ++ at ∷ []) others (subst AreOrdered (sym (append_assoc ds (at ∷ []) others)) h)
-    ∙ ap none_at (append_assoc ds (at ∷ []) others)
+with-all : (rows : List Row) (ds others : List Destination) → AreOrdered (ds ++ others) → with_destinations rows (map (counted_at rows) ds) others ≡ map (counted_at rows) (ds ++ others)
+with-all rows ds [] h = ap (map (counted_at rows)) (sym (append-nil ds))
+with-all rows ds (at ∷ others) h =
+    ap (λ (table : List (Destination × Counts)). with_destinations rows table others) (put-last rows ds at others h)
+    ∙ with-all rows (ds ++ at ∷ []) others (subst AreOrdered (sym (append_assoc ds (at ∷ []) others)) h)
+    ∙ ap (map (counted_at rows)) (append_assoc ds (at ∷ []) others)
 
--- the table of no row
-pub none-counted : (vls : List VlPlan) → Rises (ids_of vls) → with_destinations [] (destinations_in vls) ≡ latency_table vls []
-none-counted vls rises = with-all [] (destinations_in vls) (in-order vls rises)
+-- the table of latencies
+pub all-counted : (vls : List VlPlan) (rows : List Row) → Rises (ids_of vls) → with_destinations rows [] (destinations_in vls) ≡ latency_table vls rows
+all-counted vls rows rises = with-all rows [] (destinations_in vls) (in-order vls rises)
 
-pub with_destinations-append : (table : List (Destination × Counts)) (xs ys : List Destination) → with_destinations table (xs ++ ys) ≡ with_destinations (with_destinations table xs) ys
-with_destinations-append table [] ys = refl
-with_destinations-append table (x ∷ xs) ys = with_destinations-append (insert_entry destination_cmp table x (counts_of [])) xs ys
+pub with_destinations-append : (rows : List Row) (table : List (Destination × Counts)) (xs ys : List Destination) → with_destinations rows table (xs ++ ys) ≡ with_destinations rows (with_destinations rows table xs) ys
+with_destinations-append rows table [] ys = refl
+with_destinations-append rows table (x ∷ xs) ys = with_destinations-append rows (insert_entry destination_cmp table x (counts_of (latencies_of x.vl.0 x.place rows))) xs ys
 
 -- one virtual link more
 pub destinations-more : (vls : List VlPlan) (i : ℕ) (link : VirtualLink) (places : List ℕ) → option_map (λ vl. vl.link) (slice_get vls i) ≡ Some link
@@ -134,12 +133,15 @@ destinations-more (vl ∷ vls) (suc i) link places e d =
     ∙ sym (append_assoc (destinations_at vl) (destinations_in (take i vls)) (map (destination link.id) places))
 
 -- one destination more of a virtual link
-pub with-place : (table : List (Destination × Counts)) (vl : VlId) (places : List ℕ) (i : ℕ) → i < length places
-    → with_destinations table (map (destination vl) (take (i + 1) places)) ≡ insert_entry destination_cmp (with_destinations table (map (destination vl) (take i places))) (destination vl (get_or places i 0)) (counts_of [])
-with-place table vl places i below =
-    ap (λ (ps : List ℕ). with_destinations table (map (destination vl) ps)) (take_more places i 0 below)
-    ∙ ap (with_destinations table) (map-append (destination vl) (take i places) (get_or places i 0 ∷ []))
-    ∙ with_destinations-append table (map (destination vl) (take i places)) (destination vl (get_or places i 0) ∷ [])
+pub places-more : (vl : VlId) (places : List ℕ) (i : ℕ) → i < length places → map (destination vl) (take (i + 1) places) ≡ map (destination vl) (take i places) ++ destination vl (get_or places i 0) ∷ []
+places-more vl places i below = ap (map (destination vl)) (take_more places i 0 below) ∙ map-append (destination vl) (take i places) (get_or places i 0 ∷ [])
+
+pub with-place : (rows : List Row) (table : List (Destination × Counts)) (vl : VlId) (places : List ℕ) (i : ℕ) → i < length places
+    → with_destinations rows table (map (destination vl) (take (i + 1) places))
+    ≡ insert_entry destination_cmp (with_destinations rows table (map (destination vl) (take i places))) (destination vl (get_or places i 0)) (counts_of (latencies_of vl.0 (get_or places i 0) rows))
+with-place rows table vl places i below =
+    ap (with_destinations rows table) (places-more vl places i below)
+    ∙ with_destinations-append rows table (map (destination vl) (take i places)) (destination vl (get_or places i 0) ∷ [])
 
 -- what is done by an order that is that of destinations is done by theirs
 pub inserted : (cmp : Destination → Destination → Ordering) → ((a b : Destination) → cmp a b ≡ destination_cmp a b) → (table : List (Destination × Counts)) (at : Destination) (counts : Counts)

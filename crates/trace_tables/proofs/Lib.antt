@@ -3,8 +3,11 @@ pub mod ListLemmas
 pub mod LossOrderLemmas
 pub mod DestinationLemmas
 pub mod DeliveryLemmas
+pub mod CellPlaceLemmas
+pub mod CellLemmas
 pub mod CountedLemmas
 pub mod DropCountLemmas
 pub mod PlaceLemmas
 pub mod LatencyCountLemmas
+pub mod DuplicateLemmas
 pub mod SoFarLemmas

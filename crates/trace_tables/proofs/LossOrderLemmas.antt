@@ -29,7 +29,7 @@ numbered_is Policed = refl
 numbered_is Integrity = refl
 numbered_is Duplicate = refl
 
-same_cause : (a b : Cause) → cause_number a ≡ cause_number b → a ≡ b
+pub same_cause : (a b : Cause) → cause_number a ≡ cause_number b → a ≡ b
 same_cause a b e = sym (numbered_is a) ∙ ap numbered e ∙ numbered_is b
 
 pub then-equal : (a b : Ordering) → ordering_then a b ≡ Equal → (a ≡ Equal) × (b ≡ Equal)

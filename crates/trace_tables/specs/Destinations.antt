@@ -1,14 +1,15 @@
 -- Latencies by destination: the virtual link and the process where its frames end.
-use Rattle.std.specs.Prelude.{ℕ, cond, List, [], ◌∷◌, map, flat_map}
+use Rattle.std.specs.Prelude.{ℕ, List, [], ◌∷◌, map, flat_map}
 use Rattle.std.specs.Option.{option_map_or}
 use Rattle.std.specs.Ordering.{nat_cmp, ordering_then}
 use Rattle.std.specs.declared.cmp.Ordering.{Ordering}
 use Rattle.std.specs.BTreeMap.{insert_entry, is_at}
 use Rattle.std.specs.Map.{lookup}
 use Rattle.vlink.specs.declared.frame.VlId.{VlId}
+use Rattle.vlink.specs.Letters.{Row}
 use Rattle.network.specs.Words.{VlPlan, destinations_of}
 use Rattle.trace_tables.specs.declared.destination.Destination.{Destination}
-use Rattle.trace_tables.specs.Latencies.{Counts, counts_of, with_latency}
+use Rattle.trace_tables.specs.Latencies.{Counts, counts_of, latencies_of}
 
 -- by virtual link, then by process
 abbrev pub destination_cmp : Destination → Destination → Ordering
@@ -28,13 +29,7 @@ destinations_in vls = flat_map destinations_at vls
 abbrev pub counts_in : List (Destination × Counts) → Destination → Counts
 counts_in table at = option_map_or (λ counts. counts) (lookup (is_at (destination_cmp at)) table) (counts_of [])
 
--- no latency yet at each of these destinations, which are put in at their places in the order
-abbrev pub with_destinations : List (Destination × Counts) → List Destination → List (Destination × Counts)
-with_destinations table [] = table
-with_destinations table (at ∷ others) = with_destinations (insert_entry destination_cmp table at (counts_of [])) others
-
--- one more latency at a destination, if the table has it
-abbrev pub with_latency_at : List (Destination × Counts) → Destination → ℕ → List (Destination × Counts)
-with_latency_at [] at latency = []
-with_latency_at (entry ∷ table) at latency =
-    cond (is_at (destination_cmp at) entry.0) ((entry.0, with_latency entry.1 latency) ∷ table) (entry ∷ with_latency_at table at latency)
+-- what rows tell of the latencies at each of these destinations, which are put in at their places in the order
+abbrev pub with_destinations : List Row → List (Destination × Counts) → List Destination → List (Destination × Counts)
+with_destinations rows table [] = table
+with_destinations rows table (at ∷ others) = with_destinations rows (insert_entry destination_cmp table at (counts_of (latencies_of at.vl.0 at.place rows))) others

@@ -1,59 +1,61 @@
 //! Latencies by destination.
-ghost use Rattle.std.specs.Prelude.{◌≡◌, ◌-◌, ◌^◌, ◌<◌, [], map, IfOk, OnOk};
-ghost use Rattle.std.specs.List.Sorted.{IsStrictlyIncreasing};
-ghost use Rattle.network.specs.Words.{ids_of};
-ghost use Rattle.trace_tables.specs.Destinations.{destination, counts_in, with_destinations, with_latency_at};
+ghost use Rattle.std.specs.Prelude.{◌≡◌, ◌+◌, ◌≤◌, [], List, map, length, IfOk, OnOk};
+ghost use Rattle.vlink.specs.Letters.{Row};
+ghost use Rattle.trace_tables.specs.Cells.{cells_of, AreCellsFrom};
+ghost use Rattle.trace_tables.specs.Destinations.{counts_in, destination, with_destinations};
 ghost use Rattle.trace_tables.specs.Tables.{latency_table};
 
+use crate::cells::{Cell, Cells};
 use crate::destination::{Destination, destination_order_law};
 use crate::latencies::Latencies;
 use network::Network;
-use std::alloc::{AllocError, Global};
+use std::alloc::AllocError;
 use std::collections::BTreeMap;
 use vlink::VlId;
 
-/// No latency yet at these destinations of a virtual link.
+/// The latencies at these destinations of a virtual link, whose cells begin at a place.
 fn add_destinations(
     table: &mut BTreeMap<Destination, Latencies>,
     vl: VlId,
     places: &[usize],
+    cells: &[Cell],
+    start: usize,
 ) -> Result<(), AllocError>
-    ensures { OnOk result (table.new.entries ≡ with_destinations table.old.entries (map (destination vl) places.now)) }
+    requires { start + length places.now ≤ length cells.now }
+    ensures { OnOk result ((rows : List Row) → AreCellsFrom rows start (map (destination vl) places.now) cells.now →
+        table.new.entries ≡ with_destinations rows table.old.entries (map (destination vl) places.now)) }
 {
     destination_order_law();
-    for place in places {
-        table.insert(Destination { vl, place: *place }, Latencies::none())?;
+    for at in 0..places.len() {
+        let place = places[at];
+        table.insert(Destination { vl, place }, cells[start + at].latencies)?;
     }
     Ok(())
 }
 
-/// No latency yet at any destination of the network.
-pub fn no_deliveries(
-    alloc: Global,
+/// The latencies at each destination of the network.
+pub fn deliveries_of(
+    cells: &Cells,
     network: &Network,
 ) -> Result<BTreeMap<Destination, Latencies>, AllocError>
-    ensures { IfOk result (λ table. table.entries ≡ latency_table network.now.vls []) }
+    requires { (rows : List Row) × (cells.now ≡ cells_of network.now.vls rows) }
+    ensures { IfOk result (λ table. (rows : List Row) → cells.now ≡ cells_of network.now.vls rows → table.entries ≡ latency_table network.now.vls rows) }
 {
-    let mut table = BTreeMap::new(alloc);
+    let mut table = BTreeMap::new(cells.allocator());
     for vl in 0..network.vl_count() {
         let id = network.virtual_link(vl).id;
-        add_destinations(&mut table, id, network.destinations(vl))?;
+        add_destinations(
+            &mut table,
+            id,
+            network.destinations(vl),
+            cells.all(),
+            cells.start(vl),
+        )?;
     }
     Ok(table)
 }
 
-/// A frame was delivered here, `latency` ns after its offer. It is counted if this is a destination of the table.
-pub fn add_latency(table: &mut BTreeMap<Destination, Latencies>, at: Destination, latency: u64)
-    requires { (counts_in table.old.entries at).count < 2 ^ 64 - 1 }
-    ensures { table.new.entries ≡ with_latency_at table.old.entries at latency }
-{
-    destination_order_law();
-    if let Some(here) = table.get_mut(&at) {
-        here.add(latency);
-    }
-}
-
-/// What is counted at a destination; no latency where the table lacks it.
+/// Returns the counts of a destination; no latency if the table lacks it.
 pub fn latencies_at(table: &BTreeMap<Destination, Latencies>, at: Destination) -> Latencies
     ensures { result ≡ counts_in table.now.entries at }
 {

@@ -1,13 +1,13 @@
-//! A virtual link and a node where it ends.
+//! A virtual link and one of its destinations.
 ghost use Rattle.std.specs.Prelude.{◌≡◌};
 ghost use Rattle.trace_tables.specs.declared.destination.Destination.{Destination};
 ghost use Rattle.trace_tables.specs.Destinations.{destination_cmp};
 
 use vlink::VlId;
 
-/// Where frames of a virtual link end.
+/// A destination of a virtual link.
 ///
-/// They are in the order of their fields.
+/// Destinations are ordered by their fields, in order.
 #[derive(Clone, Copy, PartialEq, Eq, PartialOrd, Ord)]
 pub struct Destination {
     pub vl: VlId,
@@ -15,7 +15,7 @@ pub struct Destination {
     pub place: usize,
 }
 
-/// The derived order of destinations is the written one.
+/// The derived order of destinations is the order written out.
 pub(crate) fn destination_order_law()
     ensures { (a b : Destination) → ⟦<Destination as Ord>⟧.cmp a b ≡ destination_cmp a b }
 {}

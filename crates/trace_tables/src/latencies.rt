@@ -4,7 +4,7 @@ ghost use Rattle.trace_tables.specs.Latencies.{counts_of, with_latency};
 
 use std::marker::Model;
 
-/// How many frames came, and their latencies in ns. All is 0 where none came.
+/// How many frames arrived, and their latencies in ns. All numbers are 0 if none arrived.
 ///
 /// Clauses see it as its four numbers.
 #[derive(Clone, Copy)]
@@ -29,7 +29,7 @@ impl Model for Latencies {
 }
 
 impl Latencies {
-    /// No frame has come.
+    /// Makes the counts before any frame.
     pub(crate) fn none() -> Self
         ensures { result ≡ counts_of [] }
     {
@@ -41,7 +41,7 @@ impl Latencies {
         }
     }
 
-    /// One more frame came after this latency.
+    /// Counts one more frame with this latency.
     pub(crate) fn add(&mut self, latency: u64)
         requires { self.old.count < 2 ^ 64 - 1 }
         ensures { self.new ≡ with_latency self.old latency }
@@ -56,28 +56,28 @@ impl Latencies {
         self.sum += u128::from(latency);
     }
 
-    /// How many frames came.
+    /// Returns the number of frames.
     pub fn count(&self) -> u64
         ensures { result ≡ self.now.count }
     {
         self.count
     }
 
-    /// The least latency, in ns.
+    /// Returns the least latency, in ns.
     pub fn least(&self) -> u64
         ensures { result ≡ self.now.least }
     {
         self.least
     }
 
-    /// The greatest latency, in ns.
+    /// Returns the greatest latency, in ns.
     pub fn greatest(&self) -> u64
         ensures { result ≡ self.now.greatest }
     {
         self.greatest
     }
 
-    /// The sum of the latencies, in ns.
+    /// Returns the sum of the latencies, in ns.
     pub fn sum(&self) -> u128
         ensures { result ≡ self.now.total }
     {

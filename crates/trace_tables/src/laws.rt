@@ -1,4 +1,4 @@
-//! What the tables say of the rows, and that they depend on the rows of each process alone.
+//! What the tables state of the rows, and that they depend on the rows of each process alone.
 ghost use Rattle.std.specs.Prelude.{ℕ, ◌≡◌, ◌<◌, ◌≤◌, [], List, length};
 ghost use Rattle.std.specs.List.{All, Contains};
 ghost use Rattle.std.specs.List.Sorted.{IsStrictlySortedBy};
@@ -13,22 +13,22 @@ ghost use Rattle.trace_tables.specs.Latencies.{counts_of, latencies_of};
 ghost use Rattle.trace_tables.specs.Losses.{loss_cmp, count_in};
 ghost use Rattle.trace_tables.specs.Tables.{drop_table, tables_of};
 
-/// What a table of drops says of rows.
+/// What a table of drops states of rows.
 ///
-/// - `counted`: the count of a loss is the number of rows of the network that tell it; 0 stands for a loss that is not there.
-/// - `ascending`: each loss is there once, in the order of virtual links, then of processes, then of causes.
-/// - `positive`: no loss is there with the count 0.
+/// - `counted`: the count of a loss is the number of rows of the network with that loss; a loss that the table lacks has the count 0.
+/// - `ascending`: each loss is listed once, in the order of virtual links, then of processes, then of causes.
+/// - `positive`: no loss is listed with the count 0.
 pub fn drop_counts_law()
     ensures counted { (plan : Plan) (rows : List Row) (loss : Loss) → count_in (drop_table plan rows) loss ≡ times_lost plan loss rows }
     ensures ascending { (plan : Plan) (rows : List Row) → IsStrictlySortedBy loss_cmp (keys_of (drop_table plan rows)) }
     ensures positive { (plan : Plan) (rows : List Row) → All (λ n. 0 < n) (values_of (drop_table plan rows)) }
 {}
 
-/// What is counted of latencies, besides their sum. Latencies are in ns.
+/// The counts of latencies, besides their sum. Latencies are in ns.
 ///
-/// - `counted`: the count is the number of rows that tell a delivery of the virtual link at the process.
+/// - `counted`: the count is the number of rows with a delivery of the virtual link at the process.
 /// - `least`, `greatest`: each latency is at least the one and at most the other.
-/// - `least_occurs`, `greatest_occurs`: where there is a latency, each of the two is one.
+/// - `least_occurs`, `greatest_occurs`: if there is a latency, each of the two is one.
 pub fn latency_counts_law()
     ensures counted { (vl place : ℕ) (rows : List Row) → (counts_of (latencies_of vl place rows)).count ≡ times_delivered vl place rows }
     ensures least { (latencies : List ℕ) → All (λ l. (counts_of latencies).least ≤ l) latencies }
@@ -37,7 +37,7 @@ pub fn latency_counts_law()
     ensures greatest_occurs { (latencies : List ℕ) → 0 < length latencies → Contains latencies (counts_of latencies).greatest }
 {}
 
-/// The tables depend on the rows of each process alone, in their order there: how rows of different processes stand to each other makes no
+/// The tables depend only on the rows of each process, in their order there: the order between rows of different processes makes no
 /// difference. So a run whose rows are gathered process by process has the tables of the one-thread run, if each process has the rows that
 /// it has there.
 ///

@@ -1,9 +1,12 @@
-//! What a run is told by: tables of latencies and of drops, and their text. The names of the trace too, so that a user has one door.
+//! The results of a run: tables of latencies and of drops, and their text. It re-exports the names of the trace, so that a user needs one
+//! crate.
 #![tactic(auto)]
 
+mod cells;
 mod deliveries;
 mod destination;
 mod drops;
+mod duplicates;
 mod latencies;
 mod laws;
 mod loss;

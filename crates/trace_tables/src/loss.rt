@@ -7,9 +7,9 @@ ghost use Rattle.trace_tables.specs.Losses.{cause_number, loss_cmp};
 
 use vlink::{Cause, VlId};
 
-/// Which frames are counted together: those of one virtual link that were dropped at one process for one cause.
+/// The frames that are counted together: those of one virtual link that were dropped at one process for one cause.
 ///
-/// They are in the order of their fields.
+/// Losses are ordered by their fields, in order.
 #[derive(Clone, Copy, PartialEq, Eq, PartialOrd, Ord)]
 pub struct Loss {
     pub vl: VlId,
@@ -23,7 +23,7 @@ fn cause_order_law()
     ensures { (a b : Cause) → ⟦<Cause as Ord>⟧.cmp a b ≡ nat_cmp (cause_number a) (cause_number b) }
 {}
 
-/// The derived order of losses is the written one.
+/// The derived order of losses is the order written out.
 pub(crate) fn loss_order_law()
     ensures { (a b : Loss) → ⟦<Loss as Ord>⟧.cmp a b ≡ loss_cmp a b }
 {

@@ -4,29 +4,29 @@ ghost use Rattle.vlink.specs.Letters.{Row};
 ghost use Rattle.trace_tables.specs.SoFar.{AreInTables, IsSoFar};
 ghost use Rattle.trace_tables.specs.Tables.{tables_of};
 
-use crate::deliveries::{add_latency, no_deliveries};
-use crate::destination::Destination;
+use crate::cells::Cells;
+use crate::deliveries::deliveries_of;
 use crate::drops::add_known_loss;
-use crate::latencies::Latencies;
+use crate::duplicates::add_duplicates;
 use crate::loss::Loss;
 use crate::tables::Tables;
 use network::Network;
 use std::alloc::{AllocError, Global};
 use std::collections::BTreeMap;
 use std::marker::Model;
-use vlink::{Message, Note, Row};
+use vlink::{Cause, Message, Note, Row};
 
-/// So many rows are counted at most before all have come. What comes behind them is kept, so that no count of rows passes 64 bits.
+/// The greatest number of rows that are counted before all have come. Later rows are stored, so that no count of rows exceeds 64 bits.
 const MOST: u64 = 1 << 63;
 
-/// The tables of rows that come batch by batch. The rows need not be kept.
+/// The tables of rows that come batch by batch. The rows need not be stored.
 ///
-/// After an error it stands for no rows, and is of no use.
+/// After an error it represents no rows, and is of no use.
 ///
-/// Clauses see what is counted, of how many rows, and the rows that are kept: none before 2^63 are counted. Latencies are in ns.
+/// Clauses see the counts, of how many rows they are, and the rows that are stored: none before 2^63 are counted. Latencies are in ns.
 #[derive(Drop)]
 pub struct TablesSoFar {
-    latencies: BTreeMap<Destination, Latencies>,
+    cells: Cells,
     drops: BTreeMap<Loss, u64>,
     counted: u64,
     rest: Vec<Row>,
@@ -37,53 +37,54 @@ impl Model for TablesSoFar {
 
     ghost Value = { SoFarLists };
 
-    ghost view = { λ t. record { latencies = t.latencies.entries; drops = t.drops.entries; counted = t.counted; rest = t.rest.items } };
+    ghost view = { λ t. record { cells = t.cells; drops = t.drops.entries; counted = t.counted; rest = t.rest.items } };
 }
 
-/// A row is counted.
+/// Counts a row.
 #[inline(always)]
 fn count_row(
-    latencies: &mut BTreeMap<Destination, Latencies>,
+    cells: &mut Cells,
     drops: &mut BTreeMap<Loss, u64>,
     network: &Network,
     row: &Row,
 ) -> Result<(), AllocError>
-    requires { (earlier : List Row) × AreInTables network.now earlier latencies.old.entries drops.old.entries × (length earlier < 2 ^ 64 - 1) }
-    ensures { OnOk result ((earlier : List Row) → AreInTables network.now earlier latencies.old.entries drops.old.entries
-        → AreInTables network.now (earlier ++ row.now ∷ []) latencies.new.entries drops.new.entries) }
+    requires { (earlier : List Row) × AreInTables network.now earlier cells.old drops.old.entries × (length earlier < 2 ^ 64 - 1) }
+    ensures { OnOk result ((earlier : List Row) → AreInTables network.now earlier cells.old drops.old.entries
+        → AreInTables network.now (earlier ++ row.now ∷ []) cells.new drops.new.entries) }
 {
-    let _rising = network.vl_count();
     match row.note {
         Note::Delivered { vl, latency } => {
-            let place = usize::from(row.place);
-            add_latency(latencies, Destination { vl, place }, latency);
+            cells.add_latency(network, vl, row.place, latency);
             Ok(())
         }
         Note::Dropped { vl, cause, .. } => {
             let place = row.place;
+            if cause == Cause::Duplicate && cells.add_duplicate(network, vl, place) {
+                return Ok(());
+            }
             add_known_loss(drops, network, Loss { vl, place, cause })
         }
     }
 }
 
-/// Each of the rows is counted.
+/// Counts each of the rows.
 fn count_each(
-    latencies: &mut BTreeMap<Destination, Latencies>,
+    cells: &mut Cells,
     drops: &mut BTreeMap<Loss, u64>,
     network: &Network,
     rows: &[Row],
 ) -> Result<(), AllocError>
-    requires { (earlier : List Row) × AreInTables network.now earlier latencies.old.entries drops.old.entries × (length earlier + length rows.now < 2 ^ 64) }
-    ensures { OnOk result ((earlier : List Row) → AreInTables network.now earlier latencies.old.entries drops.old.entries
-        → AreInTables network.now (earlier ++ rows.now) latencies.new.entries drops.new.entries) }
+    requires { (earlier : List Row) × AreInTables network.now earlier cells.old drops.old.entries × (length earlier + length rows.now < 2 ^ 64) }
+    ensures { OnOk result ((earlier : List Row) → AreInTables network.now earlier cells.old drops.old.entries
+        → AreInTables network.now (earlier ++ rows.now) cells.new drops.new.entries) }
 {
     for row in rows {
-        count_row(latencies, drops, network, row)?;
+        count_row(cells, drops, network, row)?;
     }
     Ok(())
 }
 
-/// A row behind those that are kept.
+/// Stores a row behind those that are stored.
 #[cold]
 #[inline(never)]
 fn keep(rest: &mut Vec<Row>, message: &Message, note: &Note) -> Result<(), AllocError>
@@ -98,22 +99,22 @@ fn keep(rest: &mut Vec<Row>, message: &Message, note: &Note) -> Result<(), Alloc
 }
 
 impl TablesSoFar {
-    /// No row has come. It fails only where memory is refused.
+    /// Makes tables of no rows. It fails only if memory is refused.
     pub fn none(alloc: Global, network: &Network) -> Result<TablesSoFar, AllocError>
         ensures { IfOk result (λ tables. IsSoFar network.now tables []) }
     {
         Ok(TablesSoFar {
-            latencies: no_deliveries(alloc, network)?,
+            cells: Cells::none(alloc, network)?,
             drops: BTreeMap::new(alloc),
             counted: 0,
             rest: Vec::new(alloc),
         })
     }
 
-    /// These rows have come behind the others. It fails only where memory is refused.
+    /// Counts these rows after the others. It fails only if memory is refused.
     ///
-    /// A row whose virtual link or process the network lacks is not counted, nor is a delivery at a process that is no destination of
-    /// its virtual link.
+    /// A row whose virtual link or process the network lacks is not counted, nor is a delivery at a process that is no destination of its
+    /// virtual link.
     pub fn count(&mut self, network: &Network, rows: &[Row]) -> Result<(), AllocError>
         requires { (earlier : List Row) × IsSoFar network.now self.old earlier }
         ensures { OnOk result ((earlier : List Row) → IsSoFar network.now self.old earlier → IsSoFar network.now self.new (earlier ++ rows.now)) }
@@ -121,13 +122,12 @@ impl TablesSoFar {
         if !self.rest.is_empty() || rows.len() as u64 > MOST - self.counted {
             return self.rest.extend_from_slice(rows);
         }
-        count_each(&mut self.latencies, &mut self.drops, network, rows)?;
+        count_each(&mut self.cells, &mut self.drops, network, rows)?;
         self.counted += rows.len() as u64;
         Ok(())
     }
 
-    /// A row has come behind the others: that of this note, of the event of this message at its receiver. It fails only where memory is
-    /// refused.
+    /// Counts the row of this note, of the event of this message at its receiver, after the others. It fails only if memory is refused.
     ///
     /// It counts what `count` counts.
     pub fn count_note(
@@ -148,23 +148,25 @@ impl TablesSoFar {
             place: message.receiver,
             note: *note,
         };
-        count_row(&mut self.latencies, &mut self.drops, network, &row)?;
+        count_row(&mut self.cells, &mut self.drops, network, &row)?;
         self.counted += 1;
         Ok(())
     }
 
-    /// The tables of all rows that have come. It fails only where memory is refused.
+    /// Returns the tables of all rows that came. It fails only if memory is refused.
     pub fn tables(self, network: &Network) -> Result<Tables, AllocError>
         requires { (rows : List Row) × IsSoFar network.now self rows }
         ensures { IfOk result (λ tables. (rows : List Row) → IsSoFar network.now self rows → tables ≡ tables_of network.now rows) }
     {
         let TablesSoFar {
-            mut latencies,
+            mut cells,
             mut drops,
             rest,
             ..
         } = self;
-        count_each(&mut latencies, &mut drops, network, rest.as_slice())?;
+        count_each(&mut cells, &mut drops, network, rest.as_slice())?;
+        let latencies = deliveries_of(&cells, network)?;
+        add_duplicates(&mut drops, network, &cells)?;
         Ok(Tables::new(latencies, drops))
     }
 }

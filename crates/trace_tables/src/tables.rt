@@ -12,8 +12,8 @@ use std::collections::BTreeMap;
 use std::marker::Model;
 use vlink::Row;
 
-/// The tables of a run: for each virtual link and each of its destinations the latencies there, and how many frames were dropped,
-/// by virtual link, process and cause. All are counted by their numbers, so that the tables can be read without the network.
+/// The tables of a run: for each virtual link and each of its destinations the latencies there, and how many frames were dropped, by
+/// virtual link, process and cause. All are identified by their numbers, so that the tables can be read without the network.
 ///
 /// Clauses see it as its two tables. Latencies are in ns.
 #[derive(Drop)]
@@ -31,8 +31,8 @@ impl Model for Tables {
 }
 
 impl Tables {
-    /// The tables of these rows of a network. A row whose virtual link or process the network lacks is not counted, nor is a
-    /// delivery at a process that is no destination of its virtual link. It fails only where memory is refused.
+    /// Makes the tables of these rows of a network. A row whose virtual link or process the network lacks is not counted, nor is a delivery
+    /// at a process that is no destination of its virtual link. It fails only if memory is refused.
     pub fn of(alloc: Global, network: &Network, rows: &[Row]) -> Result<Tables, AllocError>
         ensures { IfOk result (λ tables. tables ≡ tables_of network.now rows.now) }
     {
@@ -41,7 +41,7 @@ impl Tables {
         tables.tables(network)
     }
 
-    /// These two tables.
+    /// Makes tables of these two parts.
     pub(crate) fn new(
         latencies: BTreeMap<Destination, Latencies>,
         drops: BTreeMap<Loss, u64>,
@@ -51,14 +51,14 @@ impl Tables {
         Tables { latencies, drops }
     }
 
-    /// The latencies at each destination of each virtual link.
+    /// Returns the latencies at each destination of each virtual link.
     pub(crate) fn latencies(&self) -> &BTreeMap<Destination, Latencies>
         ensures { result.now.entries ≡ self.now.latencies }
     {
         &self.latencies
     }
 
-    /// How often each loss was counted.
+    /// Returns the count of each loss.
     pub(crate) fn drops(&self) -> &BTreeMap<Loss, u64>
         ensures { result.now.entries ≡ self.now.drops }
     {

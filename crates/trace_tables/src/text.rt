@@ -1,4 +1,4 @@
-//! The lines of the tables, cell by cell. A new column begins here.
+//! Writes the lines of the tables, cell by cell. A new column begins here.
 ghost use Rattle.std.specs.Prelude.{map, OnOk};
 ghost use Rattle.std.specs.List.{flat_map};
 ghost use Rattle.trace_tables.specs.Destinations.{destination};
@@ -17,7 +17,7 @@ use trace_segments::line::push;
 use trace_segments::{cause_name, is_in_network, place_name};
 use vlink::VlId;
 
-/// The first line of the tables.
+/// Appends the first line of the tables.
 pub fn push_head(out: &mut Writer<Vec<u8>>) -> Result<(), Error>
     ensures { OnOk result (Adds out.old out.new tables_head) }
 {
@@ -36,7 +36,7 @@ pub fn push_head(out: &mut Writer<Vec<u8>>) -> Result<(), Error>
     )
 }
 
-/// The latencies of a virtual link at a destination.
+/// Appends the latencies of a virtual link at a destination.
 fn push_latency(
     out: &mut Writer<Vec<u8>>,
     network: &Network,
@@ -66,7 +66,7 @@ fn push_latency(
     )
 }
 
-/// The latencies of a virtual link at these destinations.
+/// Appends the latencies of a virtual link at these destinations.
 fn push_destinations(
     out: &mut Writer<Vec<u8>>,
     network: &Network,
@@ -83,7 +83,7 @@ fn push_destinations(
     Ok(())
 }
 
-/// The latencies at each destination of each virtual link of the network.
+/// Appends the latencies at each destination of each virtual link of the network.
 pub fn push_latencies(
     out: &mut Writer<Vec<u8>>,
     network: &Network,
@@ -98,7 +98,7 @@ pub fn push_latencies(
     Ok(())
 }
 
-/// How many frames were dropped, for one loss.
+/// Appends how many frames were dropped, for one loss.
 fn push_loss(
     out: &mut Writer<Vec<u8>>,
     network: &Network,
@@ -124,7 +124,7 @@ fn push_loss(
     )
 }
 
-/// A loss that is counted above 0, if the network has its virtual link and process.
+/// Appends a loss that is counted above 0, if the network has its virtual link and process.
 fn push_drop(
     out: &mut Writer<Vec<u8>>,
     network: &Network,
@@ -139,7 +139,7 @@ fn push_drop(
     push_loss(out, network, loss, count)
 }
 
-/// How many frames were dropped, for each loss.
+/// Appends how many frames were dropped, for each loss.
 pub fn push_drops(
     out: &mut Writer<Vec<u8>>,
     network: &Network,

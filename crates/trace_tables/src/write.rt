@@ -1,4 +1,4 @@
-//! The tables as a whole text, into a sink.
+//! Writes the whole text of the tables into a sink.
 ghost use Rattle.std.specs.Prelude.{◌≡◌, ◌≢◌, ◌+◌, OnOk, IfOk, IfErr};
 ghost use Rattle.std.specs.Io.KnownBytes.{append_known};
 ghost use Rattle.trace_segments.specs.declared.fault.OutFault.TheVariants.{Device};
@@ -13,7 +13,7 @@ use std::alloc::Global;
 use trace_segments::line::{empty, text_of};
 use trace_segments::{OutFault, Sink, write_all};
 
-/// The text of the tables of a network. An error is the library's own.
+/// Makes the text of the tables of a network. An error is the library's own.
 fn csv_text(alloc: Global, network: &Network, tables: &Tables) -> Result<Vec<u8>, Error>
     ensures { IfOk result (λ bytes. bytes.items ≡ tables_text network.now tables.now) }
 {
@@ -22,7 +22,7 @@ fn csv_text(alloc: Global, network: &Network, tables: &Tables) -> Result<Vec<u8>
     text_of(out, put)
 }
 
-/// The lines of the tables of a network. An error is the library's own.
+/// Makes the lines of the tables of a network. An error is the library's own.
 fn push_tables(out: &mut Writer<Vec<u8>>, network: &Network, tables: &Tables) -> Result<(), Error>
     ensures { OnOk result (Adds out.old out.new (tables_text network.now tables.now)) }
 {
@@ -33,17 +33,17 @@ fn push_tables(out: &mut Writer<Vec<u8>>, network: &Network, tables: &Tables) ->
 
 /// Writes the tables of a network as comma-separated rows, each with a line feed at its end.
 ///
-/// First `table,vl,where,cause,count,least_ns,greatest_ns,sum_ns`. Then for each virtual link and each of its destinations, by
-/// number, `latency,VL,NAME,,COUNT,LEAST,GREATEST,SUM`, also where the count is 0. Then for each virtual link, process and cause with
-/// a count above 0, by number and in the order of the causes, `dropped,VL,NAME,CAUSE,COUNT,,,`. Latencies are in ns. NAME is that of
+/// The first line is `table,vl,where,cause,count,least_ns,greatest_ns,sum_ns`. Then each virtual link and each of its destinations, by
+/// number, gives `latency,VL,NAME,,COUNT,LEAST,GREATEST,SUM`, also if the count is 0. Then each virtual link, process and cause with a
+/// count above 0, by number and in the order of the causes, gives `dropped,VL,NAME,CAUSE,COUNT,,,`. Latencies are in ns. NAME is that of
 /// the node, or `from>to` for a line.
 ///
-/// The tables may be those of another network. The lines go by numbers: what this network lacks gives no line, and what the tables lack
+/// The tables may be those of another network. Numbers identify the lines: what this network lacks gives no line, and what the tables lack
 /// counts as 0.
 ///
-/// The text is made whole before the first byte goes out. `Device` comes only where the sink failed; what went out is a beginning
-/// of the text. `OutOfMemory` comes only where memory was refused, and `Layout` only where the
-/// library that lays out rows failed otherwise; then nothing went out.
+/// The text is made whole before its first byte is written. `Device` comes only if the sink failed; what was written is a beginning of the
+/// text. `OutOfMemory` comes only if memory was refused, and `Layout` only if the library that lays out rows failed otherwise; then nothing
+/// was written.
 pub fn write_csv<S: Sink>(
     alloc: Global,
     network: &Network,

@@ -1,4 +1,4 @@
-//! A trace that is written batch by batch, into a sink that may fail.
+//! Writes a trace batch by batch, into a sink that may fail.
 #![tactic(auto)]
 
 mod writer;

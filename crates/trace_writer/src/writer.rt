@@ -1,4 +1,4 @@
-//! A trace that is written batch by batch.
+//! Writes a trace batch by batch.
 ghost use Rattle.std.specs.Prelude.{◌≡◌, ◌≢◌, ◌+◌, [], true, false, None, Some, Ok, Err, IsOk, OnOk, IfErr, MatchResult};
 ghost use Rattle.std.specs.Io.KnownBytes.{append_known};
 ghost use Rattle.trace_segments.specs.declared.fault.OutFault.TheVariants.{Device};
@@ -17,8 +17,8 @@ use vlink::{Row, Time};
 
 /// The trace of a run of a network, as far as it is written.
 ///
-/// Clauses see it as the network's plan, what the sink took and how many writes failed there, whether the first line is written, where the last
-/// batch ended in ns (0 before the first), and whether the sink failed.
+/// Clauses see it as the network's plan, what the sink took and how many writes failed there, whether the first line is written, where the
+/// last batch ended in ns (0 before the first), and whether the sink failed.
 #[derive(Drop)]
 pub struct TraceWriter<'a, S: Sink> {
     alloc: Global,
@@ -44,7 +44,7 @@ impl<'a, S: Sink> Model for TraceWriter<'a, S> {
     } };
 }
 
-/// How a write went, told of the trace.
+/// Returns the result of a write as a result of the trace.
 fn of_trace(written: Result<(), OutFault>) -> Result<(), TraceFault>
     ensures { MatchResult written (λ _. IsOk result) (λ fault. result ≡ Err (Out fault)) }
 {
@@ -55,7 +55,7 @@ fn of_trace(written: Result<(), OutFault>) -> Result<(), TraceFault>
 }
 
 impl<'a, S: Sink> TraceWriter<'a, S> {
-    /// Nothing is written yet.
+    /// Makes a trace of which nothing is written yet.
     pub fn new(alloc: Global, network: &'a Network, sink: S) -> Self
         ensures { result ≡ record {
           plan = network.now;
@@ -76,7 +76,7 @@ impl<'a, S: Sink> TraceWriter<'a, S> {
         }
     }
 
-    /// Why a batch is not written, if neither memory nor this write is the cause.
+    /// Returns why a batch is not written, if neither memory nor this write is the cause.
     fn fault_of(&self, batch: &Batch) -> Option<TraceFault>
         ensures { result ≡ batch_fault self.now batch.now }
     {
@@ -95,12 +95,13 @@ impl<'a, S: Sink> TraceWriter<'a, S> {
 
     /// Writes the lines of a batch, which begins where the last one ended, and the first line of the trace before those of the first batch.
     ///
-    /// The text is made whole before its first byte goes out. The faults, of which only the last one changes anything:
+    /// The text is made whole before its first byte is written. Of the faults, only the last one changes anything:
     ///
     /// - `Out(Device)`, tried first: the sink failed in an earlier call.
-    /// - `Segment(Double)`: the batch begins before the end of the last one; `Segment(Gap)`: it begins behind that end. The first one begins at 0.
-    /// - `Out(OutOfMemory)`, `Out(Layout)`: as `write_trace` has them; nothing went out.
-    /// - `Out(Device)`: the sink failed. What went out is a beginning of the text, and nothing more will.
+    /// - `Segment(Double)`: the batch begins before the end of the last one. `Segment(Gap)`: it begins after that end. The first batch
+    ///   begins at 0.
+    /// - `Out(OutOfMemory)`, `Out(Layout)`: as in `write_trace`; nothing was written.
+    /// - `Out(Device)`: the sink failed. What was written is a beginning of the text, and nothing more follows.
     pub fn take(&mut self, batch: Batch) -> Result<(), TraceFault>
         ensures refused { (fault : TraceFault) → batch_fault self.old batch ≡ Some fault → result ≡ Err fault }
         ensures unchanged { (fault : TraceFault) → batch_fault self.old batch ≡ Some fault → self.new ≡ self.old }
@@ -128,7 +129,7 @@ impl<'a, S: Sink> TraceWriter<'a, S> {
         }
     }
 
-    /// Writes the lines of these rows, behind the first line of the trace unless that is written.
+    /// Writes the lines of these rows, behind the first line of the trace unless that was written.
     fn write(&mut self, rows: &[Row]) -> Result<(), OutFault>
         ensures written { OnOk result (self.new ≡ record self.old {
           taken = append_known self.old.taken (next_text self.old.plan self.old.begun rows.now);
@@ -153,11 +154,11 @@ impl<'a, S: Sink> TraceWriter<'a, S> {
         }
     }
 
-    /// Ends the trace and gives the sink back. Of a network without a process, of which no batch comes, the first line is written here.
+    /// Ends the trace and returns the sink. A network without a process gives no batch; its first line is written here.
     ///
     /// - `Out(Device)`: the sink failed, in an earlier call or in this one, which then left a beginning of the first line.
-    /// - `Segment(Gap)`: the last batch did not end at the moment behind the end of the run, or there was none.
-    /// - `Out(OutOfMemory)`, `Out(Layout)`: the first line was to be written; nothing went out.
+    /// - `Segment(Gap)`: the last batch did not end at the moment after the end of the run, or no batch came.
+    /// - `Out(OutOfMemory)`, `Out(Layout)`: the first line was still to be written; nothing was written.
     pub fn finish(self) -> (Result<(), TraceFault>, S)
         ensures refused { (fault : TraceFault) → end_fault self.entry ≡ Some fault → result.0 ≡ Err fault }
         ensures whole { end_fault self.entry ≡ None → lacks_head self.entry ≡ false → IsOk result.0 }

@@ -1,4 +1,4 @@
--- Simulations of a network, as far as their messages and offers go, and what the law of virtual time asks of offers.
+-- Simulations of a network, as far as their messages and offers go, and what the laws of virtual time require of offers.
 use Rattle.std.specs.Prelude.{◌≡◌, ◌<◌, ◌≤◌}
 use Rattle.vlink.specs.declared.message.Message.{Message}
 use Rattle.virtual_time.specs.Law.{IsOrder, times_in, IsIn, Simulation}

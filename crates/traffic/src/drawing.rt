@@ -10,7 +10,7 @@ use rand_pcg::Lcg64Xsh32;
 use std::alloc::AllocError;
 use vlink::{Body, Message, Time, VlId, process_number};
 
-/// How many offers of a virtual link are due until then.
+/// Returns how many offers of a virtual link are due up to `until`.
 pub fn due_count(until: Time, link: &VirtualLink) -> u64
     requires { IsLinkInLimits link.now }
     ensures value { result ≡ due_count until link.now }
@@ -23,14 +23,14 @@ pub fn due_count(until: Time, link: &VirtualLink) -> u64
     }
 }
 
-/// The sender of the offers of a virtual link.
+/// Returns the sender of the offers of a virtual link.
 fn sender_of(vl: VlId) -> u32
     ensures { result ≡ sender_of vl.0 }
 {
     u32::from(process_number(GREATEST_PROCESSES)) + u32::from(vl.0)
 }
 
-/// When the offer with this number and word comes, in ns.
+/// Returns when the offer with this number and random word comes, in ns.
 pub fn moment(link: &VirtualLink, number: u64, word: u32) -> u64
     requires limits { IsLinkInLimits link.now }
     requires due { due_of link.now number ≤ LATEST_NS }
@@ -41,7 +41,7 @@ pub fn moment(link: &VirtualLink, number: u64, word: u32) -> u64
     due + jitter
 }
 
-/// Which sub-virtual link the offer with this number goes to: they take turns.
+/// Returns the sub-virtual link of the offer with this number: they take turns.
 fn sub_of(link: &VirtualLink, number: u64) -> u8
     requires { IsLinkInLimits link.now }
     ensures { result ≡ number % link.now.sub }
@@ -49,7 +49,7 @@ fn sub_of(link: &VirtualLink, number: u64) -> u8
     (number % u64::from(link.sub)) as u8
 }
 
-/// Puts the offer with this number and word behind the others, unless it comes after `until`.
+/// Appends the offer with this number and random word, unless it comes after `until`.
 fn push_offer(
     offers: &mut Vec<Message>,
     until: Time,
@@ -80,7 +80,7 @@ fn push_offer(
     Ok(())
 }
 
-/// Puts the offers of a virtual link, whose frames begin at the node `source`, behind the others.
+/// Appends the offers of a virtual link, whose frames begin at the node `source`.
 pub fn push_offers(
     offers: &mut Vec<Message>,
     seed: u64,

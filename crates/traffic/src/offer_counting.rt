@@ -1,4 +1,4 @@
-//! How many offers there are, without a list of them.
+//! Counts offers without a list of them.
 ghost use Rattle.std.specs.Prelude.{◌≡◌, ℕ, ◌+◌, ◌*◌, ◌≤◌, ◌<◌, ◌↔◌, length, nat_le};
 ghost use Rattle.vlink.specs.declared.time.TheConstants.{LATEST_NS};
 ghost use Rattle.network.specs.Words.{IsLinkInLimits};
@@ -10,8 +10,7 @@ use rand_core::utils::NextWord;
 use rand_pcg::Lcg64Xsh32;
 use vlink::Time;
 
-/// How many offers of a virtual link come until then, however late they are. They are its first ones, and no word has to be drawn for
-/// them.
+/// Returns how many offers of a virtual link come up to `until`, however late they are. They are its first ones, and need no random word.
 fn sure_count(until: Time, link: &VirtualLink) -> u64
     requires { IsLinkInLimits link.now }
     ensures few { result ≤ due_count until link.now }
@@ -25,7 +24,7 @@ fn sure_count(until: Time, link: &VirtualLink) -> u64
     }
 }
 
-/// Whether the offer with this number and word comes until then.
+/// Whether the offer with this number and random word comes up to `until`.
 fn comes(until: Time, link: &VirtualLink, number: u64, word: u32) -> bool
     requires limits { IsLinkInLimits link.now }
     requires due { due_of link.now number ≤ until }
@@ -35,7 +34,7 @@ fn comes(until: Time, link: &VirtualLink, number: u64, word: u32) -> bool
     moment(link, number, word) <= until.ns()
 }
 
-/// How many offers of a virtual link there are, wherever its frames begin.
+/// Returns the number of offers of a virtual link, wherever its frames begin.
 fn vl_offer_count(seed: u64, until: Time, link: &VirtualLink) -> u64
     requires limits { IsLinkInLimits link.now }
     requires until { until ≤ LATEST_NS }
@@ -54,7 +53,7 @@ fn vl_offer_count(seed: u64, until: Time, link: &VirtualLink) -> u64
     count
 }
 
-/// How many offers a network has: as many as `offers` makes.
+/// Returns the number of offers of a network: as many as `offers` makes.
 pub fn offer_count(network: &Network) -> u64
     ensures { result ≡ length (offers_of network.now) }
 {

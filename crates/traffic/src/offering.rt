@@ -8,8 +8,8 @@ use network::Network;
 use std::alloc::{AllocError, Global};
 use vlink::Message;
 
-/// How many offers are due, with those that come after the end of the run since they are drawn to be late. The list of offers gets this
-/// room at once; any other would do, and would be left piece by piece.
+/// Returns how many offers are due. It counts also those that come after the end of the run because their drawn delay is too long. The list
+/// of offers gets this room at once; with another number it would grow step by step.
 fn most_offers(network: &Network) -> usize {
     let mut most: usize = 0;
     for place in 0..network.vl_count() {
@@ -19,7 +19,7 @@ fn most_offers(network: &Network) -> usize {
     most
 }
 
-/// Puts the offers of the virtual link with this place behind those of the ones before it.
+/// Appends the offers of the virtual link with this place to those of the ones before it.
 fn push_vl(offers: &mut Vec<Message>, network: &Network, vl: usize) -> Result<(), AllocError>
     requires place { vl < length network.now.vls }
     requires before { offers.old.items ≡ flat_map (offers_of_vl network.now) (take vl network.now.vls) }
@@ -30,12 +30,12 @@ fn push_vl(offers: &mut Vec<Message>, network: &Network, vl: usize) -> Result<()
     push_offers(offers, network.seed(), network.until(), &link, source)
 }
 
-/// All offers of a network, one message each: the virtual links in rising number, and for each of them its offers in
-/// the order of their numbers.
+/// Returns all offers of a network, one message each: the virtual links by ascending number, and for each of them its offers in the order
+/// of their numbers.
 ///
-/// The k-th offer of a virtual link, k from 0, comes at `offset + k * period + (w_k mod (jitter + 1))` ns, where `w_k` is
-/// the k-th word of PCG XSH RR 64/32 with the network's seed as its state and the number of the virtual link as its
-/// stream (profile). An offer that comes after the end of the run is left out; the others keep their k.
+/// The k-th offer of a virtual link, k from 0, comes at `offset + k * period + (w_k mod (jitter + 1))` ns, where `w_k` is the k-th word of
+/// PCG XSH RR 64/32 with the network's seed as its state and the number of the virtual link as its stream (profile). An offer that comes
+/// after the end of the run is left out; the others keep their k.
 ///
 /// Want of memory is the only error.
 pub fn offers(alloc: Global, network: &Network) -> Result<Vec<Message>, AllocError>

@@ -1,8 +1,8 @@
-//! A value away from others.
+//! A value apart from others in memory.
 ghost use Rattle.std.specs.Prelude.{◌≡◌};
 
-/// A value with 128 bytes before it that nobody reads: it shares no line of the processors' memory with what lies there, as the word of its
-/// lock, which threads that wait for it take away from each other.
+/// A value with 128 unused bytes before it. So it shares no cache line with what lies there, such as the word of its lock, which waiting
+/// threads take from each other.
 #[derive(Drop)]
 pub struct Apart<V> {
     apart: [u64; 16],
@@ -10,7 +10,7 @@ pub struct Apart<V> {
 }
 
 impl<V> Apart<V> {
-    /// This value.
+    /// Wraps this value.
     pub fn new(value: V) -> Self
         ensures { result.value ≡ value }
     {
@@ -20,7 +20,7 @@ impl<V> Apart<V> {
         }
     }
 
-    /// The value.
+    /// Returns the value.
     pub fn into_inner(self) -> V
         ensures { result ≡ self.value }
     {

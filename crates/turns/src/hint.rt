@@ -1,17 +1,17 @@
-//! A group that is to have a turn.
+//! A group that should get a turn.
 ghost use Rattle.std.specs.Prelude.{◌≡◌, ◌<◌};
 
 use std::marker::PhantomData;
 
-/// Which run the groups are of, by its type.
+/// The run to which the groups belong, by its type.
 pub trait TurnRun {
     ghost use Rattle.std.specs.Prelude.{ℕ};
 
-    /// How many groups it has.
+    /// The number of its groups.
     ghost groups: { ℕ };
 }
 
-/// A group that is to have a turn. By its type it is one of the run; whether it has something to do is not proved.
+/// A group that should get a turn. By its type it is one of the run; no proof covers whether it has something to do.
 #[derive(Drop)]
 pub(crate) struct Hint<R: TurnRun> {
     pub group: u16,
@@ -20,7 +20,7 @@ pub(crate) struct Hint<R: TurnRun> {
 }
 
 impl<R: TurnRun> Hint<R> {
-    /// A hint at this group.
+    /// Makes a hint at this group.
     pub(crate) fn new(group: u16) -> Self
         requires { group < R.groups }
         ensures { result.group ≡ group }
@@ -31,7 +31,7 @@ impl<R: TurnRun> Hint<R> {
         }
     }
 
-    /// The same hint once more.
+    /// Returns a copy of the hint.
     pub(crate) fn again(&self) -> Self
         ensures { result.group ≡ self.now.group }
     {

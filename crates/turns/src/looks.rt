@@ -1,7 +1,7 @@
 //! How long a worker has found nothing to do.
 use crate::{LOOKS_BEFORE_HELP, LOOKS_BEFORE_REST, LOOKS_BEFORE_YIELD, LOOKS_PER_GVT};
 
-/// How often a worker has looked in vain since a turn, and how often it looks in vain before it gives groups of others a turn.
+/// How often a worker has looked in vain since a turn, and how often it looks in vain before it gives turns to groups of others.
 #[derive(Clone, Copy)]
 pub(crate) struct Looks {
     vain: u64,
@@ -9,7 +9,7 @@ pub(crate) struct Looks {
 }
 
 impl Looks {
-    /// Of a worker that has given no turn.
+    /// The counts of a worker that has given no turn.
     pub(crate) fn none() -> Self {
         Looks {
             vain: 0,
@@ -17,44 +17,44 @@ impl Looks {
         }
     }
 
-    /// How often it has looked in vain.
+    /// Returns how often it has looked in vain.
     pub(crate) fn vain(&self) -> u64 {
         self.vain
     }
 
-    /// A message was handled for a group of its own.
+    /// Notes that a message was handled for a group of its own.
     pub(crate) fn work(&mut self) {
         self.vain = 0;
         self.patience = self.patience.saturating_add(8).min(LOOKS_BEFORE_HELP);
     }
 
-    /// A message was handled for a group of another worker. The more often that serves, the sooner it is tried.
+    /// Notes that a message was handled for a group of another worker. The more often that succeeds, the sooner it is tried.
     pub(crate) fn help(&mut self) {
         self.patience /= 2;
         self.vain = self.patience;
     }
 
-    /// Nothing was found to do.
+    /// Notes that nothing was found to do.
     pub(crate) fn look_in_vain(&mut self) {
         self.vain = self.vain.saturating_add(1);
     }
 
-    /// Whether groups of others, whose workers may be off their cores, are to have a turn.
+    /// Whether groups of others, whose workers may be off their cores, should get a turn.
     pub(crate) fn are_to_help(&self) -> bool {
         self.vain >= self.patience
     }
 
-    /// Whether GVT may be set, where the worker waits for it.
+    /// Whether GVT may be set, if the worker waits for it.
     pub(crate) fn may_publish(&self) -> bool {
         self.vain % LOOKS_PER_GVT == 0
     }
 
-    /// Whether other threads are to run in between.
+    /// Whether other threads should run in between.
     pub(crate) fn are_to_yield(&self) -> bool {
         self.vain >= LOOKS_BEFORE_YIELD
     }
 
-    /// Whether the worker is to rest.
+    /// Whether the worker should rest.
     pub(crate) fn are_to_rest(&self) -> bool {
         self.vain >= LOOKS_BEFORE_REST
     }

@@ -1,11 +1,11 @@
-//! What a run by workers is told, of what each of them ended with.
+//! The result of a run by workers, from what each of them ended with.
 ghost use Rattle.std.specs.Prelude.{◌≡◌, ◌≤◌, ◌⊎◌, ◌++◌, ◌∷◌, [], IsOk, IfErr, OnOk};
 ghost use Rattle.turns.specs.Outcomes.{IsLeastOf};
 
 use crate::refusal::Refusal;
 use std::alloc::AllocError;
 
-/// One outcome more, behind the others. It fails only where memory is refused.
+/// Adds one outcome behind the others. It fails only if memory is refused.
 pub(crate) fn add_outcome<F: Refusal>(
     outcomes: &mut Vec<Result<(), F>>,
     outcome: Result<(), F>,
@@ -16,7 +16,7 @@ pub(crate) fn add_outcome<F: Refusal>(
     Ok(())
 }
 
-/// Of these outcomes the fault with the least number, where there is one.
+/// Returns the fault with the least number of these outcomes, if any.
 pub(crate) fn least_fault<F: Refusal>(outcomes: Vec<Result<(), F>>) -> Result<(), F>
     ensures { IsLeastOf F.rank outcomes.items result }
 {
@@ -27,7 +27,7 @@ pub(crate) fn least_fault<F: Refusal>(outcomes: Vec<Result<(), F>>) -> Result<()
     told
 }
 
-/// Of two outcomes the fault with the lesser number, where there is one.
+/// Returns the fault with the lesser number of two outcomes, if any.
 fn lesser<F: Refusal>(one: Result<(), F>, other: Result<(), F>) -> Result<(), F>
     ensures either { (result ≡ one) ⊎ (result ≡ other) }
     ensures least { IfErr one (λ fault. IfErr result (λ told. F.rank told ≤ F.rank fault)) }

@@ -1,22 +1,22 @@
 //! Why a run is refused.
 ghost use Rattle.std.specs.Prelude.{◌≡◌, ℕ};
 
-/// Why a run is refused. Each fault has a number: of several the one with the least is told.
+/// Why a run is refused. Each fault has a number: of several, the one with the least is returned.
 pub trait Refusal: Drop {
     /// The number of a fault.
     ghost rank: { Self → ℕ };
 
-    /// It is want of memory.
+    /// The fault is lack of memory.
     ghost is_memory: { Self → Type 0 };
 
-    /// Its number.
+    /// Returns its number.
     fn number(&self) -> u8
         ensures { result ≡ rank self.now };
 
-    /// Want of memory.
+    /// Makes the fault for lack of memory.
     fn memory() -> Self
         ensures { is_memory result };
 
-    /// A worker cannot be started.
+    /// Makes the fault for a worker that could not be started.
     fn unstarted() -> Self;
 }

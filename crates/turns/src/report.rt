@@ -1,8 +1,8 @@
-//! When a group is to have a turn, and when it is to meet the others.
+//! When a group should get a turn, and when it should meet the others.
 use crate::moments::Moments;
 use crate::{BEHIND_NS, LEAD_NS, LOOKS_BEFORE_POST, MOST_UNPOSTED, MOST_WITH_LETTERS};
 
-/// How far a group has come.
+/// How far a group is.
 #[derive(Clone, Copy)]
 pub struct Report {
     /// Its number.
@@ -13,14 +13,14 @@ pub struct Report {
     pub seen_ns: u64,
     /// How many messages it handled since its block was posted.
     pub unposted: u32,
-    /// The least moment of its letters for others that are not posted, in ns, or the greatest number where there is none.
+    /// The least moment of its letters for others that are not posted, in ns, or the greatest number if it has none.
     pub letters_ns: u64,
     /// Whether it did something that is not posted.
     pub has_block: bool,
 }
 
 impl Report {
-    /// The moment that others are told: no letter of the group comes to them before it.
+    /// Returns the moment to announce to others: no letter of the group reaches them before it.
     pub(crate) fn first_ns(&self) -> u64 {
         self.next_ns.min(self.letters_ns)
     }
@@ -30,13 +30,13 @@ impl Report {
         self.letters_ns != u64::MAX
     }
 
-    /// Whether it is to post at the end of its turn: others wait for its letters; and who gave it the turn may not come back, where that was not its
-    /// worker.
+    /// Whether it should post at the end of its turn: others wait for its letters; or another worker than its own gave it the turn, and may
+    /// not come back.
     pub(crate) fn is_to_post(&self, is_own: bool) -> bool {
         self.has_letters() || (self.has_block && !is_own)
     }
 
-    /// Whether its next event is due, where that is what is before the limit, in ns, and the window.
+    /// Whether its next event is due: before the limit, in ns, and within the window.
     pub(crate) fn is_due(&self, limit_ns: u64, window_ns: u64) -> bool {
         self.next_ns < limit_ns && !self.waits_for_gvt(window_ns)
     }
@@ -46,9 +46,9 @@ impl Report {
         self.next_ns >= self.seen_ns.saturating_add(window_ns)
     }
 
-    /// Whether it is to post and to look for letters before it goes on: it did not post for long; or a letter waits that comes before its next event; or
-    /// its next event waits for GVT; or nothing is due, and GVT is much further on, or what it did was not posted for a while, after so many looks in
-    /// vain of its worker.
+    /// Whether it should post and look for letters before it goes on: it has not posted for long; or a letter waits that comes before its
+    /// next event; or its next event waits for GVT; or nothing is due, and GVT is much further on, or what it did has not been posted for a
+    /// while, after so many looks in vain of its worker.
     pub(crate) fn is_to_meet(
         &self,
         moments: &Moments,
@@ -74,8 +74,8 @@ impl Report {
         gvt_ns >= self.seen_ns.saturating_add(BEHIND_NS) || (is_late && self.has_block)
     }
 
-    /// Whether it is to meet the others once it has handled so many messages in its turn: it has letters for them, or a letter waits that comes before
-    /// its next event.
+    /// Whether it should meet the others once it has handled `handled` messages in its turn: it has letters for them, or a letter waits
+    /// that comes before its next event.
     pub(crate) fn ends_turn(&self, moments: &Moments, handled: u32) -> bool {
         (handled >= MOST_WITH_LETTERS && self.has_letters())
             || moments.letter_ns(self.number) <= self.next_ns

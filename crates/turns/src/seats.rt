@@ -4,14 +4,14 @@ use crate::seat::Seat;
 use std::alloc::{AllocError, Global};
 use std::sync::{Mutex, MutexGuard};
 
-/// The groups of a run, in order. Who gives a group a turn has its lock meanwhile, and nobody waits for it.
+/// The groups of a run, in order. The thread that gives a group a turn holds its lock meanwhile, and nobody waits for it.
 #[derive(Drop)]
 pub(crate) struct Seats<G> {
     seats: Vec<Apart<Mutex<Seat<G>>>>,
 }
 
 impl<G: Drop> Seats<G> {
-    /// These groups. It is refused for memory alone.
+    /// Makes the seats of these groups. Only memory can be refused.
     pub(crate) fn of(alloc: Global, groups: Vec<G>) -> Result<Self, AllocError> {
         let mut seats = Vec::with_capacity(alloc, groups.len())?;
         for group in groups {
@@ -20,7 +20,7 @@ impl<G: Drop> Seats<G> {
         Ok(Seats { seats })
     }
 
-    /// A group, if there is one of this number that no other thread has.
+    /// Returns a group, if it exists and no other thread holds it.
     pub(crate) fn try_take(&self, group: usize) -> Option<MutexGuard<'_, Seat<G>>> {
         match self.seats.get(group) {
             Some(seat) => seat.value.try_lock(),
@@ -28,7 +28,7 @@ impl<G: Drop> Seats<G> {
         }
     }
 
-    /// The groups, in order. It is refused for memory alone.
+    /// Returns the groups, in order. Only memory can be refused.
     pub(crate) fn into_groups(self, alloc: Global) -> Result<Vec<G>, AllocError> {
         let Seats { seats } = self;
         let mut groups = Vec::with_capacity(alloc, seats.len())?;

@@ -9,7 +9,7 @@ pub(crate) struct Standstill {
 }
 
 impl Standstill {
-    /// Of a run that has just begun.
+    /// The count for a run that has just begun.
     pub(crate) fn none() -> Self {
         Standstill {
             gvt_ns: 0,
@@ -17,7 +17,7 @@ impl Standstill {
         }
     }
 
-    /// The calling thread finds this GVT, in ns. The answer is whether it found the same one so often that the run stands still.
+    /// Notes that the calling thread found this GVT, in ns. Returns whether it found the same one so often that the run stands still.
     pub(crate) fn look(&mut self, gvt_ns: u64) -> bool {
         if gvt_ns == self.gvt_ns {
             self.looks = self.looks.saturating_add(1);

@@ -1,4 +1,4 @@
-//! Turns of groups in memory, which pass tokens on.
+//! Turns of groups in memory, which pass tokens to each other.
 mod boxes;
 mod group;
 mod passing;
@@ -17,12 +17,14 @@ use vlink::Time;
 // The end of a run, in ns: all tokens are earlier.
 const UNTIL_NS: u64 = 1_000_000;
 
-// How many groups, workers, and messages a turn; the window, in ns; how many tokens each group has at the start, and how many groups each of them goes to
-// from there; and the fault of each group at its first token, which waits until all groups have one in hand, where that is not 0. Then how many tokens
-// each group handled, and how often a thread found a group in the hands of another one; or the fault that is told.
+// The number of groups, of workers, and of messages a turn; the window, in ns; the number of tokens of each group at the start, and of
+// groups that each of them visits from there; and the fault of each group at its first token, which waits until all groups hold one, if the
+// fault is not 0. Then how many tokens each group handled, and how often a thread found a group that another one held; or the fault that is
+// returned.
 type Row = (u16, u8, u16, u64, u64, u64, [u8; 3], &'static str);
 
-// Each token is handled in its first group, and in each that it goes to, which are all groups in turn. So each group handles as many.
+// Each token is handled in its first group, and in each that it visits, which are all groups in turn. So each group handles the same
+// number.
 const NONE: [u8; 3] = [0, 0, 0];
 
 const ROWS: [Row; 9] = [
@@ -61,7 +63,7 @@ fn each_token_is_handled_once_in_each_group(rt: HostRuntime) {
     }
 }
 
-// What comes of a run.
+// Writes the result of a run.
 fn told_by<T: Threads + Wait + Sync>(
     rt: &T,
     alloc: Global,
@@ -90,7 +92,7 @@ fn told_by<T: Threads + Wait + Sync>(
     Ok(told)
 }
 
-// How many tokens each group handled, if each is in its place.
+// Writes how many tokens each group handled, if each is in its place.
 fn tell(groups: &[Group], told: &mut String) {
     for (place, group) in groups.iter().enumerate() {
         if usize::from(group.number) != place {

@@ -1,4 +1,4 @@
-//! Messages that wait, in two lists: what comes soon is in order, and what comes later is not.
+//! Waiting messages in two lists: earlier ones are sorted, and later ones are in no order.
 #![tactic(auto)]
 
 mod bands;

@@ -1,4 +1,4 @@
--- What the law of virtual time speaks of, for the crates that it is the law of: each word from the file that defines it.
+-- The words of the laws of virtual time, for the crates that use them: each word from the file that defines it.
 pub use Rattle.virtual_time.specs.Groups.{AreAlike, AreBy, AreDone, IsSafeGroup, behind, done_by, in_hand, is_by, joined, waiting_in}
 pub use Rattle.virtual_time.specs.Journal.{AreEnabled, Deed, Entry, Posted, Published, Collected, acts_of, after_own, can_move, delivered_block, fetched, is_of, last_from, last_place, own_in, reach, step_by, steps, steps_of}
 pub use Rattle.virtual_time.specs.Letters.{IsNamed, IsPresent, is_plus, lowest, minus_of, minuses, plus_of, pluses, received_by, times_of}

@@ -1,5 +1,5 @@
--- Letters: messages with a sign. An antimessage is the letter with the sign minus, and takes the message back.
--- The signed count of a message is its plus letters less its minus letters; a message whose count is above 0 is present.
+-- Letters: messages with a sign. An antimessage is the letter with the sign minus, and cancels the message. The signed count of a message
+-- is the number of its plus letters minus the number of its minus letters; a message whose count is above 0 is present.
 use Rattle.std.specs.Prelude.{ℕ, ◌+◌, ◌<◌, ◌==◌, min, Bool, true, false, not, ◌&&◌, nat_lt, List, [], ◌∷◌, map, filter}
 use Rattle.virtual_time.specs.declared.letter.Letter.{Letter}
 use Rattle.virtual_time.specs.declared.letter.Sign.{Sign}

@@ -1,4 +1,4 @@
--- Lists of messages: how often a message is in one, which comes first, and those that pass a test.
+-- Lists of messages: how often a list contains a message, which message comes first, and those that pass a test.
 use Rattle.std.specs.Prelude.{◌≡◌, ℕ, suc, ◌+◌, ◌<◌, ◌==◌, Bool, true, false, not, ◌&&◌, if◌then◌else◌, nat_lt, List, [], ◌∷◌, filter, Option, Some, None, ⊤}
 use Rattle.virtual_time.specs.Rules.{Order}
 

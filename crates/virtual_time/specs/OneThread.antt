@@ -1,5 +1,5 @@
--- The one-thread run: at each event the first waiting message is handled. It knows no sign, no undoing and no GVT.
--- Then what is said by means of it: the first events of a process, the state that they leave, and its events below a moment.
+-- The one-thread run: at each event the first waiting message is handled. It has no signs, no undoing and no GVT. Then the words that it
+-- defines: the first events of a process, the state that they leave, and its events below a moment.
 use Rattle.std.specs.Prelude.{◌≡◌, ℕ, zero, suc, ◌≤◌, List, [], ◌∷◌, ◌++◌, length, take, Option, Some, None}
 use Rattle.virtual_time.specs.Rules.{reached, rows_of}
 use Rattle.virtual_time.specs.declared.row.Row.{Row}

@@ -1,4 +1,4 @@
--- A process's own part: what it does with the letters that come to it, with no look at other processes, mail or GVT.
+-- A process's own part: what it does with the letters that come to it. Other processes, mail and GVT do not enter.
 use Rattle.std.specs.Prelude.{ℕ, ◌==◌, if◌then◌else◌, List, [], ◌∷◌, ◌++◌, map, slice_get, Option, Some, None}
 use Rattle.virtual_time.specs.Rules.{Rules}
 use Rattle.virtual_time.specs.Simulation.{Simulation}

@@ -1,5 +1,5 @@
--- What a message is, in which order messages come, and what an actor does with one.
--- An actor has a state; a message changes the state, and makes the actor send messages and note what happened.
+-- What a message is, in which order messages come, and what an actor does with one. An actor has a state; a message changes the state, and
+-- makes the actor send messages and note what happened.
 use Rattle.std.specs.Prelude.{◌≡◌, ℕ, ◌<◌, ◌==◌, Bool, true, false, List, [], ◌∷◌, ◌++◌, map, filter}
 use Rattle.virtual_time.specs.declared.row.Row.{Row}
 

@@ -1,4 +1,4 @@
--- What holds of the world after every step: the count law, what floors bound, and that it is safe. And what a finished world is.
+-- What holds of the world after every step: the count law, what floors bound, and that it is safe. Then what a finished world is.
 use Rattle.std.specs.Prelude.{◌≡◌, ℕ, suc, ◌+◌, ◌<◌, ◌≤◌, List, [], ◌++◌, length}
 use Rattle.virtual_time.specs.Rules.{rowed, rows_at}
 use Rattle.virtual_time.specs.Lists.{times_in, IsIn, earlier}

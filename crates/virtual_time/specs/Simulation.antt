@@ -1,5 +1,5 @@
--- What is simulated: processes with their actors, and the offers, the messages that are there before the run begins.
--- Then what is asked of them, the laws of a simulation.
+-- A simulation: processes with their actors, and the offers, which are the messages that exist before the run begins. Then the laws that
+-- they must meet.
 use Rattle.std.specs.Prelude.{◌≡◌, ℕ, ◌+◌, ◌<◌, ◌≤◌, ◌==◌, cond, List, length}
 use Rattle.virtual_time.specs.Rules.{Rules, IsOrder, reached, sent}
 use Rattle.virtual_time.specs.Lists.{IsNumbered, times_in, IsIn}

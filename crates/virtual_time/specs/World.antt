@@ -1,4 +1,4 @@
--- The world: all processes with their mail, their floors and GVT; and the six steps, done in any order.
+-- The world: all processes with their mail, their floors and GVT; and the six steps, which can be done in any order.
 use Rattle.std.specs.Prelude.{ℕ, zero, suc, min, Bool, true, false, ◌&&◌, if◌then◌else◌, nat_lt, List, [], ◌∷◌, ◌++◌, map, length, is_some, slice_get, remove, Option, Some, None}
 use Rattle.virtual_time.specs.declared.step.Step.{Step}
 use Rattle.virtual_time.specs.declared.step.Step.TheVariants.{Take, Arrive, Run, Post, Gvt, Commit}

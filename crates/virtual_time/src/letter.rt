@@ -1,12 +1,12 @@
 //! Letters: messages with a sign.
-/// Whether a letter brings its message or takes it back.
+/// Whether a letter brings its message or cancels it.
 #[derive(Clone, Copy, Debug, PartialEq, Eq, Hash)]
 pub enum Sign {
     Plus,
     Minus,
 }
 
-/// A message with a sign: the one that brings it, or the antimessage, which takes it back.
+/// A message with a sign: positive if the letter brings the message, negative for the antimessage, which cancels it.
 #[derive(Clone, Copy, Debug, PartialEq, Eq, Hash)]
 pub struct Letter<M> {
     pub message: M,

@@ -1,14 +1,23 @@
-//! The theory of a Time Warp simulation: its definitions, and what holds of every run of it, whatever code does the steps.
+//! The theory of a Time Warp simulation: its definitions, and theorems that hold in every run, whatever code does the steps.
 //!
-//! `specs` defines it, in this order: `Rules` (messages in their order, and what an actor does with one), `Lists` (of messages),
-//! `Simulation` (processes, offers, and the laws asked of them), `OneThread` (the run that every other is compared with), `Letters`
-//! (messages with a sign, and signed counts), `Part` (one process, which runs ahead and rolls back), `World` (processes with mail,
-//! floors and GVT, and the six steps), `Safe` (the count law, what floors bound; a safe and a finished world), `Own` (what a process
-//! does alone), `Well` (what holds of it alone), `SafePart` (what holds of it below a GVT that it has seen) and `Journal` (a run put
-//! together from what one process did at one go). In `proofs`, `Cut`, `OneThread` and `OneThreadLater` are about the one-thread run; the files
-//! named `Well..` about one process alone, `Sound..` about one process in the world, `Kept..` about the world; `Safety` has the theorem,
-//! `SafePart` and `Journal` the laws of these names, and `Examples` small cases that are computed. `Reading`, `Rolling` and `Handling`
-//! are also for code that stands for a process.
+//! The files of `specs` define it, in this order:
+//! - `Rules`: messages in their order, and what an actor does with one
+//! - `Lists`: lists of messages
+//! - `Simulation`: processes, offers, and the laws that both must meet
+//! - `OneThread`: the run with which every other run is compared
+//! - `Letters`: messages with a sign, and signed counts
+//! - `Part`: one process, which runs ahead and rolls back
+//! - `World`: processes with mail, floors and GVT, and the six steps
+//! - `Safe`: the count law, what floors bound, a safe world and a finished world
+//! - `Own`: what a process does alone
+//! - `Well`: what holds of a process alone
+//! - `SafePart`: what holds of a process below a GVT that it has seen
+//! - `Journal`: a run that is put together from what each process did at one go
+//!
+//! In `proofs`, `Cut`, `OneThread` and `OneThreadLater` are about the one-thread run. Files named `Well..` are about one process alone,
+//! files named `Sound..` about one process in the world, and files named `Kept..` about the world. `Safety` has the theorem, `SafePart` and
+//! `Journal` have the laws of these names, and `Examples` computes small cases. Code that represents a process also uses `Reading`,
+//! `Rolling` and `Handling`.
 #![tactic(auto)]
 
 mod letter;
@@ -42,31 +51,31 @@ pub use moved::Move;
 pub use row::Row;
 pub use step::Step;
 
-/// The headline: whatever steps are done, in whatever order and however many, for every simulation that meets its laws.
-/// It says nothing of how soon anything comes: GVT need not rise, and a run need not finish.
+/// The headline. It holds for every simulation that meets its laws, whatever steps are done, in whatever order, and however many. It does
+/// not state progress: GVT need not rise, and a run need not finish.
 ///
-/// The rules are those of Jefferson, "Virtual Time", ACM TOPLAS 7(3), 1985: rollback by antimessages, GVT, and commitment of
-/// what is below it. Undoing an event by a record, in place of a saved state, is reverse computation (Carothers, Perumalla and
-/// Fujimoto). The order at equal times, by receiver, sender, number and body, is this project's own (profile).
+/// The rules are those of Jefferson, "Virtual Time", ACM TOPLAS 7(3), 1985: rollback by antimessages, GVT, and commitment of what is below
+/// it. Undoing an event by a record, instead of by a saved state, is reverse computation (Carothers, Perumalla and Fujimoto). The order of
+/// messages of one moment, by receiver, sender, number and body, is this project's own (profile).
 ///
-/// - `safe`: at each process the committed events are the first ones of the one-thread run, undoing all done events would leave
-///   the state after just these, and with the done events below GVT they are all events of the one-thread run below GVT; no letter
-///   and no unhandled message is earlier than GVT; each done event below GVT has the signed count 1.
-/// - `counts`: messages and antimessages balance: the count law, for each message.
-/// - `once`: no message is made twice, by offers and events together, so that what the count law adds up to is 1 or 0.
-/// - `handled_once`: no message is twice among the committed and done events of a process.
-/// - `seen`: also for a moment that is not above GVT, as an older GVT, the committed and done events before it are exactly those of
-///   the one-thread run before it.
+/// - `safe`: at each process the committed events are the first ones of the one-thread run. Undoing all done events would leave the state
+///   after just these. With the done events below GVT they are all events of the one-thread run below GVT. No letter and no unhandled
+///   message is earlier than GVT. Each done event below GVT has the signed count 1.
+/// - `counts`: messages and antimessages balance (the count law, for each message).
+/// - `once`: no message is made twice, by offers and events together. So the count law adds up to 1 or 0.
+/// - `handled_once`: no message occurs twice among the committed and done events of a process.
+/// - `seen`: for a moment that is not above GVT, such as an older GVT, the committed and done events before it are exactly those of the
+///   one-thread run before it.
 /// - `rises`: GVT never falls.
 /// - `never_undone`: the events of a process below GVT are the same after all later steps.
 /// - `ascend`: the events of a process, first the committed ones and then the done ones, ascend in the message order.
 /// - `committed_early`: each committed event is earlier than GVT.
-/// - `floors`: nothing that a process has in hand is earlier than its floor, no letter of its tray or outbox and no unhandled message.
+/// - `floors`: no letter of the tray or outbox of a process, and no unhandled message, is earlier than its floor.
 /// - `gvt_low`: GVT is at most the floor of each process.
 /// - `outboxes`: each letter of an outbox, of either sign, goes to a process of the simulation.
-/// - `rows`: the rows of the one-thread run are, at each process, those of its events in their order, from the opening state on.
+/// - `rows`: at each process, the rows of the one-thread run are those of its events in their order, from the opening state on.
 /// - `whole`: in a finished world the committed events and their rows, at each process, are those of the whole one-thread run.
-/// - `alone`: each process is what its own acts make of its opening state, with no look at other processes, mail or GVT.
+/// - `alone`: each process is what its own acts make of its opening state. Other processes, mail and GVT do not enter.
 /// - `stays`: a step that is not enabled leaves the very same world.
 pub fn headline_law<M, S, K, N>()
     ensures safe { (f : Simulation M S K N) → Laws f → (steps : List Step) → Safe f (run f steps (start f)) }
@@ -96,17 +105,17 @@ pub fn headline_law<M, S, K, N>()
     ensures stays { (f : Simulation M S K N) (x : Step) (w : World M S) → is_enabled f x w ≡ false → step f x w ≡ w }
 {}
 
-/// The law of one process: whatever letters come to it, also such as no run would send, and in whatever order it acts.
-/// A good state is one on which the law of undoing holds; only in such a state is a message handled. Rollback is that of Jefferson,
-/// "Virtual Time", ACM TOPLAS 7(3), 1985, by reverse computation (Carothers, Perumalla and Fujimoto).
+/// The law of one process. It holds whatever letters come to the process, also letters that no run would send, and in whatever order the
+/// process acts. A good state is one on which the law of undoing holds; a message is handled only in such a state. Rollback is that of
+/// Jefferson, "Virtual Time", ACM TOPLAS 7(3), 1985, by reverse computation (Carothers, Perumalla and Fujimoto).
 ///
 /// - `opened`: a process that has done nothing is well.
-/// - `acts`: a process that is well is well after each act: its state is what its committed and done events make of the opening one,
-///   and the done events ascend, are present, and come before each present message that is not done.
-/// - `sends`: each act but the emptying of the outbox changes the signed count of each message there by the change of the times
-///   that the committed and done events sent it. So what an undone event sent is taken back, and nothing else.
+/// - `acts`: a process that is well stays well at each act: its state is what its committed and done events make of the opening state, and
+///   the done events ascend, are present, and come before each present message that is not done.
+/// - `sends`: each act but the emptying of the outbox changes the signed count of each message there by as much as it changes how often the
+///   committed and done events sent that message. So an undone event takes back what it sent, and nothing else.
 /// - `undone`: undoing all done events leaves the state that the committed ones alone make.
-/// - `sent_once`: where an actor numbers its messages on and on, no message is sent twice, so that the times of `sends` are 1 or 0.
+/// - `sent_once`: if each message of an actor takes the next number, no message is sent twice. So the counts of `sends` are 1 or 0.
 pub fn process_law<M, S, K, N>()
     ensures opened { (r : Rules M S K N) (good : S → Bool) (opening : S) → IsWell r (λ s. good s ≡ true) opening (opened opening) }
     ensures acts { (r : Rules M S K N) → IsOrder r.order → (good : S → Bool) → ((s : S) (e : M) → good s ≡ true → r.undo (r.after s e) e (r.kept s e) ≡ s) →
@@ -122,11 +131,11 @@ pub fn process_law<M, S, K, N>()
         (opening : S) (events : List M) (m : M) → times_in r.order m (sent r opening events) ≤ 1 }
 {}
 
-/// The law of one process that has seen GVT at some moment, and goes on with that moment while GVT rises.
+/// The law of one process that saw GVT at some moment, and keeps using that moment while GVT rises.
 ///
 /// - `there`: in every run each process is safe below GVT (`IsSafePart`).
-/// - `acts`: a process that is safe below a moment stays so at each act, where a letter that is delivered is not earlier than the moment,
-///   and a done event that is committed is.
+/// - `acts`: a process that is safe below a moment stays safe at each act, if a letter that is delivered is not earlier than the moment,
+///   and an event that is committed is earlier.
 pub fn seen_law<M, S, K, N>()
     ensures there { (f : Simulation M S K N) → Laws f → (steps : List Step) (p : ℕ) → p < f.processes →
         IsSafePart f p (run f steps (start f)).gvt ((run f steps (start f)).parts p) }
@@ -134,14 +143,14 @@ pub fn seen_law<M, S, K, N>()
         IsSafePart f p g part → MayAct f g a part → IsSafePart f p g (acted f.rules (f.opening p) a part) }
 {}
 
-/// The law of a journal, whose entries tell what one process did at one go: what each makes of the world.
+/// The law of a journal. An entry records what one process did at one go; the law states what each entry makes of the world.
 ///
 /// - `takes`: letters at the front of a process's mail go to its tray, its floor falls to the least of their times, and all else stays.
-/// - `posts`: where each step of a block can be done when it comes, the process does them, its outbox goes to the mail, its floor
-///   is what it has left, and all other floors and processes stay.
-/// - `publishes`: GVT alone changes: it is the least of the floors and of the times of the letters in the mail.
-/// - `later`: what can be done at one GVT can be done at a later one.
-/// - `alone`: where an entry does to its process what it tells, and nothing to any other, each process is what its own entries make of it.
+/// - `posts`: if each step of a block is enabled when its turn comes, the process does these steps, its outbox goes to the mail, its floor
+///   becomes the least moment of what it has left, and all other floors and processes stay.
+/// - `publishes`: only GVT changes: it becomes the least of the floors and of the times of the letters in the mail.
+/// - `later`: what is enabled at one GVT is enabled at a later one.
+/// - `alone`: if an entry does what it records to its process, and nothing to any other, each process is what its own entries make of it.
 pub fn journal_law<M, S, K, N>()
     ensures takes { (f : Simulation M S K N) (p : ℕ) → p < f.processes → (taken rest : List (Letter M)) (w : World M S) → w.mail p ≡ taken ++ rest →
         run f (replicate (length taken) (Take p 0)) w ≡ fetched f p taken rest w }
@@ -158,13 +167,15 @@ pub fn journal_law<M, S, K, N>()
         (q : ℕ) → (reach f (entries ++ e ∷ [])).parts q ≡ after_own f q (own_in q (entries ++ e ∷ [])) }
 {}
 
-/// The law of groups: processes that one hand has together and that pass letters to each other at once. A group does the six steps on its own
-/// processes and on a mail of its own, with the GVT that it saw; its journal tells them later.
+/// The law of groups. A group is a set of processes that one hand holds together, and that pass letters to each other at once. It does the
+/// six steps on its own processes and on a mail of its own, with the GVT that it saw. Its journal records them later.
 ///
-/// - `blocks`: what a group did in hand is done by the same steps in the world, each Take behind the letters that wait there: its processes
-///   and their floors are those in hand, and what it sent and did not take comes behind the mail of each process, also of those elsewhere.
-/// - `apart`: a block of some processes leaves the floors of all others, and the others themselves.
-/// - `safe`: a group of which each process is safe below the GVT that it saw, and of which no letter is earlier, stays so at each step.
+/// - `blocks`: the same steps in the world do what a group did in hand, if each Take looks behind the letters that wait there. Its
+///   processes and their floors are those in hand. What it sent and did not take comes behind the mail of each process, also of those
+///   elsewhere.
+/// - `apart`: a block of some processes leaves all other processes and their floors as they were.
+/// - `safe`: if each process of a group is safe below the GVT that the group saw, and no letter of the group is earlier, this stays so at
+///   each step.
 pub fn group_law<M, S, K, N>()
     ensures blocks { (f : Simulation M S K N) (ours : ℕ → Bool) (seen : ℕ) (block : List Step) (w : World M S) → seen ≤ w.gvt →
         AreBy ours block → AreDone f block (in_hand f seen w) →

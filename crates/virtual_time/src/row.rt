@@ -1,5 +1,5 @@
 //! Rows: what events note.
-/// A note, with the message and the process that it is from.
+/// A note, with the message and the process that it comes from.
 #[derive(Clone, Copy, Debug, PartialEq, Eq, Hash)]
 pub struct Row<M, N> {
     pub message: M,

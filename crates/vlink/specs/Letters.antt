@@ -1,4 +1,4 @@
--- The letters and rows of the law of virtual time, of the messages and notes of this simulation.
+-- The letters and rows of the laws of virtual time, for the messages and notes of this simulation.
 use Rattle.virtual_time.specs.declared.letter.Letter.{Letter as SignedLetter}
 use Rattle.virtual_time.specs.declared.row.Row.{Row as NotedRow}
 use Rattle.vlink.specs.declared.message.Message.{Message}

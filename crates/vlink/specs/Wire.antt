@@ -1,4 +1,4 @@
--- How long a frame takes on the wire, in ns. Preamble, start delimiter and interframe gap come on top of its size.
+-- How long a frame takes on the wire, in ns. Preamble, start delimiter and interframe gap are added to its size.
 use Rattle.std.specs.Prelude.{ℕ, ◌+◌, ◌*◌}
 
 -- from the start of a frame until its last bit has left: 8 bytes of preamble and start delimiter come before it

@@ -1,5 +1,4 @@
-//! How frames are compared: by virtual link, number, size, offer, release and network, in this order, which is not the one in which their
-//! fields lie in memory.
+//! How frames are compared: by virtual link, number, size, offer, release and network. Their fields lie in memory in another order.
 ghost use Rattle.std.specs.Prelude.{◌≡◌};
 ghost use Rattle.std.specs.Cmp.{on_per, on_equiv, on_po, on_total};
 ghost use Rattle.vlink.specs.Order.{key_of};
@@ -25,7 +24,7 @@ struct FrameKey {
     net: Net,
 }
 
-/// What is compared of a frame: all of it.
+/// All of a frame, in the order in which frames are compared.
 #[inline(always)]
 fn key_of(frame: &Frame) -> FrameKey
     ensures { result ≡ key_of frame.now }

@@ -4,7 +4,7 @@ ghost use Rattle.std.specs.Prelude.{◌≡◌, ℕ, ◌≤◌, ◌↔◌, IsSome
 use crate::time::Time;
 use std::marker::Model;
 
-/// The number of a virtual link, 0 to 65535.
+/// The number of a virtual link, 0 to 65,535.
 #[derive(Clone, Copy, Debug, Default, PartialEq, Eq, Hash, PartialOrd, Ord)]
 pub struct VlId(pub u16);
 
@@ -41,7 +41,7 @@ impl FrameSize {
     /// The greatest size of a frame.
     pub const GREATEST: u16 = 1518;
 
-    /// A size of `bytes` bytes, or none outside the limits.
+    /// Returns a size of `bytes` bytes, or none if that is outside the limits.
     pub fn new(bytes: u16) -> Option<Self>
         ensures within { IsSome result ↔ ((64 ≤ bytes) × (bytes ≤ 1518)) }
         ensures value { IfSome result (λ s. s ≡ bytes) }
@@ -53,7 +53,7 @@ impl FrameSize {
         }
     }
 
-    /// Its number of bytes.
+    /// Returns the size in bytes.
     pub fn bytes(self) -> u16
         ensures value { result ≡ self }
         ensures least { 64 ≤ self }
@@ -73,7 +73,8 @@ impl Default for FrameSize {
 
 /// A frame of a virtual link, as it is on its way through one network.
 ///
-/// Its fields lie here so that no room between them is lost: a frame takes 24 bytes. They are compared in another order (`FrameKey`).
+/// The fields lie in an order that leaves no gaps between them: a frame takes 24 bytes. `FrameKey` has the order in which they are
+/// compared.
 #[derive(Clone, Copy, Debug, Default)]
 pub struct Frame {
     /// The virtual link that it belongs to.

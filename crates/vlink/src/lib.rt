@@ -1,4 +1,4 @@
-//! The words that all crates speak: moments, virtual links, frames, messages with their order, letters, notes, rows and steps.
+//! The types that all crates share: moments, virtual links, frames, messages with their order, letters, notes, rows and steps.
 #![tactic(auto)]
 
 mod comparing;

@@ -5,7 +5,7 @@ ghost use Rattle.vlink.specs.declared.message.Body.TheVariants.{PortFree};
 use crate::frame::{Frame, FrameSize, VlId};
 use crate::time::Time;
 
-/// What a message says to its receiver. The order of the variants is part of the order of messages.
+/// The contents of a message. The order of the variants is part of the order of messages.
 #[derive(Clone, Copy, Debug, PartialEq, Eq, Hash, PartialOrd, Ord)]
 pub enum Body {
     /// An application offers a frame of this size to a sub-virtual link, at the source of the virtual link.
@@ -14,7 +14,7 @@ pub enum Body {
     Release { vl: VlId },
     /// The port's frame and the gap behind it have left.
     PortFree { port: u8 },
-    /// The frame has come whole to the node at this port.
+    /// The whole frame has arrived at this port of the node.
     Arrive { port: u8, frame: Frame },
     /// The switch puts the frame to this output port.
     Enqueue { port: u8, frame: Frame },
@@ -32,8 +32,8 @@ impl Default for Body {
 
 /// An event for the process `receiver` at the moment `time`.
 ///
-/// Messages are ordered by time, receiver, sender, number and body, in this order (Jefferson's order by
-/// receive time, with this project's ties).
+/// Messages are ordered by time, receiver, sender, number and body, in this order (Jefferson's order by receive time; how ties are broken
+/// is this project's choice).
 #[derive(Clone, Copy, Debug, Default, PartialEq, Eq, Hash, PartialOrd, Ord)]
 pub struct Message {
     pub time: Time,

@@ -18,7 +18,7 @@ pub enum Cause {
     Duplicate,
 }
 
-/// What became of a frame at the end of its way.
+/// What finally became of a frame.
 #[derive(Clone, Copy, Debug, PartialEq, Eq, Hash)]
 pub enum Note {
     Delivered {
@@ -43,5 +43,5 @@ impl Default for Note {
     }
 }
 
-/// A note with the message whose event gave it and the process where that happened.
+/// A note with the message whose event gave it, and the process at which that happened.
 pub type Row = virtual_time::Row<Message, Note>;

@@ -9,7 +9,8 @@ pub fn next_sn(number: u8) -> u8
     if number == u8::MAX { 1 } else { number + 1 }
 }
 
-/// How many steps of `next_sn` lead from `last` to `number`, 0 to 254 where `last` is from 1 on; from 0 it is `number` (profile).
+/// Returns how many steps of `next_sn` lead from `last` to `number`: 0 to 254 if `last` is 1 or more, and `number` itself if `last` is 0
+/// (profile).
 pub fn steps(last: u8, number: u8) -> u8
     ensures { result ≡ steps_between last number }
 {

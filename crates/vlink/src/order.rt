@@ -13,8 +13,8 @@ use crate::frame::{Frame, Net};
 use crate::message::{Body, Message};
 use std::cmp::Ordering;
 
-/// The order of messages that `cmp` computes is `message_cmp`, the order written out: by time, receiver,
-/// sender, number and body. It is total, exact (messages that compare equal are the same message) and by time first.
+/// The order of messages that `cmp` computes is `message_cmp`, the order written out: by time, receiver, sender, number and body. The order
+/// is total and exact (messages that compare equal are the same message), and time decides first.
 pub fn message_order_law()
     ensures written { (a b : Message) → ⟦<Message as Ord>⟧.cmp a b ≡ message_cmp a b }
     ensures total { IsTotalOrder message_cmp }
@@ -25,14 +25,14 @@ pub fn message_order_law()
     body_order_law();
 }
 
-/// The order of messages is one that the law of virtual time asks for.
+/// The order of messages meets what the laws of virtual time require of an order.
 pub fn order_law()
     ensures { IsOrder message_order }
 {
     message_order_law();
 }
 
-/// Compares two messages as `cmp` does. Only messages of one moment are compared whole: most are of two, and need no call.
+/// Compares two messages as `cmp` does. Only messages of one moment are compared whole; most pairs are of two moments and need no call.
 #[inline(always)]
 pub fn compare(a: &Message, b: &Message) -> Ordering
     ensures derived { result ≡ ⟦<Message as Ord>⟧.cmp a.now b.now }
@@ -49,7 +49,7 @@ pub fn compare(a: &Message, b: &Message) -> Ordering
     }
 }
 
-/// Compares two messages field by field. It stays a call, so that `compare` is short and becomes a part of its callers.
+/// Compares two messages field by field. It stays a call of its own, so that `compare` is short enough to be inlined.
 #[inline(never)]
 fn compare_whole(a: &Message, b: &Message) -> Ordering
     ensures derived { result ≡ ⟦<Message as Ord>⟧.cmp a.now b.now }
@@ -57,21 +57,21 @@ fn compare_whole(a: &Message, b: &Message) -> Ordering
     a.cmp(b)
 }
 
-/// The derived order of bodies is the written one.
+/// The derived order of bodies is the order written out.
 fn body_order_law()
     ensures { (b c : Body) → ⟦<Body as Ord>⟧.cmp b c ≡ body_cmp b c }
 {
     frame_order_law();
 }
 
-/// The derived order of frames is the written one.
+/// The derived order of frames is the order written out.
 fn frame_order_law()
     ensures { (f g : Frame) → ⟦<Frame as Ord>⟧.cmp f g ≡ frame_cmp f g }
 {
     net_order_law();
 }
 
-/// The derived order of networks is the written one.
+/// The derived order of networks is the order written out.
 fn net_order_law()
     ensures { (a b : Net) → ⟦<Net as Ord>⟧.cmp a b ≡ net_cmp a b }
 {}

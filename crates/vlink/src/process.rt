@@ -1,7 +1,7 @@
-//! Numbers of processes: 16 bits in messages and calls, a place in lists of all processes.
+//! Numbers of processes: 16 bits in messages and calls, places in lists of all processes.
 ghost use Rattle.std.specs.Prelude.{◌≡◌, ◌<◌};
 
-/// The number of the process at this place of a list of all; and, of a list's length, how many processes there are.
+/// Returns the number of the process at this place of a list of all processes. Of the list's length, it returns the number of processes.
 pub fn process_number(place: usize) -> u16
     requires { place < 65536 }
     ensures { result ≡ place }

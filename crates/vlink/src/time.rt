@@ -10,7 +10,7 @@ pub const LATEST_NS: u64 = 1_000_000_000_000_000;
 /// The greatest moment, in ns: the one after the latest end time.
 pub const GREATEST_NS: u64 = LATEST_NS + 1;
 
-/// The limits of moments are the numbers that the rules state.
+/// The constants for moments are the numbers that the rules state.
 pub fn moment_limits_law()
     ensures latest { LATEST_NS ≡ latest_end }
     ensures greatest { GREATEST_NS ≡ greatest_moment }
@@ -38,7 +38,7 @@ impl Model for Time {
 }
 
 impl Time {
-    /// The moment at `ns` nanoseconds, or none beyond the greatest.
+    /// Returns the moment at `ns` nanoseconds, or none beyond the greatest.
     pub fn new(ns: u64) -> Option<Self>
         ensures within { IsSome result ↔ (ns ≤ GREATEST_NS) }
         ensures value { IfSome result (λ t. t ≡ ns) }
@@ -50,7 +50,7 @@ impl Time {
         }
     }
 
-    /// The moment at `ns` nanoseconds, or none after `last`. Since `last` is a moment, `ns` is compared with no other limit.
+    /// Returns the moment at `ns` nanoseconds, or none after `last`. Since `last` is a moment, no other limit needs a comparison.
     #[inline(always)]
     pub fn until(ns: u64, last: Time) -> Option<Self>
         ensures within { IsSome result ↔ (ns ≤ last) }
@@ -63,7 +63,7 @@ impl Time {
         }
     }
 
-    /// The moment at `ns` nanoseconds, where that is known to be one.
+    /// Returns the moment at `ns` nanoseconds, which the caller knows to be one.
     #[inline(always)]
     pub fn of_known(ns: u64) -> Self
         requires { ns ≤ GREATEST_NS }
@@ -72,7 +72,7 @@ impl Time {
         Time { ns }
     }
 
-    /// Its number of nanoseconds.
+    /// Returns the moment in nanoseconds.
     pub fn ns(self) -> u64
         ensures value { result ≡ self }
         ensures within { self ≤ GREATEST_NS }
@@ -81,7 +81,7 @@ impl Time {
     }
 }
 
-/// The earlier of two moments.
+/// Returns the earlier of two moments.
 #[inline(always)]
 pub fn earlier(first: Time, second: Time) -> Time
     ensures { result ≡ min first second }

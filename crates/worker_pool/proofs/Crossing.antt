@@ -42,7 +42,7 @@ use Rattle.group_exchange.proofs.steps.Kept.TheSendSync as kept
 use Rattle.halves.proofs.LeftHalf.TheSendSync as left
 use Rattle.halves.proofs.RightHalf.TheSendSync as right
 use Rattle.network.proofs.network.Network.TheSendSync as network
-use Rattle.run_rows.specs.declared.network_run.NetworkRun.{Ghosts as NetworkGhosts}
+use Rattle.network_runs.specs.declared.network_run.NetworkRun.{Ghosts as NetworkGhosts}
 use Rattle.trace_tables.proofs.so_far.TablesSoFar.TheSendSync as so_far
 use Rattle.run_rows.specs.contracts.counted.Counted as Counted
 use Rattle.worker_pool.specs.contracts.leaving.Leaving as Leaving

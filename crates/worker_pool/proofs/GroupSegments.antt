@@ -16,7 +16,7 @@ use Rattle.trace_segments.proofs.GatherLemmas.{all-pass}
 use Rattle.trace_segments.proofs.IntervalLemmas.{cut-rises}
 use Rattle.worker_pool.specs.Segments.{IsGroupIntervalSealed, IsGroupSegmentOfRun}
 use Rattle.worker_pool.proofs.GroupRows.{AreOfGroup, group-rows}
-use Rattle.run_rows.proofs.Beginnings.{begins-one}
+use Rattle.network_runs.proofs.Beginnings.{begins-one}
 
 -- each process is of just one group
 pub one-group : (processes groups : ℕ) (owners : List ℕ) → AreGrouped processes groups owners → (p : ℕ) → p < processes → IsOfOneGroup (is_of owners) groups p

@@ -1,9 +1,10 @@
-//! What the writer's thread does.
+//! The work of the writer's thread.
 ghost use Rattle.std.specs.Prelude.{◌≡◌};
 
 use crossbeam_channel::Receiver;
 use network::Network;
-use run_rows::{Counted, NetworkRun, RunBatch, TraceRun, Writing};
+use network_runs::NetworkRun;
+use run_rows::{Counted, RunBatch, TraceRun, Writing};
 use std::sync::Wait;
 use trace_tables::Sink;
 

@@ -1,4 +1,4 @@
-//! The desk of a trace: where the segments of a run are gathered, and from where its batches go to the writer's thread.
+//! The desk of a trace, which gathers the segments of a run, and sends its batches to the writer's thread.
 ghost use Rattle.std.specs.Prelude.{◌≡◌, ◌≢◌, ◌<◌, ◌⊎◌, ℕ, None, Some, Ok, Err, IsOk, OnOk, IfOk, IfErr, IfSome, IfNone, OnErr, length};
 ghost use Rattle.vlink.specs.declared.time.TheConstants.{GREATEST_NS};
 ghost use Rattle.std.proofs.Props.{props};
@@ -24,8 +24,8 @@ use std::sync::{Mutex, Wait};
 use trace_tables::{Gather, Segment, SegmentFault, batches_in_order_law, segments_of_rows_law};
 use vlink::Time;
 
-/// What the lock of the trace keeps: the segments that wait for those of other groups, the end of the channel to the writer's thread, and
-/// the first fault of a segment's place. By its type the segments have the rows that the one-thread run of the network has.
+/// The contents of the lock of the trace: the segments that wait for those of other groups, the end of the channel to the writer's thread,
+/// and the first fault of a segment's place. By its type the segments have the rows that the one-thread run of the network has.
 #[derive(Drop)]
 pub(crate) struct Desk<J: NetworkRun> {
     gather: Gather,
@@ -37,7 +37,7 @@ pub(crate) struct Desk<J: NetworkRun> {
 }
 
 impl<J: NetworkRun> Desk<J> {
-    /// No segment is there yet, of any group. It is refused for memory alone.
+    /// Makes a desk without segments. Only memory can be refused.
     fn new(
         alloc: Global,
         start: &StartOf<'_, J>,
@@ -54,8 +54,8 @@ impl<J: NetworkRun> Desk<J> {
         })
     }
 
-    /// Takes a segment. Where it was the last one of its interval, the batch is sent. Want of memory for the segment ends the run; of other faults the
-    /// first is kept, and the run goes on.
+    /// Takes a segment. If it was the last one of its interval, sends the batch. Lack of memory for the segment ends the run; of other
+    /// faults the first is kept, and the run goes on.
     fn take<T: Wait>(&mut self, rt: &T, segment: Segment) -> Result<(), PoolFault>
         requires run { segment.run ≡ 0 }
         requires group { segment.process < length J.names }
@@ -77,8 +77,8 @@ impl<J: NetworkRun> Desk<J> {
         }
     }
 
-    /// Takes the next segment of a group, which is one of the run. Once the segments of all groups for an interval are there, the batch of the
-    /// interval is given. Its refusals are those of `Gather::take`, and change nothing.
+    /// Takes the next segment of a group of the run. Once the segments of all groups for an interval have come, returns the batch of the
+    /// interval. Its refusals are those of `Gather::take`, and change nothing.
     fn add_segment(&mut self, segment: Segment) -> Result<Option<RunBatch<J>>, SegmentFault>
         requires run { segment.run ≡ 0 }
         requires group { segment.process < length J.names }
@@ -98,7 +98,7 @@ impl<J: NetworkRun> Desk<J> {
         }
     }
 
-    /// Sends a batch to the writer's thread, which takes batches as long as there is a desk.
+    /// Sends a batch to the writer's thread, which takes batches as long as the desk exists.
     fn send<T: Wait>(&self, rt: &T, batch: RunBatch<J>) -> Result<(), PoolFault>
         ensures memory { IfErr result (λ fault. fault ≡ pool.OutOfMemory) }
     {
@@ -117,7 +117,7 @@ impl<J: NetworkRun> Desk<J> {
     }
 }
 
-/// What comes of a batch that was sent: a channel that is closed wants no memory, and the batch is passed over.
+/// Returns the result of sending a batch. A closed channel is no lack of memory, and the batch is dropped.
 fn told_of<B: Drop>(sent: Result<(), SendError<B>>) -> Result<(), PoolFault>
     ensures { result ≡ told_of sent }
 {
@@ -138,7 +138,7 @@ pub(crate) struct TraceLock<J: NetworkRun> {
 }
 
 impl<J: NetworkRun> TraceLock<J> {
-    /// No segment is there yet, and batches are sent here. It is refused for memory alone.
+    /// Makes the lock without segments. Batches are sent to `to`. Only memory can be refused.
     pub(crate) fn new(
         alloc: Global,
         start: &StartOf<'_, J>,
@@ -149,7 +149,7 @@ impl<J: NetworkRun> TraceLock<J> {
         Ok(TraceLock { alloc, until, desk })
     }
 
-    /// The next segment that a group can give goes to the desk. The answer is whether there was one.
+    /// Puts the next segment that a group can give on the desk. Returns whether there was one.
     fn give_segment<T: Wait>(&self, rt: &T, group: &mut NetworkGroup<J>) -> Result<bool, PoolFault>
         ensures memory { IfErr result (λ fault. fault ≡ pool.OutOfMemory) }
     {
@@ -162,7 +162,7 @@ impl<J: NetworkRun> TraceLock<J> {
         Ok(true)
     }
 
-    /// The segments that a group can give go to the desk, one after another. The caller does not have the lock of the exchange.
+    /// Puts the segments that a group can give on the desk, one after another. The caller does not have the lock of the exchange.
     pub(crate) fn give_segments<T: Wait>(
         &self,
         rt: &T,
@@ -180,7 +180,7 @@ impl<J: NetworkRun> TraceLock<J> {
         unreachable!()
     }
 
-    /// The first fault of a segment that is not want of memory. No batch is sent from here on.
+    /// Returns the first fault of a segment that is not lack of memory. No batch is sent from here on.
     pub(crate) fn into_fault(self) -> Option<SegmentFault>
         ensures { IfSome result IsPlaceFault }
     {

@@ -1,4 +1,4 @@
-//! The end of a run: one thread has all in hand, and gives turns until everything is committed.
+//! The end of a run: one thread holds everything, and gives turns until all is committed.
 ghost use Rattle.std.specs.Prelude.{◌≡◌, ◌≢◌, ◌<◌, ℕ, true, [], length, slice_get, Some, IsTrue, IfErr, OnOk};
 ghost use Rattle.network.specs.Words.{process_count};
 ghost use Rattle.nodes.specs.Words.{NodeState, simulation_of};
@@ -20,21 +20,21 @@ use run_rows::moment_of;
 use std::sync::Wait;
 use vlink::Time;
 
-/// The exchange and all groups of a run, which no worker has any more.
+/// The exchange and all groups of a run, which no worker holds any more.
 #[derive(Drop)]
 pub(crate) struct Unlocked<'n, J: NetworkRun> {
     pub network: &'n Network,
-    /// How many messages a group handles in a turn at most.
+    /// The most messages that a group handles in a turn.
     pub turn: u32,
-    /// How far a group runs ahead of the GVT that it saw at most, in ns.
+    /// The most that a group runs ahead of the GVT that it saw, in ns.
     pub window_ns: u64,
     pub exchange: Shared<J>,
     pub groups: Vec<NetworkGroup<J>>,
     pub ghost planned: { network.now ≡ J.plan },
 }
 
-/// Whether this group is number `place`, has seen a GVT later than the end, and has no step that is not in the journal: then its processes are those
-/// of the journal.
+/// Whether this group is number `place`, has seen a GVT later than the end, and has no step that is not in the journal. Then its processes
+/// are those of the journal.
 fn is_of_world<J: NetworkRun>(
     exchange: &GroupExchange<Node, OfGroups<J>>,
     group: &NetworkGroup<J>,
@@ -54,9 +54,8 @@ fn is_of_world<J: NetworkRun>(
 }
 
 impl<J: NetworkRun> Unlocked<'_, J> {
-    /// Sets GVT and gives each group a turn, once and again until the run is ended, and, where it is asked for, no row has left a group.
-    /// In the last turn each group has seen the GVT behind the end, and has no segment of the trace left
-    /// to give.
+    /// Sets GVT and gives each group a turn, again and again until the run is ended, and, if it is asked for, no row has left a group. In
+    /// the last turn each group has seen the GVT after the end, and has no segment of the trace left to give.
     pub(crate) fn end<G: Gate, T: Wait>(
         &mut self,
         rt: &T,
@@ -78,7 +77,7 @@ impl<J: NetworkRun> Unlocked<'_, J> {
         unreachable!()
     }
 
-    /// Each group gets a turn, and its rows that are for good leave it where they do.
+    /// Gives each group a turn. Its rows that can no longer change leave it, if they leave at all.
     fn take_turns<G: Gate, T: Wait>(
         &mut self,
         rt: &T,
@@ -95,7 +94,8 @@ impl<J: NetworkRun> Unlocked<'_, J> {
         Ok(())
     }
 
-    /// Whether GVT is beyond the end, all groups are there, each in its place and without a block, and each has committed all that it has done.
+    /// Whether GVT is beyond the end, all groups are here, each in its place and without a block, and each has committed all that it has
+    /// done.
     fn is_ended(&self) -> bool
         ensures { result ≡ true → IsEnded J.plan J.owners self.now.exchange.steps self.now.groups.items }
     {
@@ -106,8 +106,8 @@ impl<J: NetworkRun> Unlocked<'_, J> {
         self.all_committed()
     }
 
-    /// Whether all rows that have left a group are of moments before its own, in ns, where one is listed, and else before `end`; none has left
-    /// where that is 0.
+    /// Whether all rows that have left a group are of moments before its own, in ns, if one is listed, and otherwise before `end`. None has
+    /// left if that is 0.
     pub(crate) fn have_gone_by(&self, own: &[Time], end: Time) -> bool
         ensures { result ≡ true → HaveGoneBy own.now end self.now.groups.items }
     {
@@ -120,7 +120,7 @@ impl<J: NetworkRun> Unlocked<'_, J> {
         true
     }
 
-    /// Whether all groups of the run are there, each in its place and without a block, and have seen a GVT later than the end.
+    /// Whether all groups of the run are here, each in its place and without a block, and have seen a GVT later than the end.
     fn are_of_world(&self, until: Time) -> bool
         requires { until ≡ J.plan.until }
         ensures grouped { result ≡ true → AreGrouped (process_count J.plan) (length self.now.groups.items) J.owners }

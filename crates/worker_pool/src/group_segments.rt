@@ -5,16 +5,16 @@ ghost use Rattle.trace_segments.specs.Words.{cut};
 ghost use Rattle.worker_pool.specs.Segments.{IsGroupIntervalSealed, IsGroupSegmentOfRun, IsNextGroupSegment};
 
 use crate::network_run::{NetworkGroup, NetworkRun};
-use run_rows::interval_at;
+use network_runs::interval_at;
 use std::alloc::{AllocError, Global};
 use trace_tables::{Segment, cut};
 use vlink::Time;
 
-/// The next segment of the trace that a group gives, as a segment of run 0, in the place of the group: that of the interval which begins where its last
-/// segment ended. Its rows leave the group. `until` is the end time of the network, in ns. None: events of the interval can still come or be undone, as
-/// far as the group saw, or there is no such interval.
+/// Returns the next segment of the trace that a group gives, as a segment of run 0, in the place of the group. Its interval begins where
+/// its last segment ended. Its rows leave the group. `until` is the end time of the network, in ns. None means that events of the interval
+/// can still come or be undone, as far as the group saw, or that the interval does not exist.
 ///
-/// It is refused for memory alone, and then nothing changes.
+/// Only memory can be refused, and then nothing changes.
 pub(crate) fn next_group_segment<J: NetworkRun>(
     alloc: Global,
     group: &mut NetworkGroup<J>,
@@ -38,7 +38,8 @@ pub(crate) fn next_group_segment<J: NetworkRun>(
     Ok(Some(segment))
 }
 
-/// The segment of interval `k`, as a segment of run 0, if the interval is for good at the group, whose rows are there from its beginning on.
+/// Returns the segment of interval `k`, as a segment of run 0, if the interval can no longer change at the group, whose rows are still here
+/// from its beginning on.
 fn sealed_segment<J: NetworkRun>(
     alloc: Global,
     group: &NetworkGroup<J>,

@@ -7,8 +7,8 @@ use crate::network_run::{NetworkGroup, NetworkRun};
 use group_exchange::work;
 use journal::{Gate, PoolFault};
 
-/// The group handles messages that are earlier than the GVT that it saw and so many ns, `most` at most. The answer is how many. Where it is refused for
-/// numbers, one of its processes lacks them.
+/// The group handles messages that are earlier than the GVT that it saw plus `ahead_ns`, at most `most` of them. Returns how many. If it is
+/// refused for numbers, one of its processes lacks them.
 pub(crate) fn work_ahead<J: NetworkRun, G: Gate>(
     group: &mut NetworkGroup<J>,
     most: u32,

@@ -1,4 +1,4 @@
-//! Which processes of a run belong together.
+//! Chooses which processes of a run belong together.
 ghost use Rattle.std.specs.Prelude.{◌≡◌, ◌<◌, ◌≤◌, All, IfOk, IfSome, length};
 ghost use Rattle.network.specs.Words.{process_count};
 ghost use Rattle.group_exchange.specs.Keeps.{AreGrouped};
@@ -12,12 +12,12 @@ use std::thread;
 use std::thread::Threads;
 use turns::LEAD_NS;
 
-/// In a network of at most so many processes each process is a group, unless a number of groups is asked for: there meetings of processes are tried and
-/// looked at. A larger one has no more groups than workers, since a section of the exchange moves some four lines of memory between cores, 100 ns each
-/// beside 75 ns of work for an event.
+/// In a network of at most this many processes each process is a group, unless a number of groups is asked for: such networks serve to try
+/// and to observe meetings of processes. A larger one has no more groups than workers, since a section of the exchange moves about four
+/// cache lines between cores, 100 ns each, while the work for an event takes 75 ns.
 const FEW_PROCESSES: u16 = 16;
 
-/// So many groups a network has at most, where it has more processes.
+/// The greatest number of groups of a network with more processes.
 const MOST_GROUPS: u16 = 64;
 
 /// For each process the number of its group, from 0, and how many groups there are.
@@ -27,9 +27,9 @@ pub(crate) struct Grouping {
     pub groups: u16,
 }
 
-/// How many groups of processes a run of the network by so many workers has: as many as are asked for, where a number is asked for. Else each process of a
-/// small network is one, and a larger one has as many as there are workers and processors, but no more than are worth their letters. There is at least one,
-/// and there are no more than processes. It is refused for memory alone.
+/// Returns the number of groups of processes of a run of the network by this number of workers. If a number is asked for, it is that
+/// number. Otherwise each process of a small network is a group, and a larger one has as many groups as workers and processors, but no more
+/// than are worth their letters. The result is at least one, and no more than processes. Only memory can be refused.
 pub fn group_number<T: Threads>(
     rt: &T,
     alloc: Global,
@@ -48,7 +48,7 @@ pub fn group_number<T: Threads>(
     }
 }
 
-/// How many groups there are where no number is asked for. It is refused for memory alone.
+/// Returns the number of groups if none is asked for. Only memory can be refused.
 fn usual_number<T: Threads>(
     rt: &T,
     alloc: Global,
@@ -66,7 +66,7 @@ fn usual_number<T: Threads>(
     groups_worth(alloc, network, most, LEAD_NS)
 }
 
-/// Of so many workers those that a processor can serve at once.
+/// Returns how many of these workers the processors can serve at once.
 fn useful<T: Threads>(rt: &T, workers: u8) -> u8 {
     match thread::available_parallelism(rt) {
         Ok(processors) => u8::try_from(processors.get())
@@ -76,8 +76,8 @@ fn useful<T: Threads>(rt: &T, workers: u8) -> u8 {
     }
 }
 
-/// So many groups of the processes of a network, but at least one, and no more than processes; and for each the pair of its marks. It is refused for memory
-/// alone.
+/// Groups the processes of a network into `groups` groups, but at least one, and no more than processes; and makes for each group the pair
+/// of its marks. Only memory can be refused.
 pub(crate) fn marked_groups(
     alloc: Global,
     network: &Network,
@@ -96,7 +96,7 @@ pub(crate) fn marked_groups(
     }
 }
 
-/// So many groups of the processes of a network, but at least one, and no more than processes. It is refused for memory alone.
+/// Groups the processes of a network into `groups` groups, but at least one, and no more than processes. Only memory can be refused.
 fn grouping_of(alloc: Global, network: &Network, groups: u16) -> Result<Grouping, AllocError>
     ensures { IfOk result (λ g. IsGroupingOf network.now g.groups g.owners.items) }
 {
@@ -108,7 +108,7 @@ fn grouping_of(alloc: Global, network: &Network, groups: u16) -> Result<Grouping
     Ok(Grouping { owners, groups })
 }
 
-/// Each of so many processes is a group.
+/// Makes each process a group.
 fn each_alone(alloc: Global, processes: u16) -> Result<Grouping, AllocError>
     ensures grouped { IfOk result (λ g. AreGrouped processes g.groups g.owners.items) }
     ensures groups { IfOk result (λ g. g.groups ≡ processes) }

@@ -1,4 +1,4 @@
-//! What becomes of the rows of a run that are for good, while it goes on.
+//! What happens to the rows of a run that can no longer change, while it goes on.
 ghost use Rattle.std.specs.Prelude.{◌≡◌, IfErr};
 ghost use Rattle.journal.specs.declared.fault.PoolFault.TheVariants.{OutOfMemory};
 
@@ -10,10 +10,10 @@ use run_rows::{Counted, moment_of};
 use std::alloc::AllocError;
 use std::sync::{Mutex, Wait};
 
-/// So many rows a group has for good before they are counted.
+/// The number of such rows of a group at which they are counted.
 const MANY_ROWS: usize = 512;
 
-/// What becomes of the rows of a run that are for good.
+/// What happens to the rows of a run that can no longer change.
 #[derive(Drop)]
 pub(crate) enum Leaving<'l, J: NetworkRun> {
     /// They stay in their groups.
@@ -25,7 +25,7 @@ pub(crate) enum Leaving<'l, J: NetworkRun> {
 }
 
 impl<J: NetworkRun> Leaving<'_, J> {
-    /// Rows of a group that are for good leave it. The caller does not have the lock of the exchange.
+    /// Lets rows of a group that can no longer change leave it. The caller does not have the lock of the exchange.
     pub(crate) fn take_rows<T: Wait>(
         &self,
         rt: &T,
@@ -49,8 +49,8 @@ impl<J: NetworkRun> Leaving<'_, J> {
     }
 }
 
-/// The rows of a group that are for good are counted, as far as it saw, and leave it, where it has a moment of its own there. It fails only where memory is
-/// refused, or was before; then there are no tables from then on.
+/// Counts the rows of a group that can no longer change, as far as the group saw. They leave it, if it has a moment of its own there. It
+/// fails only if memory is or was refused; then no tables exist from then on.
 fn count_rows<J: NetworkRun>(
     counted: &mut Counted<J>,
     network: &Network,

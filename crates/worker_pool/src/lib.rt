@@ -24,8 +24,9 @@ mod workers;
 
 pub use grouping::group_number;
 pub use journal::{Gate, PoolFault, Table};
+pub use network_runs::NetworkRun;
 pub use pace::Pace;
-pub use run_rows::{NetworkRun, TraceRun};
+pub use run_rows::TraceRun;
 pub use running::{Outcome, run};
 pub use single_processes::{
     ActorRun, Exchange, Held, Mark, Of, Pairs, collect, next_segment, open_network, post, publish,

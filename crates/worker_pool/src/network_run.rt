@@ -1,7 +1,7 @@
-//! Of which run of a network an exchange and its groups are.
+//! The run of a network to which an exchange and its groups belong.
 use group_exchange::{Group, GroupRun};
+pub use network_runs::NetworkRun;
 use nodes::Node;
-pub use run_rows::NetworkRun;
 use std::marker::PhantomData;
 
 /// A group of the run.

@@ -1,11 +1,12 @@
-//! How fast a run by workers goes.
+//! The pace of a run by workers.
 ghost use Rattle.std.specs.Prelude.{◌≡◌};
 
-/// How many workers there are, and how many groups of processes; how many messages a group handles in one turn at most; and how far a group runs ahead of
-/// the GVT that it saw at most, in ns.
+/// The number of workers, and of groups of processes; the most messages that a group handles in one turn; and the most that a group runs
+/// ahead of the GVT that it saw, in ns.
 ///
-/// Any numbers serve, and what a run finds is the same for all of them. Without workers the caller's thread gives all turns. There is at least one group,
-/// there are never more than processes, and there are no more workers than groups. A turn or a window of 0 counts as one of 1.
+/// Any numbers are allowed, and the results of a run are the same for all of them. Without workers the caller's thread gives all turns.
+/// There is at least one group, there are never more groups than processes, and no more workers than groups. A turn or a window of 0 counts
+/// as one of 1.
 #[derive(Clone, Copy)]
 pub struct Pace {
     pub workers: u8,
@@ -15,7 +16,7 @@ pub struct Pace {
 }
 
 impl Pace {
-    /// The same pace with a turn and a window of 1 at least: with 0 no message would ever be handled.
+    /// Returns the same pace with a turn and a window of at least 1: with 0 no message would ever be handled.
     pub(crate) fn that_goes(self) -> Self
         ensures { result.workers ≡ self.workers }
     {

@@ -1,4 +1,4 @@
-//! What an ended run has found.
+//! The results of an ended run.
 ghost use Rattle.std.specs.Prelude.{◌≡◌, true, List, [], IfOk};
 ghost use Rattle.vlink.specs.Letters.{Row};
 ghost use Rattle.virtual_time.specs.Law.{steps};
@@ -18,7 +18,7 @@ use virtual_time::headline_law;
 use vlink::{Message, Note, Row, Step, Time};
 
 impl<J: NetworkRun> Unlocked<'_, J> {
-    /// The steps of the run, in their order, where its journal is kept. It is refused for memory alone.
+    /// Returns the steps of the run, in their order, if its journal is stored. Only memory can be refused.
     pub(crate) fn steps(&self, alloc: Global) -> Result<Vec<Step>, AllocError>
         requires ended { IsEnded J.plan J.owners self.now.exchange.steps self.now.groups.items }
         requires keeps { J.keeps ≡ true }
@@ -27,7 +27,7 @@ impl<J: NetworkRun> Unlocked<'_, J> {
         Vec::from_slice(alloc, self.exchange.inner.step_list())
     }
 
-    /// The rows of all committed events, group by group. It is refused for memory alone.
+    /// Returns the rows of all committed events, group by group. Only memory can be refused.
     fn gathered_rows(&self, alloc: Global) -> Result<Vec<Row>, AllocError>
         requires ended { IsEnded J.plan J.owners self.now.exchange.steps self.now.groups.items }
         requires kept { HaveGoneBy [] 0 self.now.groups.items }
@@ -42,7 +42,7 @@ impl<J: NetworkRun> Unlocked<'_, J> {
         Ok(rows)
     }
 
-    /// The rows of all events, in message order. It is refused for memory alone.
+    /// Returns the rows of all events, in message order. Only memory can be refused.
     pub(crate) fn rows(&self, alloc: Global) -> Result<Vec<Row>, AllocError>
         requires ended { IsEnded J.plan J.owners self.now.exchange.steps self.now.groups.items }
         requires kept { HaveGoneBy [] 0 self.now.groups.items }
@@ -54,9 +54,10 @@ impl<J: NetworkRun> Unlocked<'_, J> {
         Ok(rows)
     }
 
-    /// The tables of the run: those of the rows that were counted, and of the rows that each process has from there on. No row of it is kept.
+    /// Returns the tables of the run: those of the rows that were counted, and of the rows that each process has from there on. No row of
+    /// it is stored.
     ///
-    /// It fails only where memory is refused, or was while rows were counted.
+    /// It fails only if memory is refused, or was refused while rows were counted.
     pub(crate) fn tables(&self, counted: Counted<J>) -> Result<Tables, AllocError>
         requires ended { IsEnded J.plan J.owners self.now.exchange.steps self.now.groups.items }
         requires counted { HaveGoneBy counted.own.items counted.end self.now.groups.items }

@@ -9,7 +9,7 @@ use std::alloc::AllocError;
 use std::marker::{Model, PhantomData};
 use turns::Refusal;
 
-/// Why a run of a network is refused. By its type it is `Exhausted` only where some run of the network uses up numbers.
+/// Why a run of a network is refused. By its type it is `Exhausted` only if some run of the network uses up numbers.
 ///
 /// Clauses see it as the fault.
 #[derive(Drop)]
@@ -32,7 +32,7 @@ impl<J: NetworkRun> Model for RunFault<J> {
 }
 
 impl<J: NetworkRun> RunFault<J> {
-    /// A fault of the run.
+    /// Makes a fault of the run.
     pub(crate) fn new(fault: PoolFault) -> Self
         requires { fault ≡ Exhausted → UsesUpNumbers J.plan }
         ensures { result ≡ fault }
@@ -43,7 +43,7 @@ impl<J: NetworkRun> RunFault<J> {
         }
     }
 
-    /// A fault that is not `Exhausted`.
+    /// Makes a fault that is not `Exhausted`.
     pub(crate) fn other(fault: PoolFault) -> Self
         requires { fault ≢ Exhausted }
         ensures { result ≡ fault }

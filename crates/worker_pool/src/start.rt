@@ -10,7 +10,7 @@ use group_exchange::Pairs;
 use network::Network;
 use std::marker::PhantomData;
 
-/// What a run begins with: its network and its pace, whether its journal is kept, its groups, and the pairs of their marks.
+/// What a run begins with: its network and its pace, whether its journal is stored, its groups, and the pairs of their marks.
 #[derive(Drop)]
 pub(crate) struct Start<'n> {
     pub network: &'n Network,
@@ -42,7 +42,7 @@ pub(crate) struct StartOf<'n, J: NetworkRun> {
 impl<'n, J: NetworkRun> StartOf<'n, J> {
     ghost use Rattle.worker_pool.specs.Starts.{BeginsRun};
 
-    /// The run has its names from what it begins with.
+    /// Gives the run its names from what it begins with.
     pub(crate) fn of(start: Start<'n>) -> Self
         requires { BeginsRun J.plan J.keeps J.names J.owners start }
         ensures { result.pace.workers ≡ start.entry.pace.workers }

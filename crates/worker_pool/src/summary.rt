@@ -1,4 +1,4 @@
-//! What is asked of a run beside its trace: its tables, and its steps where they are wanted. No row is listed for it.
+//! The results of a run without its trace: its tables, and its steps if they are wanted. It lists no rows.
 ghost use Rattle.std.specs.Prelude.{◌≡◌, ◌⊎◌, List, Err, IfOk, IfErr, IfNone};
 ghost use Rattle.vlink.specs.Letters.{Row};
 ghost use Rattle.network.specs.Words.{process_count};
@@ -28,7 +28,7 @@ use std::thread::Threads;
 use trace_tables::Tables;
 use vlink::Step;
 
-/// What a run has found: the tables of its rows; and the steps that were done, in their order, or none where they were not asked for.
+/// The results of a run: the tables of its rows; and the steps that were done, in their order, or none if they were not asked for.
 #[derive(Drop)]
 pub struct Summary {
     pub tables: Tables,
@@ -36,8 +36,8 @@ pub struct Summary {
 }
 
 impl<J: NetworkRun> Unlocked<'_, J> {
-    /// The tables of an ended run, of which so much is counted, and its steps where they are asked for. `Torn`: rows have left that nobody counted.
-    /// Where a growth was refused while rows were counted, that is told first.
+    /// Returns the tables of an ended run, some of whose rows are already counted, and its steps if they are asked for. `Torn`: rows have
+    /// left that were not counted. If memory was refused while rows were counted, that is reported first.
     fn summary(
         &self,
         alloc: Global,
@@ -68,7 +68,7 @@ impl<J: NetworkRun> Unlocked<'_, J> {
         }
     }
 
-    /// The steps of an ended run, or none where they are not asked for. It is refused for memory alone.
+    /// Returns the steps of an ended run, or none if they are not asked for. Only memory can be refused.
     fn steps_asked(&self, alloc: Global, with_steps: bool) -> Result<Vec<Step>, AllocError>
         requires ended { IsEnded J.plan J.owners self.now.exchange.steps self.now.groups.items }
         requires keeps { with_steps ≡ J.keeps }
@@ -82,7 +82,7 @@ impl<J: NetworkRun> Unlocked<'_, J> {
     }
 }
 
-/// What an ended run has found of which so much is counted.
+/// Returns the results of an ended run, some of whose rows are already counted.
 pub(crate) fn summary_of<J: NetworkRun>(
     alloc: Global,
     ended: Unlocked<'_, J>,
@@ -121,8 +121,8 @@ fn summary_named<J: NetworkRun + Send + Sync, G: Gate + Sync, T: Threads + Wait 
     Ok(summary_of(alloc, ended, counted.into_inner(), keeps)?)
 }
 
-/// Simulates a network by workers, as `run` does, and lists no rows; the steps that were done are listed where they are asked for. Its refusals
-/// are those of `run`. `watch` is shown GVT, at most four times a second, and no count of events.
+/// Simulates a network by workers, as `run` does, and lists no rows. The steps that were done are listed if they are asked for. Its
+/// refusals are those of `run`. `watch` is shown GVT, at most four times a second, and no count of events.
 pub fn run_summary<G: Gate + Sync, T: Threads + Wait + Sync, W: Watch>(
     rt: &T,
     alloc: Global,

@@ -1,4 +1,4 @@
-//! The run of a network by workers whose trace is written while it goes on.
+//! The run of a network by workers that write its trace while it goes on.
 ghost use Rattle.std.specs.Prelude.{◌≡◌, ◌≢◌, ◌+◌, List, IfOk, IfErr, IfSome, OnOk};
 ghost use Rattle.std.specs.Io.KnownBytes.{append_known};
 ghost use Rattle.vlink.specs.Letters.{Row};
@@ -36,10 +36,10 @@ use std::thread;
 use std::thread::{JoinHandle, Threads};
 use trace_tables::{SegmentFault, Sink, TraceFault};
 
-/// So many batches can wait for the writer's thread. Workers wait where one more is there.
+/// The number of batches that can wait for the writer's thread. With one more, workers wait.
 const MOST_BATCHES: usize = 16;
 
-/// What a run has found whose trace was written while it went on, how the writing went, and the sink.
+/// The results of a run whose trace was written while it went on, the result of the writing, and the sink.
 #[derive(Drop)]
 pub struct Traced<S> {
     pub outcome: Summary,
@@ -47,8 +47,8 @@ pub struct Traced<S> {
     pub sink: S,
 }
 
-/// Runs a network whose rows go to the trace until it is ended. No batch comes behind what it has sent to the writer's thread then, which else would
-/// wait for it. The answer is the run, and the first fault of a segment.
+/// Runs a network, whose rows go to the trace, until it is ended. It sends no batch to the writer's thread after that, which otherwise
+/// would wait for it. Returns the run, and the first fault of a segment.
 fn run_to_trace<
     'n,
     J: NetworkRun + Send + Sync,
@@ -72,7 +72,7 @@ fn run_to_trace<
     (ended, trace.into_fault())
 }
 
-/// What a run has found of which so much is counted, if it was not refused.
+/// Returns the results of a run, some of whose rows are already counted, if it was not refused.
 fn summary_told<J: NetworkRun>(
     alloc: Global,
     ended: Result<Unlocked<'_, J>, RunFault<J>>,
@@ -92,7 +92,7 @@ fn summary_told<J: NetworkRun>(
     }
 }
 
-/// What a run comes to, if it was not refused, whose trace was written so, with this first fault of a segment.
+/// Returns the results of a run, if it was not refused, with the result of writing its trace and this first fault of a segment.
 fn traced_of<'a, J: NetworkRun, K: TraceRun, S: Sink + Drop>(
     summary: Result<Summary, RunFault<J>>,
     writing: Writing<'a, J, K, S>,
@@ -119,7 +119,7 @@ fn traced_of<'a, J: NetworkRun, K: TraceRun, S: Sink + Drop>(
     }
 }
 
-/// Runs a network whose trace a thread writes that was started, and joins that thread. The watch is given back.
+/// Runs a network whose trace a thread writes that was already started, and joins that thread. The watch is given back.
 fn run_beside<
     'a,
     J: NetworkRun + Send + Sync,
@@ -149,7 +149,8 @@ fn run_beside<
     (traced_of(summary, writing, fault), watch)
 }
 
-/// The lock of a trace, the end of the channel where its batches come, and what counts their rows. It is refused for memory alone.
+/// Makes the lock of a trace, the end of the channel at which its batches arrive, and the counter of their rows. Only memory can be
+/// refused.
 fn open_trace<J: NetworkRun>(
     alloc: Global,
     start: &StartOf<'_, J>,
@@ -229,22 +230,24 @@ fn traced_named<
     }
 }
 
-/// Simulates a network by workers, as `run_summary` does, and writes the trace to the sink while the run goes on: segments of
-/// it leave the processes in intervals that are the same for all, and a thread of its own counts their rows and writes them in order. No list of
-/// all rows is made: the rows of an interval leave their process with its segment, and are dropped once they are counted and written.
+/// Simulates a network by workers, as `run_summary` does, and writes the trace to the sink while the run goes on. Segments of it leave the
+/// processes in intervals that are the same for all, and a thread of its own counts their rows and writes them in order. No list of all
+/// rows is made: the rows of an interval leave their process with its segment, and are dropped once they are counted and written.
 ///
-/// - `whole`: where the writing went well, the sink took the trace of the rows of the one-thread run, as `trace_tables::write_trace` writes it.
+/// - `whole`: if the writing succeeded, the sink took the trace of the rows of the one-thread run, as `trace_tables::write_trace` writes
+///   it.
 /// - `beginning`: in any case it took a beginning of that text, and nothing else.
-/// - `device`, `kept`, `went_well`: how many of its writes failed: one, where the fault says so, and else none.
-/// - `fault`: a segment or a batch is missing or comes twice, or the text did not go out. Want of memory for a segment ends the run.
+/// - `device`, `kept`, `went_well`: how many of its writes failed: one, if the fault says so, and otherwise none.
+/// - `fault`: a segment or a batch is missing or comes twice, or the text was not written. Lack of memory for a segment ends the run.
 ///
-/// `written` tells in any case that a write failed. Else it is the first fault of a batch, and what comes behind it is dropped; where there was
-/// none, the first of a segment, `Gap` or `Double`; where there was none either, the outcome of `TraceWriter::finish`. The run itself goes on
-/// after any of them.
+/// `written` reports in any case that a write failed. Otherwise it is the first fault of a batch, after which all is dropped; if there was
+/// none, the first of a segment, `Gap` or `Double`; and if there was none either, the outcome of `TraceWriter::finish`. The run itself goes
+/// on after any of them.
 ///
-/// Its refusals are those of `run`, and the sink is dropped then, with a beginning of the trace in it. `OutOfMemory` comes also for a segment or
-/// a batch, or at the end where a growth was refused while rows were counted; `Torn` also where rows that left came in no batch, as behind a
-/// segment that was refused; and `Spawn` also where the writer's thread cannot be started. `watch` is shown GVT, as by `run_summary`.
+/// Its refusals are those of `run`, and the sink is then dropped, with a beginning of the trace in it. `OutOfMemory` comes also for a
+/// segment or a batch, or at the end if memory was refused while rows were counted. `Torn` comes also if rows that left came in no batch,
+/// as after a segment that was refused. `Spawn` comes also if the writer's thread could not be started. `watch` is shown GVT, as by
+/// `run_summary`.
 pub fn run_traced<S: Sink + Drop + Send, G: Gate + Sync, T: Threads + Wait + Sync, W: Watch>(
     rt: &T,
     alloc: Global,

@@ -1,4 +1,4 @@
-//! The end of what threads do: their groups come back.
+//! The end of the threads: their groups come back.
 ghost use Rattle.std.specs.Prelude.{◌≡◌, ◌<◌, IfErr, IsErr};
 ghost use Rattle.journal.specs.declared.fault.PoolFault.TheVariants.{Spawn};
 
@@ -13,10 +13,11 @@ use std::sync::Wait;
 use std::thread::Threads;
 use turns::work_all;
 
-/// Starts the workers, and joins all of them. Where there is no group, none is started. Then none of them has a group any more: the groups are there, in order.
+/// Starts the workers, and joins all of them. If there is no group, it starts none. After that no thread holds a group: the groups are
+/// here, in order.
 ///
-/// A refusal to one worker ends the others at their next turn. All of them are joined, and the answer is the least fault of what they ended
-/// with, and of the start. `Spawn`: a worker cannot be started. While they run, the calling thread shows the watch GVT.
+/// A refusal to one worker ends the others at their next turn. All of them are joined, and the least fault of what they ended with, and of
+/// the start, is returned. `Spawn`: a worker could not be started. While they run, the calling thread shows the watch GVT.
 pub(crate) fn groups_worked<
     'n,
     J: NetworkRun + Send + Sync,
@@ -36,7 +37,7 @@ pub(crate) fn groups_worked<
     unlocked_of(alloc, worked, common)
 }
 
-/// Where all went well, the exchange and all groups, which no worker has any more.
+/// Returns the exchange and all groups, which no worker holds any more, if all succeeded.
 fn unlocked_of<'n, J: NetworkRun, G: Gate, T: Wait>(
     alloc: Global,
     worked: Result<(), RunFault<J>>,
@@ -53,7 +54,7 @@ fn unlocked_of<'n, J: NetworkRun, G: Gate, T: Wait>(
     }
 }
 
-/// The exchange and all groups, which no worker has any more. It is refused for memory alone.
+/// Returns the exchange and all groups, which no worker holds any more. Only memory can be refused.
 fn taken_back<'n, J: NetworkRun, G: Gate, T: Wait>(
     alloc: Global,
     common: CommonOf<'_, 'n, J, G, T>,

@@ -1,4 +1,4 @@
-//! The account of a virtual link in hand: `BYTES@NS`, a frame that comes.
+//! The account of a virtual link, alone: `BYTES@NS` is a frame that arrives.
 use crate::tests::playing::Played;
 use crate::tests::words::{moment_at, size_at, tell, tell_number};
 use policer::{Account, Arrival, Verdict};
@@ -20,7 +20,7 @@ impl Played for Account {
         let _ = write!(told, "{answer:?} ");
     }
 
-    // The level, the cap, and the moment of the last frame.
+    // Writes the level, the cap, and the moment of the last frame.
     fn tell_state(&self, told: &mut String) {
         tell(told, " (");
         tell_number(told, self.level());

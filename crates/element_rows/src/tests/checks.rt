@@ -1,4 +1,4 @@
-//! Integrity checking in hand: the number of a frame received.
+//! Integrity checking, alone: an event is the number of a frame received.
 use crate::tests::playing::Played;
 use crate::tests::words::{byte_at, tell, tell_number};
 use integrity::{Checked, Integrity};
@@ -17,7 +17,7 @@ impl Played for Integrity {
         let _ = write!(told, "{answer:?} ");
     }
 
-    // The previous number.
+    // Writes the previous number.
     fn tell_state(&self, told: &mut String) {
         if let Some(previous) = self.previous() {
             tell(told, " ");

@@ -1,4 +1,4 @@
-//! Rows of elements in hand.
+//! Rows of single elements.
 use crate::tests::playing::play_script;
 use crate::tests::words::{byte_at, long_at, number_at, size_at, tell};
 use bag_regulator::BagRegulator;
@@ -9,11 +9,11 @@ use redundancy::Redundancy;
 use std::alloc::Global;
 use std::mem::forget;
 
-// An element with its fixed numbers, and the events that it is given; then its answers, the state that it comes to, and the states to
-// which undoing the events leads back, one after another, up to the first.
+// An element with its fixed numbers, and its events; then its answers, its state after them, and the states to which undoing the events
+// leads back, one after another, up to the first.
 //
-// A regulator has its BAG in ns, its depth and its sub-virtual links, an account the greatest frame in bytes, BAG and jitter in ns, and
-// behind them `frames` where it counts frames, redundancy management the greatest skew in ns, a port its bytes.
+// A regulator has its BAG in ns, its depth and its sub-virtual links. An account has the greatest frame in bytes, BAG and jitter in ns, and
+// behind them `frames` if it counts frames. Redundancy management has the greatest skew in ns, and a port has its bytes.
 pub const ROWS: &str = "\
 regulator 1000000 2 1, offer@0 offer@10 offer@20 offer@30 => Released 0:0:0 Kept, release@1000000 Kept Dropped | (1 after 0) (1 after 0) (1 after 0) (1 after 0) (0)
 regulator 1000000 2 1, offer@0 offer@10 offer@20 release@999999 release@1000000 release@2000000 => Released 0:0:0 Kept, release@1000000 Kept Nothing Released 1:10:1000000, release@2000000 Released 2:20:2000000 | (3 after 2000000) (2 after 1000000) (1 after 0) (1 after 0) (1 after 0) (1 after 0) (0)
@@ -64,7 +64,7 @@ port 100, low:1:64 high:2:80 free free free => Started 1 for 6720 Kept Started 2
 port 0, low:1:64 low:2:64 => Started 1 for 6720 Dropped | (busy 0) (busy 0) (idle 0)
 port 1048576, low:1:64 low:2:1518 => Started 1 for 6720 Kept | (busy 1518) (busy 0) (idle 0)";
 
-// What the element that is opened so tells of the script, `none` where its numbers are beyond the limits.
+// Writes the answers of an element that is opened so to the script, or `none` if its numbers are beyond the limits.
 pub fn tell_element(alloc: Global, label: &str, fixed: &str, script: &str, told: &mut String) {
     match label {
         "regulator" => play_regulator(alloc, fixed, script, told),

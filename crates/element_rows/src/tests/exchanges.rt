@@ -1,4 +1,4 @@
-//! What the calls on an exchange of a network and on its processes come to. What is expected was worked out by hand.
+//! Results of the calls on an exchange of a network and on its processes. The expected values were worked out by hand.
 ghost use Rattle.std.specs.Prelude.{◌≡◌, ◌≤◌, ◌^◌, true, length};
 ghost use Rattle.network.specs.Words.{process_count};
 
@@ -6,15 +6,15 @@ use crate::tests::stage::{play_on_processes, tell_journal};
 use crate::tests::words::tell;
 use journal::{PoolFault, Table};
 use network::Network;
+use network_runs::NetworkRun;
 use process_exchange::Pairs;
 use process_segments::open_network;
-use run_rows::NetworkRun;
 use std::alloc::Global;
 use std::marker::Brand;
 use std::mem::forget;
 
-// Behind the network each row has how many steps the journal can have, and a script; then what its words tell, and the steps of the journal
-// (`stage.rt` says how). What stands behind `other` is done at a new exchange of the same network, over the same table.
+// Behind the network each row has how many steps the journal can have, and a script; then the answers of its words, and the steps of the
+// journal (`stage.rt` describes both). What stands behind `other` is done at a new exchange of the same network, over the same table.
 pub const ROWS: &str = "\
 exchange n1 3, collect:0:8 work:0:16:1 post:0 steps pending:0 fits:0 => 1 2 full 1 2 1 | T:0.0
 exchange n1 4, collect:0:8 work:0:16:1 post:0 post:0 steps pending:0 publish collect:0:8 mail:0 => 1 2 1 1 4 0 full full 1 | T:0.0 A:0 R:0 P:0
@@ -27,7 +27,7 @@ exchange n1 100, collect:0:8 work:0:16:1 post:0 publish collect:0:8 work:0:16:96
 exchange n1 100, collect:0:8 work:0:16:1 post:0 mail:0 mail:3 collect:3:8 work:3:16:10000 post:3 mail:2 mail:3 publish steps => 1 2 1 1 1 1 2 1 1 0 5860 9 | T:0.0 A:0 R:0 P:0 T:3.0 A:3 R:3 P:3 G
 exchange n1 100, collect:0:8 work:0:0:961 work:0:1:961 work:0:1:961 pending:0 before after post:0 => 1 1 1 0 2 1 1 1 | T:0.0 A:0 R:0 P:0";
 
-// What the words of each part tell; which calls are refused memory is kept.
+// Writes the answers of the words of each part; stores which calls are refused memory.
 pub fn tell_exchange(
     alloc: Global,
     network: &Network,
@@ -45,7 +45,7 @@ pub fn tell_exchange(
     }
 }
 
-// Each part of a script is played at an exchange of its own, over one table.
+// Plays each part of a script at an exchange of its own, over one table.
 fn tell_parts(
     alloc: Global,
     network: &Network,
@@ -78,7 +78,7 @@ fn play_part(
     play_at_start::<Brand>(alloc, network, table, pairs, limit, &part, told, refused)
 }
 
-// Plays at an exchange of the network over this table, at its start. Beside a `&str` nothing could be picked at `Brand`.
+// Plays at an exchange of the network over this table, at its start. Beside a `&str`, no type could be chosen at `Brand`.
 fn play_at_start<J: NetworkRun>(
     alloc: Global,
     network: &Network,

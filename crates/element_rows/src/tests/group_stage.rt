@@ -1,15 +1,16 @@
-//! Plays the words of a script on an exchange and its groups, and tells what it answers, as `stage.rt` does.
+//! Plays the words of a script on an exchange and its groups, and writes the answers, as `stage.rt` does.
 //!
-//! Behind colons stand the numbers of a word, that of the group first: `work:1:16:28000` works with turn 16 and window 28000 ns, and answers how many
-//! messages were handled, of which the gate is told. `abroad` counts the letters that wait to be posted, and `seen` is the GVT that the group saw.
+//! The numbers of a word stand behind colons, that of the group first: `work:1:16:28000` works with turn 16 and window 28000 ns, and
+//! answers how many messages were handled, by the calls of the gate. `abroad` counts the letters that wait to be posted, and `seen` is the
+//! GVT that the group saw.
 ghost use Rattle.std.specs.Prelude.{◌≡◌, true};
 
 use crate::tests::stage::{Stage, name_in, tell_step};
 use crate::tests::words::{long_at, number_at, short_at};
 use group_exchange::{Group, GroupExchange, GroupRun, collect, post, publish, work};
 use journal::{Gate, PoolFault};
+use network_runs::NetworkRun;
 use nodes::Node;
-use run_rows::NetworkRun;
 use std::cell::Cell;
 use std::marker::PhantomData;
 
@@ -43,7 +44,7 @@ impl Handled {
         }
     }
 
-    // How many messages were handled since this was asked last: a call that is made again answers those of its refused try too.
+    // Returns how many messages were handled since the last call: a call that is made again answers those of its refused try too.
     fn take(&self) -> u64 {
         let count = self.count.get();
         self.count.set(0);
@@ -82,7 +83,7 @@ impl<J: NetworkRun> Stage for Groups<'_, J> {
     }
 }
 
-// What a call on a group in hand answers. One with a block is not let collect.
+// Returns the answer of a call on a group in hand. A group with a block is not allowed to collect.
 fn act_on<J: NetworkRun>(
     group: &mut Group<Node, OfGroups<J>>,
     exchange: &mut GroupExchange<Node, OfGroups<J>>,
@@ -105,7 +106,7 @@ fn act_on<J: NetworkRun>(
     }
 }
 
-// The steps of the journal.
+// Writes the steps of the journal.
 pub fn tell_steps<J: NetworkRun>(exchange: &GroupExchange<Node, OfGroups<J>>, told: &mut String)
     requires { J.keeps ≡ true }
 {

@@ -1,6 +1,6 @@
 //! How rows write messages: `RECEIVER.SENDER.NUMBER/` and then one of `offer@NS:VL.BYTES.SUB`, `release@NS:VL`, `free@NS:PORT`,
-//! `arrive@NS:PORT:FRAME`, `enqueue@NS:PORT:FRAME` and `carry@NS:FRAME`. A frame is `VL.BYTES.NUMBER.NET.OFFERED.RELEASED`, with its moments
-//! in ns and 0 for network A. What is left out, in front or behind, is 0.
+//! `arrive@NS:PORT:FRAME`, `enqueue@NS:PORT:FRAME` and `carry@NS:FRAME`. A frame is `VL.BYTES.NUMBER.NET.OFFERED.RELEASED`, with its
+//! moments in ns and 0 for network A. A part that is left out, in front or behind, is 0.
 ghost use Rattle.std.specs.Prelude.{◌≤◌};
 
 use crate::tests::words::{
@@ -47,7 +47,7 @@ fn body(event: &str) -> Body {
     }
 }
 
-// The frame of which the numbers begin at this place.
+// Reads the frame whose numbers begin at this place.
 fn frame(event: &str, place: usize) -> Frame
     requires { place ≤ 3 }
 {

@@ -44,9 +44,9 @@ a = [["ES1", "SW1", "ES2"]]
 b = []
 "#;
 
-// For each change its name, the piece that is replaced, and what stands in its place, where `;` stands for the end of a line. `n3` has a virtual
-// link back, and `mixed` one of high priority beside the first, whose offers are drawn. `two` has network B too: process 3 is its switch,
-// 4 ES1>SW1, 5 SW1>ES1, 6 SW1>ES2, 7 ES2>SW1, 8 ES1>SW2, 9 SW2>ES1, 10 SW2>ES2, 11 ES2>SW2.
+// Each change has its name, the piece that is replaced, and its replacement, in which `;` means the end of a line. `n3` adds a virtual link
+// back, and `mixed` one of high priority beside the first, whose offers are drawn. `two` adds network B: process 3 is its switch, 4
+// ES1>SW1, 5 SW1>ES1, 6 SW1>ES2, 7 ES2>SW1, 8 ES1>SW2, 9 SW2>ES1, 10 SW2>ES2, 11 ES2>SW2.
 const CHANGES: &str =
     r#"n3: b = [] -> b = [];[[vl]];id = 2;bag_ms = 1;smax = 64;priority = "low";policing_jitter_ns = 0;skew_max_ns = 1000000;depth = 16;size = 64;offset_ns = 0;period_ns = 1000000000000;jitter_ns = 0;a = [["ES2", "SW1", "ES1"]];b = []
 two: b = [] -> b = [["ES1", "SW2", "ES2"]];[[node]];name = "SW2";kind = "switch";port_bytes = 65536;net = "B";latency_ns = 16000;[[link]];a = "ES1";b = "SW2";mbit = 100;propagation_ns = 100;[[link]];a = "SW2";b = "ES2";mbit = 100;propagation_ns = 100
@@ -64,21 +64,21 @@ by_frames: smax = 64 -> smax = 100;policing = "frames"
 outage: [[vl]] -> [[outage]];from = "ES1";to = "SW1";from_ns = 5760;to_ns = 5761;[[vl]]
 outage_before: [[vl]] -> [[outage]];from = "ES1";to = "SW1";from_ns = 0;to_ns = 5760;[[vl]]"#;
 
-// The text of the network with this name; of two names with a plus between them the changes of both are made.
+// Returns the text of the network with this name; of two names with a plus between, with the changes of both.
 pub fn text_of(alloc: Global, names: &str) -> Result<String, AllocError> {
     let (one, other) = names.split_once('+').unwrap_or((names, ""));
     let text = changed(alloc, ONE, one)?;
     changed(alloc, text.as_str(), other)
 }
 
-// The text with the change that has this name, if one has.
+// Returns the text with the change of this name, if one has it.
 fn changed(alloc: Global, text: &str, name: &str) -> Result<String, AllocError> {
     let (piece, by) = change_of(name);
     let by = by.replace(alloc, ";", "\n")?;
     text.replace(alloc, piece, by.as_str())
 }
 
-// What the change with this name replaces, and by what; nothing where there is none.
+// Returns what the change of this name replaces, and its replacement; nothing if no change has the name.
 fn change_of(name: &str) -> (&'static str, &'static str) {
     for line in CHANGES.lines() {
         let (label, change) = line.split_once(": ").unwrap_or((line, ""));

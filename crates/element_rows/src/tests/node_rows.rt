@@ -1,4 +1,4 @@
-//! Rows of nodes in hand.
+//! Rows of single nodes.
 use crate::tests::messages::{message, tell_message};
 use crate::tests::playing::{Played, play_script};
 use crate::tests::words::{tell, tell_number};
@@ -11,12 +11,12 @@ use std::mem::forget;
 use traffic::offers;
 use vlink::{Cause, FrameSize, Message, Note, VlId};
 
-// A network, the number of a process, and the messages that it is given, of which it does not see receiver, sender and number. Then what
-// each message makes it send and note; then the number of its next message with its regulator of virtual link 1 and its ports 0 and 1, as
-// far as it has them, now and as they are when the messages are undone, one after another. A process that the network has not is none.
+// A network, the number of a process, and the messages that it receives, of which it does not see receiver, sender and number. Then what
+// each message makes it send and note. Then the number of its next message with its regulator of virtual link 1 and its ports 0 and 1, as
+// far as it has them, now and when the messages are undone, one after another. `none` means that the network does not have the process.
 //
-// Behind `offers` the offers of a network: the first words of PCG for the state 42 and the stream 54, 2707161783 and 2068313097,
-// leave 326 and 851 modulo 1001.
+// Behind `offers` are the offers of a network: the first words of PCG for the state 42 and the stream 54, 2707161783 and 2068313097, leave
+// 326 and 851 modulo 1001.
 pub const ROWS: &str = "\
 node one 0, offer@0:1.64 => 3.0.0/carry@5760:1.64.0.0.0.0 0.0.1/free@6720:0 ; | #2 (1 after 0) (busy 0) #0 (0) (idle 0)
 node short 0, offer@0:1.64 => 3.0.0/carry@5760:1.64.0.0.0.0 ; | #1 (1 after 0) (busy 0) #0 (0) (idle 0)
@@ -119,7 +119,7 @@ fn tell_lost(vl: VlId, cause: Cause, size: FrameSize, told: &mut String) {
     tell(told, " ");
 }
 
-// What this process tells of the script.
+// Writes the answers of this process to the script.
 pub fn tell_node(alloc: Global, network: &Network, number: u16, script: &str, told: &mut String) {
     if number >= network.process_count() {
         return tell(told, "none");

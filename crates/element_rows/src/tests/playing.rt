@@ -1,13 +1,13 @@
-//! Plays the events that a row says on an element or a node, tells what comes of them, and undoes them.
+//! Plays the events of a row on an element or a node, writes their results, and undoes them.
 ghost use Rattle.std.specs.Prelude.{◌≡◌, IsTrue};
 
 use crate::tests::words::tell;
 use reverse::Reversible;
 use std::alloc::{AllocError, Global};
 
-// What rows tell of.
+// What a row plays on.
 pub trait Played: Reversible {
-    // The event that a word says.
+    // Reads the event of a word.
     fn event(word: &str) -> Self::Event;
 
     // Whether one more event can be handled.
@@ -19,8 +19,8 @@ pub trait Played: Reversible {
     fn tell_state(&self, told: &mut String);
 }
 
-// The answers to the events that these words say; then the state that they lead to; then, as they are undone, the newest first, the state
-// that undoing each leads to.
+// Writes the answers to the events of these words; then the state after them; then, as they are undone, the newest first, the state after
+// each undo.
 pub fn play<P: Played>(played: &mut P, words: &[&str], told: &mut String)
 where
     P::Event: Drop,
@@ -41,7 +41,7 @@ where
     played.tell_state(told);
 }
 
-// What playing the script tells.
+// Writes the results of the script.
 pub fn play_script<P: Played>(alloc: Global, played: &mut P, script: &str, told: &mut String)
 where
     P::Event: Drop,

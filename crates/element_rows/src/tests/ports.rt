@@ -1,4 +1,4 @@
-//! An output port in hand: `high:NUMBER:BYTES` and `low:NUMBER:BYTES`, a frame put, and `free`.
+//! An output port, alone: `high:NUMBER:BYTES` and `low:NUMBER:BYTES` are a frame put, and `free`.
 use crate::tests::playing::Played;
 use crate::tests::words::{byte_at, size_at, tell, tell_number};
 use output_port::{Port, PortAnswer, PortEvent, Priority};
@@ -27,7 +27,7 @@ impl Played for Port {
         true
     }
 
-    // A frame that starts is told with how long the port is busy with it, in ns, at 80 ns a byte.
+    // A frame that starts is written with how long the port is busy with it, in ns, at 80 ns a byte.
     fn tell_answer(answer: &PortAnswer, told: &mut String) {
         if let PortAnswer::Started(frame) = *answer {
             tell(told, "Started ");
@@ -40,7 +40,7 @@ impl Played for Port {
         }
     }
 
-    // Whether it is busy, and how many bytes wait.
+    // Writes whether it is busy, and how many bytes wait.
     fn tell_state(&self, told: &mut String) {
         tell(told, if self.is_busy() { " (busy " } else { " (idle " });
         tell_number(told, u64::from(self.waiting_bytes()));

@@ -1,4 +1,4 @@
-//! Redundancy management in hand: `NUMBER@NS`, a frame that comes.
+//! Redundancy management, alone: `NUMBER@NS` is a frame that arrives.
 use crate::tests::playing::Played;
 use crate::tests::words::{byte_at, moment_at, tell, tell_number};
 use redundancy::{Delivery, Received, Redundancy};
@@ -20,7 +20,7 @@ impl Played for Redundancy {
         let _ = write!(told, "{answer:?} ");
     }
 
-    // The last frame delivered.
+    // Writes the last frame delivered.
     fn tell_state(&self, told: &mut String) {
         if let Some((number, at)) = self.last() {
             tell(told, " ");

@@ -1,4 +1,4 @@
-//! A regulator in hand: `offer@NS:SUB` and `release@NS`.
+//! A regulator, alone: `offer@NS:SUB` and `release@NS`.
 use crate::tests::playing::Played;
 use crate::tests::words::{byte_at, moment_at, tell, tell_number};
 use bag_regulator::{BagRegulator, RegAnswer, RegEvent, RegOut};
@@ -25,7 +25,7 @@ impl Played for BagRegulator {
         true
     }
 
-    // A frame released is told by its number and the moments of its offer and its release.
+    // A frame released is written by its number and the moments of its offer and its release.
     fn tell_answer(answer: &RegOut, told: &mut String) {
         if let RegAnswer::Released(frame) = answer.answer {
             tell(told, "Released ");
@@ -44,7 +44,7 @@ impl Played for BagRegulator {
         tell(told, " ");
     }
 
-    // The next number, and the moment of the last release.
+    // Writes the next number, and the moment of the last release.
     fn tell_state(&self, told: &mut String) {
         tell(told, " (");
         tell_number(told, u64::from(self.sn()));

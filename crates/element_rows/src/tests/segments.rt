@@ -1,4 +1,4 @@
-//! A trace in segments: its intervals, and what a gathering answers to segments.
+//! A trace in segments: its intervals, and the answers of a gathering to segments.
 use crate::tests::words::{moment_at, number_at, short_at, tell, tell_number};
 use network::Network;
 use seqsim::{Unwatched, run};
@@ -8,9 +8,9 @@ use std::mem::forget;
 use trace_segments::{Batch, Gather, Segment, SegmentFault, width};
 use vlink::{GREATEST_NS, Row, Time};
 
-// Numbers, and the width of an interval of a trace until so many ns. The segment of process 1 of a network for each interval. What a gathering
-// of run 7 of two processes until 9 ns answers to `7:1:0`, the segment of that run, that process and that interval without rows, one after
-// another. A segment and a batch are told by the moments of their begin and end, and those of their rows.
+// Numbers, and the width of an interval of a trace until this many ns. The segment of process 1 of a network for each interval. The answers
+// of a gathering of run 7 of two processes until 9 ns to `7:1:0`, which is the segment of that run, that process and that interval without
+// rows, one after another. A segment and a batch are written by the moments of their begin and end, and those of their rows.
 pub const ROWS: &str = "\
 width, 2000000 => 1954
 segments n1 1, 0 14 1023 1024 => 0..1954 27356..29310:27720 1998942..2000001 none
@@ -20,7 +20,7 @@ pub fn tell_width(script: &str, told: &mut String) {
     tell_number(told, width(moment_at(script, 1)).ns());
 }
 
-// The segments of a process of this network.
+// Writes the segments of a process of this network.
 pub fn tell_segments(
     alloc: Global,
     network: &Network,
@@ -38,7 +38,7 @@ pub fn tell_segments(
     }
 }
 
-// The segment of a run and of a process for an interval, of these rows.
+// Makes the segment of a run and of a process for an interval, of these rows.
 fn segment_of(
     alloc: Global,
     rows: &[Row],

@@ -1,24 +1,24 @@
-//! Plays the words of a script on an exchange and its processes, or on one and its groups (`group_stage.rt`), and tells what it answers.
+//! Plays the words of a script on an exchange and its processes, or on one and its groups (`group_stage.rt`), and writes the answers.
 //!
-//! A word stands for the call of that name; behind colons stand its numbers, that of the process first: `collect:0:8` collects 8 letters
-//! at most, `work:0:16:1` works with turn 16 and window 1 ns, `mail:0` counts the letters in a mail, and `before` and `after` tell how often
-//! the gate was told of a message. An answer is told as a number, 1 where it is yes, or done, or as `none`, and a refusal by one word. Behind
-//! a bar stand the steps of the journal.
+//! A word is the name of a call. Its numbers stand behind colons, that of the process first: `collect:0:8` collects at most 8 letters,
+//! `work:0:16:1` works with turn 16 and window 1 ns, `mail:0` counts the letters in a mail, and `before` and `after` are how often the gate
+//! was called for a message. An answer is written as a number, 1 for yes or done, or as `none`, and a refusal as one word. The steps of the
+//! journal stand behind a bar.
 //!
-//! A call that is refused memory is made again, and what comes of it then is told; of `work`, how many steps both tries did. So a row holds
-//! with ample memory, and where any one growth of its calls is refused, but for one that a refused call had in part.
+//! A call that is refused memory is made again, and the second answer is written; for `work`, how many steps both tries did. So a row holds
+//! with ample memory, and if any one growth of its calls is refused, except one of which a refused call had a part.
 ghost use Rattle.std.specs.Prelude.{◌≡◌, true};
 
 use crate::tests::words::{long_at, number_at, short_at, tell, tell_number, tell_numbers};
 use journal::{Gate, PoolFault};
+use network_runs::NetworkRun;
 use nodes::Node;
 use process_exchange::{Exchange, Held, collect, post, publish, work};
 use process_segments::Of;
-use run_rows::NetworkRun;
 use std::cell::Cell;
 use vlink::Step;
 
-// Counts what it is told of, as long as the counts of a process come in order.
+// Counts the calls of the gate, as long as the numbers of a process come in order.
 #[derive(Drop)]
 struct CountingGate {
     before: Cell<u64>,
@@ -42,13 +42,13 @@ impl Gate for CountingGate {
     }
 }
 
-// On what a script is played.
+// What a script is played on.
 pub trait Stage {
-    // What the call answers, or what is asked. None: there is no such process or group.
+    // Returns the answer of the call or the question. None if the process or group does not exist.
     fn act(&mut self, word: &str, refused: &mut String) -> Result<Option<u64>, PoolFault>;
 }
 
-// Plays each word, and tells what it answers.
+// Plays each word, and writes its answer.
 pub fn play_words<S: Stage>(stage: &mut S, script: &str, told: &mut String, refused: &mut String) {
     for word in script.split_whitespace() {
         let answer = match stage.act(word, refused) {
@@ -97,7 +97,7 @@ pub fn play_on_processes<J: NetworkRun>(
     play_words(&mut stage, script, told, refused);
 }
 
-// The name of the call that a word stands for.
+// Returns the name of the call that a word names.
 pub fn name_in(word: &str) -> &str {
     word.split_once(':').unwrap_or((word, "")).0
 }
@@ -107,7 +107,7 @@ fn tell_refused(call: &str, refused: &mut String) {
     tell(refused, " was refused memory\n");
 }
 
-// What the call answers, or what is asked of the exchange, the gate or a process.
+// Returns the answer of the call, or of a question to the exchange, the gate or a process.
 fn act<J: NetworkRun>(
     exchange: &mut Exchange<Node, Of<J>>,
     helds: &mut Vec<Held<Node, Of<J>>>,
@@ -130,7 +130,7 @@ fn act<J: NetworkRun>(
     Ok(Some(number))
 }
 
-// How many letters there are in the mail of a process, up to 100.
+// Returns how many letters the mail of a process has, up to 100.
 fn letters<J: NetworkRun>(exchange: &Exchange<Node, Of<J>>, process: u16) -> u64 {
     let mut count = 0;
     for place in 0..100usize {
@@ -141,7 +141,7 @@ fn letters<J: NetworkRun>(exchange: &Exchange<Node, Of<J>>, process: u16) -> u64
     count
 }
 
-// What a call on a process in hand answers. One with a block is not let collect.
+// Returns the answer of a call on a process in hand. A process with a block is not allowed to collect.
 fn act_on<J: NetworkRun>(
     held: &mut Held<Node, Of<J>>,
     exchange: &mut Exchange<Node, Of<J>>,
@@ -164,7 +164,7 @@ fn act_on<J: NetworkRun>(
     }
 }
 
-// How many steps were done, if need be at two tries.
+// Returns how many steps were done, if need be by two tries.
 fn do_work<J: NetworkRun>(
     held: &mut Held<Node, Of<J>>,
     gate: &CountingGate,
@@ -191,7 +191,7 @@ fn tell_answer(answer: Result<Option<u64>, PoolFault>, told: &mut String) {
     tell(told, " ");
 }
 
-// How a row tells a refusal.
+// Returns the word for a refusal.
 fn name_of(fault: PoolFault) -> &'static str {
     match fault {
         PoolFault::OutOfMemory => "memory",
@@ -202,7 +202,7 @@ fn name_of(fault: PoolFault) -> &'static str {
     }
 }
 
-// The steps of the journal.
+// Writes the steps of the journal.
 pub fn tell_journal<J: NetworkRun>(exchange: &Exchange<Node, Of<J>>, told: &mut String)
     requires { J.keeps ≡ true }
 {

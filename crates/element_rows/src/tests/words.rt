@@ -1,8 +1,9 @@
-//! How rows write numbers, and what is told of rows. What finds no room is not told, and then the row is wrong.
+//! How rows write numbers and rows. A text that finds no room is left out, and then the row is wrong.
 use std::fmt::Write;
 use vlink::{FrameSize, Time};
 
-// The number at this place of a text, from 0, where a mark or a blank stands between two of them. What is no number, or not there, is 0.
+// Reads the number at this place of a text, from 0; a mark or a blank stands between two numbers. If it is missing or not a number, returns
+// 0.
 pub fn number_at(text: &str, place: usize) -> u64 {
     let digits = text.split(['.', ':', '/', '@', ' ']).nth(place);
     digits.unwrap_or("").parse().unwrap_or(0)
@@ -36,7 +37,7 @@ pub fn tell_number(told: &mut String, number: u64) {
     let _ = write!(told, "{number}");
 }
 
-// Numbers with a mark between two of them.
+// Writes numbers with a mark between two of them.
 pub fn tell_numbers(told: &mut String, numbers: &[u64]) {
     let mut mark = "";
     for number in numbers {

@@ -1,4 +1,4 @@
-//! What a replay of a journal leaves that the program does not show. What is expected was worked out by hand.
+//! What a replay of a journal leaves, as far as the program does not show it. The expected values were worked out by hand.
 use crate::tests::messages::tell_message;
 use crate::tests::networks::text_of;
 use crate::tests::playing::Played;
@@ -11,9 +11,9 @@ use std::mem::forget;
 use timewarp::replay;
 use vlink::{Letter, Sign, Step};
 
-// Behind the network each row has the steps of a journal, and then what they leave: the letters in the mail of the line from ES1 to SW1, and
-// ES1 as it is when its events are undone that are not committed. `3*R:0` is three times the step R of process 0. Last come texts that are
-// read as journals of so many lines at most, and why they are refused; there `;` stands for the end of a line.
+// Behind the network each row has the steps of a journal, and then what they leave: the letters in the mail of the line from ES1 to SW1,
+// and ES1 after an undo of its events that are not committed. `3*R:0` is three times the step R of process 0. Last come texts that are read
+// as journals with this many lines at most, and why they are refused; there `;` means the end of a line.
 pub const ROWS: &str = "\
 world brief+often, => mail | #0 (0) (idle 0)
 world brief+often, T:0:1 => mail | #0 (0) (idle 0)
@@ -33,7 +33,7 @@ world long+dense, 10000*T:0:1 10000*A:0 10000*R:0 T:0:0 A:0 P:0 G => mail +3.0.0
 journal 1, G;x; => too many lines
 journal 2, G;x; => line 2 is no step";
 
-// What the steps leave, done at once.
+// Writes what the steps leave, if they are done at once.
 pub fn tell_world(alloc: Global, net: &str, script: &str, told: &mut String) {
     let mut steps = Vec::new(alloc);
     for word in script.split_whitespace() {
@@ -51,7 +51,7 @@ fn push_times(steps: &mut Vec<Step>, word: &str) {
     }
 }
 
-// The step that is written so.
+// Reads a step.
 fn step_of(word: &str) -> Step {
     let (process, place) = (long_at(word, 1), long_at(word, 2));
     match word.split_once(':').unwrap_or((word, "")).0 {
@@ -70,7 +70,8 @@ fn tell_after(alloc: Global, net: &str, steps: &[Step], told: &mut String) {
     }
 }
 
-// The letters for process 3, and process 0 as it was after its committed events. A function that takes a world would cost more than all this.
+// Writes the letters for process 3, and process 0 as it was after its committed events. A function that takes a world would cost more than
+// all this.
 fn tell_after_all(alloc: Global, text: &str, steps: &[Step], told: &mut String) {
     let Ok(network) = read(alloc, text) else {
         return;
@@ -95,7 +96,7 @@ fn tell_letter(letter: &Letter, told: &mut String) {
     tell_message(&letter.message, told);
 }
 
-// What is told of this text as a journal.
+// Writes the result of reading this text as a journal.
 pub fn tell_read(alloc: Global, most: &str, script: &str, told: &mut String) {
     if let Ok(text) = script.trim().replace(alloc, ";", "\n") {
         match read_steps(alloc, text.as_bytes(), number_at(most, 0)) {

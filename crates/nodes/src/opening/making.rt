@@ -21,7 +21,7 @@ use redundancy::Redundancy;
 use std::alloc::{AllocError, Global};
 use vlink::VlId;
 
-/// A virtual link at an end system: port 0 leads to network A and port 1 to network B.
+/// Makes the end of a virtual link at an end system: port 0 leads to network A and port 1 to network B.
 fn end_of(met: &Meeting) -> VlEnd
     ensures { result ≡ end_met met.now }
 {
@@ -32,7 +32,7 @@ fn end_of(met: &Meeting) -> VlEnd
     }
 }
 
-/// The regulator of a virtual link, of which nothing was offered.
+/// Makes the regulator of a virtual link, to which nothing was offered.
 fn regulator_of(alloc: Global, link: &VirtualLink) -> Result<BagRegulator, AllocError>
     ensures { IfOk result (λ regulator. regulator ≡ regulator_of link.now) }
 {
@@ -40,7 +40,7 @@ fn regulator_of(alloc: Global, link: &VirtualLink) -> Result<BagRegulator, Alloc
     BagRegulator::new(alloc, bag_ns, u32::from(link.depth), link.sub)
 }
 
-/// The virtual links that an end system sends.
+/// Makes the virtual links that an end system sends.
 pub fn sources_of(alloc: Global, meetings: &[Meeting]) -> Result<Vec<Source>, AllocError>
     ensures { IfOk result (λ sources. sources.items ≡ map source_met meetings.now) }
 {
@@ -54,7 +54,7 @@ pub fn sources_of(alloc: Global, meetings: &[Meeting]) -> Result<Vec<Source>, Al
     Ok(sources)
 }
 
-/// What checks the frames of a virtual link, of which none was received.
+/// Makes the checks of the frames of a virtual link, of which none was received.
 fn receiving_of(link: &VirtualLink) -> Receiving
     requires { IsLinkInLimits link.now }
     ensures { result ≡ receiving_of link.now }
@@ -66,7 +66,7 @@ fn receiving_of(link: &VirtualLink) -> Receiving
     }
 }
 
-/// The virtual links that an end system receives.
+/// Makes the virtual links that an end system receives.
 pub fn receptions_of(alloc: Global, meetings: &[Meeting]) -> Result<Vec<Reception>, AllocError>
     requires { All (λ met. IsLinkInLimits met.link) meetings.now }
     ensures { IfOk result (λ receptions. receptions.items ≡ map reception_met meetings.now) }
@@ -81,7 +81,7 @@ pub fn receptions_of(alloc: Global, meetings: &[Meeting]) -> Result<Vec<Receptio
     Ok(receptions)
 }
 
-/// What an account counts, as the virtual link says.
+/// Returns what an account counts, by the key of its virtual link.
 fn measure_of(policing: Policing) -> Measure
     ensures { result ≡ measure_of policing }
 {
@@ -91,7 +91,7 @@ fn measure_of(policing: Policing) -> Measure
     }
 }
 
-/// The account of a virtual link, full.
+/// Makes the account of a virtual link, full.
 fn account_of(link: &VirtualLink) -> Account
     requires { IsLinkInLimits link.now }
     ensures { result ≡ account_of link.now }
@@ -102,7 +102,7 @@ fn account_of(link: &VirtualLink) -> Account
     Account::new(link.smax, bag_ns, jitter_ns, measure).unwrap()
 }
 
-/// Which list of an output port the frames of a virtual link wait in.
+/// Returns the list of an output port in which the frames of a virtual link wait.
 fn port_priority(priority: network::Priority) -> output_port::Priority
     ensures { result ≡ port_priority priority }
 {
@@ -112,7 +112,7 @@ fn port_priority(priority: network::Priority) -> output_port::Priority
     }
 }
 
-/// The ports of the virtual link with this number.
+/// Returns the ports of the virtual link with this number.
 fn ports_among(meetings: &[Meeting], vl: VlId) -> [bool; GREATEST_PORTS]
     requires { IsRising (map number_met meetings.now) }
     ensures { result ≡ ports_among meetings.now vl.0 }
@@ -123,7 +123,7 @@ fn ports_among(meetings: &[Meeting], vl: VlId) -> [bool; GREATEST_PORTS]
     }
 }
 
-/// The virtual links that come in at a switch, each with the ports by which it leaves.
+/// Makes the virtual links that come in at a switch, each with the ports by which it leaves.
 pub fn transits_of(
     alloc: Global,
     arriving: &[Meeting],

@@ -1,5 +1,5 @@
-//! Where a virtual link and a node meet.
-//! Ways are taken together by virtual link here alone: only rising numbers tell where the next virtual link begins.
+//! The ports by which a virtual link enters and leaves a node. Only here are ways grouped by virtual link: their ascending numbers show
+//! where the next virtual link begins.
 ghost use Rattle.std.specs.Prelude.{◌≡◌, ◌<◌, ◌≤◌, ◌++◌, ◌∷◌, All, length, map, take, drop, IfOk, OnOk};
 ghost use Rattle.std.specs.List.{flat_map};
 ghost use Rattle.network.specs.declared.limits.TheConstants.{GREATEST_PORTS};
@@ -13,14 +13,14 @@ use crate::finding::Numbered;
 use network::{GREATEST_PORTS, Network, VirtualLink, Way};
 use std::alloc::{AllocError, Global};
 
-/// Whether virtual links leave a node or come in.
+/// Whether virtual links leave a node or enter it.
 #[derive(Clone, Copy)]
 pub enum Side {
     Out,
     In,
 }
 
-/// A virtual link that leaves a node, or comes in there.
+/// A virtual link that leaves a node, or enters it.
 #[derive(Clone, Copy)]
 pub struct Meeting {
     pub link: VirtualLink,
@@ -38,7 +38,7 @@ impl Numbered for Meeting {
     }
 }
 
-/// How many of these ways the virtual link of the first one has, where its ways stand together.
+/// Returns how many of these ways belong to the virtual link of the first one. The ways of one virtual link stand together.
 fn group_len(ways: &[Way]) -> usize
     requires { 1 ≤ length ways.now }
     ensures least { 1 ≤ result }
@@ -54,7 +54,7 @@ fn group_len(ways: &[Way]) -> usize
     ways.len()
 }
 
-/// For each port, whether one of these ways is by it.
+/// Returns, for each port, whether one of these ways uses it.
 fn ports_by(ways: &[Way]) -> [bool; GREATEST_PORTS]
     requires { All (λ way. way.port < GREATEST_PORTS) ways.now }
     ensures { result ≡ ports_by ways.now }
@@ -66,7 +66,7 @@ fn ports_by(ways: &[Way]) -> [bool; GREATEST_PORTS]
     ports
 }
 
-/// Puts the virtual link of these ways at the end.
+/// Appends the virtual link of these ways.
 fn meet(meetings: &mut Vec<Meeting>, network: &Network, ways: &[Way]) -> Result<(), AllocError>
     requires ports { All (λ way. way.port < GREATEST_PORTS) ways.now }
     requires limits { All (λ m. IsLinkInLimits m.link) meetings.old.items }
@@ -87,7 +87,7 @@ fn meet(meetings: &mut Vec<Meeting>, network: &Network, ways: &[Way]) -> Result<
     Ok(())
 }
 
-/// The virtual links of these ways, which stand together by virtual link.
+/// Returns the virtual links of these ways. The ways of one virtual link stand together.
 fn all_met(alloc: Global, network: &Network, ways: &[Way]) -> Result<Vec<Meeting>, AllocError>
     requires { All (λ way. way.port < GREATEST_PORTS) ways.now }
     ensures met { IfOk result (λ found. found.items ≡ all_met network.now ways.now) }
@@ -103,7 +103,7 @@ fn all_met(alloc: Global, network: &Network, ways: &[Way]) -> Result<Vec<Meeting
     Ok(found)
 }
 
-/// The ways by which virtual links leave a node or come in there.
+/// Returns the ways by which virtual links leave a node or enter it.
 fn ways_at(network: &Network, node: u16, side: Side) -> &[Way]
     requires { node < length network.now.nodes }
     ensures { result.now ≡ flat_map (ways_at network.now node side) network.now.vls }
@@ -114,7 +114,7 @@ fn ways_at(network: &Network, node: u16, side: Side) -> &[Way]
     }
 }
 
-/// The virtual links that leave a node or come in there, by rising number.
+/// Returns the virtual links that leave a node or enter it, sorted by number.
 pub fn meetings(
     alloc: Global,
     network: &Network,

@@ -1,4 +1,4 @@
-//! Which line each port leads into.
+//! The line into which each port leads.
 ghost use Rattle.std.specs.Prelude.{◌≡◌, ℕ, ◌+◌, ◌<◌, ◌&&◌, None, Some, is_none, if◌then◌else◌, length, map, slice_index_or, vec_len, IfOk};
 ghost use Rattle.std.specs.Option.{option_map};
 ghost use Rattle.network.specs.Words.{lines_of};
@@ -10,7 +10,7 @@ use output_port::Port;
 use std::alloc::{AllocError, Global};
 use vlink::process_number;
 
-/// The process of a line.
+/// Returns the process of a line.
 fn process_of(network: &Network, line: usize) -> u16
     requires { line < length (lines_of network.now) }
     ensures { result ≡ length network.now.nodes + line }
@@ -20,7 +20,7 @@ fn process_of(network: &Network, line: usize) -> u16
     process_number(network.node_count() + line)
 }
 
-/// Notes a line at the port that leads into it, where the line leaves this node and the port has none yet.
+/// Notes a line at the port that leads into it, if the line leaves this node and the port has no line yet.
 fn note_line(lines_ahead: &mut Vec<Option<LineAhead>>, node: u16, line: LinePlan, ahead: LineAhead)
     ensures stored { (q : ℕ) → q < vec_len lines_ahead.old →
         slice_index_or lines_ahead.new.items q None ≡ (if leaves_by node q line && is_none (slice_index_or lines_ahead.old.items q None) then Some ahead else slice_index_or lines_ahead.old.items q None) }
@@ -32,7 +32,7 @@ fn note_line(lines_ahead: &mut Vec<Option<LineAhead>>, node: u16, line: LinePlan
     }
 }
 
-/// The lines that the first `count` ports of a node lead into. It looks at each line once.
+/// Returns the lines into which the first `count` ports of a node lead. It looks at each line once.
 fn lines_ahead_of(
     alloc: Global,
     network: &Network,
@@ -53,7 +53,7 @@ fn lines_ahead_of(
     Ok(lines_ahead)
 }
 
-/// The port that leads into a line: so many bytes may wait there.
+/// Makes the port that leads into a line, and at which at most `port_bytes` bytes may wait.
 fn outlet_of(
     alloc: Global,
     ahead: Option<LineAhead>,
@@ -66,7 +66,7 @@ fn outlet_of(
     Ok(Some(Outlet { ahead, port }))
 }
 
-/// The ports that lead into these lines, at each of which so many bytes may wait.
+/// Makes the ports that lead into these lines, at each of which at most `port_bytes` bytes may wait.
 fn outlets_of(
     alloc: Global,
     lines_ahead: &[Option<LineAhead>],
@@ -81,7 +81,7 @@ fn outlets_of(
     Ok(outlets)
 }
 
-/// The first `count` ports of a node, at each of which so many bytes may wait.
+/// Makes the first `count` ports of a node, at each of which at most `port_bytes` bytes may wait.
 pub fn ports_of(
     alloc: Global,
     network: &Network,

@@ -9,7 +9,7 @@ use reverse::{act_and_undo, actor_law, actor_rules_law};
 use std::alloc::Global;
 use vlink::{Body, Message, Time};
 
-// Tells how many rows the run of an actor with this counter gives, or why it is given up. It ends at 4 ns, so that nothing is sent.
+// Writes how many rows the run of an actor with this counter gives, or why it is given up. It ends at 4 ns, so that nothing is sent.
 pub(crate) fn tell_run(alloc: Global, told: &mut String, counter: u64) -> Result<(), ProcFault> {
     let mut actor = Summing::new(Time::of_known(4));
     actor.counter = counter;
@@ -20,7 +20,7 @@ pub(crate) fn tell_run(alloc: Global, told: &mut String, counter: u64) -> Result
     }
 }
 
-// How many rows the run of this actor gives, which is offered one message at 0 ns.
+// Returns how many rows the run of this actor gives, with one message offered at 0 ns.
 fn rows(alloc: Global, actor: Summing) -> Result<usize, SimFault>
     requires { actor.until < 5 }
 {
@@ -39,7 +39,7 @@ fn rows(alloc: Global, actor: Summing) -> Result<usize, SimFault>
     Ok(rows.len())
 }
 
-// Tells how many answers three messages get, and the sum and the counter of the actor once they are undone.
+// Writes how many answers three messages get, and the sum and the counter of the actor once they are undone.
 pub(crate) fn tell_back(alloc: Global, told: &mut String) -> Result<(), ProcFault> {
     let mut actor = actor(0);
     let mut answers = Vec::new(alloc);

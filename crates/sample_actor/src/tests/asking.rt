@@ -1,11 +1,11 @@
-//! The words of a script that look at a process, and those that have a number for an answer, or none.
+//! The words of a script that look at a process, and those whose answer is a number or none.
 use super::player::{letter, moment, tell, tell_answer, two_numbers};
 use crate::Summing;
 use process_queues::{ProcFault, Process};
 use std::fmt::Write;
 use vlink::{Letter, Message, Sign};
 
-// Tells what the call answers.
+// Writes the answer of the call.
 pub(crate) fn tell_asked(
     process: &mut Process<Summing>,
     told: &mut String,
@@ -16,7 +16,7 @@ pub(crate) fn tell_asked(
     Ok(())
 }
 
-// What the call answers.
+// Returns the answer of the call.
 fn ask(process: &mut Process<Summing>, call: &str, rest: &str) -> Result<Option<u64>, ProcFault> {
     match call {
         "run" => time_of(process.run()),
@@ -26,7 +26,7 @@ fn ask(process: &mut Process<Summing>, call: &str, rest: &str) -> Result<Option<
     }
 }
 
-// The moment of the message that is answered, if one is.
+// Returns the moment of the message that is returned, if one is.
 fn time_of(answer: Result<Option<Message>, ProcFault>) -> Result<Option<u64>, ProcFault> {
     match answer {
         Ok(Some(message)) => Ok(Some(message.time.ns())),
@@ -50,7 +50,7 @@ fn commit(process: &mut Process<Summing>, rest: &str) -> Result<Option<u64>, Pro
     }
 }
 
-// Tells what a call answers that changes nothing.
+// Writes the answer of a call that changes nothing.
 pub(crate) fn look(process: &Process<Summing>, told: &mut String, call: &str, rest: &str) {
     match call {
         "outbox" => tell_letters(process.outbox(), told),
@@ -79,7 +79,7 @@ fn committable(process: &Process<Summing>, rest: &str) -> usize {
     process.committable(moment(gvt), most as usize)
 }
 
-// The message that comes next: its moment and its sender.
+// Writes the next message: its moment and its sender.
 fn tell_next(next: Option<Message>, told: &mut String) {
     if let Some(message) = next {
         let _ = write!(told, "{}@{} ", message.time.ns(), message.sender);
@@ -94,7 +94,7 @@ fn tell_letters(letters: &[Letter], told: &mut String) {
     }
 }
 
-// The letter as it is written: its sign, its moment and its number.
+// Writes the letter: its sign, its moment and its number.
 pub(crate) fn tell_letter(letter: &Letter, told: &mut String) {
     tell(told, if letter.sign == Sign::Plus { "+" } else { "-" });
     let (ns, number) = (letter.message.time.ns(), letter.message.number);

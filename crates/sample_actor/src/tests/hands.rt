@@ -1,12 +1,12 @@
-//! Plays a script on a group of passing actors, and tells what its words answer.
+//! Plays a script on a group of passing actors, and writes the answers of its words.
 //!
-//! `hand:3` opens a group of processes 0 to 2 of five. `+10:1` and `-10:1:7:4` deliver a letter for the moment 10 to process 1: its sign, and behind
-//! further colons its sender, 9 where none is named, and its number, 0 where none is named. `arrive`, `run:50` and `commit:20` are the calls
-//! `arrive_all`, `run_next` and `commit_below`; `exact` is `count_done`, and tells the floor; `gone:20` lets rows go that are earlier than 20; `before:20`
-//! tells whether some event is done before 20, and the oldest moment of one; `steps` tells for how many steps all blocks so far stood; and `next`,
-//! `floor`, `abroad`, `rows` and `states` tell what can be seen. Behind its answer each word tells its block, up to a full stop: a letter for what was
-//! done, and the process. `R`: a message was handled; `H` and `T`: what was sent home arrived at once, or waits; `A`: the front of the tray arrived;
-//! `C`: an event was committed.
+//! `hand:3` opens a group of processes 0 to 2 of five. `+10:1` and `-10:1:7:4` deliver a letter for the moment 10 to process 1: its sign,
+//! and behind further colons its sender, 9 if none is given, and its number, 0 if none is given. `arrive`, `run:50` and `commit:20` are the
+//! calls `arrive_all`, `run_next` and `commit_below`; `exact` is `count_done`, and writes the floor; `gone:20` lets rows leave that are
+//! earlier than 20; `before:20` writes whether some event is done before 20, and the oldest moment of one; `steps` writes how many steps
+//! all blocks so far represent; and `next`, `floor`, `abroad`, `rows` and `states` write what can be seen. Behind its answer each word
+//! writes its block, up to a full stop: a letter for what was done, and the process. `R`: a message was handled; `H` and `T`: what was sent
+//! to a member arrived at once, or waits; `A`: the front of the tray arrived; `C`: an event was committed.
 use super::player::{moment, number, split_at_colon, tell, tell_number, tell_refused};
 use crate::Passing;
 use group_hand::{Did, Hand, HandFault};
@@ -15,10 +15,10 @@ use std::fmt::Write;
 use std::mem::forget;
 use vlink::{LATEST_NS, Letter, Message, Row, Sign, Time};
 
-// How many processes letters can be for.
+// The number of processes that letters can be for.
 const PROCESSES: u16 = 5;
 
-// What the words of the script tell, one after another. The answer is whether there was memory to begin.
+// Writes the answers of the words of the script, one after another. Returns whether it had memory to begin.
 pub(crate) fn play(rt: &HostRuntime, script: &str, told: &mut String) -> bool {
     let (opening, words) = script.split_once(' ').unwrap_or((script, ""));
     let (_, members) = split_at_colon(opening);
@@ -32,7 +32,7 @@ pub(crate) fn play(rt: &HostRuntime, script: &str, told: &mut String) -> bool {
     }
 }
 
-// A group of the first processes, so many.
+// Makes a group of the first `count` processes.
 fn open(alloc: Global, count: u64) -> Result<Hand<Passing>, HandFault> {
     let mut members = Vec::new(alloc);
     add_members(&mut members, count)?;
@@ -65,8 +65,8 @@ fn play_words(rt: &HostRuntime, hand: &mut Hand<Passing>, told: &mut String, wor
     }
 }
 
-// Does the steps of a word. Where that was refused memory, it is done again: a refused call stopped between two words of its block.
-// `tools/refuse_memory.py` counts the words that were refused memory.
+// Does the steps of a word. If they are refused memory, they are done again: a refused call stopped between two words of its block.
+// `tools/gate/refuse_memory.py` counts the words that were refused memory.
 fn play_word(rt: &HostRuntime, hand: &mut Hand<Passing>, told: &mut String, word: &str) {
     match do_steps(hand, told, word) {
         Ok(()) => {}
@@ -94,13 +94,13 @@ fn do_steps(hand: &mut Hand<Passing>, told: &mut String, word: &str) -> Result<(
     }
 }
 
-// Whether the first message was handled, or counts beside.
+// Writes whether the first message was handled or moved to the tally.
 fn tell_run(ran: Result<bool, HandFault>, told: &mut String) -> Result<(), HandFault> {
     tell(told, if ran? { "ran " } else { "idle " });
     Ok(())
 }
 
-// A letter comes to a member, if it is for one.
+// Delivers a letter to a member, if it is for one.
 fn deliver(hand: &mut Hand<Passing>, word: &str) -> Result<(), HandFault> {
     if !word.starts_with('+') && !word.starts_with('-') {
         return Ok(());
@@ -112,7 +112,7 @@ fn deliver(hand: &mut Hand<Passing>, word: &str) -> Result<(), HandFault> {
     hand.deliver(letter)
 }
 
-// What the word tells of the group once its steps are done, where all blocks so far stood for so many steps.
+// Writes the answers of the word about the group once its steps are done; all blocks so far represent `steps` steps.
 fn look(hand: &mut Hand<Passing>, told: &mut String, word: &str, steps: u64) {
     let (call, rest) = split_at_colon(word);
     match call {
@@ -127,7 +127,7 @@ fn look(hand: &mut Hand<Passing>, told: &mut String, word: &str, steps: u64) {
     }
 }
 
-// The words of the block, which ends.
+// Ends the block, and writes its words.
 fn tell_block(alloc: Global, hand: &mut Hand<Passing>, steps: &mut u64, told: &mut String) {
     let block = hand.next_block(alloc);
     *steps = steps.saturating_add(block.steps());
@@ -155,7 +155,7 @@ fn tell_did(did: Did, told: &mut String) {
     tell_number(told, u64::from(process));
 }
 
-// The first message of the queue.
+// Writes the first message of the queue.
 fn tell_next(next: Option<Message>, told: &mut String) {
     match next {
         Some(message) => tell_message(&message, told),
@@ -163,7 +163,7 @@ fn tell_next(next: Option<Message>, told: &mut String) {
     }
 }
 
-// Whether some event is done before the moment, and the oldest moment of one.
+// Writes whether some event is done before the moment, and the oldest moment of one.
 fn tell_before(hand: &Hand<Passing>, told: &mut String, limit: Time) {
     let done = hand.is_done_before(limit);
     tell(told, if done { "yes " } else { "no " });
@@ -175,7 +175,7 @@ fn tell_before(hand: &Hand<Passing>, told: &mut String, limit: Time) {
     }
 }
 
-// The letters for others, which leave.
+// Writes the letters for others, which leave.
 fn tell_abroad(hand: &mut Hand<Passing>, told: &mut String) {
     tell_letters(hand.letters_abroad(), told);
     hand.clear_abroad();
@@ -188,14 +188,14 @@ fn tell_letters(letters: &[Letter], told: &mut String) {
     }
 }
 
-// The events whose rows are sealed.
+// Writes the events whose rows are sealed.
 fn tell_rows(rows: &[Row], told: &mut String) {
     for row in rows {
         tell_message(&row.message, told);
     }
 }
 
-// The sum and the counter of each member.
+// Writes the sum and the counter of each member.
 fn tell_states(members: &[Option<Passing>], told: &mut String) {
     for member in members {
         if let Some(actor) = member {
@@ -204,14 +204,14 @@ fn tell_states(members: &[Option<Passing>], told: &mut String) {
     }
 }
 
-// A message as its letter is written, without the sign.
+// Writes a message as its letter, without the sign.
 fn tell_message(message: &Message, told: &mut String) {
     let (ns, receiver) = (message.time.ns(), message.receiver);
     let (sender, number) = (message.sender, message.number);
     let _ = write!(told, "{ns}:{receiver}:{sender}:{number} ");
 }
 
-// The letter that is written so.
+// Reads a letter.
 fn letter(written: &str) -> Letter {
     let (rest, sign) = match written.strip_prefix('-') {
         Some(rest) => (rest, Sign::Minus),

@@ -1,4 +1,4 @@
-//! The words for mail and floors. What names a process that there is not does nothing.
+//! The words for mail and floors. A word that names a process that does not exist does nothing.
 use super::asking::tell_letter;
 use super::player::{letter, moment, number, split_at_colon, tell, two_numbers};
 use crate::Summing;
@@ -12,7 +12,7 @@ fn process_of(number: u64) -> u16 {
     u16::try_from(number).unwrap_or(u16::MAX)
 }
 
-// The outbox is posted, or room for that is made.
+// Posts the outbox, or makes room for it.
 pub(crate) fn post(
     process: &mut Process<Summing>,
     mail: &mut Mail,
@@ -28,7 +28,7 @@ pub(crate) fn post(
     }
 }
 
-// A letter of another process is posted in room made before: its receiver, and how it is written.
+// Posts a letter of another process, in room made before: its receiver, and its text.
 pub(crate) fn send(alloc: Global, mail: &mut Mail, rest: &str) -> Result<(), ProcFault> {
     let (receiver, written) = split_at_colon(rest);
     let mut letter = letter(written);
@@ -56,7 +56,7 @@ pub(crate) fn take(mail: &mut Mail, told: &mut String, rest: &str) {
     }
 }
 
-// A floor is set, or lowered.
+// Sets a floor, or lowers it.
 pub(crate) fn put(floors: &mut Floors, call: &str, rest: &str) {
     let (process, ns) = two_numbers(rest);
     let process = process_of(process);

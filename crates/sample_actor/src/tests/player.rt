@@ -1,9 +1,9 @@
-//! Plays a script on a process of the test actor, and tells what its words answer.
+//! Plays a script on a process of the test actor, and writes the answers of its words.
 //!
-//! A word stands for the call of that name; behind colons stand its numbers, moments in ns. `+10` and `-10@1` deliver a letter for the
-//! moment 10: its sign, and behind an @ its sender, 2 where none is named. An answer is told as a number, 1 where it is yes, or as `none`.
-//! `alone:7` runs an actor with the counter 7 on one thread, and `back` lets one handle three messages and undo them.
-//! Letters are told as `+15.0`, with their number, and messages as `10@2`. The end of the run is the last moment that there is.
+//! A word is the name of a call. Its numbers stand behind colons, moments in ns. `+10` and `-10@1` deliver a letter for the moment 10: its
+//! sign, and behind an @ its sender, 2 if none is given. An answer is written as a number, 1 for yes, or as `none`. `alone:7` runs an actor
+//! with the counter 7 on one thread, and `back` lets an actor handle three messages and undo them. Letters are written as `+15.0`, with
+//! their number, and messages as `10@2`. The end of the run is the greatest moment.
 use super::{alone, asking, mailing};
 use crate::Summing;
 use antimessages::Mail;
@@ -14,7 +14,7 @@ use std::fmt::Write;
 use std::mem::{forget, replace};
 use vlink::{LATEST_NS, Letter, Message, Sign, Time};
 
-// What a script acts on: a process, the mail and the floors of three.
+// What a script acts on: a process, and the mail and the floors of three processes.
 #[derive(Drop)]
 pub(crate) struct Stage {
     pub(crate) process: Process<Summing>,
@@ -22,8 +22,8 @@ pub(crate) struct Stage {
     pub(crate) floors: Floors,
 }
 
-// What the words of the script tell, one after another, and the sum and the counter of the actor once all is undone. The answer is whether there
-// was memory to begin.
+// Writes the answers of the words of the script, and the sum and the counter of the actor once all is undone. Returns whether it had memory
+// to begin.
 pub(crate) fn play(rt: &HostRuntime, script: &str, told: &mut String) -> bool {
     match open(rt.alloc()) {
         Ok(stage) => {
@@ -45,7 +45,7 @@ fn play_words(rt: &HostRuntime, stage: &mut Stage, told: &mut String, script: &s
     }
 }
 
-// Nothing done.
+// Makes a stage on which nothing was done.
 fn open(alloc: Global) -> Result<Stage, ProcFault> {
     let floors = Floors::new(alloc, 3, Time::of_known(LATEST_NS))?;
     let mail = Mail::new(alloc, 3)?;
@@ -56,7 +56,7 @@ fn open(alloc: Global) -> Result<Stage, ProcFault> {
     })
 }
 
-// The sum and the counter of the actor once all is undone.
+// Writes the sum and the counter of the actor once all is undone.
 fn tell_end(process: Process<Summing>, told: &mut String) {
     sending_law::<Summing>();
     process.stands_law();
@@ -64,7 +64,7 @@ fn tell_end(process: Process<Summing>, told: &mut String) {
     let _ = write!(told, "sum {} counter {}", actor.sum, actor.counter);
 }
 
-// Does what one word says. One that was refused memory is done again, but for `arrive?`: `tools/refuse_memory.py` counts those.
+// Does one word. A word that was refused memory is done again, except `arrive?`: `tools/gate/refuse_memory.py` counts the refusals.
 fn play_word(rt: &HostRuntime, stage: &mut Stage, told: &mut String, word: &str) {
     match act(rt.alloc(), stage, told, word) {
         Ok(()) => {}
@@ -78,18 +78,18 @@ fn play_word(rt: &HostRuntime, stage: &mut Stage, told: &mut String, word: &str)
     }
 }
 
-// The line of a word that was refused memory.
+// Writes the line of a word that was refused memory.
 pub(crate) fn tell_refused(rt: &HostRuntime, word: &str) {
     let (call, _) = split_at_colon(word);
     let _ = eprintln!(rt; "{call} was refused memory");
 }
 
-// The call that a word stands for, and what stands behind the colon.
+// Returns the call that a word names, and the text behind the colon.
 pub(crate) fn split_at_colon(word: &str) -> (&str, &str) {
     word.split_once(':').unwrap_or((word, ""))
 }
 
-// A letter, or a call, which can be refused, or one that tells what can be seen.
+// Does a letter, a call that can be refused, or a call that looks at something.
 fn act(alloc: Global, stage: &mut Stage, told: &mut String, word: &str) -> Result<(), ProcFault> {
     let (call, rest) = split_at_colon(word);
     match call {
@@ -103,7 +103,7 @@ fn act(alloc: Global, stage: &mut Stage, told: &mut String, word: &str) -> Resul
     }
 }
 
-// The words that few scripts have, and those that tell what can be seen.
+// Does the words that few scripts have, and those that look at something.
 fn act_beside(
     alloc: Global,
     stage: &mut Stage,
@@ -124,14 +124,14 @@ fn act_beside(
     }
 }
 
-// A process of an actor with this counter.
+// Makes a process of an actor with this counter.
 fn set_counter(alloc: Global, stage: &mut Stage, counter: u64) -> Result<(), ProcFault> {
     let process = Process::new(alloc, actor(counter))?;
     forget(replace(&mut stage.process, process));
     Ok(())
 }
 
-// A word that nothing refuses.
+// Does a word that nothing refuses.
 fn look(stage: &mut Stage, told: &mut String, call: &str, rest: &str) {
     match call {
         "take" => mailing::take(&mut stage.mail, told, rest),
@@ -141,7 +141,7 @@ fn look(stage: &mut Stage, told: &mut String, call: &str, rest: &str) {
     }
 }
 
-// What finds no room is not told, and then the row is wrong.
+// Writes a text. If it finds no room it is left out, and then the row is wrong.
 pub(crate) fn tell(told: &mut String, text: &str) {
     let _ = told.push_str(text);
 }
@@ -157,7 +157,7 @@ pub(crate) fn tell_answer(told: &mut String, answer: Option<u64>) {
     }
 }
 
-// The test actor with this counter.
+// Makes the test actor with this counter.
 pub(crate) fn actor(counter: u64) -> Summing {
     let mut actor = Summing::new(Time::of_known(LATEST_NS));
     actor.counter = counter;
@@ -172,13 +172,13 @@ pub(crate) fn number(digits: &str) -> u64 {
     digits.parse().unwrap_or_default()
 }
 
-// Two numbers with a colon between.
+// Reads two numbers with a colon between.
 pub(crate) fn two_numbers(digits: &str) -> (u64, u64) {
     let (first, second) = split_at_colon(digits);
     (number(first), number(second))
 }
 
-// The letter for process 0 that is written so, or the plus letter of a message written without a sign.
+// Reads a letter for process 0, or, without a sign, the plus letter of a message.
 pub(crate) fn letter(written: &str) -> Letter {
     let (ns, sender) = written.split_once('@').unwrap_or((written, "2"));
     let (ns, sign) = match ns.strip_prefix('-') {

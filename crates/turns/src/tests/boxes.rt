@@ -1,8 +1,8 @@
-//! What groups of plain lists have for one another.
+//! What groups of plain lists have for each other.
 use super::group::{Group, Token, least_ns};
 use std::alloc::AllocError;
 
-// What waits for each group, and from where on it may have something to do, in ns.
+// What waits for each group, and from which moment on it may have something to do, in ns.
 #[derive(Drop)]
 pub struct Boxes {
     pub boxes: Vec<Vec<Token>>,
@@ -10,7 +10,7 @@ pub struct Boxes {
 }
 
 impl Boxes {
-    // GVT, in ns.
+    // Returns GVT, in ns.
     pub fn gvt_ns(&self) -> u64 {
         let mut gvt_ns = u64::MAX;
         for floor_ns in &self.floors_ns {
@@ -22,14 +22,14 @@ impl Boxes {
         gvt_ns
     }
 
-    // The floor of a group is its first token.
+    // Sets the floor of a group to its first token.
     fn set_floor(&mut self, group: &Group) {
         if let Some(floor_ns) = self.floors_ns.get_mut(usize::from(group.number)) {
             *floor_ns = group.next_ns();
         }
     }
 
-    // What a group has for the next one goes into its box.
+    // Puts what a group has for the next one into its box.
     pub fn post(&mut self, group: &mut Group) -> Result<(), AllocError> {
         if let Some(tokens) = self.boxes.get_mut(usize::from(group.next())) {
             for token in &group.abroad {
@@ -42,7 +42,7 @@ impl Boxes {
         Ok(())
     }
 
-    // What lies in the box of a group comes to it.
+    // Moves what lies in the box of a group to the group.
     pub fn collect(&mut self, group: &mut Group) -> Result<(), AllocError> {
         if let Some(tokens) = self.boxes.get_mut(usize::from(group.number)) {
             for token in tokens.iter() {

@@ -4,7 +4,7 @@ use std::alloc::{AllocError, Global};
 // How long a token takes to the next group, in ns.
 const HOP_NS: u64 = 10_000;
 
-// A token that a group is to handle at a moment, in ns, and that goes to so many groups from there.
+// A token that a group handles at a moment, in ns, and that visits a number of groups from there.
 #[derive(Clone, Copy)]
 pub struct Token {
     pub time_ns: u64,
@@ -14,7 +14,7 @@ pub struct Token {
 #[derive(Drop)]
 pub struct Group {
     pub number: u16,
-    // How many groups there are.
+    // The number of groups.
     groups: u16,
     // The GVT that it saw, in ns.
     pub seen_ns: u64,
@@ -38,18 +38,18 @@ impl Group {
         }
     }
 
-    // The number of the group that its tokens go to.
+    // Returns the number of the group to which its tokens go.
     pub fn next(&self) -> u16 {
         let next = self.number.saturating_add(1);
         if next < self.groups { next } else { 0 }
     }
 
-    // The least moment of a token that waits, in ns.
+    // Returns the least moment of a token that waits, in ns.
     pub fn next_ns(&self) -> u64 {
         least_ns(&self.waiting)
     }
 
-    // Handles the first token that waits, if that is before the limit, in ns. The answer is whether there was one.
+    // Handles the first token that waits, if it is before the limit, in ns. Returns whether one was.
     pub fn handle(&mut self, limit_ns: u64) -> Result<bool, AllocError> {
         let first_ns = self.next_ns();
         if first_ns >= limit_ns {
@@ -70,7 +70,7 @@ impl Group {
     }
 }
 
-// The least moment of these tokens, in ns, or the greatest number where there is none.
+// Returns the least moment of these tokens, in ns, or the greatest number if there are none.
 pub fn least_ns(tokens: &[Token]) -> u64 {
     let mut least_ns = u64::MAX;
     for token in tokens {
@@ -89,7 +89,7 @@ fn taken(tokens: &mut Vec<Token>, time_ns: u64) -> Option<Token> {
     }
 }
 
-// So many groups with so many tokens each, a microsecond apart, that go to so many groups.
+// Makes groups with tokens, a microsecond apart, that visit a number of groups.
 pub fn groups_of(
     alloc: Global,
     groups: u16,

@@ -13,7 +13,7 @@ use std::sync::atomic::{AtomicBool, AtomicU64, Ordering};
 use std::sync::{Mutex, Wait};
 use std::thread;
 
-// The number of want of memory.
+// The number of the fault for lack of memory.
 const MEMORY: u8 = 200;
 
 #[derive(Drop)]
@@ -60,9 +60,9 @@ impl TurnRun for PassingRun {
 pub struct Passing<'t, T> {
     rt: &'t T,
     boxes: Mutex<Boxes>,
-    // Of each group whether a thread has it in hand.
+    // For each group whether a thread holds it.
     taken: Vec<AtomicBool>,
-    // How often a thread found a group in the hands of another one.
+    // How often a thread found a group that another one held.
     shared: AtomicU64,
     // How many groups were refused.
     refused: AtomicU64,
@@ -98,7 +98,7 @@ impl<'t, T: Wait> Passing<'t, T> {
         self.shared.load(Ordering::SeqCst)
     }
 
-    // A thread takes a group in hand.
+    // A thread takes a group.
     fn take(&self, group: &Group) {
         if let Some(taken) = self.taken.get(usize::from(group.number)) {
             if taken.swap(true, Ordering::SeqCst) {
@@ -114,7 +114,7 @@ impl<'t, T: Wait> Passing<'t, T> {
         }
     }
 
-    // The fault of a group, where it has one, once all groups are refused.
+    // Returns the fault of a group, if it has one, once all groups are refused.
     fn refuse(&self, group: &Group) -> Result<(), Fault> {
         let Some(number) = self.faults.get(usize::from(group.number)) else {
             return Ok(());

@@ -6,7 +6,7 @@ use Rattle.trace_tables.proofs.so_far.count_each.Goals as goal
 
 pub loop-row-init : goal.loop-row-init
 loop-row-init c = λ earlier are.
-    subst (λ rows. AreInTables c.args.network.now rows c.args.latencies.now.entries c.args.drops.now.entries) (sym (append-nil earlier)) are
+    subst (λ rows. AreInTables c.args.network.now rows c.args.cells.now c.args.drops.now.entries) (sym (append-nil earlier)) are
 
 -- how many rows are counted by then
 so-many : (earlier rows : List Row) (i : ℕ) → i ≤ length rows → length (earlier ++ take i rows) ≡ length earlier + i
@@ -26,10 +26,10 @@ loop-row-preserved c = λ earlier are.
     let next = take-read c.args.rows.now c.loop-row.row-index row c.loop-row-test.true c.row-item.is in
     let more : (earlier ++ take c.loop-row.row-index c.args.rows.now) ++ row ∷ [] ≡ earlier ++ take (c.loop-row.row-index + 1) c.args.rows.now =
     append_assoc earlier (take c.loop-row.row-index c.args.rows.now) (row ∷ []) ∙ ap (λ xs. earlier ++ xs) (sym next) in
-    subst (λ rows. AreInTables plan rows c.count_row.new.latencies.entries c.count_row.new.drops.entries) more
+    subst (λ rows. AreInTables plan rows c.count_row.new.cells c.count_row.new.drops.entries) more
     (c.in_ok-count_row.ensures (earlier ++ take c.loop-row.row-index c.args.rows.now) (c.loop-row.invariant earlier are))
 
 pub returns : goal.returns
 returns c = λ earlier are.
-    subst (λ rows. AreInTables c.args.network.now (earlier ++ rows) c.loop-row.latencies.entries c.loop-row.drops.entries)
+    subst (λ rows. AreInTables c.args.network.now (earlier ++ rows) c.loop-row.cells c.loop-row.drops.entries)
     (take_all c.loop-row.row-index c.args.rows.now c.loop-row-test.false) (c.loop-row.invariant earlier are)

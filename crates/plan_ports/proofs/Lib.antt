@@ -1,0 +1,6 @@
+pub mod Ahead
+pub mod Entries
+pub mod Offered
+pub mod OwnPorts
+pub mod Ways
+pub mod Linked

@@ -1,0 +1,1 @@
+"""The commands of `afdx`, one file each."""

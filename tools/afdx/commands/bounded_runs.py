@@ -1,0 +1,264 @@
+#!/usr/bin/env python3
+"""Draws small networks, runs each with several seeds and offsets, and holds what happened against the bounds that
+afdx bounds works out: no latency may be above its bound, and at no output port may more bytes wait than its bound says. Nor
+may what happens on the way: the wait in a regulator, the delay of a hop, the jitter at a switch, the time on each network,
+the skew.
+
+What is drawn is meant to come near to the bounds: short BAGs, lines of both speeds that have little time left or none,
+both priorities, sub-virtual links, rings of switches, accounts that refuse, regulators that overflow, small ports,
+outages. Of the runs of a network the first offers all at once; some are aimed at an output port, so that all frames come
+there at one moment if nothing delays them; others have offsets on few moments, and the rest has them anywhere in the
+periods.
+
+What is drawn follows from the number of the network and of the run alone, so a run can be made again. The runs are those
+of afdx second-opinion, which also sees what waits.
+"""
+import argparse
+import os
+import random
+import sys
+
+from afdx import files, model
+from afdx.reckon import network_calculus
+from afdx.runs import second_opinion
+
+EXAMPLES = """
+examples:
+  afdx bounded-runs
+        500 networks, ten runs of each
+  afdx bounded-runs --networks 1 --first 417 --keep runs
+        those of the network 417 once more; the folder runs has the description of each, for afdx bounds, afdx second-opinion
+        and afdxsim
+
+It prints a line for each latency, port, hop, .. that is above its bound, and at the end how many there were of each, and
+how near the greatest latencies came.
+
+status:
+  0  nothing was above its bound
+  1  something was
+  2  a word is wrong, or a file cannot be written
+"""
+
+MS = 10**6
+
+
+class Drawn:
+    """The network of a number, as the rows of its description."""
+
+    def __init__(self, number):
+        self.number = number
+        self.draw = draw = random.Random(number)
+        self.until = draw.randint(3, 12) * MS
+        self.switches = draw.randint(1, 5)
+        is_ring = draw.random() < 0.5
+        # In some rings all goes round one way, so that what a line delays comes back to it.
+        self.goes_round = is_ring and draw.random() < 0.5
+        self.beside = {i: [] for i in range(self.switches)}
+        for i in range(1, self.switches):
+            self.join(i - 1 if is_ring else draw.randrange(i), i)
+        if is_ring and self.switches > 2:
+            self.join(self.switches - 1, 0)
+        self.homes = [draw.randrange(self.switches) for _ in range(draw.randint(2, 7))]
+        self.nodes, self.links = self.nodes_drawn(), self.links_drawn()
+        self.vls = [self.virtual_link(i + 1) for i in range(draw.choice([3, 8, 16, 30]))]
+        if draw.random() < 0.6:
+            self.vls = self.fitting(self.vls)
+        self.outages = [self.outage() for _ in range(draw.choice([0, 0, 0, 0, 1, 2]))]
+
+    def join(self, one, other):
+        self.beside[one].append(other)
+        self.beside[other].append(one)
+
+    def nodes_drawn(self):
+        draw, rows = self.draw, []
+        port_bytes = draw.choice([1518, 4096, 16384, 65536, 2**20])
+        for i in range(len(self.homes)):
+            rows.append({"name": f"E{i}", "kind": "es", "port_bytes": port_bytes})
+        latency = draw.choice([1, 1000, 16000, 100000])
+        for net in "AB":
+            for i in range(self.switches):
+                rows.append({"name": f"{net}{i}", "kind": "switch", "port_bytes": draw.choice([port_bytes, 2**20])})
+                rows[-1] |= {"net": net, "latency_ns": draw.choice([latency, draw.randint(1, 2 * latency)])}
+        return rows
+
+    def links_drawn(self):
+        draw, rows = self.draw, []
+        slow = draw.choice([0, 0, 0.2, 0.6, 1])
+        for net in "AB":
+            pairs = [(f"E{i}", f"{net}{home}") for i, home in enumerate(self.homes)]
+            pairs += [(f"{net}{i}", f"{net}{j}") for i in self.beside for j in self.beside[i] if i < j]
+            for a, b in pairs:
+                mbit = 10 if draw.random() < slow else 100
+                rows.append({"a": a, "b": b, "mbit": mbit, "propagation_ns": draw.choice([1, 100, draw.randint(1, 5000)])})
+        return rows
+
+    def virtual_link(self, number):
+        draw = self.draw
+        bag = draw.choice([1, 1, 1, 2, 2, 4, 8])
+        size = draw.choice([64, draw.randint(64, 300), draw.randint(64, 1518), 1518])
+        smax = draw.choice([size] * 7 + [draw.randint(size, 1518)] * 2 + [draw.randint(64, size)])
+        period = draw.choice([bag * MS] * 3 + [draw.randint(bag * MS, 3 * bag * MS), draw.randint(bag * MS // 4, bag * MS)])
+        jitter = draw.choice([0, 0, bag * MS // 20, draw.randint(0, period), draw.randint(0, 4 * period)])
+        source, *targets = draw.sample(range(len(self.homes)), draw.randint(2, min(4, len(self.homes))))
+        nets = draw.choice(["AB", "AB", "AB", "A", "B"])
+        paths = self.paths(source, targets)
+        return {
+            "id": number, "bag_ms": bag, "smax": smax, "priority": draw.choice(["high", "low", "low"]),
+            "policing_jitter_ns": draw.choice([0, 10**5, 5 * 10**5, 5 * MS, 10**9]),
+            "policing": draw.choice(["bytes", "frames"]), "skew_max_ns": draw.choice([0, 10**4, 10**6, 10**9]),
+            "depth": draw.choice([1, 1, 2, 3, 16]), "sub": draw.choice([1, 1, 1, 2, 3, 4]), "size": size,
+            "offset_ns": 0, "period_ns": period, "jitter_ns": jitter,
+            "a": paths("A") if "A" in nets else [], "b": paths("B") if "B" in nets else [],
+        }
+
+    def fitting(self, rows):
+        """The virtual links, without those that would give a line more than it can send."""
+        mbit = {(link[a], link[b]): link["mbit"] for link in self.links for a, b in ("ab", "ba")}
+        load, found = {}, []
+        for row in rows:
+            lines = {line for path in row["a"] + row["b"] for line in zip(path, path[1:])}
+            # In bits that a line has to send in 8 ms, which each BAG divides.
+            bits = (row["size"] + model.BYTES_BETWEEN_FRAMES) * 8 * (8 // row["bag_ms"])
+            if all(load.get(line, 0) + bits <= mbit[line] * 8000 for line in lines):
+                load |= {line: load.get(line, 0) + bits for line in lines}
+                found.append(row)
+        return found
+
+    def paths(self, source, targets):
+        """The paths of one tree of shortest ways, for each network."""
+        ways = {self.homes[source]: [self.homes[source]]}
+        due = list(ways)
+        while due:
+            here = due.pop(0)
+            near = [(here + 1) % self.switches] if self.goes_round else self.beside[here]
+            for there in self.draw.sample(near, len(near)):
+                if there not in ways:
+                    ways[there] = ways[here] + [there]
+                    due.append(there)
+
+        def of_net(net):
+            inner = lambda target: [f"{net}{switch}" for switch in ways[self.homes[target]]]
+            return [[f"E{source}", *inner(target), f"E{target}"] for target in targets]
+
+        return of_net
+
+    def outage(self):
+        link = self.draw.choice(self.links)
+        ends = self.draw.sample([link["a"], link["b"]], 2)
+        begin = self.draw.randrange(self.until)
+        return {"from": ends[0], "to": ends[1], "from_ns": begin, "to_ns": begin + self.draw.randint(1, self.until)}
+
+    def tree(self, seed=0, offsets=()):
+        """What the description says, with the offsets of a run."""
+        vls = [row | {"offset_ns": offset} for row, offset in zip(self.vls, offsets or [0] * len(self.vls))]
+        top = {"until_ns": self.until, "seed": seed}
+        return top | {"node": self.nodes, "link": self.links, "outage": self.outages, "vl": vls}
+
+    def offsets(self, run, found):
+        """The offsets of a run."""
+        draw = random.Random(f"{self.number} {run}")
+        if run == 0:
+            return [0] * len(self.vls)
+        if run < 4 and found.ports:
+            port = draw.choice(list(found.ports.values()))
+            ahead = {hop.link.vl.id: hop.earliest() for hop in port.hops}
+            last = max(ahead.values())
+            return [last - ahead[row["id"]] if row["id"] in ahead else 0 for row in self.vls]
+        if run < 6:
+            return [draw.randrange(8) * 50_000 for _ in self.vls]
+        return [int(draw.random() * row["period_ns"]) for row in self.vls]
+
+
+class Count:
+    """What was held against bounds so far."""
+
+    def __init__(self):
+        self.latencies = self.ports = self.others = self.unbounded = self.above = self.runs = 0
+        self.shares = []
+
+    def hold(self, found, run, tell):
+        """Holds a run against the bounds of its network."""
+        self.runs += 1
+        for key, greatest in greatest_latencies(run).items():
+            bound, _ = found.latencies[key]
+            if bound is None:
+                self.unbounded += 1
+                continue
+            self.latencies += 1
+            self.shares.append(greatest / bound)
+            if greatest > bound:
+                self.above += 1
+                tell(f"virtual link {key[0]} at {key[1]} took {greatest} ns, and its bound is {bound} ns")
+        for (kind, vl, place), (_, _, greatest, _) in run.found.items():
+            where = run.names[place]
+            bound = found.of_kind(kind, vl, where)
+            if bound is None:
+                continue
+            if kind == "backlog":
+                self.ports += 1
+                text = f"before {where} {greatest} bytes waited, and the bound is {bound} bytes"
+            else:
+                self.others += 1
+                text = f"{kind} of virtual link {vl} at {where} was {greatest} ns, and its bound is {bound} ns"
+            if greatest > bound:
+                self.above += 1
+                tell(text)
+
+    def text(self, networks):
+        shares = sorted(self.shares) or [0]
+        return (
+            f"{networks} networks, {self.runs} runs: {self.latencies} latencies, {self.ports} ports and "
+            f"{self.others} others held against bounds, {self.above} above; {self.unbounded} latencies without a bound; greatest latency by bound: "
+            f"median {shares[len(shares) // 2]:.3f}, most {shares[-1]:.3f}"
+        )
+
+
+def greatest_latencies(run):
+    """The greatest latency of each virtual link and destination where one was delivered."""
+    found = {}
+    for _, place, vl, what, value in run.rows:
+        if what == "delivered":
+            found[vl, run.names[place]] = max(value, found.get((vl, run.names[place]), 0))
+    return found
+
+
+def hold_network(number, runs, keep, count, tell):
+    """Makes the runs of a network and holds them against its bounds."""
+    drawn = Drawn(number)
+    found = network_calculus.Bounds(model.Network(f"network {number}", model.text_of_tree(drawn.tree())))
+    for run in range(runs):
+        tree = drawn.tree(run, drawn.offsets(run, found))
+        simulation = second_opinion.Measured(tree)
+        simulation.run()
+        again = f"afdx bounded-runs --networks 1 --first {number} --runs {run + 1} --keep DIR"
+        count.hold(found, simulation, lambda text: tell(f"network {number}, run {run}: {text}; again: {again}"))
+        if keep:
+            files.write_whole(os.path.join(keep, f"network-{number}-run-{run}.toml"), model.text_of_tree(tree))
+
+
+def words_of(arguments=None):
+    parser = argparse.ArgumentParser(
+        prog="afdx bounded-runs", description=__doc__, epilog=EXAMPLES, formatter_class=argparse.RawDescriptionHelpFormatter
+    )
+    add, whole = parser.add_argument, model.whole
+    add("--networks", type=whole(1, 10**6), default=500, metavar="N", help="how many networks (default 500)")
+    add("--first", type=whole(0, 10**9), default=0, metavar="N", help="number of the first (default 0)")
+    add("--runs", type=whole(1, 10**4), default=10, metavar="N", help="how many runs of each (default 10)")
+    add("--keep", metavar="DIR", help="writes the description of each run to this folder; it is made if need be")
+    return parser.parse_args(arguments)
+
+
+@files.tool("afdx bounded-runs")
+def main(arguments=None):
+    words = words_of(arguments)
+    count = Count()
+    if words.keep:
+        os.makedirs(words.keep, exist_ok=True)
+    for number in range(words.first, words.first + words.networks):
+        hold_network(number, words.runs, words.keep, count, files.say)
+    files.say(count.text(words.networks))
+    return 1 if count.above else 0
+
+
+if __name__ == "__main__":
+    sys.exit(main())

@@ -1,0 +1,108 @@
+#!/usr/bin/env python3
+"""Tells what is wrong with a description: all faults at once, each with its line, the value, and what is allowed.
+
+    net.toml:298: virtual link 117 (vl row 17), a, path 1: SW_A_2 is no node; SW_A2?
+
+The fault that `afdxsim` answers is the first one, and its line of `afdxsim` follows it in brackets. Of an accepted
+description it tells what is allowed and hardly meant, as warnings.
+"""
+import argparse
+import sys
+from collections import Counter
+
+from afdx import files, model
+from afdx.model import Fault, judge
+from afdx.reckon import description_warnings, limits
+
+EXAMPLES = """
+examples:
+  afdx explain net.toml
+        the faults of net.toml, or its warnings
+  afdx bounds net.toml -o bounds.csv && afdx explain net.toml --bounds bounds.csv
+        further warnings, of what may go wrong in the worst case
+
+what is told, in this order:
+  faults    by the number that `afdxsim` gives them, then by section, row and key; docs/FORMATS.md, section 4, has them.
+            Where the text is no TOML, what is in the lines that could be read is judged all the same
+  warnings  size above smax: every frame is dropped at the first switch
+            a destination that is reached by one network alone, where there are two
+            a period below the BAG: frames wait in the regulator, and are dropped once its depth is full
+            a jitter of offers by which more frames may wait in the regulator than it holds, or longer than a BAG; then
+            most of a latency is the regulator's and not the network's (afdx second-opinion --hops tells them apart)
+            a line that gets more than 75 percent of what it carries, or more than 100
+            an end system whose transmit jitter by the rule of ARINC 664 Part 7 is above 500 us
+            an outage that begins after the end; a virtual link that offers nothing before the end
+            a BAG longer than the run
+            with --bounds, of the worst case: accounts that may refuse frames, destinations to which neither network
+            brings each frame, copies that may be further apart than SkewMax, ports that are too small
+
+Of more than ten warnings of one kind the first three are told, and how many more there are; --all tells each.
+
+status: 0 where the description is accepted, with or without warnings; 1 where it has a fault; 2 where a word is wrong or
+the file cannot be read.
+"""
+
+# Of more warnings of one kind so many are told, and how many more there are.
+MOST_OF_A_KIND, TOLD_OF_A_KIND = 10, 3
+
+
+def told_of(path, warnings, tells_all):
+    """The lines of warnings, and what there is to say of how many they are. Of many of one kind the first ones are told."""
+    kinds = Counter(it.kind for it in warnings)
+    many = {} if tells_all else {kind: count for kind, count in kinds.items() if count > MOST_OF_A_KIND}
+    lines, seen = [], Counter()
+    for it in warnings:
+        seen[it.kind] += 1
+        if it.kind not in many or seen[it.kind] <= TOLD_OF_A_KIND:
+            lines.append(judge.line_of(path, it))
+    lines += (f"{path}: warning: {kind}: {count - TOLD_OF_A_KIND:,} more (--all)" for kind, count in many.items())
+    more = f" of {counted(kinds, 'kind')}" if many else ""
+    return lines, f", {counted(warnings, 'warning')}{more}" if warnings else ""
+
+
+def explain(path, bounds=None, tells_all=False):
+    """What is told of a file, faults or warnings, and the status. `bounds` names a file of bounds; `tells_all`: each warning."""
+    try:
+        text = model.text_of(path)
+    except Fault as fault:
+        if fault.line is None:
+            raise
+        found, description = [judge.Finding(1, None, fault.line, "", "the file is not UTF-8")], None
+    else:
+        found, description = judge.findings_of(path, text)
+    lines = [judge.line_of(path, finding) for finding in found]
+    if found:
+        lines[0] += f" [afdxsim: description: {judge.answer(found[0])}]"
+        behind = "" if description else f"; what is behind line {found[-1].line} was not judged"
+        lines.append(f"{path}: {counted(found, 'fault')}, the first is what afdxsim answers{behind}")
+    else:
+        net = model.Network(path, text, description)
+        warnings = description_warnings.Warnings(net).findings
+        if bounds:
+            warnings += description_warnings.WorstCase(net, limits.Bounds(bounds, net)).findings
+        lines, count = told_of(path, warnings, tells_all)
+        lines.append(f"{path}: accepted{count}")
+    return "".join(line + "\n" for line in lines), 1 if found else 0
+
+
+def counted(found, word):
+    return f"{len(found)} {word}{'' if len(found) == 1 else 's'}"
+
+
+@files.tool("afdx explain")
+def main(arguments=None):
+    parser = argparse.ArgumentParser(
+        prog="afdx explain", description=__doc__, epilog=EXAMPLES, formatter_class=argparse.RawDescriptionHelpFormatter
+    )
+    parser.add_argument("net", metavar="NET", help="the description (TOML)")
+    parser.add_argument("--bounds", metavar="FILE", help="warns of the worst case too: the bounds that afdx bounds printed for NET")
+    says = f"prints each warning; else of more than {MOST_OF_A_KIND} of one kind the first {TOLD_OF_A_KIND}, and how many more there are"
+    parser.add_argument("--all", action="store_true", help=says)
+    words = parser.parse_args(arguments)
+    told, status = explain(words.net, words.bounds, words.all)
+    files.write_out(told)
+    return status
+
+
+if __name__ == "__main__":
+    sys.exit(main())

@@ -1,0 +1,146 @@
+"""What `afdx` can do: its commands, which tool does each, and the texts of help and of the completion of words."""
+import re
+import subprocess
+from collections import namedtuple
+
+from afdx.files import program
+
+# Of a command of the program: which of its words are files that it reads, in order, and what it says.
+OfProgram = namedtuple("OfProgram", "files usage says")
+OF_PROGRAM = {
+    "check": OfProgram(1, "NET", "judge a description, and count what it has"),
+    "seq": OfProgram(1, "NET [--trace FILE] [--progress]", "simulate it on one thread; tables as CSV"),
+    "run": OfProgram(
+        1, "NET [--workers N] [--groups N] [--turn N] [--window NS] [--journal FILE] [--trace FILE] [--progress]",
+        "the tables of seq, by Time Warp on several threads",
+    ),
+    "replay": OfProgram(2, "NET STEPS", "do the steps of a journal"),
+}
+# Of a tool: its module, the option that it has in any case, and what it says.
+OfTool = namedtuple("OfTool", "module option usage says")
+OF_TOOLS = {
+    "explain": OfTool("afdx.commands.explain", None, "NET", "all faults of a description with their lines, or its warnings"),
+    "bounds": OfTool("afdx.commands.bounds", None, "NET [-o FILE]", "worst-case bounds of latencies and ports, as CSV"),
+    "table": OfTool("afdx.commands.from_table", None, "TABLE.. -o NET", "make a description of the tables of an interface document"),
+    "campaign": OfTool("afdx.commands.campaign", None, "NET --seeds N -o DIR", "run many seeds, and merge their tables"),
+    "outages": OfTool(
+        "afdx.commands.campaign", "--each-outage", "NET [--each-outage NS] -o DIR", "run with each link and each switch out in turn"
+    ),
+    "pcap": OfTool("afdx.commands.pcap", None, "NET TRACE -o FILE", "make a capture for Wireshark of a trace"),
+    "report": OfTool("afdx.page.report", None, "NET TABLES -o FILE", "make a page of tables that are there, of a campaign too"),
+    "second-opinion": OfTool(
+        "afdx.runs.second_opinion", None, "NET [--trace FILE] [--hops FILE]", "simulate it by a plain simulator, and measure on the way"
+    ),
+    "long-form": OfTool("afdx.model.long_form", None, "FILE", "write tables as JSON, a list of rows in one form"),
+    "large-network": OfTool("afdx.commands.large_network", None, "[--virtual-links N] ..", "draw the description of a large network"),
+    "make-journal": OfTool("afdx.commands.make_journal", None, "NET -o FILE", "draw a journal that replay can be given"),
+    "bounded-runs": OfTool("afdx.commands.bounded_runs", None, "[--networks N] ..", "hold drawn runs of drawn networks against bounds"),
+    "benchmark": OfTool("afdx.commands.benchmark", None, "PROGRAM ..", "measure how fast a program is"),
+}
+# The tools that have the program run.
+RUN_IT = ("campaign", "outages")
+OWN = {
+    "page": ("NET [TABLES] -o FILE", "explain, simulate, bound and draw: one page to look at"),
+    "build": ("[--jobs N]", "prove the program and build it"),
+    "package": ("[-o DIR]", "make a Debian package of the proved program and the tools"),
+    "completion": ("bash", "print what completes words in a shell"),
+}
+# The options of the program that have a value, and those that name a file which it writes.
+VALUED = ("--trace", "--journal", "--workers", "--groups", "--turn", "--window")
+WRITES = ("--trace", "--journal")
+
+# What is said of `run` alone.
+OF_RUN = (
+    "run has threads that run ahead and roll back (Time Warp). Whether it is faster than seq depends on the network and on the\n"
+    "machine: where tables are all that is wanted, and you have not measured it, use seq."
+)
+# What is said of the tools that have the program run.
+OF_CHOICE = "--by WHAT (proved, try or second-opinion; default: proved, else try) or --program PATH names who makes the runs."
+
+IN_A_CLONE = """\
+  the proved one, where it was built of these very sources: `afdx build` and ./test leave it, a package brings it;
+  else these sources by `rt try`, without a proof and with checks, where the kit is: it takes some two minutes, writes no
+  file, and passes on 1 MiB of each run;"""
+IN_A_PACKAGE = "  the proved one that the package has;"
+
+HELP = """usage: afdx [--help] [--version] COMMAND ..
+
+One command for all that is done with a network: each line is a command, and `afdx COMMAND --help` tells its words.
+
+{commands}
+
+which program runs is told on error output, once. It is
+{which}
+  with --by second-opinion the plain simulator in Python, for all but run and replay{only};
+  with --program PATH the program that you name
+
+{of_run}
+
+examples:
+  afdx page net.toml -o net.html
+        whether the description is accepted, its run, its bounds, and a page of all that
+  afdx seq net.toml --trace trace.csv > tables.csv
+        tables and trace of a run
+  afdx page net.toml -o net.html --by second-opinion
+        without the program, by Python alone
+  source <(afdx completion bash)
+        words are completed by the tabulator
+
+status: that of the program or the tool; 2 where a word is wrong, or where no program is there
+"""
+
+
+def commands(is_clone=program.is_clone()):
+    """Each command with its words and what it says, in the order of the help. A package has no sources to build."""
+    found = {"page": OWN["page"]}
+    found |= {name: (it.usage, it.says) for name, it in OF_PROGRAM.items()}
+    found |= {name: (it.usage, it.says) for name, it in OF_TOOLS.items()}
+    return found | {name: it for name, it in OWN.items() if name != "page" and (is_clone or name == "completion")}
+
+
+def help_text(is_clone=program.is_clone()):
+    lines = [f"  {name:<16}{says}" for name, (_, says) in commands(is_clone).items()]
+    which, only = (IN_A_CLONE, "; with --by proved and --by try just that one") if is_clone else (IN_A_PACKAGE, "")
+    return HELP.format(commands="\n".join(lines), which=which, only=only, of_run=OF_RUN)
+
+
+def options_of(name):
+    """The options that a command's help names."""
+    if name in OF_PROGRAM:
+        return sorted({*re.findall(r"--[a-z-]+", OF_PROGRAM[name].usage), "--by", "--program", "--help"})
+    if name in OF_TOOLS:
+        words = program.command(name, "--help")
+        said = subprocess.run(words, capture_output=True, text=True, stdin=subprocess.DEVNULL).stdout
+        found = set(re.findall(r"(?<![\w-])--[a-z][a-z-]*[a-z]", said))
+        return sorted(found | {"--by"} if name in RUN_IT else found)
+    more = {"page": ["--by", "--limits", "--no-bounds", "--output", "--program"], "build": ["--jobs"], "package": ["--output"]}
+    return [*more.get(name, []), "--help"]
+
+
+COMPLETION = """# bash completion of afdx; made by `afdx completion bash`
+_afdx() {{
+    local word=${{COMP_WORDS[COMP_CWORD]}} before=${{COMP_WORDS[COMP_CWORD - 1]}} options
+    if [ "$COMP_CWORD" -eq 1 ]; then
+        COMPREPLY=($(compgen -W "{names} --help --version" -- "$word"))
+        return
+    fi
+    case $before in
+    --by) COMPREPLY=($(compgen -W "proved try second-opinion" -- "$word")); return ;;
+    esac
+    case ${{COMP_WORDS[1]}} in
+{cases}
+    esac
+    case $word in
+    -*) COMPREPLY=($(compgen -W "$options" -- "$word")) ;;
+    *) COMPREPLY=($(compgen -f -- "$word")) ;;
+    esac
+}}
+complete -o filenames -F _afdx afdx ./afdx
+"""
+
+
+def completion_text(is_clone=program.is_clone()):
+    """What bash is to read, so that it completes words. It is made of the texts of help: `shtab` and `argcomplete` want one parser of all words."""
+    names = commands(is_clone)
+    cases = "\n".join(f"    {name}) options=\"{' '.join(options_of(name))}\" ;;" for name in names)
+    return COMPLETION.format(names=" ".join(names), cases=cases)

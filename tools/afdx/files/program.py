@@ -1,0 +1,292 @@
+"""Which program runs, and what is known of it.
+
+A program is *proved of these sources* where a record beside it says so: what was built and proved at once, by `afdx build`
+or by `./test`, or what a package has. The record has the checksum of the sources and of the program itself, so that a program
+is not taken for one of other sources. What is only found, without a record, is not called proved.
+"""
+import functools
+import hashlib
+import json
+import os
+import re
+import shutil
+import subprocess
+import sys
+from collections import namedtuple
+
+# The folder of the packages, and that above it: the top of a clone, or /usr/lib/afdxsim.
+TOOLS = os.path.dirname(os.path.dirname(os.path.dirname(os.path.realpath(__file__))))
+ROOT = os.path.dirname(TOOLS)
+# In a package this is a link to /usr/bin/afdxsim.
+BUILT = os.path.join("crates", "afdxsim", "out", "afdxsim")
+# What a record is called, beside the program.
+RECORD = ".record.json"
+# Where the number of the version stands, once for all.
+VERSION_STANDS = os.path.join("crates", "command_line", "src", "program.rt")
+SECONDS_FOR_GIT = 60
+
+# How a program came to be: `proved` (of these sources), `given` (named by the user), `tried` (these sources, by `rt try`,
+# without a proof) or `second opinion` (afdx second-opinion). `path` is None of the last two. `maker` is how files that it
+# makes name it.
+Program = namedtuple("Program", "how path says maker")
+
+
+# ---- other processes ----
+
+
+def command(name, *words):
+    """What runs a command of `afdx` in a process of its own."""
+    return [sys.executable, os.path.join(ROOT, "afdx"), name, *words]
+
+
+def environment():
+    """The environment in which another interpreter finds these packages: `PYTHON -m afdx.files.workbook`, say."""
+    return os.environ | {"PYTHONPATH": TOOLS}
+
+
+class NoProgram(Exception):
+    """Why no program can be run, in one line."""
+
+
+# ---- who made a file ----
+
+
+class Maker(namedtuple("Maker", "name version commit sha256 sources kit proved")):
+    """Who made a file: a program, or a tool. `sha256` is the checksum of the program, `sources` that of what it is made of
+    where no program is kept (`rt try`), and `kit` the line of the kit that it was proved or translated with. What is not known
+    is None. `proved`: a record on this machine says that this very program was built and proved of its sources."""
+
+    def in_words(self):
+        """All that is known, for a page."""
+        return ", ".join(self.parts(12, 64))
+
+    def cell(self):
+        """The same for a cell of a table: no commas, and 16 digits of each checksum, as `description` has them."""
+        return " ".join(self.parts(12, 16)).replace(",", ";").replace('"', "'")
+
+    def parts(self, of_commit, of_sum):
+        found = [" ".join(filter(None, (self.name, self.version))), "proved" if self.proved else "not proved"]
+        if self.commit:
+            found.append(f"commit {self.commit[:of_commit]}{'+' if self.commit.endswith('+') else ''}")
+        found += [f"SHA-256 {self.sha256[:of_sum]}"] if self.sha256 else []
+        found += [f"of sources with the SHA-256 {self.sources[:of_sum]}"] if self.sources else []
+        return found + ([kit_in_words(self.kit)] if self.kit else [])
+
+
+def maker_of(path):
+    """Who the program at a path is. A record is that of this program only where it has the program's checksum, whatever the
+    program prints as its version: that beside it, that of this clone or package, or that of the installed package."""
+    own = sum_of_file(path)
+    for place in filter(None, (path, os.path.join(ROOT, BUILT), installed())):
+        record = record_of(place)
+        if record.get("program") == own:
+            return maker_by_record(record)
+    says = first_line([path, "--version"], None) or os.path.basename(path)
+    name, _, number = says.partition(" ")
+    return Maker(name, number or None, None, own, None, None, False)
+
+
+def maker_by_record(record):
+    return Maker("afdxsim", record.get("version"), record.get("commit"), record["program"], None, record.get("kit"), True)
+
+
+@functools.cache
+def tool(name):
+    """Who made what a tool works out by itself: the tool, of the commit that it stands in."""
+    return Maker(f"afdx {name}", version(), commit() if is_clone() else record_of(os.path.join(ROOT, BUILT)).get("commit"), None, None, None, False)
+
+
+def is_clone(root=ROOT):
+    """Whether the sources are here, and not a package alone."""
+    return os.path.isfile(os.path.join(root, "crates.txt"))
+
+
+def version(root=ROOT):
+    """The number of the version."""
+    if not is_clone(root):
+        return record_of(os.path.join(root, BUILT)).get("version", "unknown")
+    with open(os.path.join(root, VERSION_STANDS), encoding="utf-8") as file:
+        found = re.search(r'^const VERSION: &str = "([0-9.]+)";$', file.read(), re.MULTILINE)
+    return found[1] if found else "unknown"
+
+
+def first_line(words, folder):
+    """What a command says in its first line, or None where it is not there or ends badly."""
+    try:
+        run = subprocess.run(
+            words, cwd=folder, stdin=subprocess.DEVNULL, capture_output=True, text=True, errors="replace",
+            timeout=SECONDS_FOR_GIT,
+        )
+    except (OSError, subprocess.TimeoutExpired):
+        return None
+    return run.stdout.strip().split("\n")[0] if run.returncode == 0 else None
+
+
+def kit(root=ROOT):
+    """The line of the kit that is here, or None."""
+    return first_line(["rt", "version"], root) if shutil.which("rt") else None
+
+
+def logic(kit_line):
+    """What judges proofs, by the line of a kit: two kits of one logic judge alike, whatever their names are."""
+    return (kit_line or "").rpartition(" logic ")[2]
+
+
+def kit_in_words(kit_line):
+    """A kit by its logic, and then by its name."""
+    name, has_logic, found = (kit_line or "").rpartition(" logic ")
+    return f"logic {found} ({name})" if has_logic else kit_line or "kit unknown"
+
+
+def commit(root=ROOT):
+    """The commit of this clone, with a + where files differ from it; None where this is no clone of git."""
+    if not os.path.exists(os.path.join(root, ".git")):
+        return None
+    found = first_line(["git", "rev-parse", "HEAD"], root)
+    changed = first_line(["git", "status", "--porcelain"], root)
+    return found and found + ("+" if changed else "")
+
+
+def source_files(root=ROOT):
+    """What the program is made of and proved from: paths from the top, in order."""
+    found = ["crates.txt", "HANDLES"]
+    for folder, folders, names in os.walk(os.path.join(root, "crates")):
+        here = os.path.relpath(folder, root)
+        depth = here.count(os.sep)
+        # crates/NAME/src, specs and proofs, whole.
+        folders[:] = sorted(name for name in folders if depth != 1 or name in ("src", "specs", "proofs"))
+        found += (os.path.join(here, name) for name in sorted(names) if depth > 1 and name.endswith((".rt", ".antt")))
+    return [name for name in found if os.path.isfile(os.path.join(root, name))]
+
+
+def sum_of_file(path):
+    with open(path, "rb") as file:
+        return hashlib.file_digest(file, "sha256").hexdigest()
+
+
+def judged_files(root=ROOT):
+    """What `rt ci` judges: the sources, and the edits and data of tests beside them; paths from the top, in order."""
+    found = ["crates.txt", "HANDLES"]
+    for folder, folders, names in os.walk(os.path.join(root, "crates")):
+        folders[:] = sorted(name for name in folders if name != "out")
+        found += (os.path.relpath(os.path.join(folder, name), root) for name in sorted(names) if name != "BUILD.bazel")
+    return [name for name in found if os.path.isfile(os.path.join(root, name))]
+
+
+def sum_of(names, first, root):
+    """The checksum of a line and of files with their names."""
+    found = hashlib.sha256((first or "").encode() + b"\n")
+    for name in names:
+        found.update(f"{name}\0{sum_of_file(os.path.join(root, name))}\n".encode())
+    return found.hexdigest()
+
+
+def sum_of_sources(kit_line, root=ROOT):
+    """The checksum of the sources, and of the logic that they are proved with."""
+    return sum_of(source_files(root), logic(kit_line), root)
+
+
+def sum_of_judged(kit_line, root=ROOT):
+    """The same of all that `rt ci` judges."""
+    return sum_of(judged_files(root), logic(kit_line), root)
+
+
+# ---- records ----
+
+
+def record_of(path):
+    """The record beside a program, or an empty one."""
+    try:
+        with open(path + RECORD, encoding="utf-8") as file:
+            found = json.load(file)
+    except (OSError, ValueError):
+        return {}
+    return found if isinstance(found, dict) else {}
+
+
+def write_record(kit_line, sources, gate=None, root=ROOT):
+    """Writes down beside the program of this clone what it was built of. `gate` is the line by which all proofs and tests
+    passed, where they did; then `judged` is the checksum of what that line is of."""
+    path = os.path.join(root, BUILT)
+    found = {
+        "version": version(root), "commit": commit(root), "kit": kit_line, "logic": logic(kit_line), "sources": sources,
+        "program": sum_of_file(path), "gate": gate, "judged": sum_of_judged(kit_line, root) if gate else None,
+    }
+    with open(path + RECORD, "w", encoding="utf-8") as out:
+        json.dump(found, out, indent=1)
+        out.write("\n")
+    return found
+
+
+def is_recorded(path):
+    """The record of a program, where it is of this very program; else an empty one."""
+    record = record_of(path)
+    return record if os.path.isfile(path) and record.get("program") == sum_of_file(path) else {}
+
+
+def installed():
+    """The program of a package on this machine, by the name that its record goes by."""
+    found = shutil.which("afdxsim")
+    if not found:
+        return None
+    return os.path.join(os.path.dirname(os.path.realpath(found)), "..", "lib", "afdxsim", BUILT)
+
+
+def in_words(record):
+    """What a record says, in a few words."""
+    at = f"commit {record['commit'][:8]}{'+' if record['commit'].endswith('+') else ''}, " if record.get("commit") else ""
+    return f"afdxsim {record.get('version', 'unknown')}, proved, {at}{kit_in_words(record.get('kit'))}"
+
+
+def proved(root=ROOT):
+    """The proved program of these sources, or why there is none."""
+    here = os.path.join(root, BUILT)
+    if not is_clone(root):
+        record = is_recorded(here)
+        if record:
+            return Program("proved", here, in_words(record), maker_by_record(record))
+        raise NoProgram(f"{os.path.normpath(here)} is not the program that its record is of: install the package anew")
+    kit_line = kit(root)
+    sources = None
+    for path in filter(None, (here, installed())):
+        record = is_recorded(path)
+        if not record:
+            continue
+        # Without a kit here the record's own is taken: the sources are what counts.
+        sources = sum_of_sources(kit_line or record.get("kit"), root)
+        if record.get("sources") == sources:
+            return Program("proved", path, in_words(record), maker_by_record(record))
+    if sources:
+        raise NoProgram("the proved program that is here is of other sources, or of another logic of the kit")
+    if os.path.isfile(here):
+        raise NoProgram(f"{BUILT} is there, and no record says which sources it was built of")
+    raise NoProgram("no proved program is here")
+
+
+def given(path):
+    """A program that the user names."""
+    if not os.path.isfile(path):
+        raise NoProgram(f"{path} is not there")
+    says = first_line([path, "--version"], None)
+    if says is None or not says.startswith("afdxsim "):
+        raise NoProgram(f"{path} cannot be run, or is no afdxsim")
+    maker = maker_of(path)
+    record = is_recorded(path)
+    said = in_words(record) if record else f"{says}, at {path}, of which no record is there"
+    return Program("given", path, said, maker)
+
+
+def tried(root=ROOT):
+    """These sources by `rt try`, without a proof."""
+    kit_line = kit(root)
+    if not is_clone(root) or not kit_line:
+        raise NoProgram("`rt`, the kit's command, is not on the PATH")
+    number = version(root)
+    maker = Maker("afdxsim by `rt try`", number, commit(root), None, sum_of_sources(kit_line, root), kit_line, False)
+    return Program("tried", None, f"afdxsim {number}, not proved: these sources by `rt try`, {kit_in_words(kit_line)}", maker)
+
+
+def second_opinion(root=ROOT):
+    """The plain simulator in Python."""
+    says = f"second opinion {version(root)}, not proved: afdx second-opinion"
+    return Program("second opinion", None, says, tool("second-opinion"))

@@ -1,0 +1,134 @@
+"""The sheets of a workbook (.xlsx), cell by cell as text. They are read by Debian's package python3-openpyxl, by the
+interpreter that has it."""
+import importlib.util
+import json
+import subprocess
+import sys
+import warnings
+from decimal import Decimal
+
+from afdx import files
+from afdx.files import Fault, program
+
+# Debian's packages are for this interpreter.
+DEBIAN = "/usr/bin/python3"
+PACKAGE = "python3-openpyxl"
+# How a workbook begins: it is an archive.
+BEGIN = b"PK\x03\x04"
+
+
+def is_workbook(path):
+    """Whether a file begins as a workbook does. One that cannot be read is none; who reads it tells that."""
+    try:
+        with open(path, "rb") as file:
+            return file.read(len(BEGIN)) == BEGIN
+    except OSError:
+        return False
+
+
+def sheets_of(path):
+    """The sheets that have cells, each with its name, its rows that are not empty, with their numbers, as lists of texts, and
+    what of it is hidden."""
+    files.reads(path)
+    if importlib.util.find_spec("openpyxl"):
+        found = read(path)
+    else:
+        found = read_by_another(path)
+    if "fault" in found:
+        raise Fault(path, None, found["fault"])
+    return found["sheets"]
+
+
+def read_by_another(path):
+    """What Debian's interpreter reads, where it has the library."""
+    words = [DEBIAN, "-m", "afdx.files.workbook", path]
+    try:
+        run = subprocess.run(words, env=program.environment(), stdin=subprocess.DEVNULL, capture_output=True, text=True)
+        return json.loads(run.stdout)
+    except (OSError, ValueError):
+        return {"fault": f"is a workbook, which needs a library: apt-get install -y {PACKAGE}; or save its sheets as CSV"}
+
+
+def text_of(value):
+    """A cell as text. Whole numbers have no point, and no number has an exponent."""
+    if value is None:
+        return ""
+    if isinstance(value, float):
+        found = format(Decimal(repr(value)), "f")
+        return found.rstrip("0").rstrip(".") if "." in found else found
+    return str(value).strip()
+
+
+def numbered(rows):
+    """The rows of a sheet with their numbers, and an empty one where some are left out between."""
+    last = 0
+    for number, cells in rows:
+        if number > last + 1:
+            yield last + 1, []
+        yield number, cells
+        last = number
+
+
+def texts_of(sheet):
+    """The texts of the cells that a sheet has, by row and column. Only those that are there are looked at: one cell that
+    was left behind in the last row of a sheet has a million empty ones before it."""
+    found = {}
+    for (row, column), cell in sheet._cells.items():
+        text = text_of(cell.value)
+        if text:
+            found.setdefault(row, {})[column] = text
+    last = max(found, default=0)
+    for span in sheet.merged_cells.ranges:
+        text = found.get(span.min_row, {}).get(span.min_col)
+        for row in range(span.min_row + 1, min(span.max_row, last + 1) + 1) if text else ():
+            found.setdefault(row, {})[span.min_col] = text
+    return found
+
+
+def rows_of(texts):
+    """The rows that have a text, each with its number and its cells up to the last one."""
+    return [[row, [texts[row].get(column, "") for column in range(1, max(texts[row]) + 1)]] for row in sorted(texts)]
+
+
+def hidden_of(sheet, texts):
+    """What of a sheet its reader does not see: for each piece the line, or None, and what it is."""
+    found = [[None, "is hidden"]] if sheet.sheet_state != "visible" else []
+    found += [[row, "is hidden"] for row in sorted(texts) if row in sheet.row_dimensions and sheet.row_dimensions[row].hidden]
+    used = {column for cells in texts.values() for column in cells}
+    for name, column in sheet.column_dimensions.items():
+        if column.hidden and any(column.min <= it <= column.max for it in used):
+            found.append([None, f"has the column {name}, which is hidden"])
+    return found
+
+
+def formula_without_value(sheet, values):
+    """The first cell with a formula of which no value is saved, or None."""
+    for (row, column), cell in sorted(sheet._cells.items()):
+        if cell.data_type == "f" and ((row, column) not in values._cells or values._cells[row, column].value is None):
+            return cell.coordinate
+    return None
+
+
+def read(path):
+    """The sheets of a workbook, or what is wrong with it."""
+    import openpyxl
+
+    warnings.simplefilter("ignore")
+    try:
+        values, formulas = (openpyxl.load_workbook(path, data_only=is_value) for is_value in (True, False))
+        sheets = []
+        for sheet in values.worksheets:
+            lacking = formula_without_value(formulas[sheet.title], sheet)
+            if lacking:
+                text = f"sheet {sheet.title}, cell {lacking}, is a formula without a value"
+                return {"fault": text + ": open and save it in the program that has made it"}
+            texts = texts_of(sheet)
+            if texts:
+                sheets.append({"name": sheet.title, "rows": rows_of(texts), "hidden": hidden_of(sheet, texts)})
+        return {"sheets": sheets}
+    except Exception as fault:  # The library raises what its own libraries raise.
+        return {"fault": f"is no workbook that can be read: {type(fault).__name__}: {' '.join(str(fault).split())}"}
+
+
+if __name__ == "__main__":
+    print(json.dumps(read(sys.argv[1])))

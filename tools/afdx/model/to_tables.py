@@ -1,0 +1,95 @@
+"""The tables of a description, from which afdx table makes the same description again. What a table has beside the
+keys, as limits, ports and remarks, stands in comments behind the head of each row; it has columns again."""
+import csv
+import io
+import re
+
+from afdx.model import KEYS, SECTIONS, judge
+
+# How the text of a comment ends that is of some destinations alone.
+AT = re.compile("(.+) at (.+)")
+
+
+def cell_of(key, value):
+    if key.value_type == "paths":
+        return " | ".join(" ".join(path) for path in value) or "-"
+    return str(value)
+
+
+def comments_behind(lines, head, columns):
+    """The comments behind the head of a row: each with its column and its text."""
+    for text in lines[head:]:
+        if not text.startswith("#"):
+            return
+        column, _, rest = text.removeprefix("# ").rstrip().partition(" ")
+        if column in columns and rest:
+            yield column, rest
+
+
+def of_destinations(found, destinations):
+    """For each destination what the comments of a virtual link say of it, by column: several texts where there are several
+    lines of it in the table."""
+    of = {name: {} for name in destinations}
+    for column, text in found:
+        end = AT.fullmatch(text)
+        names = end[2].split(" ") if end and set(end[2].split(" ")) <= set(destinations) else None
+        for name in names or destinations:
+            of[name].setdefault(column, []).append(end[1] if names else text)
+    return of
+
+
+def lines_of_comments(of):
+    """The lines of a table that a virtual link takes: each with its destinations and the cells of comments by column."""
+    found = {}
+    for name, columns in of.items():
+        for i in range(max(map(len, columns.values()), default=1)):
+            cells = {column: texts[i] for column, texts in columns.items() if i < len(texts)}
+            found.setdefault(tuple(sorted(cells.items())), []).append(name)
+    return [(names, dict(cells)) for cells, names in found.items()]
+
+
+class Back:
+    """The tables of a description. `commented` answers the columns of a section that are comments; `said` is how a comment
+    tells what a heading stands for."""
+
+    def __init__(self, path, commented, said):
+        self.description = judge.accepted(path)
+        self.commented = commented
+        self.lines = self.description.text.split("\n")
+        self.said = [(line, *found[1].rpartition("=")[::2]) for line in self.lines if (found := said.fullmatch(line.rstrip()))]
+
+    def text(self):
+        blocks = [block for section in ("top", *SECTIONS) if (block := self.block(section))]
+        used = {name for block in blocks for name in block[0]}
+        told = [line for line, name, _ in self.said if name in used]
+        return "".join(line + "\n" for line in told) + "\n".join(map(table, blocks))
+
+    def block(self, section):
+        """The lines of a section, the first with the names of the columns; none where it has no row."""
+        tree = self.description.tree
+        rows = [tree] if section == "top" else tree.get(section, [])
+        keys = [key for key in KEYS[section] if any(key.name in row for row in rows)]
+        lines = [line for i, row in enumerate(rows, 1) for line in self.row(section, i, row, keys)]
+        own = [key.name for key in keys]
+        more = [name for name in self.commented(section) if any(name in line for line in lines)]
+        columns = own[:1] + (["source", "destinations"] if section == "vl" else []) + own[1:] + more
+        heads = {column: name for _, name, column in self.said}
+        return [[heads.get(name, name) for name in columns]] + [[line.get(name, "") for name in columns] for line in lines] if lines else []
+
+    def row(self, section, i, row, keys):
+        """The lines of a row, each as cells by column."""
+        cells = {key.name: cell_of(key, row[key.name]) for key in keys if key.name in row}
+        head = 0 if section == "top" else self.description.line(section, i)
+        found = list(comments_behind(self.lines, head, self.commented(section))) if head else []
+        if section != "vl":
+            return [cells | dict(found)]
+        paths = [*row["a"], *row["b"]]
+        of = of_destinations(found, list(dict.fromkeys(way[-1] for way in paths)))
+        return [cells | {"source": paths[0][0], "destinations": " ".join(names)} | more for names, more in lines_of_comments(of)]
+
+
+def table(lines):
+    """A table as CSV."""
+    out = io.StringIO()
+    csv.writer(out, lineterminator="\n").writerows(lines)
+    return out.getvalue()

@@ -1,0 +1,83 @@
+"""What changed from one run to another: latencies and losses, bounds, and what the two descriptions say."""
+from fractions import Fraction
+
+from afdx import model
+from afdx.files.page_text import hundredths, mean_ns, one_or_range
+
+
+def of_both(given):
+    """For each virtual link and destination of both runs: before and now, and what changed, column by column."""
+    found = {}
+    for key, row in given.tables.latencies.items():
+        before = given.other.tables.latencies.get(key)
+        if before is None:
+            continue
+        change = row.greatest - before.greatest if row.count and before.count else None
+        lost = before.count - row.count
+        told = {"vl": row.vl, "where": row.where, "change": change, "fall": None if change is None else -change}
+        told |= {"before": before.greatest if before.count else None, "greatest": row.greatest if row.count else None}
+        told["percent"] = hundredths(Fraction(row.greatest * 100, before.greatest)) if change is not None else None
+        told |= {"mean_before": mean_ns(before) if before.count else None, "mean": mean_ns(row) if row.count else None}
+        told |= {"count_before": before.count, "count": row.count}
+        if given.ends and given.other.ends:
+            now, then = given.ends.of[key].missing, given.other.ends.of[key].missing
+            told |= {"missing_before": one_or_range(then), "missing": one_or_range(now)}
+            # Of what is left open, the change that is sure.
+            sure, fewer = now.least - then.most, then.least - now.most
+            lost = max(0, sure) - max(0, fewer)
+        told |= {"lost": lost, "kept": -lost}
+        for name, value in told.items():
+            found.setdefault(name, []).append(value)
+    return found or {"vl": [], "change": [], "fall": [], "lost": [], "kept": []}
+
+
+def bounds_moved(before, now):
+    """The bounds of destinations of both descriptions that are not the same, column by column."""
+    found = {"vl": [], "where": [], "before": [], "now": [], "moved": []}
+    for key, bound in now.of.items():
+        if key in before.of and before.of[key].ns != bound.ns:
+            was = before.of[key].ns
+            moved = None if was is None or bound.ns is None else bound.ns - was
+            for name, value in zip(found, (*key, was, bound.ns, moved)):
+                found[name].append(value)
+    return found
+
+
+def differences(before, now):
+    """What two descriptions say differently: of which row, which key, before and now."""
+    found = []
+    for section in ("top", *model.SECTIONS):
+        one, other = named_rows(before, section), named_rows(now, section)
+        for name in [*one, *(name for name in other if name not in one)]:
+            if name not in other or name not in one:
+                found.append((name, "", *(("there", "not there") if name in one else ("not there", "there"))))
+                continue
+            for key in model.KEYS[section]:
+                values = [shown(row, key) for row in (one[name], other[name])]
+                if values[0] != values[1]:
+                    found.append((name, key.name, *values))
+    return found
+
+
+def named_rows(net, section):
+    """The rows of a section by what they are called. Of outages of one line each is told by its number."""
+    if section == "top":
+        return {"the run": net.description.tree}
+    found = {}
+    for row in net.description.rows(section):
+        name = {
+            "node": lambda: f"node {row['name']}", "vl": lambda: f"virtual link {row['id']}",
+            "link": lambda: f"link {'-'.join(sorted((row['a'], row['b'])))}", "outage": lambda: f"outage {row['from']}>{row['to']}",
+        }[section]()
+        number = sum(other == name or other.startswith(name + ", ") for other in found)
+        found[name if not number else f"{name}, number {number + 1}"] = row
+    return found
+
+
+def shown(row, key):
+    """A value as a reader compares it, cut where it is long."""
+    value = row.get(key.name, key.usual)
+    if key.value_type == "name" and key.name in ("a", "b"):
+        return ""
+    text = "" if value is None else model.written(value) if key.value_type == "paths" else str(value)
+    return text if len(text) <= 80 else text[:76] + " .."

@@ -1,0 +1,143 @@
+"""What an accepted description has that is hardly meant: warnings, each with its line. Beside bounds, what may go wrong in the
+worst case."""
+from afdx import model
+from afdx.model.judge import Finding
+from afdx.reckon import network_calculus, transmit_jitter
+
+class Warnings:
+    """What an accepted description has that is hardly meant."""
+
+    def __init__(self, net):
+        self.net, self.findings = net, []
+        for i, outage in enumerate(net.outages, 1):
+            if outage.from_ns > net.until_ns:
+                text = f"is {outage.from_ns}, and the run ends at {net.until_ns}: the line is never out"
+                self.add("outage", i, "from_ns", f"outage {outage.line}", text, "an outage begins after the end of the run")
+        for vl in net.vls.values():
+            self.virtual_link(vl)
+        for i, link in enumerate(net.links, 1):
+            for line in (link.a + ">" + link.b, link.b + ">" + link.a):
+                self.load(i, link, line)
+        self.transmit_jitter()
+        self.findings.sort(key=lambda it: it.line)
+
+    def transmit_jitter(self):
+        """End systems that may send later than the standard allows."""
+        rows = {name: i for i, name in enumerate(self.net.nodes, 1)}
+        for line, known in transmit_jitter.allowed(self.net, transmit_jitter.users_of(self.net)).items():
+            if known.sum_ns > transmit_jitter.MOST_NS:
+                name = line.split(">")[0]
+                of = f"{known.users} virtual link{'' if known.users == 1 else 's'}"
+                text = f"has {of} on {line}: 40 us and a frame of each take {known.sum_ns} ns, and ARINC 664 Part 7 "
+                text += f"allows {transmit_jitter.MOST_NS} ns of transmit jitter"
+                self.add("node", rows[name], None, f"end system {name}", text, "the transmit jitter of an end system may be more than ARINC 664 Part 7 allows")
+
+    def add(self, section, row, key, name, text, kind):
+        line = self.net.description.line(section, row, key)
+        who = f"{name} ({section} row {row})" + (f", {key}" if key else "")
+        self.findings.append(Finding(0, model.Place(section, row, key), line, who, text, kind))
+
+    def load(self, i, link, line):
+        load = self.net.load[line]
+        if load > 75:
+            tenths = round(load * 10)
+            text = f"gets {tenths // 10}.{tenths % 10} percent of the {link.mbit} Mbit/s of {line}: "
+            late = "frames are lost or late there, whatever the moments" if load > 100 else "frames wait long there"
+            kind = f"a line gets more than {100 if load > 100 else 75} percent of what it carries"
+            self.add("link", i, None, f"link {link.a}-{link.b}", text + late, kind)
+
+    def virtual_link(self, vl):
+        net, add = self.net, lambda key, text, kind: self.add("vl", vl.row, key, f"virtual link {vl.id}", text, kind)
+        if vl.size > vl.smax:
+            text = f"is {vl.size}, above smax, which is {vl.smax}: every frame is dropped at the first switch (too_long)"
+            add("size", text, "size is above smax")
+        if vl.period_ns < vl.bag_ns:
+            text = f"is {vl.period_ns}, below the BAG of {vl.bag_ns} ns: frames wait in the regulator, and are dropped "
+            add("period_ns", text + "once as many wait as depth says (queue_full)", "the period is below the BAG")
+        else:
+            self.wait(vl, add)
+        if vl.bag_ns > net.until_ns:
+            add("bag_ms", f"is longer than the run, which ends at {net.until_ns} ns: one frame leaves at most", "the BAG is longer than the run")
+        drawn = model.offers(net.seed, vl.id, vl.offset_ns, vl.period_ns, vl.jitter_ns, net.until_ns)
+        if next(drawn, None) is None:
+            text = f"is {vl.offset_ns}: nothing is offered before the end, which is at {net.until_ns} ns"
+            add("offset_ns", text, "nothing is offered before the end")
+        self.networks(vl, add)
+
+    @staticmethod
+    def wait(vl, add):
+        """What the jitter of offers alone may keep in the regulator."""
+        most, depth = -(-vl.jitter_ns // vl.period_ns), vl.depth * vl.sub
+        if most > depth:
+            text = f"is {vl.jitter_ns}: {most} frames may wait in the regulator, and it holds {depth} (queue_full)"
+            add("jitter_ns", text, "more frames may wait in the regulator than it holds")
+        elif (wait := network_calculus.longest_wait(vl)) > vl.bag_ns:
+            text = f"is {vl.jitter_ns}: up to {wait} ns of a latency, which begins at the offer, are the regulator's"
+            add("jitter_ns", text, "much of a latency may be the regulator's")
+
+    def networks(self, vl, add):
+        """Destinations without a second copy, where the description has two networks."""
+        if not (self.net.of_kind("switch", "A") and self.net.of_kind("switch", "B")):
+            return
+        for key, other in (("a", "b"), ("b", "a")):
+            if not vl.paths[key.upper()]:
+                add(key, f"is empty: no destination has a second copy, by network {key.upper()}", f"there is no path on network {key.upper()}")
+                continue
+            alone = [where for where, nets in vl.destinations.items() if nets == {key}]
+            if alone and vl.paths[other.upper()]:
+                names = ", ".join(alone[:4]) + (" .." if len(alone) > 4 else "")
+                text = f"has no path to {names}: reached by network {key.upper()} alone, without a second copy"
+                add(other, text, f"destinations are reached by network {key.upper()} alone")
+
+
+class WorstCase(Warnings):
+    """What may go wrong in the worst case, by the bounds that afdx bounds worked out."""
+
+    def __init__(self, net, bounds):
+        self.net, self.bounds, self.findings = net, bounds, []
+        self.rows = {name: i for i, name in enumerate(net.nodes, 1)}
+        self.of_each(bounds.refusing(), self.refusing)
+        self.of_each(bounds.not_sure(), self.not_sure)
+        self.of_each(bounds.twice(), self.twice)
+        for line in bounds.too_small():
+            self.too_small(line)
+        self.findings.sort(key=lambda it: it.line)
+
+    def of_each(self, keys, tell):
+        """Tells of each virtual link, and the places where it is so."""
+        places = {}
+        for vl, where in keys:
+            places.setdefault(vl, []).append(where)
+        for vl, found in places.items():
+            tell(self.net.vls[vl], sorted(found, key=self.net.process.get))
+
+    def tell(self, vl, key, text, kind):
+        self.add("vl", vl.row, key, f"virtual link {vl.id}", text, f"in the worst case {kind}")
+
+    def refusing(self, vl, places):
+        told = [f"{where} ({ns_or_none(self.bounds.accounts[vl.id, where].jitter_ns)})" for where in places]
+        text = f"is {vl.policing_ns}, and in the worst case frames come closer than a BAG by more than that at {few(told)}: "
+        self.tell(vl, "policing_jitter_ns", text + "the accounts there may refuse them (policed)", "accounts may refuse frames")
+
+    def not_sure(self, vl, places):
+        networks = "neither network brings" if all(vl.paths.values()) else "its network does not bring"
+        self.tell(vl, None, f"{networks} each frame to {few(places)} in the worst case", "no network brings each frame")
+
+    def twice(self, vl, places):
+        told = [f"{where} ({ns_or_none(self.bounds.of[vl.id, where].skew_ns)})" for where in places]
+        text = f"is {vl.skew_ns}, and in the worst case the copies of a frame are further apart at {few(told)}: "
+        self.tell(vl, "skew_max_ns", text + "the second one would be delivered too", "copies are further apart than SkewMax")
+
+    def too_small(self, line):
+        most, name = self.bounds.waiting[line].most, line.split(">")[0]
+        waits = "there is no bound on the bytes that may wait" if most is None else f"in the worst case {most} bytes wait"
+        text = f"is {self.bounds.holds(line)}, and {waits} before {line}: frames may be lost there (port_full)"
+        self.add("node", self.rows[name], "port_bytes", f"node {name}", text, "in the worst case a port is too small")
+
+
+def ns_or_none(number):
+    return "no bound" if number is None else f"{number} ns"
+
+
+def few(texts, most=4):
+    return ", ".join(texts[:most]) + (f" and {len(texts) - most} more" if len(texts) > most else "")

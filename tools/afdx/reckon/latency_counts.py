@@ -1,0 +1,109 @@
+"""How often there was each latency, in bins of less than 0.1 percent, so that it takes little memory however many frames there are.
+
+Up to 2047 ns a bin is one ns. Above, each octave has 1,024 bins of one length: a bin goes from ns with 11 binary digits, and zeros
+behind them, to the next such number. So whole numbers tell the bin, and bins of all runs are the same ones.
+"""
+import re
+from array import array
+from collections import Counter
+
+from afdx.files import Fault
+
+DIGITS = 11
+HALF = 2 ** (DIGITS - 1)
+# How many bins are kept together, those of an octave, with how many bytes for each until more are needed; and of a trace how
+# many bytes are read at once.
+TOGETHER = HALF
+SIZES = ["H", "I", "Q"]
+BLOCK = 2**22
+DELIVERED = re.compile(rb"^[0-9]+,([^,\n]+,[0-9]+),delivered,([0-9]{1,19})$", re.MULTILINE)
+
+
+def bin_of(ns):
+    """The number of the bin of a latency; numbers rise with latencies."""
+    shift = ns.bit_length() - DIGITS
+    return ns if shift <= 0 else shift * HALF + (ns >> shift)
+
+
+def ends_of(number):
+    """The least and the greatest latency of a bin."""
+    shift = max(0, number // HALF - 1)
+    return number - shift * HALF << shift, (number - shift * HALF + 1 << shift) - 1
+
+
+class Counts:
+    """How many frames there were in each bin."""
+
+    __slots__ = ("parts",)
+
+    def __init__(self):
+        # The counts of so many bins together, by the number of the first of them divided by that.
+        self.parts = {}
+
+    def add(self, found):
+        """Adds how many there were in bins, by their numbers."""
+        parts = self.parts
+        for number, count in found.items():
+            place = number % TOGETHER
+            try:
+                parts[number // TOGETHER][place] += count
+            except KeyError:
+                self.widen(number // TOGETHER, array(SIZES[0], bytes(2 * TOGETHER)), place, count)
+            except OverflowError:
+                self.widen(number // TOGETHER, parts[number // TOGETHER], place, count)
+
+    def widen(self, which, part, place, count):
+        """Puts a part into its place, with room for such a count."""
+        more = part[place] + count
+        size = max(SIZES.index(part.typecode), sum(more >= 2**bits for bits in (16, 32)))
+        self.parts[which] = array(SIZES[size], part)
+        self.parts[which][place] = more
+
+    def total(self):
+        return sum(map(sum, self.parts.values()))
+
+    def items(self):
+        """The bins in which there were frames, in order, with how many."""
+        for first in sorted(self.parts):
+            for place, count in enumerate(self.parts[first]):
+                if count:
+                    yield first * TOGETHER + place, count
+
+    def percentiles(self, percents, greatest):
+        """For each percentage the end of the bin in which the frame is that so many percent do not exceed (the nearest rank), or
+        the greatest latency of all, where that is less. None where no frame came."""
+        total = self.total()
+        ranks, found, passed = [-(-total * percent // 100) for percent in percents], [], 0
+        for number, count in self.items():
+            passed += count
+            while len(found) < len(ranks) and ranks[len(found)] <= passed:
+                found.append(min(greatest, ends_of(number)[1]))
+        return found
+
+
+def of_trace(path, tables):
+    """For each virtual link and destination, in the order of the tables, how many frames came in each bin. A trace that has not
+    what the tables have is refused."""
+    found = {f"{where},{vl}".encode(): array("Q") for vl, where in tables.latencies}
+    with open(path, "rb") as file:
+        rest = b""
+        while block := file.read(BLOCK):
+            block = rest + block
+            end = block.rfind(b"\n") + 1
+            rest = block[end:]
+            try:
+                for key, latency in DELIVERED.findall(block, 0, end):
+                    found[key].append(int(latency))
+            except KeyError as fault:
+                raise Fault(path, None, f"{fault.args[0].decode('utf-8', 'replace')} is no destination in {tables.net.path}") from None
+    return [bins_of(path, latencies, row) for latencies, row in zip(found.values(), tables.latencies.values())]
+
+
+def bins_of(path, latencies, row):
+    """How many of these latencies are in each bin; they must be those of a row of the tables."""
+    count = len(latencies)
+    if (count, min(latencies, default=0), max(latencies, default=0), sum(latencies)) != row[2:6]:
+        raise Fault(path, None, f"is of another run than the tables: {count} frames of virtual link {row.vl} came to {row.where}")
+    # As bin_of does, without a call for each.
+    numbers = [ns if (shift := ns.bit_length() - DIGITS) <= 0 else shift * HALF + (ns >> shift) for ns in latencies]
+    return dict(Counter(numbers))

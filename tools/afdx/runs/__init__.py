@@ -1,0 +1,1 @@
+"""Runs: of the program on this machine or a cluster, by the kit, of the second opinion, and of a campaign."""

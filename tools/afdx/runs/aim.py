@@ -1,0 +1,321 @@
+"""Offsets that let the frames of others meet those of a virtual link at each port of its way, just ahead of them: so it is
+seen how near a run comes to a bound.
+
+The frames of those that come by one line are set one behind the other, so that the last of them is there just before the
+aimed one; those of several lines come to their ends together. Ports are taken in the order of the way, since what delays
+the frame at one port says when it comes to the next. Then some offsets are moved here and there, and what makes the
+frame later is kept. Other offsets may make it later still: what is found is reached, and no bound.
+"""
+import contextlib
+import random
+from collections import namedtuple
+from itertools import repeat
+
+from afdx import files, model
+from afdx.files import Fault
+from afdx.reckon import network_calculus
+from afdx.runs import reading_processes, run_results, second_opinion, side_by_side
+
+# How often an offset is moved to see whether the frame comes later, and how often all are set right again: with so many
+# frames that meet it, and with more of them less often.
+MOVES, OF_FRAMES, ROUNDS = 200, 20, 6
+
+
+class Meeting(second_opinion.Simulation):
+    """A run that notes when the first frame of each virtual link comes to each line's port, and to nodes by each network."""
+
+    def __init__(self, tree):
+        self.came = {}
+        super().__init__(tree)
+
+    def put(self, t, p, q, frame, high):
+        self.came.setdefault((frame[0], self.names[self.out[p, q]]), t)
+        super().put(t, p, q, frame, high)
+
+    def handle(self, t, p, variant, fields):
+        if variant == "Arrive":
+            frame = fields[1]
+            self.came.setdefault((frame[0], self.names[p], frame[5]), t)
+        super().handle(t, p, variant, fields)
+
+
+class Aim:
+    """The way of a virtual link to a destination on a network, and who meets it where. Moments are those of first
+    offers, which are at 0 for the aimed one until `offsets` moves all of them."""
+
+    def __init__(self, net, found, vl, where, side):
+        self.net, self.vl, self.where, self.side = net, net.vls[vl], where, side
+        path = next(path for path in self.vl.paths[side] if path[-1] == where)
+        self.lines = model.lines_of_path(path)
+        ports = [found.ports[line] for line in self.lines]
+        # For each of the others where it meets the way first, how long it takes to come there if nothing delays it, and by
+        # which line it comes.
+        self.meets = {}
+        for place, port in enumerate(ports):
+            for hop in port.hops:
+                other = hop.link.vl.id
+                if other != vl and other not in self.meets:
+                    self.meets[other] = place, hop.earliest(), hop.before and hop.before.port
+        self.tree = self.of_these()
+        # `due` has when each of the others is to be at the port where it meets the way.
+        self.offers, self.due = {vl: 0}, {}
+
+    def of_these(self):
+        """What the description says, with the virtual links alone that meet."""
+        tree = dict(self.net.description.tree)
+        tree["vl"] = [row for row in tree["vl"] if row["id"] == self.vl.id or row["id"] in self.meets]
+        tree["outage"] = []
+        return tree
+
+    def met(self):
+        """When first frames come to ports and nodes, with the offers so far; none other is offered."""
+        begin = -min(self.offers.values())
+        rows = []
+        for row in self.tree["vl"]:
+            if row["id"] in self.offers:
+                moment = self.offers[row["id"]] + begin
+                rows.append(row | {"offset_ns": moment, "jitter_ns": 0, "period_ns": model.LATEST_NS})
+        run = Meeting(self.tree | {"vl": rows, "until_ns": model.LATEST_NS})
+        run.run()
+        return {place: moment - begin for place, moment in run.came.items()}
+
+    def arrival(self, met=None):
+        """How long after its offer the aimed frame is at the destination, or 0 where it is lost."""
+        return (self.met() if met is None else met).get((self.vl.id, self.where, self.side), 0)
+
+    def set_ahead(self):
+        """Sets the others so that they meet the frame, port by port. Where they go behind it by their priority, they come
+        before all that go ahead, so that one of them is being sent when these come."""
+        for place, line in enumerate(self.lines):
+            came = self.met().get((self.vl.id, line))
+            if came is None:
+                return
+            meeting = [other for other, (where, _, _) in self.meets.items() if where == place]
+            goes_behind = lambda other: place > 0 and self.vl.priority == "high" and self.net.vls[other].priority == "low"
+            behind = self.set_group(came, 1, [other for other in meeting if not goes_behind(other)])
+            self.set_group(came, behind + 1, [other for other in meeting if goes_behind(other)])
+
+    def set_group(self, came, behind, others):
+        """Sets some of those that meet the frame at a port, of each line one behind the other, so that the last ones are
+        there so many ns before it. Answers how many ns before it the first of them is there."""
+        lines, first = {}, behind
+        # The longest frame comes last, so that most of it is still to be sent.
+        for other in sorted(others, key=lambda it: (-self.net.vls[it].size, it)):
+            _, earliest, up = self.meets[other]
+            ahead = lines.get(up, behind)
+            self.due[other] = came - ahead
+            self.offers[other] = came - ahead - earliest
+            first = max(first, ahead)
+            if up is not None:
+                lines[up] = ahead + (self.net.vls[other].size + model.BYTES_BETWEEN_FRAMES) * up.byte_ns
+        return first
+
+    def set_right(self):
+        """The others delay each other on their own ways. So they are offered earlier by what they were late, or later,
+        some times over; the offers by which the frame came latest are kept."""
+        met = self.met()
+        best, kept = self.arrival(met), dict(self.offers)
+        for _ in range(ROUNDS):
+            for other, due in self.due.items():
+                came = met.get((other, self.lines[self.meets[other][0]]))
+                if came is not None:
+                    self.offers[other] += due - came
+            met = self.met()
+            if self.arrival(met) > best:
+                best, kept = self.arrival(met), dict(self.offers)
+        self.offers = kept
+
+    def improve(self, moves):
+        """Moves offers here and there, and keeps what makes the frame later."""
+        draw, best = random.Random(f"{self.vl.id} {self.where} {self.side}"), self.arrival()
+        others = sorted(self.meets)
+        for _ in range(moves * OF_FRAMES // max(OF_FRAMES, len(others)) if others else 0):
+            other = draw.choice(others)
+            before = self.offers.get(other)
+            frame = (self.net.vls[draw.choice(others)].size + model.BYTES_BETWEEN_FRAMES) * 80
+            step = draw.choice([1, -1]) * draw.choice([1, 2, frame, frame, 2 * frame, 10 * frame, draw.randrange(1, 200_000)])
+            self.offers[other] = (before or 0) + step
+            reached = self.arrival()
+            if reached >= best:
+                best = reached
+            elif before is None:
+                del self.offers[other]
+            else:
+                self.offers[other] = before
+        return best
+
+    def offsets(self, seed):
+        """The offset of each virtual link, so that its first offer is at its moment with the jitter that this seed draws.
+        Those that do not meet are first offered when the aimed frame has arrived."""
+        first, arrived = {}, self.arrival()
+        for vl in self.net.vls.values():
+            first[vl.id] = self.offers[vl.id] - self.drawn(seed, vl) if vl.id in self.offers else arrived
+        begin = -min(first.values())
+        return {vl: moment + begin for vl, moment in first.items()}
+
+    @staticmethod
+    def drawn(seed, vl):
+        """The jitter of the first offer."""
+        return next(model.words(seed, vl.id)) % (vl.jitter_ns + 1)
+
+    def name(self):
+        return f"virtual link {self.vl.id} at {self.where} by {self.side}"
+
+
+def aimed(net, vl, where, side, found=None, moves=MOVES):
+    """Who meets a virtual link on its way to a destination on a network, set so that it comes late, and how late it is."""
+    aim = Aim(net, found or network_calculus.Bounds(net), vl, where, side)
+    aim.set_ahead()
+    aim.set_right()
+    return aim, aim.improve(moves)
+
+
+# ---- runs ----
+
+HEAD = "vl,where,network,seed,plain_ns,aimed_ns,frame_ns,way_ns,bound_ns,wait_ns"
+
+
+class Search(reading_processes.Reckoner):
+    """Looks for the offsets of aimed runs, several of them side by side in processes of their own."""
+
+    def __init__(self, net, found, moves):
+        self.net, self.bounds, self.moves = net, found, moves
+
+    def answer(self, *way):
+        """The offers by which a frame on a way comes late, and how late it is."""
+        aim, frame = aimed(self.net, *way, self.bounds, self.moves)
+        return aim.offers, frame
+
+    def courses(self, ways, jobs, tell):
+        """For each way whom the runs are aimed at and how late the frame is; `tell` hears how many were found."""
+        found = []
+        with contextlib.closing(reading_processes.answers(self, ways, jobs)) as answers:
+            for way, (offers, frame) in zip(ways, answers):
+                aim = Aim(self.net, self.bounds, *way)
+                aim.offers = offers
+                found.append((aim, frame))
+                tell(len(found))
+        return found
+
+
+class AimedRuns:
+    """The runs of a campaign that aims at destinations of virtual links, and what came of them: one for each of them, each
+    network and each seed, beside that of the description with this seed. Limits are held against them."""
+
+    def __init__(self, net, wanted, seeds, limits=(), moves=MOVES):
+        self.net, self.seeds, self.limits = net, seeds, dict(limits)
+        self.bounds = network_calculus.Bounds(net)
+        self.ways = [
+            (vl, where, side)
+            for vl, where in sorted(wanted, key=self.bounds.order)
+            for side in sorted(net.vls[vl].paths)
+            if side in self.bounds.by_network.get((vl, where), {})
+        ]
+        self.search, self.courses = Search(net, self.bounds, moves), []
+        self.lines, self.done, self.status, self.failure = [], 0, 0, None
+
+    def count(self):
+        return len(self.seeds) * (1 + len(self.ways))
+
+    def aim(self, jobs, tell=lambda done: None):
+        """Looks for the offsets of all runs."""
+        self.courses = self.search.courses(self.ways, jobs, tell)
+
+    def plan(self):
+        """For each run its seed, and whom it is aimed at, or None."""
+        for seed in self.seeds:
+            yield seed, None
+            for course in self.courses:
+                yield seed, course
+
+    def runs(self):
+        for seed, course in self.plan():
+            if course is None:
+                yield side_by_side.Run(f"seed {seed}", self.net.with_seed(seed, False))
+            else:
+                aim, frame = course
+                offsets = aim.offsets(seed)
+                arrives = offsets[aim.vl.id] + aim.drawn(seed, aim.vl) + frame
+                if arrives > self.net.until_ns:
+                    text = f"the run ends before the aimed frame arrives: until_ns must be {arrives} at the least"
+                    raise Fault(self.net.path, self.net.description.line("top", None, "until_ns"), text)
+                yield side_by_side.Run(f"aimed at {aim.name()}, seed {seed}", self.net.with_offsets(seed, offsets))
+
+    def run(self, maker, keep, progress, jobs):
+        """Has all runs made, and takes what they say. The first one that fails ends it."""
+        progress.listen(maker)
+        plain, keys = None, run_results.keys_of(self.net)
+        reader, jobs = run_results.Reader([self.net]), min(jobs, self.count())
+        with reading_processes.beside(reader, maker, self.runs(), repeat(0), jobs) as results:
+            try:
+                for (seed, course), (_, run, printed, told) in zip(self.plan(), results):
+                    greatest = dict(zip(keys, told.greatest))
+                    if course is None:
+                        plain, name = greatest, f"seed-{seed}"
+                    else:
+                        name = f"aimed-{1 + self.courses.index(course)}-seed-{seed}"
+                        self.lines.append(self.line(seed, *course, plain, greatest))
+                    keep(name, run.text, printed.tables)
+                    self.done += 1
+                    progress.tell(self.done, None)
+            except side_by_side.Failure as failure:
+                self.status, self.failure = 1, str(failure)
+            except Fault as fault:
+                self.status, self.failure = files.BAD, str(fault)
+            except files.ENDS as ended:
+                self.status, said = files.why(ended)
+                self.failure = f"{said}, after {self.done} of {self.count()} runs"
+            finally:
+                progress.end()
+
+    def line(self, seed, aim, frame, plain, aimed):
+        """What a line of the table has, by the greatest latencies of two runs."""
+        key = aim.vl.id, aim.where
+        bound, _ = self.bounds.latencies[key]
+        way = self.bounds.by_network[key][aim.side].longest
+        reached = [plain[key], aimed[key], frame]
+        return Line(*key, aim.side, seed, *reached, way, bound, self.bounds.links[aim.vl.id].wait)
+
+    def tried(self):
+        """The limits at whose destinations a run was aimed, by virtual link and destination."""
+        return {it[:2]: self.limits[it[:2]] for it in self.lines if it[:2] in self.limits}
+
+    def broken(self):
+        """The limits that a run breaks: each with the line whose latency is the greatest there, in their order."""
+        worst = {}
+        for it in self.lines:
+            key, latency = it[:2], max(it.plain_ns, it.aimed_ns)
+            if key in self.limits and latency > self.limits[key].ns and latency > worst.get(key, (0, None))[0]:
+                worst[key] = latency, it
+        return [(self.limits[key], *worst[key]) for key in sorted(worst, key=lambda it: self.limits[it].line)]
+
+    def above(self):
+        """The lines whose latency is above a bound: one of the two is wrong."""
+        is_above = lambda found, bound: bound is not None and found > bound
+        return [it for it in self.lines if is_above(max(it.plain_ns, it.aimed_ns), it.bound_ns) or is_above(it.frame_ns, it.way_ns)]
+
+    def table(self, maker):
+        """The table; its last column names the program."""
+        return "\n".join([HEAD + ",program", *(",".join([*map(network_calculus.said, it), maker.cell()]) for it in self.lines)]) + "\n"
+
+    def long_rows(self):
+        for it in self.lines:
+            for measure in HEAD.split(",")[4:]:
+                if getattr(it, measure) is not None:
+                    yield "aim", it.vl, it.where, measure, getattr(it, measure), {"network": it.network, "seed": it.seed}
+
+    def in_words(self):
+        """For each destination the greatest latency with offsets and without, beside its bound."""
+        found = {}
+        for it in self.lines:
+            found.setdefault((it.vl, it.where), []).append(it)
+        for (vl, where), ones in found.items():
+            best = max(ones, key=lambda it: it.frame_ns)
+            latency = max(it.aimed_ns for it in ones)
+            of = f"{latency * 100 / best.bound_ns:.1f} percent of its bound, {best.bound_ns} ns" if best.bound_ns else "it has no bound"
+            way = f"{best.frame_ns} of {best.way_ns} ns" if best.way_ns else f"{best.frame_ns} ns"
+            plain = max(it.plain_ns for it in ones)
+            yield f"virtual link {vl} at {where}: {latency} ns, {of}; from the release on {way}; as described {plain} ns"
+
+
+Line = namedtuple("Line", HEAD.split(","))

@@ -1,0 +1,152 @@
+"""Runs of the program, several side by side on this machine. tools/afdx/runs/cluster.py makes them on several machines."""
+import concurrent.futures
+import contextlib
+import os
+import re
+import subprocess
+import tempfile
+import threading
+from collections import deque, namedtuple
+
+from afdx import files
+
+# A run that is to be made: what it is called, and its description.
+Run = namedtuple("Run", "name text")
+
+# A line of the program that tells how far a run is.
+FAR = re.compile(rb"afdxsim: (\d+ of \d+ ms.*)\n")
+
+# What a run printed: the text of its tables and, where it was asked for, the path of its trace, a file that is there until the
+# next run is asked for: who needs it longer puts it elsewhere.
+Printed = namedtuple("Printed", "tables trace")
+
+
+class Failure(Exception):
+    """Why a run failed, with its name."""
+
+
+def failure_of(status, said):
+    """What the program said at last, and how it ended."""
+    said = said.decode("utf-8", "replace").strip().split("\n")[-1]
+    ended = f"status {status}" if status > 0 else files.ended_by(-status)
+    return f"{said} ({ended})" if said else ended
+
+
+class Here:
+    """Makes runs on this machine, at most `jobs` side by side, by a command before the path of a description. `tells`: whether it
+    knows --progress."""
+
+    def __init__(self, command, jobs, is_traced=False, tells=True):
+        self.command, self.jobs, self.is_traced, self.tells = command, jobs, is_traced, tells
+        self.lock, self.going, self.last = threading.Lock(), {}, None
+        # Who hears how far each run is, if anybody does: it is called with the run's name and a text.
+        self.hear = None
+
+    def results(self, runs):
+        """Yields each run and what it printed, in the order of the runs. The first one in this order that fails ends it,
+        and those behind it. So does the end of the generator."""
+        rest, waiting, self.last = enumerate(runs), deque(), None
+        with tempfile.TemporaryDirectory() as folder, concurrent.futures.ThreadPoolExecutor(self.jobs) as pool:
+            try:
+                while True:
+                    while len(waiting) < 2 * self.jobs and (new := next(rest, None)):
+                        waiting.append((new[1], pool.submit(self.watched, folder, *new)))
+                    if not waiting:
+                        return
+                    run, future = waiting.popleft()
+                    printed = future.result()
+                    yield run, printed
+                    if printed.trace:
+                        drop(printed.trace)
+            except (Failure, OSError, RuntimeError) as failure:
+                raise Failure(f"{run.name}: {failure}") from None
+            finally:
+                self.stop_after(-1)
+                for _, future in waiting:
+                    future.cancel()
+
+    def watched(self, folder, number, run):
+        """A run; if it fails, those behind it need not go on."""
+        try:
+            return self.one(folder, number, run)
+        except BaseException:
+            self.stop_after(number)
+            raise
+
+    def one(self, folder, number, run):
+        """What a run printed, or None where all has ended before it."""
+        path = os.path.join(folder, f"{number}.toml")
+        words = [*self.command, path]
+        traced = os.path.join(folder, f"{number}.csv")
+        if self.is_traced:
+            words += ["--trace", traced]
+        if self.hear and self.tells:
+            words.append("--progress")
+        with open(path, "w", encoding="utf-8", newline="\n") as out:
+            out.write(run.text)
+        with self.lock:
+            if self.is_over(number):
+                return None
+            self.going[number] = started = self.started(words)
+        printed, said = self.heard(run, started) if self.hear else started.communicate()
+        with self.lock:
+            del self.going[number]
+            if self.is_over(number):
+                return None
+        os.unlink(path)
+        if started.returncode != 0:
+            raise Failure(failure_of(started.returncode, said))
+        return Printed(printed.decode("utf-8", "replace"), traced if self.is_traced else None)
+
+    def heard(self, run, started):
+        """What a run printed and said; of how far it is, one is told who hears."""
+        said = []
+
+        def listen():
+            for line in started.stderr:
+                if far := FAR.fullmatch(line):
+                    self.hear(run.name, far[1].decode("ascii", "replace"))
+                else:
+                    said.append(line)
+
+        with started:
+            listener = threading.Thread(target=listen)
+            listener.start()
+            printed = started.stdout.read()
+            listener.join()
+        return printed, b"".join(said)
+
+    @staticmethod
+    def started(words):
+        pipe = subprocess.PIPE
+        try:
+            return subprocess.Popen(words, stdin=subprocess.DEVNULL, stdout=pipe, stderr=pipe)
+        except OSError as fault:
+            raise Failure(f"{words[0]} cannot be run: {fault.strerror}") from None
+
+    def is_over(self, number):
+        return self.last is not None and number > self.last
+
+    def stop_after(self, number):
+        """Ends the runs behind a number, and lets those before it go on."""
+        with self.lock:
+            self.last = number if self.last is None else min(number, self.last)
+            for later, started in self.going.items():
+                if later > number:
+                    started.kill()
+
+
+def drop(path):
+    """Removes a file, if nobody has put it elsewhere."""
+    with contextlib.suppress(FileNotFoundError):
+        os.unlink(path)
+
+
+def printed_by(tables, trace, folder):
+    """What a run printed whose tables and trace are given as bytes and a text: the trace is put into a file of the folder."""
+    path = None
+    if trace is not None:
+        path = os.path.join(folder, "trace.csv")
+        with open(path, "w", encoding="utf-8", newline="") as out:
+            out.write(trace)
+    return Printed(tables.decode("utf-8", "replace"), path)

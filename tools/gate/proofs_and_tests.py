@@ -1,0 +1,274 @@
+"""All proofs and all tests: `rt ci`, then the tests of the tools. The last line counts both together, as
+
+    N passed, M failed
+
+and the status is 0 where nothing failed, else 1. It sets itself up: as root on Debian it installs what is missing of what the
+tests of the tools need; else it says before the first proof what is missing, and ends. It tells how far it is, how long the
+last run on this machine took, and at the end what each crate took and which tests were skipped, and why. The program that it
+leaves has a record of what it was built of, by which `afdx` knows it.
+"""
+import glob
+import json
+import os
+import re
+import shutil
+import subprocess
+import sys
+import time
+
+from afdx.files import program
+from afdx.runs import by_rt, crate_times
+from afdx.runs.crate_times import minutes, now
+
+# What the tests of the tools need: programs, and libraries of Python, each by the package of Debian that has it.
+PROGRAMS = {"chromium": "chromium", "tshark": "tshark", "git": "git"}
+MODULES = {
+    "distributed": "python3-distributed", "jsonschema": "python3-jsonschema", "hypothesis": "python3-hypothesis",
+    "openpyxl": "python3-openpyxl",
+}
+# What a few of them need besides; where it is not there these are skipped.
+FEW_PROGRAMS = {"mmdebstrap": "mmdebstrap", "man": "man-db"}
+FEW_MODULES = {"numpy": "python3-numpy", "pandas": "python3-pandas"}
+# Debian's packages are for this interpreter.
+DEBIAN = "/usr/bin/python3"
+# How often it tells what is proved, in s.
+EACH = 60
+INSTALL = ["apt-get", "install", "-y", "--no-install-recommends"]
+
+
+def tell(text):
+    print(f"test: {text}", flush=True)
+
+
+# ---- what is needed ----
+
+
+def lacks(python, modules):
+    """The libraries of these that an interpreter lacks, or None where it cannot be run or is too old."""
+    tries = f"import importlib.util as u, sys; print(*(n for n in {list(modules)} if not u.find_spec(n))); sys.exit(sys.version_info < (3, 11))"
+    try:
+        run = subprocess.run([python, "-c", tries], stdin=subprocess.DEVNULL, capture_output=True, text=True)
+    except OSError:
+        return None
+    return run.stdout.split() if run.returncode == 0 else None
+
+
+def python_for_tests():
+    """The interpreter that runs the tests of the tools, and the libraries that it lacks: one that lacks none, and of two the one
+    that Debian's packages are for."""
+    found = [(python, lacks(python, MODULES)) for python in (sys.executable, DEBIAN)]
+    found = [(python, modules) for python, modules in found if modules is not None]
+    return min(found, key=lambda it: (bool(it[1]), it[0] != DEBIAN))
+
+
+def without(programs):
+    """The packages of those programs that are not here."""
+    return [package for name, package in programs.items() if not shutil.which(name)]
+
+
+def missing():
+    """The packages that are missing, and the interpreter that has the rest."""
+    python, modules = python_for_tests()
+    return without(PROGRAMS) + [MODULES[name] for name in modules], python
+
+
+def missing_for_few():
+    """The packages that are missing of what a few tests need. Its libraries are looked for where Debian has them."""
+    return without(FEW_PROGRAMS) + [FEW_MODULES[name] for name in lacks(DEBIAN, FEW_MODULES) or []]
+
+
+def install(packages, few):
+    """Installs what is needed at one go, and the rest one by one: what cannot be had keeps nothing else away."""
+    tell(f"installs {' '.join(packages + few)}")
+    for words in (["apt-get", "update"], *([*INSTALL, *it] for it in (packages, *([name] for name in few)) if it)):
+        subprocess.run(words, stdin=subprocess.DEVNULL, env=os.environ | {"DEBIAN_FRONTEND": "noninteractive"})
+
+
+def as_root(packages):
+    return f"{' '.join(packages)}. As root: apt-get update && {' '.join(INSTALL + packages)}"
+
+
+def set_up():
+    """Sees that all is there that the tests need, and answers the interpreter for those of the tools; None where something
+    is missing, which is told."""
+    (packages, python), few = missing(), missing_for_few()
+    if (packages or few) and os.geteuid() == 0 and shutil.which("apt-get"):
+        install(packages, few)
+        (packages, python), few = missing(), missing_for_few()
+    if packages:
+        tell(f"missing: {as_root(packages + few)}")
+        return None
+    if few:
+        tell(f"tests are skipped that need {as_root(few)}")
+    return python
+
+
+# ---- how far it is ----
+
+
+class Last:
+    """What is known of the last run on this machine."""
+
+    def __init__(self):
+        cache = os.environ.get("XDG_CACHE_HOME") or os.path.join(os.path.expanduser("~"), ".cache")
+        self.path = os.path.join(cache, "afdxsim", "last-test.json")
+        try:
+            with open(self.path, encoding="utf-8") as file:
+                found = json.load(file)
+            self.seconds, self.date = float(found["seconds"]), str(found["date"])
+        except (OSError, ValueError, KeyError, TypeError):
+            self.seconds = self.date = None
+
+    def keep(self, seconds, crates):
+        try:
+            os.makedirs(os.path.dirname(self.path), exist_ok=True)
+            with open(self.path, "w", encoding="utf-8") as out:
+                json.dump({"seconds": round(seconds), "date": time.strftime("%Y-%m-%d"), "crates": crates}, out, indent=1)
+        except OSError:
+            # Then there is no estimate next time.
+            pass
+
+
+class Progress:
+    """How far `rt ci` is, by its lines."""
+
+    def __init__(self, last):
+        self.begin, self.last, self.done, self.edits = now(), last, set(), set()
+        self.crates = crates_of()
+        self.with_edits = {it.split(os.sep)[1] for it in glob.glob("crates/*/must-fail/*.edit")}
+
+    def of_last(self):
+        return f" of some {minutes(self.last.seconds)} by the last run" if self.last.seconds else ""
+
+    def take(self, line):
+        """Takes a line of `rt ci`, and tells how far it is where that changes."""
+        found = re.match(r"rt: (\w+)(?: is kept:| proved$| NOT PROVED| *: trying its must-fail edits)", line)
+        if not found or found[1] not in self.crates:
+            return
+        (self.edits if "must-fail" in found[0] else self.done).add(found[1])
+        tell(self.says())
+
+    def says(self):
+        edits = f", edits of {len(self.edits)} of {len(self.with_edits)} crates" if self.with_edits else ""
+        return f"crate {len(self.done)} of {len(self.crates)}{edits}, {minutes(now() - self.begin)}{self.of_last()}"
+
+
+def crates_of():
+    try:
+        with open("crates.txt", encoding="utf-8") as file:
+            return {line.split(":")[0].split()[0] for line in file if line.strip() and not line.startswith("#")}
+    except OSError:
+        return set()
+
+
+# ---- what is run ----
+
+
+def said_by(command, progress=None, times=None):
+    """What a command says, which is shown as it comes, and its status. Of `rt ci` it tells besides how far it is, and takes
+    down what each crate takes."""
+    said = []
+    try:
+        run = subprocess.Popen(command, stdout=subprocess.PIPE, stderr=subprocess.STDOUT, text=True, errors="replace")
+    except OSError as fault:
+        print(f"{command[0]}: {fault.strerror}", flush=True)
+        return "", 127
+
+    def listen():
+        for line in run.stdout:
+            print(line, end="", flush=True)
+            said.append(line)
+            if progress:
+                progress.take(line.rstrip("\n"))
+        return "".join(said), run.wait()
+
+    if progress is None:
+        return listen()
+    with crate_times.CrateTimes(run.pid, os.getcwd()) as watched:
+        with by_rt.Meanwhile(lambda _: f"{progress.says()}; {watched.at_work()}", EACH, tell):
+            found = listen()
+    times.update(watched.seconds())
+    return found
+
+
+def counts_of_rt(said):
+    """What `rt ci` has passed and failed, by its last line."""
+    lines = re.findall(r"^(\d+) passed, (\d+) failed$", said, re.MULTILINE)
+    return tuple(map(int, lines[-1])) if lines else (0, 0)
+
+
+def counts_of_unittest(said):
+    """What the tests of the tools have passed and failed, by their last two lines."""
+    ran = re.findall(r"^Ran (\d+) tests? in ", said, re.MULTILINE)
+    end = re.findall(r"^(?:OK|FAILED)(?: \((.*)\))?$", said, re.MULTILINE)
+    if not (ran and end):
+        return 0, 0
+    pieces = dict(piece.split("=") for piece in end[-1].split(", ")) if end[-1] else {}
+    failed = sum(int(pieces.get(word, 0)) for word in ("failures", "errors", "unexpected successes"))
+    return max(0, int(ran[-1]) - failed - int(pieces.get("skipped", 0))), failed
+
+
+class Counts:
+    """What has passed and failed so far."""
+
+    def __init__(self):
+        self.passed = self.failed = 0
+
+    def add(self, found, status):
+        """Adds what a command counted. What ends badly, or has passed nothing, has failed, whatever it counts."""
+        more, less = found
+        self.passed += more
+        self.failed += less or (1 if status or not more else 0)
+
+
+def prove(counts, last, times):
+    """Runs `rt ci`, and writes down what the program that it leaves was built of."""
+    kit_line = program.kit(os.getcwd())
+    before = program.sum_of_judged(kit_line, os.getcwd())
+    said, status = said_by(["rt", "ci"], Progress(last), times)
+    counts.add(counts_of_rt(said), status)
+    if not counts.failed and os.path.isfile(program.BUILT) and program.sum_of_judged(kit_line, os.getcwd()) == before:
+        sources = program.sum_of_sources(kit_line, os.getcwd())
+        program.write_record(kit_line, sources, f"{counts.passed} passed, 0 failed", os.getcwd())
+
+
+def try_tools(counts, python):
+    """Runs the tests of the tools, file by file, and answers how long each took, and which tests were skipped and why."""
+    files, took, skipped = sorted(glob.glob("tools/tests/test_*.py")), {}, []
+    for number, file in enumerate(files, 1):
+        name, begin = os.path.basename(file), now()
+        tell(f"tools: file {number} of {len(files)}, {name}")
+        said, status = said_by([python, os.path.join("tools", "gate", "one_test_file.py"), name])
+        counts.add(counts_of_unittest(said), status)
+        took[name] = now() - begin
+        skipped += re.findall(r"^skipped: .*$", said, re.MULTILINE)
+    if not files:
+        counts.add((0, 0), 0)
+    return took, skipped
+
+
+def main():
+    os.chdir(program.ROOT)
+    python = set_up()
+    if python is None:
+        print("0 passed, 1 failed", flush=True)
+        return 1
+    last, counts, times, begin = Last(), Counts(), {}, now()
+    if last.seconds:
+        tell(f"the last run on this machine took {minutes(last.seconds)} ({last.date}); what has not changed is not proved again")
+    prove(counts, last, times)
+    proved = now() - begin
+    took, skipped = try_tools(counts, python)
+    tell("seconds of processors that each crate took in this run:")
+    for line in crate_times.in_lines(times):
+        tell(f"  {line}")
+    tell("seconds that each file of the tests of the tools took:")
+    for name, seconds in sorted(took.items(), key=lambda it: -it[1]):
+        tell(f"  {name:<26}{seconds:>6.0f}")
+    for line in skipped:
+        tell(line)
+    tell(f"proofs and edits {minutes(proved)}, tools {minutes(now() - begin - proved)}, all {minutes(now() - begin)}")
+    if not counts.failed:
+        last.keep(now() - begin, {name: round(sum(mine.values())) for name, mine in times.items()})
+    print(f"{counts.passed} passed, {counts.failed} failed", flush=True)
+    return 1 if counts.failed else 0

@@ -1,0 +1,292 @@
+#!/usr/bin/env python3
+"""Lists the files that say what is promised of `replay` and of `run`: what someone reads who doubts the promises.
+
+    python3 tools/gate/reading_list.py            prints the lists, with what each file of specs/ says of itself
+    python3 tools/gate/reading_list.py --write    puts them into docs/PROOFS.md, by their names, between the two marks there
+
+It begins with the names in the contracts of a few functions (BEGINNINGS), and goes on with the names in what defines these,
+by the `use` lines of each file, until none is new. So a file is in a list because a name of it is needed there, and what
+serves proofs alone is in none. A type of the code counts as its file in src/; of one that clauses see by a model, the value
+of the model is followed, and not the fields.
+
+A name that is bound in a definition and defined elsewhere too is followed: a list may have a file too many, and none too
+few. What the libraries of the kit define is named at the end, and not followed.
+
+tools/tests/test_reading_list.py holds the document against the lists.
+"""
+import argparse
+import functools
+import os
+import re
+import sys
+from collections import namedtuple
+
+from afdx import files
+
+TOP = os.path.normpath(os.path.join(os.path.dirname(os.path.abspath(__file__)), "..", ".."))
+DOCUMENT = os.path.join(TOP, "docs", "PROOFS.md")
+MARKS = "<!-- by tools/gate/reading_list.py --write: from here -->\n\n", "\n\n<!-- to here -->"
+
+# The contracts that each list begins with, by crate, file in src/ and function: the promise itself, and what the program
+# makes of it.
+BEGINNINGS = {
+    "replay": [("timewarp", "journal", "replay"), ("commands", "replaying", "replay")],
+    "run": [
+        ("worker_pool", "running", "run"),
+        ("worker_pool", "summary", "run_summary"),
+        ("worker_pool", "tracing", "run_traced"),
+        ("afdxsim", "run", "run"),
+    ],
+}
+
+USE = re.compile(r"^\s*(?:ghost |pub )?use Rattle\.(\w+)\.specs\.([\w.]+?)(?:\.\{(.*?)\}| as (\w+))?;?\s*$", re.MULTILINE)
+CODE_USE = re.compile(r"^\s*(?:pub )?use ((?:\w+::)+)(?:\{(.*?)\}|(\w+));", re.MULTILINE | re.DOTALL)
+NAME = re.compile(r"(?<![\w)\]}.])([^\W\d][\w'-]*)((?:\.[^\W\d][\w'-]*)*)")
+MODIFIERS = ("abbrev ", "unfoldable ", "pub ", "record ", "data ")
+TYPE = r"^pub(?:\(\w+\))? (?:struct|enum|trait) {}\b"
+
+# Where a name is from: a crate, a path of modules under its specs/, and the name there.
+Source = namedtuple("Source", "crate path name")
+
+
+def without_comments(text):
+    return re.sub(r"(?:--|//).*", "", text)
+
+
+def names_in(text):
+    """The names in a text, each with what stands behind a point of it. A field of a value is no name of its own."""
+    return {(head, rest[1:]) for head, rest in NAME.findall(text)}
+
+
+def defined_by(line):
+    """The name that a line of a file of specs/ defines, or goes on to define."""
+    while any(line.startswith(it) for it in MODIFIERS):
+        line = line.partition(" ")[2]
+    return re.split(r"[ :]", line)[0]
+
+
+def definitions_in(text):
+    """For each name that a file of specs/ defines the text that does, with the head of the module around it."""
+    found, around, name = {}, "", None
+    for line in filter(str.strip, USE.sub("", text).splitlines()):
+        depth = len(line) - len(line.lstrip())
+        if depth == 0:
+            around = line if line.startswith("module ") else ""
+        if line.startswith("module "):
+            continue
+        if depth == (2 if around else 0):
+            began = defined_by(line.strip())
+            name = name if began == "unfolding" else began
+            found.setdefault(name, around)
+        found[name] += "\n" + line
+    return found
+
+
+class Tree:
+    """The crates of the repository, as far as names are concerned."""
+
+    def __init__(self, top=TOP):
+        self.crates = os.path.join(top, "crates")
+        with open(os.path.join(top, "crates.txt"), encoding="utf-8") as file:
+            self.order = [line.split(":")[0] for line in file if line.strip() and not line.startswith("#")]
+        self.known, self.texts = {}, {}
+        self.code = functools.cache(self.code)
+        self.type_home = functools.cache(self.type_home)
+
+    def text(self, crate, path):
+        if (crate, path) not in self.texts:
+            with open(os.path.join(self.crates, crate, *path.split("/")), encoding="utf-8") as file:
+                self.texts[crate, path] = file.read()
+        return self.texts[crate, path]
+
+    def code(self, crate, module):
+        return without_comments(self.text(crate, f"src/{module}.rt"))
+
+    def home(self, crate, path):
+        """The crate and the file that a `use` line names: it may name a type in it too, or a module that is passed on."""
+        if crate not in self.order or path.startswith("declared."):
+            return crate, path
+        for other, module, *_ in USE.findall(self.text(crate, "specs/Lib.antt")):
+            if path.split(".")[0] == module:
+                return self.home(other, path)
+        if os.path.exists(os.path.join(self.crates, crate, "specs", *path.split(".")) + ".antt"):
+            return crate, path
+        return self.home(crate, path.rpartition(".")[0])
+
+    def imports_of(self, text):
+        """What the `use` lines of a text bring: for each name its source. A module with a name of its own has no name there."""
+        found = {}
+        for crate, path, names, alias in USE.findall(text):
+            crate, path = self.home(crate, path)
+            if alias:
+                found[alias] = Source(crate, path, None)
+            for item in filter(None, map(str.strip, names.split(","))):
+                name, _, called = item.partition(" as ")
+                found[called or name] = self.passed_on(Source(crate, path, name))
+        return found
+
+    def passed_on(self, source):
+        """The source of a name that a file of specs/ only passes on, as `virtual_time/specs/Law.antt` does."""
+        path = "specs/" + source.path.replace(".", "/") + ".antt"
+        if source.crate in self.order and not source.path.startswith("declared."):
+            for line in self.text(source.crate, path).splitlines():
+                if line.startswith(("pub use ", "unfoldable pub use ")):
+                    ((crate, home, names, _),) = USE.findall(line.removeprefix("unfoldable "))
+                    if source.name in map(str.strip, names.split(",")):
+                        return self.passed_on(Source(crate, home, source.name))
+        return source
+
+    def imported(self, names, imports):
+        for head, rest in names:
+            if head in imports:
+                source = imports[head]
+                yield source if source.name else source._replace(name=rest.split(".")[0])
+
+    def by_definition(self, source):
+        """The sources of the names in a definition of specs/."""
+        key = source.crate, source.path
+        if key not in self.known:
+            text = without_comments(self.text(source.crate, "specs/" + source.path.replace(".", "/") + ".antt"))
+            texts = definitions_in(text)
+            cases = {case: name for name, body in texts.items() for case in re.findall(r"^ +(\w+) : ", body, re.MULTILINE)}
+            self.known[key] = self.imports_of(text), texts, cases
+        imports, texts, cases = self.known[key]
+        names = names_in(texts.get(source.name) or texts.get(cases.get(source.name), ""))
+        yield from self.imported(names, imports)
+        yield from (source._replace(name=head) for head, _ in names if head in texts or head in cases)
+
+    def by_type(self, crate, module, name):
+        """The sources of the names in a type of the code: those of the value of its model, else those of its fields."""
+        text = self.code(crate, module)
+        model = re.search(rf"^impl(?:<.*?>)? Model for {name}\b.*?^}}", text, re.MULTILINE | re.DOTALL)
+        if model:
+            (value,) = re.findall(r"ghost Value = \{(.*?)\}", model.group(), re.DOTALL)
+            yield from self.imported(names_in(value), self.imports_of(text))
+            return
+        shape = re.search(TYPE.format(name) + r".*?(?:;|^})", text, re.MULTILINE | re.DOTALL)
+        yield from self.types_of(crate, module, names_in(shape.group()) if shape else ())
+
+    def types_of(self, crate, module, names):
+        for head, _ in names:
+            found = self.type_home(crate, module, head)
+            if found:
+                yield found
+
+    def type_home(self, crate, module, name):
+        """Where the type is that a file of the code calls so, if it is one of this repository."""
+        text = self.code(crate, module)
+        if re.search(TYPE.format(name), text, re.MULTILINE):
+            return Source(crate, f"declared.{module}.{name}", name)
+        for path, names, one in CODE_USE.findall(text):
+            if name in map(str.strip, (names or one).split(",")):
+                first, *rest = path.removesuffix("::").split("::")
+                # a module may have the name of its crate
+                if first in self.order and first != crate:
+                    return self.type_home(first, rest[0] if rest else "lib", name)
+                inside = rest[0] if first == "crate" else first
+                if os.path.exists(os.path.join(self.crates, crate, "src", inside + ".rt")):
+                    return self.type_home(crate, inside, name)
+        return None
+
+    def by_contract(self, crate, module, function):
+        """The sources of the names in the contract of a function, and of the types that it takes and answers."""
+        text = self.code(crate, module)
+        (found,) = re.findall(rf"^ *pub fn {function}\b.*?\n *{{\n", text, re.MULTILINE | re.DOTALL)
+        clauses = re.findall(r"(?:requires|ensures)[^{]*\{(.*?)\}\n", found, re.DOTALL)
+        yield from self.imported(names_in("\n".join(clauses)), self.imports_of(text))
+        yield from self.types_of(crate, module, names_in(re.split(r"\n +(?:requires|ensures)", found)[0]))
+
+    def rests_on(self, contracts):
+        """The files that these contracts rest on, as pairs of a crate and a path in it; and the libraries that they name."""
+        waiting = [source for contract in contracts for source in self.by_contract(*contract)]
+        seen, files, libraries = set(), set(), set()
+        while waiting:
+            source = waiting.pop()
+            if source in seen:
+                continue
+            seen.add(source)
+            parts = source.path.split(".")
+            if source.crate not in self.order:
+                libraries.add(source.crate)
+            elif parts[0] != "declared":
+                files.add((source.crate, "specs/" + "/".join(parts) + ".antt"))
+                waiting += self.by_definition(source)
+            else:
+                module = "/".join(part for part in parts[1:] if part[0].islower())
+                files.add((source.crate, f"src/{module}.rt"))
+                waiting += self.by_type(source.crate, module, next(part for part in parts[1:] if part[0].isupper()))
+        return files, libraries
+
+    def head_of(self, crate, path):
+        """What a file says of itself: the first sentence of its first comment."""
+        lines = []
+        for line in self.text(crate, path).splitlines():
+            if not line.startswith(("-- ", "//! ")):
+                break
+            lines.append(line.split(" ", 1)[1].strip())
+        said = re.split(r"(?<!\.)\.(?= |$)", " ".join(lines))[0].removeprefix("Definition: ")
+        return said[:1].lower() + said[1:] if said[1:2].islower() or said[1:2] == " " else said
+
+    def by_crate(self, files):
+        """For each crate, in their order, its files of specs/, and by their names those of src/ with types or the contract."""
+        for crate in (it for it in self.order if any(it == crate for crate, _ in files)):
+            mine = sorted(path for other, path in files if other == crate)
+            types = [f"`{path.removeprefix('src/')}`" for path in mine if path.startswith("src/")]
+            yield crate, [path for path in mine if path.startswith("specs/")], ", ".join(types)
+
+    def named(self, files):
+        """A line for each crate."""
+        rows = ["| Crate | In `specs/` | In `src/` |", "|---|---|---|"]
+        for crate, specs, types in self.by_crate(files):
+            names = ", ".join(f"`{path.removeprefix('specs/').removesuffix('.antt')}`" for path in specs)
+            rows.append(f"| `{crate}` | {names} | {types} |")
+        return "\n".join(rows)
+
+    def told(self, files):
+        """A line for each file of specs/, and one for all files of a crate with types of the code."""
+        rows = ["| Crate | File | What it says |", "|---|---|---|"]
+        for crate, specs, types in self.by_crate(files):
+            lines = [(f"`{path}`", self.head_of(crate, path)) for path in specs]
+            lines += [("`src/`: " + types, "types, or the contract")] if types else []
+            rows += [f"| {'' if at else f'`{crate}`'} | {file} | {says} |" for at, (file, says) in enumerate(lines)]
+        return "\n".join(rows)
+
+    def lists(self, table=None):
+        """What the document has: the two tables, each with a line that counts. In `table` files are told by their names, unless
+        it is told otherwise."""
+        table = table or self.named
+        replay, of_replay = self.rests_on(BEGINNINGS["replay"])
+        run, of_run = self.rests_on(BEGINNINGS["run"])
+        types = {name: sum(path.startswith("src/") for _, path in files) for name, files in (("replay", replay), ("run", run))}
+        left_out = sorted(f"`{crate}/{path}`" for crate, path in replay - run)
+        return "\n\n".join([
+            f"**`replay`** rests on {len(replay)} files: {len(replay) - types['replay']} of definitions and {types['replay']} "
+            "with types of the code.",
+            table(replay),
+            f"**`run`** rests on {len(run)} files, {len(run) - types['run']} and {types['run']}. "
+            f"{len(run & replay)} of them stand above, and {len(run - replay)} are these:",
+            table(run - replay),
+            f"Of those above `run` does not need {len(left_out)}: " + ", ".join(left_out) + ".",
+            "Both name definitions of these libraries of the kit, which are not followed here: "
+            + ", ".join(f"`{it}`" for it in sorted(of_replay | of_run)) + ".",
+        ])
+
+
+@files.tool("reading_list")
+def main(arguments=None):
+    parser = argparse.ArgumentParser(prog="reading_list", description=__doc__, formatter_class=argparse.RawDescriptionHelpFormatter)
+    parser.add_argument("--write", action="store_true", help="puts the lists into docs/PROOFS.md")
+    tree = Tree()
+    if not parser.parse_args(arguments).write:
+        files.say(tree.lists(tree.told))
+        return 0
+    lists = tree.lists()
+    with open(DOCUMENT, encoding="utf-8") as file:
+        text = file.read()
+    before, _, rest = text.partition(MARKS[0])
+    files.write_whole(DOCUMENT, before + MARKS[0] + lists + MARKS[1] + rest.partition(MARKS[1])[2])
+    return 0
+
+
+if __name__ == "__main__":
+    sys.exit(main())

@@ -1,0 +1,16 @@
+"""Where tests find what they try: the folder of the tools, the top of the clone, the examples, and each command of `afdx`."""
+import os
+import sys
+
+from afdx.commands.help_texts import OF_TOOLS
+
+TOOLS = os.path.dirname(os.path.dirname(os.path.abspath(__file__)))
+TOP = os.path.dirname(TOOLS)
+EXAMPLES = os.path.join(TOP, "examples")
+# So other processes find the packages, too.
+os.environ["PYTHONPATH"] = TOOLS
+
+
+def tool_words(name):
+    """The words that run the tool of a command of `afdx` in a process of its own. No program is chosen for it."""
+    return [sys.executable, "-m", OF_TOOLS[name.replace("_", "-")].module]

@@ -1,0 +1,148 @@
+"""Tests of the processes that read the runs of a campaign beside it: who reads, and what is told where something ends."""
+import functools
+import multiprocessing
+import os
+import signal
+import tempfile
+import time
+import unittest
+from unittest import mock
+
+from afdx import model
+from afdx.files import Interrupted
+from afdx.model import traces
+from afdx.reckon import latency_counts
+from afdx.runs import reading_processes
+from afdx.runs.side_by_side import Failure, Printed, Run
+from tests.test_campaign import Here, N1, read
+
+
+def noting(path, make):
+    """The same function, which notes in a file which process calls it."""
+
+    @functools.wraps(make)
+    def noted(*given):
+        with open(path, "a") as out:
+            print(os.getpid(), file=out)
+        return make(*given)
+
+    return noted
+
+
+class WhoReads(Here):
+    def test_the_campaign_itself_reads_neither_tables_nor_traces(self):
+        """Whatever kind it is. Each run's are read once."""
+        self.stand_in()
+        for words, reads in (
+            ("--seeds 5", 5), ("--seeds 5 --histograms", 10), ("--seeds 2 --set vl.1.depth=1,2", 4), ("--seeds 2 --aim 1", 4),
+            ("--each-outage", None),
+        ):
+            with self.subTest(words):
+                path, tables, trace = self.file("readers", ""), model.Tables, traces.Trace
+                with mock.patch.object(tables, "__init__", noting(path, tables.__init__)):
+                    with mock.patch.object(trace, "__init__", noting(path, trace.__init__)):
+                        with mock.patch.object(latency_counts, "of_trace", noting(path, latency_counts.of_trace)):
+                            self.assertEqual(self.call(N1, *words.split(), "--jobs", "2")[0], 0)
+                readers = read(path).split()
+                self.assertNotIn(str(os.getpid()), readers)
+                self.assertEqual(len(readers), len(readers) if reads is None else reads)
+                self.assertTrue(readers)
+
+
+class Plain(reading_processes.Reckoner):
+    """Answers a run's key, which may also be what the process is to do."""
+
+    def answer(self, key, run, kept):
+        reading_processes.drop(kept)
+        return key() if callable(key) else key
+
+
+def fails():
+    raise Failure("it fails")
+
+
+def takes_long():
+    time.sleep(60)
+
+
+def answers_much():
+    return bytes(30_000_000)
+
+
+def is_ended():
+    os.kill(os.getpid(), signal.SIGKILL)
+
+
+class WhatIsTold(unittest.TestCase):
+    def told(self, keys, jobs, ended=None):
+        """The answers of runs with these keys, and what ended them; of processes and files nothing is left."""
+
+        def runs():
+            for number, key in enumerate(keys):
+                yield key, Run(f"run {number}", ""), Printed("tables", None)
+            if ended:
+                raise ended
+
+        found = []
+        with tempfile.TemporaryDirectory() as folder:
+            try:
+                for _, _, printed, answer in reading_processes.results(Plain(), runs(), jobs, folder):
+                    self.assertEqual(printed.tables, "tables")
+                    found.append(answer)
+            except (Failure, Interrupted, ValueError) as fault:
+                self.assertEqual(multiprocessing.active_children(), [])
+                return found, str(fault)
+            self.assertEqual(os.listdir(folder), [])
+        return found, None
+
+    def test_in_order(self):
+        for jobs in (1, 3):
+            self.assertEqual(self.told(range(20), jobs), (list(range(20)), None))
+
+    def test_what_was_made_before_the_end_is_told(self):
+        """Where a run fails, or a signal comes while the next one is made."""
+        for ended in (Failure("the next one"), ValueError("a fault"), Interrupted(signal.SIGTERM), Interrupted(signal.SIGINT)):
+            with self.subTest(ended):
+                self.assertEqual(self.told(range(2), 2, ended), ([0, 1], str(ended)))
+
+    def test_a_run_that_cannot_be_read(self):
+        self.assertEqual(self.told([0, 1, fails, 3], 2), ([0, 1], "it fails"))
+
+    def test_a_signal_while_runs_are_read(self):
+        """It waits a while for them."""
+        begin = time.monotonic()
+        with mock.patch.object(reading_processes, "PATIENCE", 1):
+            self.assertEqual(self.told([0, takes_long, takes_long], 2, Interrupted(signal.SIGTERM)), ([0], "ended by SIGTERM"))
+        self.assertLess(time.monotonic() - begin, 40)
+
+    def test_a_signal_while_the_last_run_is_read(self):
+        """It does not wait for that."""
+
+        def interrupted(number, _):
+            raise Interrupted(number)
+
+        begin, before = time.monotonic(), signal.signal(signal.SIGALRM, interrupted)
+        try:
+            signal.setitimer(signal.ITIMER_REAL, 5)
+            self.assertEqual(self.told([0, takes_long], 1), ([0], "ended by SIGALRM"))
+        finally:
+            signal.setitimer(signal.ITIMER_REAL, 0)
+            signal.signal(signal.SIGALRM, before)
+        self.assertLess(time.monotonic() - begin, 40)
+
+    def test_a_signal_while_much_is_answered(self):
+        """Nobody waits for the rest of an answer whose process is ended."""
+        begin = time.monotonic()
+        with mock.patch.object(reading_processes, "PATIENCE", 0):
+            for _ in range(5):
+                self.assertEqual(self.told([answers_much] * 8, 4, Interrupted(signal.SIGINT))[1], "interrupted")
+        self.assertLess(time.monotonic() - begin, 60)
+
+    def test_a_process_that_is_ended(self):
+        """As by a system that is out of memory."""
+        found, said = self.told([0, is_ended, 2], 1)
+        self.assertEqual((found, said), ([0], "run 1: the process that reckons on it was ended"))
+
+
+if __name__ == "__main__":
+    unittest.main()

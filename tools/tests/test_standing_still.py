@@ -1,0 +1,90 @@
+"""Tests that a run by workers of which one thread stands still for 20 s ends with the tables of the one-thread run. It needs the
+built program, at crates/afdxsim/out/afdxsim, where `rt ci` leaves it, and a system that allows `ptrace`.
+
+A worker that stands still may have the lock of a group, so that GVT stands too: after 10 s of this the run gives its workers up,
+and one thread brings it to its end. Where it has none, the others serve its groups. Which of these it is, is for the system; so one
+run has a worker that stands still from its birth, and others have one that is stopped at its work.
+"""
+import os
+import subprocess
+import tempfile
+import time
+import unittest
+
+from afdx.commands import large_network
+from afdx.model import PROGRAM
+from gate import stopped_threads
+
+# How long a worker stands still, in s, and how long a run may take in all.
+STILL, LONGEST = 20, 300
+# Some 2 s of work for one thread, so that a worker is at its work when it is stopped.
+NETWORK = ["--end-systems", "60", "--virtual-links", "1500", "--until", "800000000"]
+PACE = ["--workers", "2", "--groups", "2"]
+
+
+def network():
+    pieces = []
+    large_network.write_network(large_network.words_of(NETWORK), pieces.append, lambda _: None)
+    return "".join(pieces)
+
+
+@unittest.skipUnless(stopped_threads.is_allowed(), "this system does not allow ptrace")
+class StandingStill(unittest.TestCase):
+    @classmethod
+    def setUpClass(cls):
+        if not os.path.isfile(PROGRAM):
+            raise AssertionError(f"there is no program at {PROGRAM}: `rt ci` at the top builds it")
+        folder = tempfile.TemporaryDirectory()
+        cls.addClassCleanup(folder.cleanup)
+        cls.folder = folder.name
+        with open(os.path.join(cls.folder, "net.toml"), "w") as out:
+            out.write(network())
+        cls.tables = subprocess.run([PROGRAM, "seq", "net.toml"], cwd=cls.folder, capture_output=True, check=True).stdout
+
+    def words(self):
+        return [PROGRAM, "run", "net.toml", *PACE]
+
+    def from_birth(self):
+        """A run of which the second worker does nothing."""
+        run, thread = stopped_threads.start(self.words(), self.folder, 2)
+        self.addCleanup(self.end, run)
+        self.assertIsNotNone(thread, "the run has ended")
+        return run, thread
+
+    def end(self, run):
+        if run.returncode is None:
+            run.kill()
+            run.communicate()
+
+    def at_work(self, after):
+        """A run of which a worker is stopped after so many s."""
+        run = subprocess.Popen(self.words(), cwd=self.folder, stdout=subprocess.PIPE, stderr=subprocess.PIPE)
+        self.addCleanup(self.end, run)
+        while len(stopped_threads.threads_of(run)) < 2:
+            self.assertIsNone(run.poll(), "the run has ended")
+            time.sleep(0.001)
+        time.sleep(after)
+        threads = stopped_threads.threads_of(run)
+        self.assertTrue(threads and stopped_threads.stop(threads[-1]), "the run has ended")
+        return run, threads[-1]
+
+    def test_a_run_of_which_one_thread_stands_still_ends(self):
+        begin = time.monotonic()
+        runs = [self.from_birth(), self.at_work(0.1), self.at_work(0.3)]
+        try:
+            time.sleep(max(0, begin + STILL - time.monotonic()))
+            for run, thread in runs:
+                # The run waits for the thread, whatever the others did.
+                self.assertIsNone(run.poll())
+                self.assertIn(thread, stopped_threads.threads_of(run))
+        finally:
+            for _, thread in runs:
+                stopped_threads.go_on(thread)
+        for run, _ in runs:
+            printed, told = run.communicate(timeout=LONGEST)
+            self.assertEqual((run.returncode, told.decode()), (0, ""))
+            self.assertEqual(printed, self.tables)
+
+
+if __name__ == "__main__":
+    unittest.main()

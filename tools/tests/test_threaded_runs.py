@@ -1,0 +1,171 @@
+"""Tests of threaded_runs.py, with a stand-in for the program that can be told to differ."""
+import contextlib
+import io
+import os
+import re
+import sys
+import tempfile
+import unittest
+import zlib
+from unittest import mock
+
+from afdx import model
+from afdx.commands import benchmark, large_network
+from afdx.files import toml_lines
+from afdx.model import judge
+from afdx.runs.second_opinion import Simulation
+from gate import stopped_threads, threaded_runs
+from tests.places import TOOLS
+
+# A program whose commands all print the same tables, and do these lines of a test's own before.
+STAND_IN = """#!{python}
+import sys
+command = sys.argv[1]
+tables, trace, told = "tables\\n", "trace\\n", "replay: 3 did, 0 not enabled, 0 refused, gvt 9, finished\\n"
+journal, groups = "R 0\\nR 0\\nC 0\\n", "afdxsim: 2 groups, 2 workers\\n"
+{lines}
+for flag, text in (("--trace", trace), ("--journal", journal)):
+    if flag in sys.argv:
+        with open(sys.argv[sys.argv.index(flag) + 1], "w") as out:
+            out.write(text)
+sys.stdout.write(tables)
+if command == "replay":
+    sys.stderr.write(told)
+if "--progress" in sys.argv:
+    sys.stderr.write(groups)
+"""
+
+# A run by two threads, neither of which needs the other.
+WORKS = """
+if command == "run":
+    import threading
+    workers = [threading.Thread(target=lambda: None) for _ in range(2)]
+    for worker in workers:
+        worker.start()
+    for worker in workers:
+        worker.join()
+"""
+
+
+class DrawnRuns(unittest.TestCase):
+    """Drawn runs of the built program, which `rt ci` leaves at crates/afdxsim/out/afdxsim."""
+
+    def test_runs_by_workers_come_out_as_those_of_one_thread(self):
+        if not os.path.isfile(model.PROGRAM):
+            self.fail(f"there is no program at {model.PROGRAM}: `rt ci` at the top builds it")
+        said = io.StringIO()
+        with contextlib.redirect_stdout(said):
+            status = threaded_runs.main(["--runs", "60"])
+        sys.stderr.write(said.getvalue())
+        self.assertEqual(status, 0, said.getvalue())
+
+
+class ThreadedRuns(unittest.TestCase):
+    def ended(self, lines, *arguments):
+        """The status and the lines of the tool, over a stand-in with these lines."""
+        with tempfile.TemporaryDirectory() as folder:
+            program = os.path.join(folder, "program")
+            with open(program, "w") as out:
+                out.write(STAND_IN.format(python=sys.executable, lines=lines))
+            os.chmod(program, 0o755)
+            out = io.StringIO()
+            with contextlib.redirect_stdout(out):
+                status = threaded_runs.main(["--program", program, *arguments])
+            return status, out.getvalue().splitlines()
+
+    def test_runs_like_those_of_seq_are_counted(self):
+        for lines, several, rolled_back in (("", 4, 3), ("groups = groups.replace('2 g', '1 g')", 0, 3), ("journal = 'R 0\\nC 0\\n'", 4, 0)):
+            status, found = self.ended(lines, "--runs", "4")
+            self.assertEqual((status, found), (0, [
+                "4 runs, 4 came out as seq, 0 did not",
+                f"of these {several} over several groups of several members, {rolled_back} rolled back, "
+                "0 served the groups of a worker that stood still",
+            ]))
+
+    @unittest.skipUnless(stopped_threads.is_allowed(), "this system does not allow ptrace")
+    def test_it_fails_where_no_run_did_what_is_counted(self):
+        for lines, did in (
+            (WORKS, (1, 1, 1)), ("", (1, 1, 0)), (WORKS + "journal = 'R 0\\nC 0\\n'", (1, 0, 1)),
+            (WORKS + "groups = groups.replace('2 g', '1 g')", (0, 1, 1)),
+        ):
+            for enough in (1, 2):
+                with self.subTest(lines=lines, enough=enough), mock.patch.object(threaded_runs, "ENOUGH_RUNS", enough):
+                    status, found = self.ended(lines, "--runs", "1", "--first", "5")
+                    self.assertEqual(tuple(map(int, re.findall(r"\d+", found[1]))), did)
+                    self.assertEqual(status, 0 if all(did) or enough > 1 else 1)
+
+    def test_each_difference_is_told(self):
+        for lines, told in (
+            ("if command == 'run': tables = 'others'", "the tables of run differ from those of seq"),
+            ("if command == 'run': trace = 'others'", "the rows of run's trace differ from those of seq"),
+            ("if command == 'run' and '--trace' not in sys.argv: tables = ''", "the tables of run alone differ from those of seq"),
+            ("if command == 'replay': tables = ''", "the tables of replay differ from those of seq"),
+            ("told = told.replace('finished', 'unfinished')", "replay told: replay: 3 did, 0 not enabled, 0 refused, gvt 9, unfinished"),
+            ("told = told.replace('0 refused', '1 refused')", "replay told: replay: 3 did, 0 not enabled, 1 refused, gvt 9, finished"),
+            ("if command == 'run': sys.exit('afdxsim: torn')", "run ended with status 1: afdxsim: torn"),
+            ("groups = ''", "run did not report its groups and workers"),
+        ):
+            with self.subTest(lines=lines):
+                status, found = self.ended(lines, "--runs", "1")
+                self.assertEqual((status, len(found)), (1, 3))
+                self.assertTrue(found[0].startswith("run 0 (--workers ") and found[0].endswith("): " + told), found[0])
+                self.assertEqual(found[1], "1 runs, 0 came out as seq, 1 did not")
+
+    def test_a_command_that_does_not_end_is_told(self):
+        with self.assertRaises(threaded_runs.Difference) as told:
+            threaded_runs.ended("/bin/sleep", ["60"], TOOLS, 0.1)
+        self.assertEqual(str(told.exception), "60 took longer than 0.1 seconds")
+
+    def test_a_run_can_be_made_again(self):
+        for number in range(20):
+            with self.subTest(number=number):
+                one, two = threaded_runs.Drawn(number), threaded_runs.Drawn(number)
+                self.assertEqual((one.network, one.pace()), (two.network, two.pace()))
+
+    def test_what_is_drawn_is_within_its_limits(self):
+        drawn = [threaded_runs.Drawn(number) for number in range(200)]
+        for name, most in (("workers", 64), ("turn", 256), ("window", 10**15)):
+            found = [getattr(one, name) for one in drawn]
+            self.assertTrue(all(1 <= value <= most for value in found))
+            self.assertTrue(min(found) <= most**0.25 and max(found) > most / 4)
+
+    def test_networks_are_accepted_and_have_what_is_told(self):
+        """Sub-virtual links and sorts of policing of each sort and none, moments at both ends, and frames that wait and
+        are lost."""
+        nets = [toml_lines.read(threaded_runs.Drawn(number).network) for number in range(100)]
+        for number, net in enumerate(nets):
+            fault = judge.first_fault("net.toml", threaded_runs.Drawn(number).network)
+            self.assertIsNone(fault, number)
+        vls = [vl for net in nets for vl in net["vl"]]
+        self.assertEqual({vl.get("sub") for vl in vls}, {None, 1, 2, 3, 4})
+        self.assertEqual({vl.get("policing") for vl in vls}, {None, "bytes", "frames"})
+        self.assertEqual({net["until_ns"] > 10**14 for net in nets}, {True, False})
+        self.assertTrue(any(10**15 - 10**7 < vl["offset_ns"] for vl in vls) and any(vl["offset_ns"] == 0 for vl in vls))
+        causes = set()
+        for net in nets[:40]:
+            simulation = Simulation(net)
+            simulation.run()
+            causes |= {what for _, _, _, what, _ in simulation.rows}
+        self.assertEqual(causes, {"delivered", *model.CAUSES} - {"unknown"})
+
+    def test_large_networks_are_the_same_in_every_edition(self):
+        """What is drawn for new keys moves nothing where they are not asked for."""
+        words, _, known = benchmark.SIZES["small"]
+        pieces = []
+        large_network.write_network(large_network.words_of(words), pieces.append, lambda _: None)
+        self.assertEqual(zlib.crc32("".join(pieces).encode()), known)
+
+    def test_the_second_opinion_is_held_against_seq(self):
+        status, lines = self.ended("", "--runs", "1", "--second-opinion")
+        self.assertEqual((status, lines[1]), (1, "1 runs, 0 came out as the second opinion, 1 did not"))
+        self.assertTrue(lines[0].endswith("the tables of the second opinion differ from those of seq"), lines[0])
+        simulation = Simulation(toml_lines.read(threaded_runs.Drawn(0).network))
+        simulation.run()
+        tables, trace = ("".join(line + "\n" for line in lines) for lines in (simulation.tables(), simulation.trace()))
+        for trace, told in ((trace, ()), ("other", ("the rows of the second opinion's trace differ from those of seq",))):
+            status, lines = self.ended(f"tables, trace = {tables!r}, {trace!r}", "--runs", "1", "--second-opinion")
+            self.assertEqual((status, tuple(line.split("): ")[1] for line in lines[:-1])), (len(told), told))
+
+
+if __name__ == "__main__":
+    unittest.main()
