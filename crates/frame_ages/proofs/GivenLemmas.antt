@@ -73,7 +73,7 @@ link-among P [] v h i = absurd i
 link-among P (flow ∷ flows) v h (inl e) = subst P (sym e) h.0
 link-among P (flow ∷ flows) v h (inr k) = link-among P flows v h.1 k
 
-own-frames : (e : Equipment) → HaveEmptyRegulators e → AreOwnFrames e
+pub own-frames : (e : Equipment) → HaveEmptyRegulators e → AreOwnFrames e
 own-frames (EndSystem s) h = All-weaker (λ source. All (λ (list : Queue). list.frames ≡ []) source.regulator.lists) (λ (source : Source). All (λ (list : Queue). All (λ (frame : Frame). frame.vl.0 ≡ source.end.vl.0) list.frames) source.regulator.lists)
     (λ source k. All-weaker (λ (list : Queue). list.frames ≡ []) (λ (list : Queue). All (λ (frame : Frame). frame.vl.0 ≡ source.end.vl.0) list.frames)
     (λ list e. subst (All (λ (frame : Frame). frame.vl.0 ≡ source.end.vl.0)) (sym e) (All-nil (λ (frame : Frame). frame.vl.0 ≡ source.end.vl.0))) source.regulator.lists k) s.sources h

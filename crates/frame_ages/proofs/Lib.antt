@@ -8,3 +8,8 @@ pub mod GivenLemmas
 pub mod AgeLemmas
 pub mod NoteLemmas
 pub mod LatencyLemmas
+pub mod RegulatorSteps
+pub mod RegulatorTurns
+pub mod ReleaseTimer
+pub mod WaitLemmas
+pub mod HeldLemmas

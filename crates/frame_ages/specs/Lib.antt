@@ -2,3 +2,4 @@ pub mod Ports
 pub mod Ways
 pub mod Sizes
 pub mod Latencies
+pub mod Waits

@@ -4,6 +4,7 @@
 ghost use Rattle.frame_ages.specs.Latencies.{AreLatenciesBounded};
 ghost use Rattle.frame_ages.specs.Ports.{AreHighsInTime, AreLowsInTime};
 ghost use Rattle.frame_ages.specs.Sizes.{AreAllSized};
+ghost use Rattle.frame_ages.specs.Waits.{AreListsHeld, ArePeriodsHeld};
 
 /// In the one-thread run each frame has the size of its virtual link.
 pub fn sizes_law()
@@ -23,4 +24,12 @@ pub fn ports_law()
 /// networks, that is the longer of the two ways.
 pub fn latencies_law()
     ensures bounded { AreLatenciesBounded }
+{}
+
+/// In the one-thread run the regulator of a virtual link without sub-virtual links holds a frame no longer than a full list takes, one BAG for each
+/// frame (`lists`). If frames are offered by a period, each with a jitter, and neither the BAG nor the jitter is longer than the period, it holds none
+/// longer than jitter + BAG - period (`periods`), also where it drops others.
+pub fn waits_law()
+    ensures lists { AreListsHeld }
+    ensures periods { ArePeriodsHeld }
 {}

@@ -176,7 +176,7 @@ module _ (plan : Plan) (accepted : IsAccepted plan) where
   some-way [] way there = absurd there
   some-way (w ∷ ways) way there = refl
 
-  one-vl : (vl other : VlPlan) → Has plan.vls vl → Has plan.vls other → other.link.id.0 ≡ vl.link.id.0 → other ≡ vl
+  pub one-vl : (vl other : VlPlan) → Has plan.vls vl → Has plan.vls other → other.link.id.0 ≡ vl.link.id.0 → other ≡ vl
   one-vl vl other there there' same =
       same_Some other vl (sym (all-entry id_of plan.vls other rising there') ∙ ap (entry_of id_of plan.vls) same ∙ all-entry id_of plan.vls vl rising there)
 

@@ -1,0 +1,149 @@
+-- Which offers come to an end system, in which order, and how long its regulator then holds them.
+use Rattle.std.proofs.Common.{◌≡◌, ℕ, ◌+◌, ◌-◌, ◌*◌, ◌<◌, ◌≤◌, ◌==◌, inl, inr, true, false, List, [], ◌∷◌, Some, None, sym, ap, ◌∙◌, subst, arith}
+use Rattle.std.specs.Prelude.{⊤}
+use Rattle.std.proofs.lemmas.Bool.{cases_eq, cases_lt, both_ways}
+use Rattle.std.proofs.lemmas.Nat.{mul-le}
+use Rattle.std.proofs.lemmas.List.Elements.{All-weaker}
+use Rattle.vlink.specs.declared.message.Message.{Message}
+use Rattle.vlink.specs.declared.note.Note.{Note}
+use Rattle.vlink.specs.Order.{message_order}
+use Rattle.bag_regulator.specs.Regulator.{opening}
+use Rattle.reverse.specs.Sending.{Wish}
+use Rattle.reverse.specs.Rules.{rules_of}
+use Rattle.reverse.specs.Setting.{Setting, simulation_of}
+use Rattle.virtual_time.specs.Law.{IsAscending, IsIn, Laws, Simulation, events, one}
+use Rattle.virtual_time.proofs.Ascending.{ascending-filter}
+use Rattle.virtual_time.proofs.Lists.{in-head}
+use Rattle.virtual_time.proofs.OneThread.{right}
+use Rattle.port_bounds.specs.Sublists.{Every}
+use Rattle.nodes.specs.declared.node.NodeRecord.{NodeRecord}
+use Rattle.nodes.specs.rules.Node.{NodeState, handled, regulator_in}
+use Rattle.nodes.specs.undoing.Node.{node}
+use Rattle.nodes.specs.laws.Sent.{IsSentAs, sent-all}
+use Rattle.port_turns.specs.Nodes.{IsOfNodes}
+use Rattle.port_turns.proofs.Rising.{AreTo, before, events-from, events-to}
+use Rattle.port_turns.proofs.SentKinds.{AreFrom, from-sooner, times_of}
+use Rattle.frame_ages.specs.Latencies.{IsHeldWithin}
+use Rattle.frame_ages.specs.Sizes.{OpensEmpty}
+use Rattle.frame_ages.specs.Waits.{IsOfferedBy, is_offer_of}
+use Rattle.frame_ages.proofs.GivenLemmas.{every-from-all, own-frames}
+use Rattle.frame_ages.proofs.Invariants.{IsInvariant, all-events}
+use Rattle.frame_ages.proofs.RegulatorTurns.{OfAllSent, all-sent}
+use Rattle.frame_ages.proofs.ReleaseTimer.{HasRegulator, ask_by, ask_in}
+use Rattle.frame_ages.proofs.WaitLemmas.{AreOffered, by-period, full-list, held}
+
+no : {X : Type 0} → false ≡ true → X
+no h = absurd (let z : ⊥ = cc in z)
+
+period-later : (period a b : ℕ) → a < b → a * period + period ≤ b * period
+period-later period a b h = let k : (a + 1) * period ≤ b * period = mul-le (a + 1) period b period (omega arith) (omega arith) in omega arith
+
+-- at moments that do not fall
+any-offered : (v e : ℕ) (ms : List Message) → AreFrom e (times_of ms) → AreOffered v 0 0 (λ e t. t) e ms
+any-offered v e [] h = tt
+any-offered v e (m ∷ ms) h = (
+  λ k. (m.time, h.0, omega arith, omega arith, any-offered v (m.time + 0) ms (from-sooner (m.time + 0) m.time (times_of ms) (omega arith) h.1)),
+  λ k. any-offered v m.time ms h.1,
+  λ k l. any-offered v e ms (from-sooner e m.time (times_of ms) h.0 h.1),
+)
+
+module _ (x : Setting NodeState) (L : Laws (simulation_of (rules_of node) x)) (N : IsOfNodes x) (size : ℕ → ℕ) (O : OpensEmpty x size) (p v bag depth : ℕ) (inside : p < x.processes)
+    (is : regulator_in (x.opening p).equipment (record { 0 = v }) ≡ Some (opening bag depth 1)) where
+  abbrev f : Simulation Message NodeState NodeRecord Note
+  f = simulation_of (rules_of node) x
+
+  opens : HasRegulator v depth bag (x.opening p).equipment
+  opens = record { sn = 0; last = None; frames = []; is = is; sound = tt; own = own-frames (x.opening p).equipment (O.regulators p inside) }
+
+  quiet : ask_in v depth bag (x.opening p).equipment ≡ None
+  quiet = ap ask_by is
+
+  pub lists-held : IsHeldWithin x p v (depth * bag)
+  unfolding opens
+  lists-held = record {
+    holds = λ q outlet there n.
+        (held x N p q v depth bag inside opens quiet 0 0 (depth * bag) (λ e t. t) (λ l len e. l ≤ e) (full-list depth bag) outlet.ahead.byte_ns L 0 n tt (any-offered v 0 (events f n p) (events-from x p L n)) outlet.port).low;
+  }
+
+  module _ (first period jitter : ℕ) (I : IsOfferedBy x v first period jitter) (long : bag ≤ period) (short : jitter ≤ period) where
+    -- each offer that is handled was offered
+    abbrev IsFit : Message → Type 0
+    IsFit m = is_offer_of v m.body ≡ true → m ≡ I.offer m.number
+
+    none-offered : (n : ℕ) → OfAllSent (λ w. is_offer_of v w.body ≡ true → ⊥) n
+    none-offered n = record {
+      starts = λ t q ahead frame. (λ e. no e, λ e. no e);
+      releases = λ t vl e. no e;
+      puts = λ t q frame e. no e;
+      arrivals = λ t r q frame e. no e;
+    }
+
+    invariant : IsInvariant f L IsFit (λ p s. ⊤)
+    invariant = record {
+      offered = I.each;
+      opens = λ p i. tt;
+      after = λ p i s m was to h q. tt;
+      sends = λ p i s m was to h q. sent-all IsFit s.sender (handled s.sender.number m s.equipment).reply.wishes
+          (All-weaker (λ (w : Wish). is_offer_of v w.body ≡ true → ⊥) (IsSentAs IsFit s.sender) (λ w k n l e. absurd (k e)) (handled s.sender.number m s.equipment).reply.wishes
+          (all-sent (λ w. is_offer_of v w.body ≡ true → ⊥) s.sender.number (none-offered s.sender.number) m s.equipment));
+    }
+
+    all-fit : (n : ℕ) → Every IsFit (events f n p)
+    all-fit n = every-from-all IsFit (events f n p) (all-events f L IsFit (λ p s. ⊤) invariant n p)
+
+    -- of two offers the one that comes later has the greater number
+    number-rises : (m n : Message) → m.receiver ≡ n.receiver → m ≡ I.offer m.number → n ≡ I.offer n.number → message_order.less m n ≡ true → m.number < n.number
+    number-rises m n to a b less = elim (cases_lt m.number n.number) [ inl h ↦ h | inr h ↦ elim (cases_eq n.number m.number) [ inl e ↦ absurd (same e) | inr d ↦ absurd (other (omega arith)) ] ]
+      where
+        same : n.number ≡ m.number → ⊥
+        same e =
+            let one : n ≡ m = b ∙ (ap I.offer e ∙ sym a) in
+            both_ways _ (L.order.irreflexive m) (subst (λ z. message_order.less m z ≡ true) one less)
+
+        other : n.number < m.number → ⊥
+        other h =
+            let sooner : n.number * period + period ≤ m.number * period = period-later period n.number m.number h in
+            let n-late : n.time ≤ (first + n.number * period) + jitter = subst (λ (z : Message). z.time ≤ (first + n.number * period) + jitter) (sym b) (I.not_after n.number) in
+            let m-early : first + m.number * period ≤ m.time = subst (λ (z : Message). first + m.number * period ≤ z.time) (sym a) (I.not_before m.number) in
+            let back = before n m (omega arith) (sym to) (ap (λ (z : Message). z.sender) b ∙ (I.sent n.number ∙ (sym (I.sent m.number) ∙ ap (λ (z : Message). z.sender) (sym a)))) h in
+            both_ways _ (L.order.irreflexive n) (L.order.transitive n m n back less)
+
+    -- the offers among these messages are due from e on
+    abbrev AreDue : ℕ → List Message → Type 0
+    AreDue e ms = Every (λ m. is_offer_of v m.body ≡ true → e ≤ first + m.number * period) ms
+
+    due-later : (m : Message) (ms : List Message) → m ≡ I.offer m.number → m.receiver ≡ p → AreTo p ms → Every IsFit ms → ((n : Message) → IsIn message_order n ms → message_order.less m n ≡ true) →
+        AreDue ((first + m.number * period) + period) ms
+    due-later m [] a to tos fit above = tt
+    due-later m (n ∷ ms) a to tos fit above = (
+      λ k. (let rises = number-rises m n (to ∙ sym tos.0) a (fit.0 k) (above n (in-head message_order L.order n ms)) in
+          let next : (m.number + 1) * period ≤ n.number * period = mul-le (m.number + 1) period n.number period (omega arith) (omega arith) in omega arith),
+      due-later m ms a to tos.1 fit.1 (λ k i. above k (omega (arith, i))),
+    )
+
+    offered : (e : ℕ) (ms : List Message) → AreTo p ms → Every IsFit ms → IsAscending message_order ms → AreDue e ms → AreOffered v period jitter (λ e t. e) e ms
+    offered e [] to fit up due = tt
+    offered e (m ∷ ms) to fit up due = (
+      λ k. (let a = fit.0 k in (
+        first + m.number * period,
+        due.0 k,
+        subst (λ (z : Message). first + m.number * period ≤ z.time) (sym a) (I.not_before m.number),
+        subst (λ (z : Message). z.time ≤ (first + m.number * period) + jitter) (sym a) (I.not_after m.number),
+        offered ((first + m.number * period) + period) ms to.1 fit.1 up.1 (due-later m ms a to.0 to.1 fit.1 up.0),
+      )),
+      λ k. offered e ms to.1 fit.1 up.1 due.1,
+      λ k l. offered e ms to.1 fit.1 up.1 due.1,
+    )
+
+    all-due : (ms : List Message) → AreDue first ms
+    all-due [] = tt
+    all-due (m ∷ ms) = (λ k. omega arith, all-due ms)
+
+    pub periods-held : IsHeldWithin x p v ((jitter + bag) - period)
+    unfolding opens
+    periods-held = record {
+      holds = λ q outlet there n.
+          (held x N p q v depth bag inside opens quiet period jitter ((jitter + bag) - period) (λ e t. e) (λ l len e. ((l + bag) + len * bag) + period ≤ (e + jitter) + bag)
+          (by-period depth bag period jitter ((jitter + bag) - period) long (omega arith)) outlet.ahead.byte_ns L first n tt
+          (offered first (events f n p) (events-to p (one f n).handled) (all-fit n) (ascending-filter message_order L.order (λ m. m.receiver == p) (one f n).handled (right f L n).ascending) (all-due (events f n p))) outlet.port).low;
+    }

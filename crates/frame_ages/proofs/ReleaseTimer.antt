@@ -1,0 +1,318 @@
+-- A Release comes at just the moment for which the regulator asks, where a virtual link has no sub-virtual links.
+use Rattle.std.proofs.Common.{◌≡◌, ℕ, ◌+◌, ◌<◌, ◌==◌, ◌⊎◌, inl, inr, Bool, true, false, cond, List, [], ◌∷◌, ◌++◌, filter, Option, Some, None, refl, sym, ap, ◌∙◌, subst, arith, eq-eqb, eqb-true}
+use Rattle.std.proofs.lemmas.Bool.{cases_lt, both_ways}
+use Rattle.vlink.specs.declared.frame.Frame.{Frame}
+use Rattle.vlink.specs.declared.frame.VlId.{VlId}
+use Rattle.vlink.specs.declared.message.Message.{Message}
+use Rattle.vlink.specs.declared.message.Body.{Body}
+use Rattle.vlink.specs.declared.message.Body.TheVariants as body
+use Rattle.vlink.specs.declared.note.Note.{Note}
+use Rattle.bag_regulator.specs.Regulator.{Regulator, ask, outcome, regulator}
+use Rattle.bag_regulator.specs.declared.event.RegEvent.{RegEvent}
+use Rattle.bag_regulator.specs.declared.event.RegEvent.TheVariants.{Offer, Release}
+use Rattle.reverse.specs.Sending.{Wish}
+use Rattle.reverse.specs.Rules.{rules_of}
+use Rattle.reverse.specs.Setting.{Setting, simulation_of}
+use Rattle.virtual_time.specs.Law.{IsReached, Laws, Simulation, events, reached}
+use Rattle.timers.specs.Timer.{Alarm, AreOnTime, IsSet, IsTimer}
+use Rattle.timers.specs.Timer.IsSet.{Off, On, PastEnd}
+use Rattle.timers.proofs.TimerLemmas.{are_on_time}
+use Rattle.nodes.specs.declared.equipment.Equipment.{Equipment}
+use Rattle.nodes.specs.declared.equipment.Equipment.TheVariants.{EndSystem, Switch, Line}
+use Rattle.nodes.specs.declared.node.NodeRecord.{NodeRecord}
+use Rattle.nodes.specs.rules.EndSystem.{asked}
+use Rattle.nodes.specs.rules.Node.{NodeState, after, handled, regulator_in, sends}
+use Rattle.nodes.specs.undoing.Node.{node}
+use Rattle.port_turns.specs.Nodes.{IsOfNodes}
+use Rattle.port_turns.specs.PortEvents.{asks}
+use Rattle.port_turns.specs.PortRuns.{AreOwnFrames}
+use Rattle.port_turns.proofs.Senders.{number-stays, until-stays}
+use Rattle.port_turns.proofs.SentKinds.{IsElsewhere, is_to, mine, mine-kind, none-elsewhere, offers-none, receiver-is, sent-late, sent-none, sent-one}
+use Rattle.port_turns.proofs.Sources.{IsOfferFit, source-keeps}
+use Rattle.frame_ages.specs.Waits.{is_offer_of}
+use Rattle.frame_ages.proofs.RegulatorSteps.{IsSound, Stepped, ask-single, ask_at, kept_ask, single, step}
+use Rattle.frame_ages.proofs.RegulatorSteps.Stepped.{Drops, Keeps, Passes, Pops, Rests}
+use Rattle.frame_ages.proofs.RegulatorTurns.{IsSaid, OfPutAt, Turned, all-sent, is_release, node-turn, releases}
+use Rattle.frame_ages.proofs.RegulatorTurns.Turned.{Does, Quiet}
+
+no : {X : Type 0} → false ≡ true → X
+no h = absurd (let z : ⊥ = cc in z)
+
+-- ---- each frame is of its own virtual link
+
+offer-own : (t : ℕ) (b : Body) → IsOfferFit (λ k frame. frame.vl.0 ≡ k) t b
+offer-own t (body.Offer vl size sub) = refl
+offer-own t (body.Release vl) = tt
+offer-own t (body.PortFree k) = tt
+offer-own t (body.Arrive k frame) = tt
+offer-own t (body.Enqueue k frame) = tt
+offer-own t (body.Carry frame) = tt
+
+pub put-own : (v q : ℕ) (m : Message) (e : Equipment) → AreOwnFrames e → OfPutAt v q m e
+put-own v q m (EndSystem s) h = (source-keeps (λ k frame. frame.vl.0 ≡ k) 0 m.time q m.body s (offer-own m.time m.body) h).put
+put-own v q m (Switch s) h = tt
+put-own v q m (Line s) h = tt
+
+pub own-stays : (n : ℕ) (m : Message) (e : Equipment) → AreOwnFrames e → AreOwnFrames (handled n m e).equipment
+own-stays n m (EndSystem s) h = (source-keeps (λ k frame. frame.vl.0 ≡ k) n m.time 0 m.body s (offer-own m.time m.body) h).waiting
+own-stays n m (Switch s) h = tt
+own-stays n m (Line s) h = tt
+
+-- ---- when the regulator asks
+
+abbrev pub ask_by : Option Regulator → Option ℕ
+ask_by None = None
+ask_by (Some g) = ask g
+
+module _ (v room bag : ℕ) where
+  -- the regulator of the virtual link, and what waits there
+  pub record HasRegulator (e : Equipment) : Type 0 where
+    pub sn : ℕ
+    pub last : Option ℕ
+    pub frames : List Frame
+    pub is : regulator_in e (record { 0 = v }) ≡ Some (single room bag sn last frames)
+    pub sound : IsSound last frames
+    pub own : AreOwnFrames e
+
+  abbrev pub ask_in : Equipment → Option ℕ
+  ask_in e = ask_by (regulator_in e (record { 0 = v }))
+
+  pub ask-is : (e : Equipment) (r : HasRegulator e) → ask_in e ≡ ask_at room bag r.last r.frames
+  ask-is e r = ap ask_by r.is ∙ ask-single room bag r.sn r.last r.frames
+
+  -- an event leaves the moment, or sets it where there was none, or is the Release itself
+  pub data AskTurn (release : Bool) (t : ℕ) (before now wish : Option ℕ) : Type 0 where
+    Same : now ≡ before → wish ≡ None → release ≡ false → AskTurn release t before now wish
+    Sets : before ≡ None → wish ≡ now → release ≡ false → AskTurn release t before now wish
+    Again : wish ≡ now → release ≡ true → AskTurn release t before now wish
+    Early : (before ≡ Some t → ⊥) → release ≡ true → AskTurn release t before now wish
+
+  pub record Turns (n : ℕ) (m : Message) (e : Equipment) : Type 0 where
+    pub vl : VlId
+    pub wish : Option ℕ
+    pub turn : AskTurn (is_release v m.body) m.time (ask_in e) (ask_in (handled n m e).equipment) wish
+    pub wishes : releases v (handled n m e).reply.wishes ≡ (asked n vl wish).wishes
+    pub next : HasRegulator (handled n m e).equipment
+
+  said-offer : (t : ℕ) (b : Body) (e : RegEvent) (at q : ℕ) (frame : Frame) → IsSaid v t b e → e ≡ Offer at q frame → is_release v b ≡ false
+  said-offer t b e at q frame h is = go b (subst (IsSaid v t b) is h).0
+    where
+      go : (b : Body) → is_offer_of v b ≡ true → is_release v b ≡ false
+      go (body.Offer vl bytes sub) k = refl
+      go (body.Release vl) k = no k
+      go (body.PortFree i) k = no k
+      go (body.Arrive i f) k = no k
+      go (body.Enqueue i f) k = no k
+      go (body.Carry f) k = no k
+
+  said-release : (t : ℕ) (b : Body) (e : RegEvent) (at : ℕ) → IsSaid v t b e → e ≡ Release at → (is_release v b ≡ true) × (at ≡ t)
+  said-release t b e at h is = subst (IsSaid v t b) is h
+
+  pub turns : (n : ℕ) (m : Message) (e : Equipment) → HasRegulator e → Turns n m e
+  turns n m e r = go (node-turn v n 0 m e (single room bag r.sn r.last r.frames) (put-own v 0 m e r.own) r.is)
+    where
+      own : AreOwnFrames (handled n m e).equipment
+      own = own-stays n m e r.own
+
+      asks-by : (wish : Option ℕ) (sn : ℕ) (last : Option ℕ) (frames : List Frame) → regulator_in (handled n m e).equipment (record { 0 = v }) ≡ Some (single room bag sn last frames) →
+          AskTurn (is_release v m.body) m.time (ask_at room bag r.last r.frames) (ask_at room bag last frames) wish → AskTurn (is_release v m.body) m.time (ask_in e) (ask_in (handled n m e).equipment) wish
+      asks-by wish sn last frames now t =
+          subst (λ z. AskTurn (is_release v m.body) m.time z (ask_in (handled n m e).equipment) wish) (sym (ask-is e r))
+          (subst (λ z. AskTurn (is_release v m.body) m.time (ask_at room bag r.last r.frames) z wish) (sym (ap ask_by now ∙ ask-single room bag sn last frames)) t)
+
+      first : (last : Option ℕ) (frames : List Frame) (frame : Frame) → IsSound last (frames ++ frame ∷ []) → is_release v m.body ≡ false → AskTurn (is_release v m.body) m.time (ask_at room bag last frames) (ask_at room bag last (frames ++ frame ∷ [])) (kept_ask room bag last frames)
+      first None [] frame sound k = absurd sound
+      first (Some l) [] frame sound k = Sets refl refl k
+      first None (f ∷ fs) frame sound k = absurd sound
+      first (Some l) (f ∷ fs) frame sound k = Same refl refl k
+
+      early : (t : ℕ) (last : Option ℕ) (frames : List Frame) → t ≡ m.time → (frames ≡ []) ⊎ ((l : ℕ) × (last ≡ Some l) × (t < l + bag)) → ask_at room bag last frames ≡ Some m.time → ⊥
+      early t last [] e why h = let z : ⊥ = cc in z
+      early t None (f ∷ fs) e why h = let z : ⊥ = cc in z
+      early t (Some l) (f ∷ fs) e (inl k) h = let z : ⊥ = cc in z
+      early t (Some l) (f ∷ fs) e (inr k) h = let same : l + bag ≡ m.time = cc in let of : l ≡ k.0 = let y = k.1 in cc in absurd (omega (arith, k.2))
+
+      by : (a : RegEvent) → IsSaid v m.time m.body a → regulator_in (handled n m e).equipment (record { 0 = v }) ≡ Some (regulator.after (single room bag r.sn r.last r.frames) a) → (vl : VlId) →
+          releases v (handled n m e).reply.wishes ≡ (asked n vl (regulator.out (single room bag r.sn r.last r.frames) a).release_at).wishes → Stepped room bag r.last r.frames a (outcome (single room bag r.sn r.last r.frames) a) → Turns n m e
+      by a said now vl ws (Drops t q frame is sn state ask none) =
+          let at = now ∙ ap (λ z. Some z) state in
+          record {
+            vl = vl;
+            wish = None;
+            turn = asks-by None sn r.last r.frames at (Same refl refl (said-offer m.time m.body a t q frame said is));
+            wishes = ws ∙ ap (λ z. (asked n vl z).wishes) ask;
+            next = record { sn = sn; last = r.last; frames = r.frames; is = at; sound = r.sound; own = own };
+          }
+      by a said now vl ws (Passes t q frame is empty sn state ask released) =
+          let at = now ∙ ap (λ z. Some z) state in
+          record {
+            vl = vl;
+            wish = None;
+            turn = asks-by None sn (Some t) [] at (Sets (ap (ask_at room bag r.last) empty) refl (said-offer m.time m.body a t q frame said is));
+            wishes = ws ∙ ap (λ z. (asked n vl z).wishes) ask;
+            next = record { sn = sn; last = Some t; frames = []; is = at; sound = tt; own = own };
+          }
+      by a said now vl ws (Keeps t q frame is sn state fits sound ask none) =
+          let at = now ∙ ap (λ z. Some z) state in
+          record {
+            vl = vl;
+            wish = kept_ask room bag r.last r.frames;
+            turn = asks-by (kept_ask room bag r.last r.frames) sn r.last (r.frames ++ frame ∷ []) at (first r.last r.frames frame sound (said-offer m.time m.body a t q frame said is));
+            wishes = ws ∙ ap (λ z. (asked n vl z).wishes) ask;
+            next = record { sn = sn; last = r.last; frames = r.frames ++ frame ∷ []; is = at; sound = sound; own = own };
+          }
+      by a said now vl ws (Rests t is why sn state ask none) =
+          let at = now ∙ ap (λ z. Some z) state in
+          let rel = said-release m.time m.body a t said is in
+          record {
+            vl = vl;
+            wish = None;
+            turn = asks-by None sn r.last r.frames at (Early (early t r.last r.frames rel.1 why) rel.0);
+            wishes = ws ∙ ap (λ z. (asked n vl z).wishes) ask;
+            next = record { sn = sn; last = r.last; frames = r.frames; is = at; sound = r.sound; own = own };
+          }
+      by a said now vl ws (Pops t is f rest are sn state ask released) =
+          let at = now ∙ ap (λ z. Some z) state in
+          let rel = said-release m.time m.body a t said is in
+          record {
+            vl = vl;
+            wish = ask_at room bag (Some t) rest;
+            turn = asks-by (ask_at room bag (Some t) rest) sn (Some t) rest at (Again refl rel.0);
+            wishes = ws ∙ ap (λ z. (asked n vl z).wishes) ask;
+            next = record { sn = sn; last = Some t; frames = rest; is = at; sound = some t rest; own = own };
+          }
+        where
+          some : (t : ℕ) (rest : List Frame) → IsSound (Some t) rest
+          some t [] = tt
+          some t (f ∷ fs) = tt
+
+      go : Turned v n m.time m.body (single room bag r.sn r.last r.frames) (regulator_in (handled n m e).equipment (record { 0 = v })) (releases v (handled n m e).reply.wishes) (asks 0 m e) → Turns n m e
+      go (Quiet now none rel off put) =
+          record {
+            vl = record { 0 = v };
+            wish = None;
+            turn = asks-by None r.sn r.last r.frames now (Same refl refl rel);
+            wishes = none;
+            next = record { sn = r.sn; last = r.last; frames = r.frames; is = now; sound = r.sound; own = own };
+          }
+      go (Does a said now vl k ws put) = by a said now vl ws (step room bag r.sn r.last r.frames a r.sound)
+
+-- ---- the timer
+
+same_moment : Option ℕ → Option ℕ → Bool
+same_moment None None = true
+same_moment (Some a) (Some b) = a == b
+same_moment None (Some b) = false
+same_moment (Some a) None = false
+
+same-refl : (a : Option ℕ) → same_moment a a ≡ true
+unfolding same_moment
+same-refl None = refl
+same-refl (Some a) = eq-eqb a a refl
+
+same-is : (a b : Option ℕ) → same_moment a b ≡ true → a ≡ b
+unfolding same_moment
+same-is None None h = refl
+same-is (Some a) (Some b) h = ap Some (eqb-true a b h)
+same-is None (Some b) h = no h
+same-is (Some a) None h = no h
+
+module _ (x : Setting NodeState) (N : IsOfNodes x) (p v room bag : ℕ) (inside : p < x.processes) (opens : HasRegulator v room bag (x.opening p).equipment) (quiet : ask_in v room bag (x.opening p).equipment ≡ None) where
+  abbrev f : Simulation Message NodeState NodeRecord Note
+  f = simulation_of (rules_of node) x
+
+  abbrev pub is_due : Message → Bool
+  is_due m = is_to (is_release v) p m
+
+  abbrev pub alarm : Alarm Message NodeState (Option ℕ)
+  alarm = record { opening = None; after = λ s g m. ask_in v room bag (after s m).equipment; moment = λ g. g }
+
+  abbrev fits : NodeState → Option ℕ → Bool
+  fits s g = same_moment g (ask_in v room bag s.equipment)
+
+  has-stays : (s : NodeState) (ms : List Message) → HasRegulator v room bag s.equipment → HasRegulator v room bag (reached (rules_of node) s ms).equipment
+  has-stays s [] h = h
+  has-stays s (m ∷ ms) h = has-stays (after s m) ms (turns v room bag s.sender.number m s.equipment h).next
+
+  has : (s : NodeState) → IsReached f p s → HasRegulator v room bag s.equipment
+  has s h = subst (λ (z : NodeState). HasRegulator v room bag z.equipment) (sym h.1) (has-stays (x.opening p) h.0 opens)
+
+  number-is : (r : ℕ) → r < x.processes → (s : NodeState) → IsReached f r s → s.sender.number ≡ r
+  number-is r i s h = ap (λ (z : NodeState). z.sender.number) h.1 ∙ (number-stays (x.opening r) h.0 ∙ N.number r i)
+
+  until-is : (s : NodeState) → IsReached f p s → s.sender.until ≡ x.until
+  until-is s h = ap (λ (z : NodeState). z.sender.until) h.1 ∙ (until-stays (x.opening p) h.0 ∙ N.until p inside)
+
+  due-is : (m : Message) (b : Bool) → m.receiver ≡ p → is_due m ≡ b → is_release v m.body ≡ b
+  due-is m b r h = sym (ap (λ c. cond c (is_release v m.body) false) (eq-eqb m.receiver p r)) ∙ h
+
+  -- of what is sent the Release that is asked for
+  none-sent : (s : NodeState) (m : Message) (vl : VlId) → releases v (handled s.sender.number m s.equipment).reply.wishes ≡ (asked s.sender.number vl None).wishes → filter is_due (sends s m) ≡ []
+  none-sent s m vl h = sent-none (is_release v) p s.sender _ (mine-kind (is_release v) p (handled s.sender.number m s.equipment).reply.wishes ∙ ap (filter (λ (w : Wish). w.receiver == p)) h)
+
+  set-by : (s : NodeState) (m : Message) (vl : VlId) (wish : Option ℕ) → s.sender.number ≡ p → s.sender.until ≡ x.until →
+      releases v (handled s.sender.number m s.equipment).reply.wishes ≡ (asked s.sender.number vl wish).wishes → IsSet f p is_due alarm (sends s m) wish
+  set-by s m vl None n end h = Off refl (none-sent s m vl h)
+  set-by s m vl (Some at) n end h = elim (cases_lt x.until at) [
+    | inl late ↦ PastEnd at refl late (sent-late (is_release v) p s.sender _ (record { time = at; receiver = s.sender.number; body = body.Release vl }) one (omega (arith, end)))
+    | inr timely ↦ (let sent = sent-one (is_release v) p s.sender _ (record { time = at; receiver = s.sender.number; body = body.Release vl }) one (omega (arith, end)) in On sent.0 (ap Some (sym sent.1)) sent.2)
+  ]
+    where
+      one : filter (mine (is_release v) p) (handled s.sender.number m s.equipment).reply.wishes ≡ record { time = at; receiver = s.sender.number; body = body.Release vl } ∷ []
+      one = mine-kind (is_release v) p (handled s.sender.number m s.equipment).reply.wishes ∙ (ap (filter (λ (w : Wish). w.receiver == p)) h ∙ rw (eq-eqb s.sender.number p n) refl)
+
+  goes-on : (s : NodeState) (m : Message) (u : ℕ) → Turns v room bag s.sender.number m s.equipment → is_release v m.body ≡ false → ask_in v room bag s.equipment ≡ Some u →
+      (ask_in v room bag (after s m).equipment ≡ Some u) × (filter is_due (sends s m) ≡ [])
+  goes-on s m u t free is = go t.turn
+    where
+      go : AskTurn v room bag (is_release v m.body) m.time (ask_in v room bag s.equipment) (ask_in v room bag (after s m).equipment) t.wish → (ask_in v room bag (after s m).equipment ≡ Some u) × (filter is_due (sends s m) ≡ [])
+      go (Same now wish k) = (now ∙ is, none-sent s m t.vl (t.wishes ∙ ap (λ z. (asked s.sender.number t.vl z).wishes) wish))
+      go (Sets none wish k) = absurd (let z : ⊥ = cc in z)
+      go (Again wish k) = absurd (both_ways _ free k)
+      go (Early late k) = absurd (both_ways _ free k)
+
+  begins : (s : NodeState) (m : Message) → Turns v room bag s.sender.number m s.equipment → s.sender.number ≡ p → s.sender.until ≡ x.until → is_release v m.body ≡ false → ask_in v room bag s.equipment ≡ None →
+      IsSet f p is_due alarm (sends s m) (ask_in v room bag (after s m).equipment)
+  begins s m t n end free is = go t.turn
+    where
+      go : AskTurn v room bag (is_release v m.body) m.time (ask_in v room bag s.equipment) (ask_in v room bag (after s m).equipment) t.wish → IsSet f p is_due alarm (sends s m) (ask_in v room bag (after s m).equipment)
+      go (Same now wish k) = Off (now ∙ is) (none-sent s m t.vl (t.wishes ∙ ap (λ z. (asked s.sender.number t.vl z).wishes) wish))
+      go (Sets none wish k) = subst (IsSet f p is_due alarm (sends s m)) wish (set-by s m t.vl t.wish n end t.wishes)
+      go (Again wish k) = absurd (both_ways _ free k)
+      go (Early late k) = absurd (both_ways _ free k)
+
+  again : (s : NodeState) (m : Message) → Turns v room bag s.sender.number m s.equipment → s.sender.number ≡ p → s.sender.until ≡ x.until → is_release v m.body ≡ true → ask_in v room bag s.equipment ≡ Some m.time →
+      IsSet f p is_due alarm (sends s m) (ask_in v room bag (after s m).equipment)
+  again s m t n end mine is = go t.turn
+    where
+      go : AskTurn v room bag (is_release v m.body) m.time (ask_in v room bag s.equipment) (ask_in v room bag (after s m).equipment) t.wish → IsSet f p is_due alarm (sends s m) (ask_in v room bag (after s m).equipment)
+      go (Same now wish k) = absurd (both_ways _ k mine)
+      go (Sets none wish k) = absurd (both_ways _ k mine)
+      go (Again wish k) = subst (IsSet f p is_due alarm (sends s m)) wish (set-by s m t.vl t.wish n end t.wishes)
+      go (Early late k) = absurd (late is)
+
+  -- another process releases none here
+  none-by : (r : ℕ) → (r ≡ p → ⊥) → (s : NodeState) (m : Message) → s.sender.number ≡ r → filter is_due (sends s m) ≡ []
+  none-by r d s m n = sent-none (is_release v) p s.sender _ (none-elsewhere (is_release v) p (handled s.sender.number m s.equipment).reply.wishes (all-sent (IsElsewhere (is_release v) p) s.sender.number (record {
+    starts = λ t q ahead frame. (λ e. no e, λ e. no e);
+    releases = λ t vl e own. d (sym n ∙ own);
+    puts = λ t q frame e. no e;
+    arrivals = λ t to q frame e. no e;
+  }) m s.equipment))
+
+  timer : IsTimer f p is_due alarm fits
+  timer = record {
+    opens = ap (λ z. same_moment None z) quiet ∙ same-refl None;
+    off = refl;
+    keeps = λ s g m h i r on_time. same-refl (ask_in v room bag (after s m).equipment);
+    goes_on = λ s g m u h i r free a. goes-on s m u (turns v room bag s.sender.number m s.equipment (has s h)) (due-is m false r free) (sym (same-is g (ask_in v room bag s.equipment) i) ∙ a);
+    begins = λ s g m h i r free a. begins s m (turns v room bag s.sender.number m s.equipment (has s h)) (number-is p inside s h) (until-is s h) (due-is m false r free) (sym (same-is g (ask_in v room bag s.equipment) i) ∙ a);
+    again = λ s g m h i r mine on_time. again s m (turns v room bag s.sender.number m s.equipment (has s h)) (number-is p inside s h) (until-is s h) (due-is m true r mine) (sym (same-is g (ask_in v room bag s.equipment) i) ∙ on_time.at_moment mine);
+    to_itself = receiver-is (is_release v) p;
+    by_none = λ r i d s h m. none-by r d s m (number-is r i s h);
+    not_offered = offers-none (is_release v) p (λ vl size sub. refl) x.offers N.offered;
+  }
+
+  -- each Release comes at its moment, and nothing comes to the end system later than that
+  pub releases-on-time : Laws f → (n : ℕ) → AreOnTime f p is_due alarm (x.opening p) None (events f n p)
+  releases-on-time L n = are_on_time f L p inside is_due alarm fits timer n

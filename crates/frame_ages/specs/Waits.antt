@@ -1,0 +1,45 @@
+-- How long a regulator holds frames in the one-thread run, where its virtual link has no sub-virtual links.
+use Rattle.std.specs.Prelude.{◌≡◌, ℕ, ◌+◌, ◌-◌, ◌*◌, ◌<◌, ◌≤◌, ◌==◌, Bool, true, false, All, Some}
+use Rattle.vlink.specs.declared.message.Message.{Message}
+use Rattle.vlink.specs.declared.message.Body.{Body}
+use Rattle.vlink.specs.declared.message.Body.TheVariants.{Offer, Release, PortFree, Arrive, Enqueue, Carry}
+use Rattle.bag_regulator.specs.Regulator.{opening}
+use Rattle.reverse.specs.Rules.{rules_of}
+use Rattle.reverse.specs.Setting.{Setting, simulation_of}
+use Rattle.virtual_time.specs.Law.{Laws}
+use Rattle.nodes.specs.rules.Node.{NodeState, regulator_in}
+use Rattle.nodes.specs.undoing.Node.{node}
+use Rattle.port_turns.specs.Nodes.{IsOfNodes}
+use Rattle.frame_ages.specs.Latencies.{IsHeldWithin}
+use Rattle.frame_ages.specs.Sizes.{OpensEmpty}
+
+-- the message offers a frame of virtual link v
+abbrev pub is_offer_of : ℕ → Body → Bool
+is_offer_of v (Offer vl bytes sub) = vl.0 == v
+is_offer_of v (Release vl) = false
+is_offer_of v (PortFree q) = false
+is_offer_of v (Arrive q frame) = false
+is_offer_of v (Enqueue q frame) = false
+is_offer_of v (Carry frame) = false
+
+-- where the regulator has one list, for `depth` frames, it holds none for more BAGs than that, whatever is offered
+abbrev pub AreListsHeld : Type 0
+AreListsHeld =
+    (x : Setting NodeState) → Laws (simulation_of (rules_of node) x) → IsOfNodes x → (size : ℕ → ℕ) → OpensEmpty x size → (p v bag depth : ℕ) → p < x.processes →
+    regulator_in (x.opening p).equipment (record { 0 = v }) ≡ Some (opening bag depth 1) → IsHeldWithin x p v (depth * bag)
+
+-- virtual link v is offered by a period: its k-th frame, of which there is one at most, within `jitter` ns after first + k * period
+pub record IsOfferedBy (x : Setting NodeState) (v first period jitter : ℕ) : Type 0 where
+  pub offer : ℕ → Message
+  pub each : All (λ m. is_offer_of v m.body ≡ true → m ≡ offer m.number) x.offers
+  pub sender : ℕ
+  pub sent : (k : ℕ) → (offer k).sender ≡ sender
+  pub not_before : (k : ℕ) → first + k * period ≤ (offer k).time
+  pub not_after : (k : ℕ) → (offer k).time ≤ (first + k * period) + jitter
+
+-- then it holds none for longer than jitter and BAG beyond the period, if neither is longer than the period
+abbrev pub ArePeriodsHeld : Type 0
+ArePeriodsHeld =
+    (x : Setting NodeState) → Laws (simulation_of (rules_of node) x) → IsOfNodes x → (size : ℕ → ℕ) → OpensEmpty x size → (p v bag depth : ℕ) → p < x.processes →
+    regulator_in (x.opening p).equipment (record { 0 = v }) ≡ Some (opening bag depth 1) →
+    (first period jitter : ℕ) → IsOfferedBy x v first period jitter → bag ≤ period → jitter ≤ period → IsHeldWithin x p v ((jitter + bag) - period)
