@@ -44,9 +44,9 @@ made a b c d m k one two = cc
 
 -- a line more
 pub share-more : (port : PortPlan) (choice : Choice) (high : Bool) (j : ℕ) →
-    with_share (mixed_below port choice high j) (weight_of choice j (share_at port j high).line_rate (share_at port j high).rate) (share_at port j high) ≡ mixed_below port choice high (suc j)
+    with_share (mixed_below port choice high j) (weight_of choice j (share_at port j high)) (share_at port j high) ≡ mixed_below port choice high (suc j)
 share-more port choice high j =
-    let weight = weight_of choice j (share_at port j high).line_rate (share_at port j high).rate in
+    let weight = weight_of choice j (share_at port j high) in
     made _ _ _ _ _ _
     (mixed-more weight (line_burst_at port j high) (flows_burst (flows_at port j high)) (groups_burst WHOLE (groups_below port choice high j)))
     (mixed-more weight (line_rate_at port j high) (flows_rate (flows_at port j high)) (groups_rate WHOLE (groups_below port choice high j)))

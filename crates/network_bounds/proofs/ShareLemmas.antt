@@ -10,6 +10,7 @@ use Rattle.network_bounds.specs.Mixing.{PortPlan, any_by, any_loose_at, flows_at
 
 -- a share, and what comes besides, are together all that comes
 pub record AreTogether (port : PortPlan) (j : ℕ) (high : Bool) (share : Share) (rest : List Passing) : Type 0 where
+  pub no_bound : share.is_bounding ≡ false
   pub no_burst : share.line_burst ≡ 0
   pub no_rate : share.line_rate ≡ 0
   pub held_burst : share.burst ≡ capped share.burst
@@ -47,6 +48,7 @@ with-one port j high share p rest is all =
     let any : any_by test loose (p ∷ rest) ≡ (loose p.link || any_by test loose rest) =
     ap (λ (b : Bool). if b then loose p.link || any_by test loose rest else any_by test loose rest) is in
     record {
+      no_bound = all.no_bound;
       no_burst = all.no_burst;
       no_rate = all.no_rate;
       held_burst = cap-twice (share.burst + (flow p.link).burst);
@@ -72,6 +74,7 @@ without-one port j high share p rest is all =
     let any : any_by test loose (p ∷ rest) ≡ any_by test loose rest =
     ap (λ (b : Bool). if b then loose p.link || any_by test loose rest else any_by test loose rest) is in
     record {
+      no_bound = all.no_bound;
       no_burst = all.no_burst;
       no_rate = all.no_rate;
       held_burst = all.held_burst;
@@ -86,12 +89,11 @@ or-none : (a : Bool) → (a || false) ≡ a
 or-none true = refl
 or-none false = refl
 
-abbrev share_with : ℕ → ℕ → ℕ → ℕ → ℕ → Bool → Share
-share_with a b c d e k = record { line_burst = a; line_rate = b; burst = c; rate = d; greatest = e; is_loose = k }
+abbrev share_with : Bool → ℕ → ℕ → ℕ → ℕ → ℕ → Bool → Share
+share_with i a b c d e k = record { is_bounding = i; line_burst = a; line_rate = b; burst = c; rate = d; greatest = e; is_loose = k }
 
-made : (a b c d e f g h m n : ℕ) (k l : Bool) → a ≡ b → c ≡ d → e ≡ f → g ≡ h → m ≡ n → k ≡ l →
-    share_with a c e g m k ≡ share_with b d f h n l
-made a b c d e f g h m n k l one two three four five six = cc
+made : (i j : Bool) (a b c d e f g h m n : ℕ) (k l : Bool) → i ≡ j → a ≡ b → c ≡ d → e ≡ f → g ≡ h → m ≡ n → k ≡ l → share_with i a c e g m k ≡ share_with j b d f h n l
+made i j a b c d e f g h m n k l zero one two three four five six = cc
 
 -- once none is left
 pub all-there : (port : PortPlan) (j : ℕ) (high : Bool) (share : Share) → AreTogether port j high share [] → share ≡ flows_share port j high
@@ -100,4 +102,4 @@ all-there port j high share all =
     let rate : share.rate ≡ capped (flows_rate (flows_at port j high)) = omega (arith, all.held_rate, all.rate) in
     let greatest : share.greatest ≡ greatest_at port j high = omega (arith, all.greatest) in
     let loose : share.is_loose ≡ any_loose_at port j high = sym (or-none share.is_loose) ∙ all.loose in
-    made _ _ _ _ _ _ _ _ _ _ _ _ all.no_burst all.no_rate burst rate greatest loose
+    made _ _ _ _ _ _ _ _ _ _ _ _ _ _ all.no_bound all.no_burst all.no_rate burst rate greatest loose

@@ -95,6 +95,7 @@ with_link share is_end byte_ns link = record share {
 -- that, in numbers of 128 bits; without what the line bounds, and with it
 abbrev pub flows_share : PortPlan → ℕ → Bool → Share
 flows_share port j high = record {
+  is_bounding = false;
   line_burst = 0;
   line_rate = 0;
   burst = capped (flows_burst (flows_at port j high));
@@ -105,6 +106,7 @@ flows_share port j high = record {
 
 abbrev pub share_at : PortPlan → ℕ → Bool → Share
 share_at port j high = record {
+  is_bounding = is_bounding port j;
   line_burst = capped (line_burst_at port j high);
   line_rate = capped (line_rate_at port j high);
   burst = capped (flows_burst (flows_at port j high));
@@ -116,16 +118,20 @@ share_at port j high = record {
 -- ---- weights: whatever they are, the mixture is a bound
 
 -- those of the least rate, or these by port, of WHOLE parts
-abbrev pub weight_of : Choice → ℕ → ℕ → ℕ → ℕ
-weight_of Least j line_rate rate = if nat_lt line_rate rate then WHOLE else 0
-weight_of (By weights) j line_rate rate = min WHOLE (slice_index_or weights j 0)
+abbrev pub weight_by : Choice → ℕ → Share → ℕ
+weight_by Least j share = if nat_lt share.line_rate share.rate then WHOLE else 0
+weight_by (By weights) j share = min WHOLE (slice_index_or weights j 0)
+
+-- none where the line bounds nothing
+abbrev pub weight_of : Choice → ℕ → Share → ℕ
+weight_of choice j share = if share.is_bounding then weight_by choice j share else 0
 
 abbrev pub group_at : PortPlan → Choice → Bool → ℕ → Group
 group_at port choice high j = record {
   line = j;
   burst = line_burst_at port j high;
   rate = line_rate_at port j high;
-  weight = weight_of choice j (share_at port j high).line_rate (share_at port j high).rate;
+  weight = weight_of choice j (share_at port j high);
   flows = flows_at port j high;
 }
 

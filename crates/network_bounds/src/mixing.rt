@@ -34,11 +34,14 @@ pub enum Choice {
     By([u32; GREATEST_PORTS]),
 }
 
-/// The weight of the line to this port.
+/// The weight of the line to this port: none where it bounds nothing.
 fn weight_of(choice: Choice, input: usize, share: &Share) -> u32
-    ensures value { result ≡ weight_of choice input share.now.line_rate share.now.rate }
+    ensures value { result ≡ weight_of choice input share.now }
     ensures within { result ≤ WHOLE }
 {
+    if !share.is_bounding {
+        return 0;
+    }
     match choice {
         Choice::Least => {
             if share.line_rate < share.rate {

@@ -13,7 +13,9 @@ pub const SCALE: u128 = 128_000_000;
 /// What comes to a port by one line, with one priority: bursts in units, rates in units a ns. All sums stop at the greatest number.
 #[derive(Clone, Copy)]
 pub struct Share {
-    /// What the line bounds.
+    /// Whether the line bounds what comes by it.
+    pub is_bounding: bool,
+    /// What it bounds then; else what its virtual links can give.
     pub line_burst: u128,
     pub line_rate: u128,
     /// What its virtual links can give.
@@ -48,6 +50,7 @@ fn flows_at(port: &Port, input: u16, is_high: bool) -> Share
     ensures { result ≡ flows_share port.now input is_high }
 {
     let mut share = Share {
+        is_bounding: false,
         line_burst: 0,
         line_rate: 0,
         burst: 0,
@@ -83,12 +86,14 @@ pub fn share_at(port: &Port, input: u16, is_high: bool) -> Share
     let flows = flows_at(port, input, is_high);
     if is_bounding(port, input) {
         Share {
+            is_bounding: true,
             line_burst: SCALE * u128::from(flows.greatest),
             line_rate: SCALE,
             ..flows
         }
     } else {
         Share {
+            is_bounding: false,
             line_burst: flows.burst,
             line_rate: flows.rate,
             ..flows

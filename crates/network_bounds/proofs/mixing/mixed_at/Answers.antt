@@ -11,8 +11,8 @@ loop-input-preserved c =
     let high = c.args.is_high in
     c.with_share-all.ensures
     ∙ ap (λ w. with_share c.loop-input.all w c.share_at-share.result) c.weight_of.ensures.value
-    ∙ ap (λ share. with_share c.loop-input.all (weight_of choice j share.line_rate share.rate) share) c.share_at-share.ensures
-    ∙ ap (λ all. with_share all (weight_of choice j (share_at port j high).line_rate (share_at port j high).rate) (share_at port j high)) c.loop-input.invariant
+    ∙ ap (λ share. with_share c.loop-input.all (weight_of choice j share) share) c.share_at-share.ensures
+    ∙ ap (λ all. with_share all (weight_of choice j (share_at port j high)) (share_at port j high)) c.loop-input.invariant
     ∙ share-more port choice high j
     ∙ ap (mixed_below port choice high) (sym (add-one j))
 
