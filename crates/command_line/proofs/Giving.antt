@@ -32,7 +32,7 @@ requires_two true false x none = cc
 requires_two false h x none = cc
 
 abbrev IsCommand : Text → Type 0
-IsCommand name = (name ≡ codes "check") ⊎ ((name ≡ codes "seq") ⊎ ((name ≡ codes "run") ⊎ (name ≡ codes "replay")))
+IsCommand name = (name ≡ codes "check") ⊎ ((name ≡ codes "seq") ⊎ ((name ≡ codes "run") ⊎ ((name ≡ codes "replay") ⊎ (name ≡ codes "bounds"))))
 
 gives : (s : Shape) → Each (Keeps s.args_override_self (IsFilled limits_of)) s.rules → Each (KeepsByDefault (IsFilled limits_of)) s.rules → IsCommand s.name
     → ((rows : List Row) → check_fault s rows false ≡ [] → is_given (codes "NET") rows ≡ true)
@@ -90,10 +90,16 @@ each_gives word = (
           (λ rows none is. cc),
       (
         λ no_help_called answers. gives _ (is_set limits_of _ _ refl refl refl, (is_set limits_of _ _ refl refl refl, (help_keeps _ _ _ refl, tt)))
-            (plain _ refl, (plain _ refl, (plain _ refl, tt))) (inr (inr (inr refl)))
+            (plain _ refl, (plain _ refl, (plain _ refl, tt))) (inr (inr (inr (inl refl))))
             (λ rows none. (requires_two (is_given (codes "NET") rows) (is_given (codes "STEPS") rows) _ none).0)
             (λ rows none is. (requires_two (is_given (codes "NET") rows) (is_given (codes "STEPS") rows) _ none).1),
-        (λ no_help_called answers. absurd (no_help word no_help_called answers), tt),
+        (
+          λ no_help_called answers. gives _ (is_set limits_of _ _ refl refl refl, (help_keeps _ _ _ refl, tt))
+              (plain _ refl, (plain _ refl, tt)) (inr (inr (inr (inr refl))))
+              (λ rows none. requires_one (is_given (codes "NET") rows) _ none)
+              (λ rows none is. cc),
+          (λ no_help_called answers. absurd (no_help word no_help_called answers), tt),
+        ),
       ),
     ),
   ),

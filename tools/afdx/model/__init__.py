@@ -22,6 +22,7 @@ from afdx.files import Fault, cut, is_same_file, program, text_of, toml_lines, w
 PROGRAM = os.path.join(program.ROOT, program.BUILT)
 
 CAUSES = ["queue_full", "port_full", "outage", "unknown", "too_long", "policed", "integrity", "duplicate"]
+BOUNDS_HEAD = "kind,of,where,network_ns,wait_ns,bound_ns"
 TABLES_HEAD = "table,vl,where,cause,count,least_ns,greatest_ns,sum_ns"
 TRACE_HEAD = "time_ns,where,vl,what,value"
 NUMBER = re.compile(r"0|[1-9][0-9]*")
