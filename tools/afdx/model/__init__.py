@@ -542,6 +542,7 @@ class Tables:
         lines = lines_of(path, [TABLES_HEAD, TABLES_HEAD + ",seed"], "tables", text)
         self.merged = lines[0] != TABLES_HEAD
         self.latencies, self.losses = {}, {}
+        self.names = {name: name for name in net.process}
         for i, line in enumerate(lines[1:], 2):
             if not self.merged and self.takes(i, line):
                 continue
@@ -563,7 +564,10 @@ class Tables:
         if found:
             vl, where, *numbers = found.groups()
             count, least, greatest, total = map(int, numbers)
-            key = int(vl), where
+            # A place is kept once, and so is a number of a line.
+            key = int(vl), self.names.get(where, where)
+            greatest = least if greatest == least else greatest
+            total = least if total == least else total
             is_right = count * least <= total <= count * greatest and (count == 0) == (greatest == 0)
             if is_right and key in self.net.destinations and key not in self.latencies:
                 self.latencies[key] = Latency(*key, count, least, greatest, total, None, i)

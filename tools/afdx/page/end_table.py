@@ -1,5 +1,6 @@
 """What the page has of each virtual link at each destination, column by column."""
-from collections import defaultdict
+from array import array
+from collections.abc import Sequence
 
 from afdx.files.page_text import mean_ns, one_or_range, round_up
 from afdx.page.columns import BAD, WARN
@@ -33,16 +34,44 @@ def histogram(rising):
     return counts
 
 
+class Numbers(Sequence):
+    """Whole numbers, or None, in eight bytes each."""
+
+    NONE = -(2**63)
+
+    def __init__(self):
+        self.kept = array("q")
+
+    def takes(self, value):
+        return value is None or type(value) is int and self.NONE < value < -self.NONE
+
+    def append(self, value):
+        self.kept.append(self.NONE if value is None else value)
+
+    def __getitem__(self, place):
+        found = self.kept[place]
+        return None if found == self.NONE else found
+
+    def __len__(self):
+        return len(self.kept)
+
+
 class EndTable:
     """What the page tells of each virtual link at each destination, column by column."""
 
     def __init__(self, given):
-        self.given, self.columns = given, defaultdict(list)
+        self.given, self.columns = given, {}
         worst = sorted(given.tables.latencies.values(), key=lambda row: -row.greatest)[:MOST_HISTOGRAMS]
         self.drawn = {(row.vl, row.where) for row in worst}
         for key, row in given.tables.latencies.items():
             for name, value in self.of(key, row):
-                self.columns[name].append(value)
+                self.add(name, value)
+
+    def add(self, name, value):
+        column = self.columns.setdefault(name, Numbers())
+        if type(column) is Numbers and not column.takes(value):
+            column = self.columns[name] = list(column)
+        column.append(value)
 
     def of(self, key, row):
         given, vl = self.given, self.given.net.vls[row.vl]

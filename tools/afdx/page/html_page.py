@@ -15,7 +15,7 @@ from afdx.reckon import bounds_file
 from afdx.runs.campaign_record import PERCENTS
 
 # Of more lines of latencies the data of a page is packed. Browsers have what unpacks it since 2023.
-MOST_PLAIN = 50_000
+MOST_PLAIN = 20_000
 
 # What the page tells of a virtual link itself.
 FACTS = ["id", "source", "bag_ns", "period_ns", "offset_ns", "jitter_ns", "size", "smax", "priority", "policing"]
@@ -25,6 +25,10 @@ FACTS += ["policing_ns", "skew_ns", "depth", "sub"]
 def part_of_page(name):
     """The text of a file of the page: its style or its script."""
     return files.text_of(os.path.join(os.path.dirname(os.path.abspath(__file__)), name))
+
+
+def without(columns, *names):
+    return {name: column for name, column in columns.items() if name not in names}
 
 
 class Page:
@@ -92,11 +96,19 @@ class Page:
 
     def data(self):
         low, high = self.axis()
+        if self.is_packed():
+            # The script knows the lines of each virtual link.
+            large = {"ends": self.ends} | {name: self.rows[name] for name in ("parts", "delays", "jitters") if name in self.rows}
+            large |= {"delays": without(large["delays"], "vl", "line")} if "delays" in large else {}
+            self.rows |= {name: json_text.Blocks(columns) for name, columns in large.items()}
         return {
             "ends": self.ends, "lines": self.lines(), "nodes": list(self.ends_of.values()), "vls": self.virtual_links(),
             "grids": self.grids, "low": low, "high": high, "percents": PERCENTS, "bars": BARS,
             "enough": ENOUGH_FOR_BARS, **self.rows,
         }
+
+    def is_packed(self):
+        return len(self.tables.latencies) > MOST_PLAIN
 
     def parts(self):
         given = self.given
@@ -122,7 +134,7 @@ class Page:
             f"{tiles(self.given, self.ends)}\n" + "\n".join(parts) + f"\n<footer>{self.foot()}</footer></main>\n"
         )
         script, data = part_of_page("report.js"), json_text.pieces(self.data())
-        if len(self.tables.latencies) <= MOST_PLAIN:
+        if not self.is_packed():
             yield '<script type="application/json" id="data">'
             yield from (piece.replace("<", "\\u003c") for piece in data)
             yield f"</script>\n<script>\n{script}</script></body></html>\n"

@@ -6,16 +6,15 @@ from afdx.page.panels import panel
 def worst_case(page):
     """What the bounds tell of the worst case beside latencies."""
     bounds = page.given.bounds
-    refusing = sorted(bounds.refusing(), key=lambda key: (key[0], page.net.process[key[1]]))
-    rows = {"vl": [vl for vl, _ in refusing], "where": [where for _, where in refusing]}
-    found = [bounds.accounts[key] for key in refusing]
-    rows |= {"jitter": [it.jitter_ns for it in found], "policing": [it.policing_ns for it in found]}
+    refusing, of_each = set(bounds.refusing()), page.given.way.switches()
+    # They are rows of the jitters at switches.
+    only = [i for i, key in enumerate(zip(of_each["vl"], of_each["where"])) if key in refusing]
     columns = [VL_COLUMN, column("where", "text", "switch")]
-    columns.append(time_column("jitter", "jitter there", "by how much frames may come closer than a BAG; – where it has no bound"))
-    columns.append(time_column("policing", "policing jitter", "policing_jitter_ns: how much of it the account allows"))
+    columns.append(time_column("jitter_bound", "jitter there", "by how much frames may come closer than a BAG; – where it has no bound"))
+    columns.append(time_column("allowed", "policing jitter", "policing_jitter_ns: how much of it the account allows"))
     pieces = [f"<h3>Accounts that may refuse a frame ({len(refusing):,} of {len(bounds.accounts):,})</h3>"]
     if refusing:
-        pieces.append(page.grid("accounts", columns, "jitter", rows, what="accounts"))
+        pieces.append(page.grid("accounts", columns, "jitter_bound", "jitters", only, what="accounts"))
     troubled = {key for key, bound in bounds.of.items() if not bound.sure or bound.may_be_twice}
     only = [i for i, key in enumerate(zip(page.ends["vl"], page.ends["where"])) if key in troubled]
     pieces.append(f"<h3>Destinations where a frame may be lost, or delivered twice ({len(only):,} of {len(bounds.of):,})</h3>")
@@ -41,7 +40,7 @@ def on_the_way(page):
     def pair(kind, name, hint, make=time_column):
         return [make(kind + side, f"{name}, {said}" if len(sides) > 1 else name, hint, kind + "_tone") for side, said in sides]
 
-    page.rows |= {"parts": way.table("destinations"), "delays": way.table("hops"), "jitters": way.table("switches"), "backlogs": way.table("ports")}
+    page.rows |= {"parts": way.destinations(), "delays": way.hops(), "jitters": way.switches(), "backlogs": way.ports()}
     first = sides[0][0]
     parts = [VL_COLUMN, DESTINATION_COLUMN, *pair("wait", "wait in the regulator", "from the offer of a frame to its release")]
     parts += pair("network", "network's own", "from the release to the delivery: the latency less the wait")

@@ -172,7 +172,8 @@ class Ends:
         for loss in tables.losses.values():
             if loss.cause not in ("queue_full", "duplicate"):
                 self.losses.setdefault(loss.vl, []).append(loss)
-        self.of = {}
+        # Of frames that came to the same end alike one End is kept.
+        self.of, self.alike = {}, {}
         for vl, sent in self.all_sent(seeds, draws_offsets):
             self.compare(vl, sent.refused)
             for where in vl.destinations:
@@ -247,7 +248,10 @@ class Ends:
         too_long = 0 if self.trace else max(0, under_way.least - self.may_be_under_way(journey, sent, row))
         why = self.why_open(journey, sent) if missing.least < missing.most else ""
         under_way, missing = under_way + exactly(sent.waiting), missing + exactly(sent.refused)
-        return End(sent.offered, row.count, again, under_way, missing, copies, lost, too_long, why)
+        told = (sent.offered, row.count, again, under_way, missing, copies, tuple(lost.items()), too_long, why)
+        if told not in self.alike:
+            self.alike[told] = End(sent.offered, row.count, again, under_way, missing, copies, lost, too_long, why)
+        return self.alike[told]
 
     def why_open(self, journey, sent):
         """Why it is not known how many frames are missing, in words."""
