@@ -8,7 +8,8 @@ ghost use Rattle.afdxsim.specs.Orders.{Done, DoneOn, Ends, IsFaultOf, IsFaultOn,
 use crate::run::run;
 use command_line::Order;
 use commands::{
-    Fault, Host, bounds, check, named_twice, net_of, network_of, refuse_twice, replay, seq, tell_outcome,
+    Fault, Host, bounds, check, named_twice, net_of, network_of, refuse_twice, replay, seq,
+    tell_outcome,
 };
 use network::Network;
 use std::alloc::Global;

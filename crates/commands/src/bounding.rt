@@ -13,11 +13,7 @@ use std::alloc::Global;
 use trace_tables::OutFault;
 
 /// Writes bounds of the network on standard output. Nothing is run, and no offer is made.
-pub fn bounds<H: Host>(
-    alloc: Global,
-    network: &Network,
-    host: &mut H,
-) -> Result<(), Fault<'static>>
+pub fn bounds<H: Host>(alloc: Global, network: &Network, host: &mut H) -> Result<(), Fault<'static>>
     ensures text { OnOk result (ShowsBounds H.outside host.old host.new network.now) }
     ensures left { OnOk result (ShowsAlone H.outside host.old host.new) }
     ensures fault { IfErr result (LacksOutput H.outside true host.old host.new) }
