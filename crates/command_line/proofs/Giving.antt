@@ -73,7 +73,7 @@ plain : (a : Rule) → a.defaults ≡ [] → KeepsByDefault (IsFilled limits_of)
 plain = no_default (IsFilled limits_of)
 
 not_replay : codes "bounds" ≡ codes "replay" → ⊥
-not_replay e = let first : 98 ≡ 114 = ap (λ (text : Text). get_or text 0 0) e in omega arith
+not_replay e = let first : 98 ≡ 114 = ap (λ (text : Text). get_or text 0 0) e in omega (arith, first)
 
 each_gives : (word : Text) → Each (Gives word) ready.subs
 each_gives word = (
