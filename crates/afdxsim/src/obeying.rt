@@ -1,4 +1,4 @@
-//! What an order comes to: it is done, or the fault that it met is told.
+//! Obeys an order: does it, or reports the fault that it met.
 ghost use Rattle.std.specs.Prelude.{◌≡◌, ◌≢◌, ◌⊎◌, ℕ, List, OnOk, OnErr, IfErr};
 ghost use Rattle.commands.specs.declared.fault.Fault.TheVariants.{CannotWrite};
 ghost use Rattle.commands.specs.Naming.{NamesTwice};
@@ -17,7 +17,7 @@ use std::sync::Wait;
 use std::thread::Threads;
 use std::time::Clock;
 
-/// Does on a network what is ordered. A fault ends it at once.
+/// Does the order on a network. A fault ends it at once.
 fn done_on<'a, H: Host, T: Threads + Wait + Clock + Sync>(
     rt: &T,
     alloc: Global,
@@ -55,7 +55,7 @@ fn done_on<'a, H: Host, T: Threads + Wait + Clock + Sync>(
     }
 }
 
-/// Does what is ordered. The description is read and judged before any other file is read or made.
+/// Does the order. It reads and checks the description before it reads or creates any other file.
 fn do_order<'a, H: Host, T: Threads + Wait + Clock + Sync>(
     rt: &T,
     alloc: Global,
@@ -70,8 +70,8 @@ fn do_order<'a, H: Host, T: Threads + Wait + Clock + Sync>(
     done_on(rt, alloc, network, order, host)
 }
 
-/// Does what is ordered, and tells the fault that it met, if there was one. Where the order names a file twice, that is told, and nothing is
-/// read, made or written.
+/// Does the order, and reports the fault that it met, if any. If the order names a file twice, it reports that, and reads, creates and
+/// writes nothing.
 pub fn obey<H: Host, T: Threads + Wait + Clock + Sync>(
     rt: &T,
     alloc: Global,

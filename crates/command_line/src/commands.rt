@@ -1,4 +1,4 @@
-//! The order that a command's values make.
+//! The order that the values of a command make.
 ghost use Rattle.std.specs.Prelude.{◌≡◌, ◌≤◌, IfOk, IfSome, true, codes, is_some, option_map};
 ghost use Rattle.clap.specs.Words.{first_of, found_of, one_of, rows_of};
 ghost use Rattle.vlink.specs.declared.time.TheConstants.{LATEST_NS};
@@ -14,7 +14,7 @@ use clap::ArgMatches;
 use std::alloc::{AllocError, Global};
 use vlink::LATEST_NS;
 
-/// The order of a command with the values that clap passed for it.
+/// Makes the order of a command from the values that clap read for it.
 pub(crate) fn order_of(
     alloc: Global,
     name: &str,
@@ -86,7 +86,7 @@ fn run_of(alloc: Global, values: &ArgMatches<'_>) -> Result<Run, AllocError>
     })
 }
 
-/// The number of groups, if one is named.
+/// Returns the number of groups, if one is given.
 fn groups_of(values: &ArgMatches<'_>) -> Option<u8>
     requires { IsUpTo 64 (one_of (codes "groups") (rows_of (found_of values.now))) }
     ensures value { result ≡ option_map number_in (one_of (codes "groups") (rows_of (found_of values.now))) }

@@ -1,4 +1,4 @@
-//! What the words after the program's name order.
+//! Reads the words after the program's name as an order.
 #![tactic(auto)]
 
 mod arguments;

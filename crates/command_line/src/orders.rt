@@ -1,4 +1,4 @@
-//! What the program is ordered to do: a command with its values.
+//! The orders of the program: a command with its values.
 
 /// A command of the program.
 #[derive(Drop)]
@@ -15,7 +15,7 @@ pub enum Order {
     Bounds(Bounds),
 }
 
-/// Judge a network.
+/// Check a network.
 #[derive(Drop)]
 pub struct Check {
     /// The path of the network's description.
@@ -27,9 +27,9 @@ pub struct Check {
 pub struct Seq {
     /// The path of the network's description.
     pub net: String,
-    /// The path of the file that is to get the trace, if one is.
+    /// The path of the file for the trace, if one is given.
     pub trace: Option<String>,
-    /// Whether error output is to say how far the run is.
+    /// Whether error output shows how far the run is.
     pub progress: bool,
 }
 
@@ -40,17 +40,17 @@ pub struct Run {
     pub net: String,
     /// The number of threads, 1 to 64.
     pub workers: u8,
-    /// The number of groups of processes, 1 to 64, if one is named.
+    /// The number of groups of processes, 1 to 64, if one is given.
     pub groups: Option<u8>,
     /// The most events that a group of processes handles in one turn, 1 to 256.
     pub turn: u16,
     /// How far beyond the GVT that it saw a group of processes may handle events, in ns: 1 to `vlink::LATEST_NS`.
     pub window_ns: u64,
-    /// The path of the file that is to get the journal, if one is.
+    /// The path of the file for the journal, if one is given.
     pub journal: Option<String>,
-    /// The path of the file that is to get the trace, if one is.
+    /// The path of the file for the trace, if one is given.
     pub trace: Option<String>,
-    /// Whether error output is to say how far the run is.
+    /// Whether error output shows how far the run is.
     pub progress: bool,
 }
 
@@ -63,7 +63,7 @@ pub struct Replay {
     pub steps: String,
 }
 
-/// Bound what each run of a network can come to.
+/// Compute worst-case bounds of a network.
 #[derive(Drop)]
 pub struct Bounds {
     /// The path of the network's description.

@@ -1,4 +1,4 @@
-//! The words that the program knows, and what its help says.
+//! The words that the program knows, and its help.
 ghost use Rattle.std.specs.Prelude.{◌≡◌, IfOk, codes, false};
 ghost use Rattle.clap.specs.Words.{App, Rule, app_of, new_app, rule_of, with_rule, with_subcommand};
 ghost use Rattle.command_line.specs.Program.{Knows, bare_program, bounds_app, check_app, network_app, program, replay_app, run_app, seq_app, with_outputs, with_paces};
@@ -29,7 +29,7 @@ pub(crate) fn program<'a>(alloc: Global) -> Result<Command<'a>, AllocError>
     with_command(replays, bounds(alloc))
 }
 
-/// The program with the two commands that want no thread and no journal.
+/// The program with the two commands that need neither threads nor a journal.
 fn plain_program<'a>(alloc: Global) -> Result<Command<'a>, AllocError>
     ensures { IfOk result (λ command. Knows command (with_subcommand (with_subcommand bare_program check_app.top) seq_app.top)) }
 {
@@ -50,7 +50,7 @@ fn bare_program<'a>(alloc: Global) -> Result<Command<'a>, AllocError>
     )
 }
 
-/// The program's name, and what its help says.
+/// The program's name, and the texts of its help.
 fn named_program<'a>(alloc: Global) -> Result<Command<'a>, AllocError>
     ensures { IfOk result (λ command. Knows command (new_app (codes "afdxsim"))) }
 {
@@ -132,7 +132,7 @@ fn bounds<'a>(alloc: Global) -> Result<Command<'a>, AllocError>
     )
 }
 
-/// A command that has to be given the path of a network's description.
+/// A command that requires the path of a network's description.
 fn of_network<'a>(
     alloc: Global,
     name: &'a str,
@@ -155,7 +155,7 @@ fn titled<'a>(alloc: Global, name: &'a str, about: &'a str, example: &'a str) ->
     Command::new(alloc, name).about(about).after_help(example)
 }
 
-/// A command that may also be given the numbers that set the pace of a run.
+/// A command that also accepts the numbers that set the pace of a run.
 fn with_paces<'a>(
     alloc: Global,
     command: Result<Command<'a>, AllocError>,
@@ -168,7 +168,7 @@ fn with_paces<'a>(
     with_arg(turns, window(alloc))
 }
 
-/// A command that may also be told to write the trace, and to say how far it is.
+/// A command that can also write the trace, and show how far it is.
 fn with_outputs<'a>(
     alloc: Global,
     command: Result<Command<'a>, AllocError>,
@@ -186,7 +186,7 @@ fn with_outputs<'a>(
     with_arg(traces, flag(alloc, "progress", PROGRESS))
 }
 
-/// A command with one more argument. Want of memory is passed on.
+/// A command with one more argument. Lack of memory is passed on.
 fn with_arg<'a>(
     command: Result<Command<'a>, AllocError>,
     arg: Arg<'a>,
@@ -203,7 +203,7 @@ fn with_arg<'a>(
     }
 }
 
-/// A program with one more command. Want of memory is passed on.
+/// A program with one more command. Lack of memory is passed on.
 fn with_command<'a>(
     program: Result<Command<'a>, AllocError>,
     command: Result<Command<'a>, AllocError>,
@@ -220,7 +220,7 @@ fn with_command<'a>(
     }
 }
 
-/// That, where memory was there for the program.
+/// A program with one more command, once memory for the program was available.
 fn with_one_command<'a>(
     program: Command<'a>,
     command: Result<Command<'a>, AllocError>,

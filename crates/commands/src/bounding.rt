@@ -1,4 +1,4 @@
-//! `bounds NET`: how long frames take at most, and how much waits at most, in any run of a network.
+//! `bounds NET`: writes how long frames take at most, and how many bytes wait at most, in any run of a network.
 ghost use Rattle.std.specs.Prelude.{◌≡◌, ◌≢◌, true, IfErr, OnOk};
 ghost use Rattle.commands.specs.declared.fault.Fault.TheVariants.{CannotWrite};
 ghost use Rattle.commands.specs.Bounding.{ShowsBounds};
@@ -12,7 +12,7 @@ use network_bounds::write_bounds;
 use std::alloc::Global;
 use trace_tables::OutFault;
 
-/// Writes bounds of the network on standard output. Nothing is run, and no offer is made.
+/// Writes bounds of the network to standard output. It runs nothing, and makes no offers.
 pub fn bounds<H: Host>(alloc: Global, network: &Network, host: &mut H) -> Result<(), Fault<'static>>
     ensures text { OnOk result (ShowsBounds H.outside host.old host.new network.now) }
     ensures left { OnOk result (ShowsAlone H.outside host.old host.new) }

@@ -1,4 +1,4 @@
-//! The commands that start no thread, over a host: what they read, show, keep and tell.
+//! The commands that start no thread, over a host: what they read, print, write and report.
 #![tactic(auto)]
 
 mod answering;

@@ -1,11 +1,11 @@
-//! The files that an order names, and whether it names one twice.
+//! The files that an order names, and whether it names one of them twice.
 ghost use Rattle.std.specs.Prelude.{◌≡◌, None, IfSome, option_map, string_bytes};
 ghost use Rattle.commands.specs.Naming.{AreApart, AreOne, AreTwo, IsTwice, NamesApart, NamesTwice, journal_of, net_of, trace_of};
 
 use crate::host::Host;
 use command_line::Order;
 
-/// The second of these paths, where both are there and name one file.
+/// Returns the second of these paths, if both are given and name one file.
 fn same_file<'a, H: Host>(
     first: Option<&'a str>,
     second: Option<&'a str>,
@@ -20,7 +20,8 @@ fn same_file<'a, H: Host>(
     }
 }
 
-/// The path of a file that is there twice, among the description, the journal and the trace: of two that are one, the later one.
+/// Returns the path of a file that is named twice, among the description, the journal and the trace: of two paths to one file, the later
+/// one.
 fn twice_among<'a, H: Host>(
     net: &'a str,
     journal: Option<&'a str>,
@@ -41,7 +42,7 @@ fn twice_among<'a, H: Host>(
     same_file(trace, journal, host)
 }
 
-/// The path of the description.
+/// Returns the path of the description.
 pub fn net_of(order: &Order) -> &str
     ensures { result.now ≡ net_of order.now }
 {
@@ -54,7 +55,7 @@ pub fn net_of(order: &Order) -> &str
     }
 }
 
-/// The path that is there, if one is.
+/// Returns the path, if one is given.
 fn path_in(path: &Option<String>) -> Option<&str>
     ensures { option_map (λ path. path.now) result ≡ option_map string_bytes path.now }
 {
@@ -64,7 +65,7 @@ fn path_in(path: &Option<String>) -> Option<&str>
     }
 }
 
-/// The path of the file that is to get the journal, if one is.
+/// Returns the path of the file for the journal, if one is given.
 fn journal_of(order: &Order) -> Option<&str>
     ensures { option_map (λ path. path.now) result ≡ journal_of order.now }
 {
@@ -74,7 +75,7 @@ fn journal_of(order: &Order) -> Option<&str>
     }
 }
 
-/// The path of the file that is to get the trace, if one is.
+/// Returns the path of the file for the trace, if one is given.
 fn trace_of(order: &Order) -> Option<&str>
     ensures { option_map (λ path. path.now) result ≡ trace_of order.now }
 {
@@ -85,7 +86,7 @@ fn trace_of(order: &Order) -> Option<&str>
     }
 }
 
-/// The path of a file that the order names twice: of two paths that name one file, the later one.
+/// Returns the path of a file that the order names twice: of two paths to one file, the later one.
 pub fn named_twice<'a, H: Host>(order: &'a Order, host: &H) -> Option<&'a str>
     ensures apart { result ≡ None → NamesApart (H.outside.tells host.now) order.entry.now }
     ensures twice { IfSome result (λ path. NamesTwice (H.outside.tells host.now) order.entry.now path.now) }

@@ -10,7 +10,7 @@ use crate::reason::Reason;
 use network::{LinePlan, Network, NodeKind, VirtualLink};
 use vlink::VlId;
 
-/// How long a frame takes through a node, in ns.
+/// Returns how long a frame takes through a node, in ns.
 fn latency_of(network: &Network, node: usize) -> u128
     requires { node < length network.now.nodes }
     ensures { result ≡ latency_of network.now node }
@@ -21,7 +21,7 @@ fn latency_of(network: &Network, node: usize) -> u128
     }
 }
 
-/// An age, and so many ns more.
+/// Adds `more` ns to an age.
 fn plus(age: Result<u128, Reason>, more: u128) -> Result<u128, Reason>
     ensures { result ≡ plus age more }
 {
@@ -31,7 +31,8 @@ fn plus(age: Result<u128, Reason>, more: u128) -> Result<u128, Reason>
     }
 }
 
-/// How old a frame is as it comes out of a line, which was so old at the port before it: it waited there and was sent, and was then on the way.
+/// Returns the age of a frame as it comes out of a line, from its age at the port before the line: it waited there, was sent, and was then
+/// in transit.
 fn sent_over(
     is_end: bool,
     line: &LinePlan,
@@ -49,7 +50,7 @@ fn sent_over(
     )
 }
 
-/// How old a frame is as it comes out of a line, where it came over so many lines at most.
+/// Returns the age of a frame as it comes out of a line, after a given number of lines at most.
 fn age_after(
     network: &Network,
     bounds: &[PortBound],
@@ -92,7 +93,7 @@ fn ends_by(network: &Network, node: usize, id: VlId, port: u16) -> bool
     false
 }
 
-/// How old a frame is as it comes to its destination by this port; 0 where it does not.
+/// Returns the age of a frame as it comes to its destination by this port; 0 if it does not come by it.
 fn age_by(
     network: &Network,
     bounds: &[PortBound],
@@ -112,7 +113,7 @@ fn age_by(
     }
 }
 
-/// How long a frame takes from its release to a destination, in ns: by the network on which it takes longer.
+/// Returns how long a frame takes from its release to a destination, in ns: by the network on which it takes longer.
 pub fn network_ns(
     network: &Network,
     bounds: &[PortBound],

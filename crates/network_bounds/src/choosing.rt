@@ -1,4 +1,4 @@
-//! Weights for a port. Whatever they are, the bounds that follow are right; these make them small.
+//! Chooses weights for a port. Any weights give right bounds; these make the bounds small.
 
 use crate::delays::Weights;
 use crate::filling::{Total, filled, lowered, shares_of, weigh};
@@ -14,7 +14,7 @@ struct Pair {
     low: [u32; GREATEST_PORTS],
 }
 
-/// The weights of low frames that leave room for high frames with these weights, and both sums.
+/// Returns the weights of low frames that leave room for high frames with these weights, and both sums.
 fn beside(low: &[Share; GREATEST_PORTS], high: Total) -> ([u32; GREATEST_PORTS], Total) {
     let weights = filled(low, UNITS.saturating_sub(high.rate));
     let sum = weigh(low, &weights);
@@ -27,7 +27,7 @@ fn beside(low: &[Share; GREATEST_PORTS], high: Total) -> ([u32; GREATEST_PORTS],
     )
 }
 
-/// The greatest cost of a frame, in ns.
+/// Returns the greatest cost of a frame, in ns.
 fn greatest(shares: &[Share; GREATEST_PORTS]) -> u64 {
     let mut found = 0;
     for share in shares {
@@ -36,7 +36,7 @@ fn greatest(shares: &[Share; GREATEST_PORTS]) -> u64 {
     found
 }
 
-/// How long the greatest low frame waits, in ns; the greatest number where there is no bound.
+/// Returns how long the greatest low frame waits, in ns, or the greatest number if there is no bound.
 fn later(both: Total, high_rate: u128, own: u128) -> u128 {
     if UNITS < both.rate {
         return u128::MAX;
@@ -46,7 +46,7 @@ fn later(both: Total, high_rate: u128, own: u128) -> u128 {
         .unwrap_or(u128::MAX)
 }
 
-/// How much waits; the greatest number where there is no bound.
+/// Returns how much waits, or the greatest number if there is no bound.
 fn waiting(both: Total) -> u128 {
     if UNITS < both.rate {
         u128::MAX
@@ -55,7 +55,7 @@ fn waiting(both: Total) -> u128 {
     }
 }
 
-/// Weights for a port.
+/// Chooses weights for a port.
 pub fn choose(port: &Port) -> Weights {
     let high = shares_of(port, true);
     let low = shares_of(port, false);

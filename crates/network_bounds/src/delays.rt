@@ -1,4 +1,4 @@
-//! How long a frame takes from a port to the end of its last bit, and how much waits there.
+//! How long a frame takes from a port to the end of its last bit, and how many bytes wait there.
 ghost use Rattle.std.specs.Prelude.{◌≡◌, ◌≤◌, ◌-◌, ◌^◌, false, nat_lt};
 ghost use Rattle.network_bounds.specs.declared.mixing.Choice.TheVariants.{Least};
 ghost use Rattle.network_bounds.specs.declared.reason.Reason.TheVariants.{Number};
@@ -13,20 +13,20 @@ use crate::reason::Reason;
 use network::{GREATEST_PORTS, VirtualLink};
 use vlink::last_bit_ns;
 
-/// The weights of a port: parts of a million, for each port by which frames come, of what the line there bounds.
+/// The weights of a port: for each port by which frames come, how many parts of a million are taken from what the line there bounds.
 #[derive(Clone, Copy)]
 pub struct Weights {
-    /// Of high frames, for their delay.
+    /// Those of high frames, for their delay.
     pub first: [u32; GREATEST_PORTS],
-    /// Of high and of low frames, for the delay of low ones.
+    /// Those of high and of low frames, for the delay of low ones.
     pub high: [u32; GREATEST_PORTS],
     pub low: [u32; GREATEST_PORTS],
-    /// Of high and of low frames, for how much waits.
+    /// Those of high and of low frames, for how much waits.
     pub waiting_high: [u32; GREATEST_PORTS],
     pub waiting_low: [u32; GREATEST_PORTS],
 }
 
-/// What the delay of low frames follows from: both bursts, and what high frames leave of the line.
+/// What determines the delay of low frames: both bursts, and what high frames leave of the line.
 #[derive(Clone, Copy)]
 pub struct Later {
     pub burst: u128,
@@ -45,7 +45,7 @@ pub struct PortBound {
 }
 
 impl PortBound {
-    /// By these weights.
+    /// Returns the bounds by these weights.
     fn by(port: &Port, weights: &Weights) -> Self
         ensures { result ≡ bound_by port.now weights.now }
     {
@@ -56,7 +56,7 @@ impl PortBound {
         }
     }
 
-    /// By weights that the program chooses.
+    /// Returns the bounds by weights that the program chooses.
     pub fn of(port: &Port) -> Self
         ensures { IsBound port.now result }
     {
@@ -71,7 +71,7 @@ fn fits_first(high: &Mixture) -> bool
     high.rate <= UNITS
 }
 
-/// The number where it is below the greatest one.
+/// Returns the number if it is below the greatest one.
 fn held(burst: u128, number: u128) -> Result<u128, Reason>
     ensures { result ≡ only_if (nat_lt burst (2 ^ 128 - 1)) number Number }
 {
@@ -82,7 +82,7 @@ fn held(burst: u128, number: u128) -> Result<u128, Reason>
     }
 }
 
-/// How long a high frame takes, where one low frame costs at most `greatest` ns.
+/// Returns how long a high frame takes, if one low frame costs at most `greatest` ns.
 fn first_of(byte_ns: u16, high: &Mixture, greatest: u64) -> Result<u128, Reason>
     ensures { result ≡ first_of byte_ns high.now greatest }
 {
@@ -96,7 +96,7 @@ fn first_of(byte_ns: u16, high: &Mixture, greatest: u64) -> Result<u128, Reason>
     }
 }
 
-/// How long a high frame takes, by these weights or by those of the least rate.
+/// Returns how long a high frame takes, by these weights or by those of the least rate.
 fn first_bound(port: &Port, weights: &Weights) -> Result<u128, Reason>
     ensures { result ≡ first_of port.now.byte_ns (first_mixed port.now weights.now) (mixed_at port.now Least false).greatest }
 {
@@ -116,14 +116,14 @@ fn fits_both(high: &Mixture, low: &Mixture) -> bool
     high.rate.saturating_add(low.rate) <= UNITS
 }
 
-/// Whether, besides, high frames leave something of the line.
+/// Whether high frames also leave something of the line.
 fn fits_later(high: &Mixture, low: &Mixture) -> bool
     ensures { result ≡ fits_later high.now low.now }
 {
     high.rate < UNITS && fits_both(high, low)
 }
 
-/// What the delay of low frames follows from.
+/// Returns what determines the delay of low frames.
 fn later_of(high: &Mixture, low: &Mixture) -> Result<Later, Reason>
     ensures { result ≡ later_of high.now low.now }
 {
@@ -142,7 +142,7 @@ fn later_of(high: &Mixture, low: &Mixture) -> Result<Later, Reason>
     }
 }
 
-/// That, by these weights or by those of the least rate.
+/// Returns the same, by these weights or by those of the least rate.
 fn later_bound(port: &Port, weights: &Weights) -> Result<Later, Reason>
     ensures { result ≡ later_bound port.now weights.now }
 {
@@ -157,7 +157,7 @@ fn later_bound(port: &Port, weights: &Weights) -> Result<Later, Reason>
     }
 }
 
-/// How many bytes wait.
+/// Returns how many bytes wait.
 fn waiting_of(byte_ns: u16, high: &Mixture, low: &Mixture) -> Result<u128, Reason>
     requires { 1 ≤ byte_ns }
     ensures { result ≡ waiting_of byte_ns high.now low.now }
@@ -172,7 +172,7 @@ fn waiting_of(byte_ns: u16, high: &Mixture, low: &Mixture) -> Result<u128, Reaso
     }
 }
 
-/// That, by these weights or by those of the least rate.
+/// Returns the same, by these weights or by those of the least rate.
 fn waiting_bound(port: &Port, weights: &Weights) -> Result<u128, Reason>
     ensures { result ≡ waiting_bound port.now weights.now }
 {
@@ -187,7 +187,7 @@ fn waiting_bound(port: &Port, weights: &Weights) -> Result<u128, Reason>
     }
 }
 
-/// How long a low frame takes until its last bit has left, in ns.
+/// Returns how long a low frame takes until its last bit has left, in ns.
 fn later_delay(byte_ns: u16, link: &VirtualLink, later: Later) -> Result<u128, Reason>
     ensures { result ≡ later_delay byte_ns link.now later }
 {
@@ -199,7 +199,7 @@ fn later_delay(byte_ns: u16, link: &VirtualLink, later: Later) -> Result<u128, R
     Ok((later.burst.saturating_sub(own) / later.left).saturating_add(last_bit))
 }
 
-/// How long a frame takes from the port until its last bit has left, in ns.
+/// Returns how long a frame takes from the port until its last bit has left, in ns.
 pub fn delay_of(
     is_end: bool,
     byte_ns: u16,

@@ -1,4 +1,4 @@
-//! Weights for what comes with one priority. Whatever they are, the bounds that follow are right; these make them small.
+//! Chooses weights for what comes with one priority. Any weights give right bounds; these make the bounds small.
 
 use crate::mixing::{WHOLE, mixed};
 use crate::port::Port;
@@ -12,7 +12,7 @@ pub struct Total {
     pub rate: u128,
 }
 
-/// What comes by each port with one priority.
+/// Returns what comes by each port with one priority.
 pub fn shares_of(port: &Port, is_high: bool) -> [Share; GREATEST_PORTS] {
     let mut shares = [share_at(port, 0, is_high); GREATEST_PORTS];
     for input in 1..GREATEST_PORTS {
@@ -21,7 +21,7 @@ pub fn shares_of(port: &Port, is_high: bool) -> [Share; GREATEST_PORTS] {
     shares
 }
 
-/// The mixture by these weights.
+/// Returns the mixture by these weights.
 pub fn weigh(shares: &[Share; GREATEST_PORTS], weights: &[u32; GREATEST_PORTS]) -> Total {
     let mut total = Total { burst: 0, rate: 0 };
     for input in 0..GREATEST_PORTS {
@@ -35,7 +35,7 @@ pub fn weigh(shares: &[Share; GREATEST_PORTS], weights: &[u32; GREATEST_PORTS]) 
     total
 }
 
-/// The weights of the least burst: of each line or of its virtual links.
+/// Returns the weights of the least burst: of each line or of its virtual links.
 fn of_least_burst(shares: &[Share; GREATEST_PORTS]) -> [u32; GREATEST_PORTS] {
     let mut weights = [0; GREATEST_PORTS];
     for input in 0..GREATEST_PORTS {
@@ -47,7 +47,7 @@ fn of_least_burst(shares: &[Share; GREATEST_PORTS]) -> [u32; GREATEST_PORTS] {
     weights
 }
 
-/// Whether the rate of `a` falls by more than that of `b` for the burst that is added, where a line gives way to its virtual links.
+/// Whether the rate of `a` falls by more than that of `b` for the burst that is added, if a line gives way to its virtual links.
 fn is_cheaper(a: &Share, b: &Share) -> bool {
     let a_rate = a.line_rate.saturating_sub(a.rate);
     let b_rate = b.line_rate.saturating_sub(b.rate);
@@ -56,7 +56,7 @@ fn is_cheaper(a: &Share, b: &Share) -> bool {
     a_burst.saturating_mul(b_rate) < b_burst.saturating_mul(a_rate)
 }
 
-/// Whether a line gives way to its virtual links before another one does, if there is one.
+/// Whether a line gives way to its virtual links before the other one does, or there is no other.
 fn is_before(share: &Share, other: Option<Share>) -> bool {
     match other {
         Some(other) => is_cheaper(share, &other),
@@ -64,7 +64,7 @@ fn is_before(share: &Share, other: Option<Share>) -> bool {
     }
 }
 
-/// The line that gives way first, of those that count whole.
+/// Returns the line that gives way first, of those that count whole.
 fn cheapest(
     shares: &[Share; GREATEST_PORTS],
     weights: &[u32; GREATEST_PORTS],
@@ -82,7 +82,7 @@ fn cheapest(
     Some((place?, found?))
 }
 
-/// The weights of the least burst, where so many lines give way to their virtual links whole.
+/// Returns the weights of the least burst, if `count` lines give way to their virtual links whole.
 pub fn lowered(shares: &[Share; GREATEST_PORTS], count: usize) -> [u32; GREATEST_PORTS] {
     let mut weights = of_least_burst(shares);
     for _ in 0..count {
@@ -95,15 +95,15 @@ pub fn lowered(shares: &[Share; GREATEST_PORTS], count: usize) -> [u32; GREATEST
     weights
 }
 
-/// How many parts of a line count, where the rate is to fall by `over`, as far as this line goes.
+/// Returns how many parts of a line count, if the rate should fall by `over`, as far as this line goes.
 fn part_left(share: &Share, over: u128) -> u32 {
     let step = share.line_rate.saturating_sub(share.rate);
     let parts = over.checked_div(step).unwrap_or(0).saturating_add(1);
     WHOLE - parts.min(u128::from(WHOLE)) as u32
 }
 
-/// The weights of the least burst, where as many lines as it takes give way to their virtual links until the rate is no greater than this. The
-/// last one gives way in part.
+/// Returns the weights of the least burst after as many lines as necessary give way to their virtual links, until the rate is at most
+/// `room`. The last one gives way in part.
 pub fn filled(shares: &[Share; GREATEST_PORTS], room: u128) -> [u32; GREATEST_PORTS] {
     let mut weights = of_least_burst(shares);
     for _ in 0..GREATEST_PORTS {

@@ -1,4 +1,4 @@
-//! Worst-case bounds of a network: how long a frame takes at most to each destination, and how much waits at each port.
+//! Worst-case bounds of a network: how long a frame takes at most to each destination, and how many bytes wait at each port.
 #![tactic(auto)]
 
 mod ages;

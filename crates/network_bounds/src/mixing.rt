@@ -1,4 +1,4 @@
-//! All that comes to a port with one priority: of each line a mixture of what it bounds and what its virtual links can give.
+//! All that comes to a port with one priority: for each line a mixture of what the line bounds and what its virtual links can send.
 ghost use Rattle.std.specs.Prelude.{◌≡◌, ◌≤◌};
 ghost use Rattle.port_bounds.specs.Mixtures.{mixed};
 ghost use Rattle.network_bounds.specs.Numbers.{WHOLE, capped};
@@ -8,10 +8,10 @@ use crate::port::Port;
 use crate::share::{Share, share_at};
 use network::GREATEST_PORTS;
 
-/// Of how many parts mixtures are made.
+/// The number of parts of a mixture.
 pub const WHOLE: u32 = 1_000_000;
 
-/// How many units of a mixture a ns has: SCALE times WHOLE.
+/// The number of units of a mixture in one ns: SCALE times WHOLE.
 pub const UNITS: u128 = 128_000_000_000_000;
 
 /// The mixture of all that comes to a port with one priority. All sums stop at the greatest number.
@@ -21,7 +21,7 @@ pub struct Mixture {
     pub rate: u128,
     /// The greatest cost of a frame, in ns.
     pub greatest: u64,
-    /// Whether an account lets more pass than its BAGs say.
+    /// Whether an account lets more pass than its BAGs allow.
     pub is_loose: bool,
 }
 
@@ -34,7 +34,7 @@ pub enum Choice {
     By([u32; GREATEST_PORTS]),
 }
 
-/// The weight of the line to this port: none where it bounds nothing.
+/// Returns the weight of the line to this port: none if it bounds nothing.
 fn weight_of(choice: Choice, input: usize, share: &Share) -> u32
     ensures value { result ≡ weight_of choice input share.now }
     ensures within { result ≤ WHOLE }
@@ -57,7 +57,7 @@ fn weight_of(choice: Choice, input: usize, share: &Share) -> u32
     }
 }
 
-/// The mixture: `weight` parts of the one and the others of the other.
+/// Returns the mixture: `weight` parts of the one and the others of the other.
 pub fn mixed(weight: u32, line: u128, flows: u128) -> u128
     requires { weight ≤ WHOLE }
     ensures { result ≡ capped (mixed WHOLE weight line flows) }
@@ -67,7 +67,7 @@ pub fn mixed(weight: u32, line: u128, flows: u128) -> u128
     by_line.saturating_add(by_flows)
 }
 
-/// All that comes, with what comes by one line more.
+/// Adds what comes by one more line.
 fn with_share(all: Mixture, weight: u32, share: &Share) -> Mixture
     requires { weight ≤ WHOLE }
     ensures { result ≡ with_share all weight share.now }
@@ -80,7 +80,7 @@ fn with_share(all: Mixture, weight: u32, share: &Share) -> Mixture
     }
 }
 
-/// All that comes to a port with one priority, by these weights.
+/// Returns all that comes to a port with one priority, by these weights.
 pub fn mixed_at(port: &Port, choice: Choice, is_high: bool) -> Mixture
     ensures { result ≡ mixed_at port.now choice is_high }
 {

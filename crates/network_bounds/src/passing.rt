@@ -28,7 +28,7 @@ pub fn is_end(network: &Network, node: usize) -> bool
     }
 }
 
-/// The port by which the virtual link with this number comes in, of these ways.
+/// Returns the port by which the virtual link with this number comes in, of these ways.
 fn first_port_of(ways: &[Way], id: VlId) -> u16
     ensures { result ≡ first_port_of ways.now id.0 }
 {
@@ -40,7 +40,7 @@ fn first_port_of(ways: &[Way], id: VlId) -> u16
     0
 }
 
-/// The port by which the virtual link with this number comes in at a node.
+/// Returns the port by which the virtual link with this number comes in at a node.
 pub fn input_of(network: &Network, node: usize, id: VlId) -> u16
     requires { node < length network.now.nodes }
     ensures { result ≡ input_of network.now node id.0 }
@@ -52,7 +52,7 @@ pub fn input_of(network: &Network, node: usize, id: VlId) -> u16
     }
 }
 
-/// Puts the virtual link of this way, if it leaves a node by this port, at the end.
+/// Appends the virtual link of this way, if it leaves a node by this port.
 fn push_passing(
     found: &mut Vec<Passing>,
     network: &Network,
@@ -78,7 +78,7 @@ fn push_passing(
     Ok(())
 }
 
-/// The virtual links that leave a node by this port.
+/// Returns the virtual links that leave a node by this port.
 pub fn passings(
     alloc: Global,
     network: &Network,

@@ -11,11 +11,11 @@ use std::marker::Model;
 
 /// The port before a line.
 ///
-/// Clauses see what leaves by it, and for each port of its node the ns of a byte on the line there.
+/// Clauses see what leaves by it, and for each port of its node the time of one byte on the line there, in ns.
 #[derive(Drop)]
 pub struct Port {
     pub is_end: bool,
-    /// How long a byte takes on the line, in ns.
+    /// The time on the line of one byte, in ns.
     pub byte_ns: u16,
     /// What leaves by it.
     pub passings: Vec<Passing>,
@@ -43,7 +43,7 @@ fn leads_to(network: &Network, node: usize, port: u16, line: usize) -> bool
     usize::from(ahead.to) == node && ahead.to_port == port
 }
 
-/// The line that leads to this port of a node.
+/// Returns the line that leads to this port of a node.
 pub fn line_into(network: &Network, node: usize, port: u16) -> Option<usize>
     ensures value { result ≡ line_into network.now node port }
     ensures line { IfSome result (λ k. k < length (lines_of network.now)) }
@@ -58,7 +58,7 @@ pub fn line_into(network: &Network, node: usize, port: u16) -> Option<usize>
     None
 }
 
-/// How long a byte takes on the line that leads to this port of a node, in ns.
+/// Returns how long a byte takes on the line that leads to this port of a node, in ns.
 fn byte_ns_into(network: &Network, node: usize, port: u16) -> Option<u16>
     ensures { result ≡ byte_ns_into network.now node port }
 {
@@ -68,7 +68,7 @@ fn byte_ns_into(network: &Network, node: usize, port: u16) -> Option<u16>
     }
 }
 
-/// That, of each port.
+/// Returns the same for each port.
 fn bytes_into(alloc: Global, network: &Network, node: usize) -> Result<Vec<Option<u16>>, AllocError>
     ensures { IfOk result (λ found. found.items ≡ map (byte_ns_into network.now node) (range_with_len 0 PORTS)) }
 {
@@ -80,7 +80,7 @@ fn bytes_into(alloc: Global, network: &Network, node: usize) -> Result<Vec<Optio
 }
 
 impl Port {
-    /// The port before a line.
+    /// Makes the port before a line.
     pub fn new(alloc: Global, network: &Network, line: usize) -> Result<Self, AllocError>
         requires { line < length (lines_of network.now) }
         ensures { IfOk result (λ port. option_map (port_before network.now) (slice_get (lines_of network.now) line) ≡ Some port) }

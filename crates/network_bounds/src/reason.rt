@@ -7,15 +7,15 @@ ghost use Rattle.network_bounds.specs.Text.{reason_name};
 pub enum Reason {
     /// More may come to a port than its line can send.
     Rate,
-    /// A switch counts bytes, and frames are shorter than Smax: it lets more of them pass than their BAGs say.
+    /// A switch counts bytes, and frames are shorter than Smax: it lets more of them pass than their BAGs allow.
     Bytes,
     /// The virtual link does not come there.
     Way,
-    /// 128 bits do not hold a number.
+    /// A number exceeds 128 bits.
     Number,
 }
 
-/// How a reason is written.
+/// Returns the text of a reason.
 pub(crate) fn reason_name<'a>(reason: Reason) -> &'a str
     ensures { result.now ≡ reason_name reason }
 {

@@ -7,7 +7,7 @@ use crate::curves::{burst, cost, is_loose, rate};
 use crate::port::Port;
 use network::VirtualLink;
 
-/// How many units a ns has.
+/// The number of units in one ns.
 pub const SCALE: u128 = 128_000_000;
 
 /// What comes to a port by one line, with one priority: bursts in units, rates in units a ns. All sums stop at the greatest number.
@@ -15,19 +15,19 @@ pub const SCALE: u128 = 128_000_000;
 pub struct Share {
     /// Whether the line bounds what comes by it.
     pub is_bounding: bool,
-    /// What it bounds then; else what its virtual links can give.
+    /// What the line bounds, if it does; otherwise what its virtual links can send.
     pub line_burst: u128,
     pub line_rate: u128,
-    /// What its virtual links can give.
+    /// What its virtual links can send.
     pub burst: u128,
     pub rate: u128,
     /// The greatest cost of a frame, in ns.
     pub greatest: u64,
-    /// Whether an account lets more pass than its BAGs say.
+    /// Whether an account lets more pass than its BAGs allow.
     pub is_loose: bool,
 }
 
-/// What comes, with one virtual link more.
+/// Adds one virtual link to what comes.
 fn with_link(share: Share, port: &Port, link: &VirtualLink) -> Share
     requires { IsLinkInLimits link.now }
     ensures { result ≡ with_link share port.now.is_end port.now.byte_ns link.now }
@@ -45,7 +45,7 @@ fn with_link(share: Share, port: &Port, link: &VirtualLink) -> Share
     }
 }
 
-/// What the virtual links can give that come by port `input`.
+/// Returns what the virtual links that come by port `input` can send.
 fn flows_at(port: &Port, input: u16, is_high: bool) -> Share
     ensures { result ≡ flows_share port.now input is_high }
 {
@@ -66,7 +66,7 @@ fn flows_at(port: &Port, input: u16, is_high: bool) -> Share
     share
 }
 
-/// Whether the line to this port bounds what comes by it: it is no faster than the line ahead.
+/// Whether the line to this port bounds what comes by it: it does if it is no faster than the line ahead.
 fn is_bounding(port: &Port, input: u16) -> bool
     ensures { result ≡ is_bounding port.now input }
 {
@@ -79,7 +79,7 @@ fn is_bounding(port: &Port, input: u16) -> bool
     }
 }
 
-/// What comes by port `input` with this priority.
+/// Returns what comes by port `input` with this priority.
 pub fn share_at(port: &Port, input: u16, is_high: bool) -> Share
     ensures { result ≡ share_at port.now input is_high }
 {

@@ -1,4 +1,4 @@
-//! The lines of the bounds, cell by cell.
+//! Writes the lines of the bounds, cell by cell.
 ghost use Rattle.std.specs.Prelude.{◌≡◌, ◌<◌, codes, cond, length, OnOk, Ok, Err};
 ghost use Rattle.network.specs.Words.{IsLinkInLimits, lines_of};
 ghost use Rattle.network_bounds.specs.Text.{bounds_head, destination_line, no_room_line, port_line};
@@ -12,7 +12,7 @@ use network::{Network, VirtualLink};
 use trace_segments::line::push;
 use trace_segments::place_name;
 
-/// The first line.
+/// Appends the first line.
 pub fn push_head(out: &mut Writer<Vec<u8>>) -> Result<(), Error>
     ensures { OnOk result (Adds out.old out.new bounds_head) }
 {
@@ -29,7 +29,7 @@ pub fn push_head(out: &mut Writer<Vec<u8>>) -> Result<(), Error>
     )
 }
 
-/// The bound of a virtual link at a destination, `network_ns` from the release of a frame on.
+/// Appends the bound of a virtual link at a destination, `network_ns` from the release of a frame on.
 pub fn push_bound(
     out: &mut Writer<Vec<u8>>,
     network: &Network,
@@ -60,7 +60,7 @@ pub fn push_bound(
     )
 }
 
-/// Why a virtual link has no bound at a destination.
+/// Appends why a virtual link has no bound at a destination.
 pub fn push_no_bound(
     out: &mut Writer<Vec<u8>>,
     network: &Network,
@@ -84,14 +84,14 @@ pub fn push_no_bound(
     )
 }
 
-/// Whether something is so, as a word.
+/// Returns yes or no.
 fn yes_or_no<'a>(is_so: bool) -> &'a str
     ensures { result.now ≡ cond is_so (codes "yes") (codes "no") }
 {
     if is_so { "yes" } else { "no" }
 }
 
-/// How many bytes wait at the port before a line, at most, and whether the port holds so many.
+/// Appends how many bytes wait at most at the port before a line, and whether the port has room for them.
 pub fn push_port(
     out: &mut Writer<Vec<u8>>,
     network: &Network,
@@ -116,7 +116,7 @@ pub fn push_port(
     )
 }
 
-/// Why a port has no bound.
+/// Appends why a port has no bound.
 pub fn push_no_room(
     out: &mut Writer<Vec<u8>>,
     network: &Network,

@@ -6,8 +6,8 @@ ghost use Rattle.network_bounds.specs.Ages.{wait_of};
 use crate::curves::bag_ns;
 use network::VirtualLink;
 
-/// How long a regulator holds a frame at most, in ns: a whole list of frames for one BAG each; where offers come by a period of at least the
-/// BAG, and in the order of their periods, no longer than jitter + BAG - period (`port_bounds::waits_law`).
+/// Returns how long a regulator holds a frame at most, in ns: a whole list of frames for one BAG each. If offers come by a period of at
+/// least the BAG, and in the order of their periods, it is no longer than jitter + BAG - period (`port_bounds::waits_law`).
 pub fn wait_ns(link: &VirtualLink) -> u64
     requires { IsLinkInLimits link.now }
     ensures { result ≡ wait_of link.now }

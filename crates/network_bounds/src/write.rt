@@ -1,4 +1,4 @@
-//! The bounds of a network as a whole text, into a sink.
+//! Writes the bounds of a network as a whole text into a sink.
 ghost use Rattle.std.specs.Prelude.{◌≡◌, ◌≢◌, ◌+◌, ℕ, List, OnOk, IfOk, IfErr};
 ghost use Rattle.std.specs.Io.KnownBytes.{append_known};
 ghost use Rattle.trace_segments.specs.declared.fault.OutFault.TheVariants.{Device};
@@ -17,7 +17,7 @@ use std::alloc::{AllocError, Global};
 use trace_segments::line::{empty, text_of};
 use trace_segments::{OutFault, Sink, write_all};
 
-/// The bounds of the port before each line.
+/// Returns the bounds of the port before each line.
 fn bounds_of(alloc: Global, network: &Network) -> Result<Vec<PortBound>, AllocError>
     ensures { IfOk result (λ bounds. AreBounds network.now (lines_of network.now) bounds.items) }
 {
@@ -29,7 +29,7 @@ fn bounds_of(alloc: Global, network: &Network) -> Result<Vec<PortBound>, AllocEr
     Ok(bounds)
 }
 
-/// The bound of a virtual link at a destination, or why there is none.
+/// Appends the bound of a virtual link at a destination, or why it has none.
 fn push_destination(
     out: &mut Writer<Vec<u8>>,
     network: &Network,
@@ -49,7 +49,7 @@ fn push_destination(
     }
 }
 
-/// The bounds of a virtual link at these destinations.
+/// Appends the bounds of a virtual link at these destinations.
 fn push_destinations(
     out: &mut Writer<Vec<u8>>,
     network: &Network,
@@ -66,7 +66,7 @@ fn push_destinations(
     Ok(())
 }
 
-/// The bounds of each virtual link at each destination.
+/// Appends the bounds of each virtual link at each destination.
 fn push_links(
     out: &mut Writer<Vec<u8>>,
     network: &Network,
@@ -81,7 +81,7 @@ fn push_links(
     Ok(())
 }
 
-/// How much waits at the port before a line.
+/// Appends how many bytes wait at the port before a line.
 fn push_port(
     out: &mut Writer<Vec<u8>>,
     network: &Network,
@@ -100,7 +100,7 @@ fn push_port(
     }
 }
 
-/// How much waits at each port.
+/// Appends how many bytes wait at each port.
 fn push_ports(
     out: &mut Writer<Vec<u8>>,
     network: &Network,
@@ -114,7 +114,7 @@ fn push_ports(
     Ok(())
 }
 
-/// The lines of the bounds. An error is the library's own.
+/// Appends the lines of the bounds. An error is the library's own.
 fn push_all(out: &mut Writer<Vec<u8>>, network: &Network, bounds: &[PortBound]) -> Result<(), Error>
     ensures { OnOk result (Adds out.old out.new (bounds_text network.now bounds.now)) }
 {
@@ -123,7 +123,7 @@ fn push_all(out: &mut Writer<Vec<u8>>, network: &Network, bounds: &[PortBound]) 
     push_ports(out, network, bounds)
 }
 
-/// The text of the bounds. An error is the library's own.
+/// Makes the text of the bounds. An error is the library's own.
 fn csv_text(alloc: Global, network: &Network, bounds: &[PortBound]) -> Result<Vec<u8>, Error>
     ensures { IfOk result (λ bytes. bytes.items ≡ bounds_text network.now bounds.now) }
 {
@@ -132,7 +132,7 @@ fn csv_text(alloc: Global, network: &Network, bounds: &[PortBound]) -> Result<Ve
     text_of(out, put)
 }
 
-/// That text, by weights that the program chooses.
+/// Makes the same text, by weights that the program chooses.
 fn text_in(alloc: Global, network: &Network) -> Result<Vec<u8>, OutFault>
     ensures text { IfOk result (λ bytes. IsBoundsText network.now bytes.items) }
     ensures fault { IfErr result (λ fault. fault ≢ Device) }
@@ -143,14 +143,14 @@ fn text_in(alloc: Global, network: &Network) -> Result<Vec<u8>, OutFault>
 
 /// Writes worst-case bounds of a network as comma-separated rows, each with a line feed at its end.
 ///
-/// First `kind,of,where,network_ns,wait_ns,bound_ns`. Then for each virtual link and each of its destinations, by number,
-/// `bound,VL,NAME,NETWORK_NS,WAIT_NS,BOUND_NS`: the greatest age of a frame from its release on, how long the regulator holds it at
-/// most, and the sum, in ns. Then for each line `port,LINE,,BYTES,HOLDS,`: how many bytes wait at most at the port before it, and `yes` or `no`,
-/// whether the port holds so many. Where there is no bound the line is `none,VL,NAME,WHY,,` or `none,LINE,,WHY,,`.
+/// The first line is `kind,of,where,network_ns,wait_ns,bound_ns`. Then each virtual link and each of its destinations, by number, gives
+/// `bound,VL,NAME,NETWORK_NS,WAIT_NS,BOUND_NS`: the greatest age of a frame from its release on, how long the regulator holds it at most,
+/// and the sum, in ns. Then each line gives `port,LINE,,BYTES,HOLDS,`: how many bytes wait at most at the port before it, and `yes` or
+/// `no`, whether the port has room for them. If there is no bound the line is `none,VL,NAME,WHY,,` or `none,LINE,,WHY,,`.
 ///
-/// The text is made whole before the first byte goes out. `Device` comes only where the sink failed; what went out is a beginning
-/// of the text. `OutOfMemory` comes only where memory was refused, and `Layout` only where the
-/// library that lays out rows failed otherwise; then nothing went out.
+/// The text is made whole before its first byte is written. `Device` comes only if the sink failed; what was written is a beginning of the
+/// text. `OutOfMemory` comes only if memory was refused, and `Layout` only if the library that lays out rows failed otherwise; then nothing
+/// was written.
 pub fn write_bounds<S: Sink>(alloc: Global, network: &Network, sink: &mut S) -> Result<(), OutFault>
     ensures text { OnOk result ((text : List ℕ) × IsBoundsText network.now text × (S.taken sink.new ≡ append_known (S.taken sink.old) text)) }
     ensures went_well { OnOk result (S.failures sink.new ≡ S.failures sink.old) }
