@@ -91,7 +91,7 @@ fn push<T: Copy>(items: &mut Vec<T>, item: T) -> Result<(), OutOfMemory>
     Ok(())
 }
 
-/// Removes all items of a box. Large room is given back: the offers of a run lie there at the start, and so many letters do not come again.
+/// Removes all items of a box, and frees a large buffer: at the start of a run all offers lie in the boxes, and later letters are fewer.
 pub(crate) fn clear_box<T: Drop>(items: &mut Vec<T>)
     ensures items { items.new.items ≡ [] }
 {
