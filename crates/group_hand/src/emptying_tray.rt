@@ -94,8 +94,7 @@ impl Letters {
     }
 }
 
-/// Gives back large room that the tray does not need: the offers of a run come through it at the start, and so many letters do not come
-/// again.
+/// Frees a large buffer that the tray does not need: at the start of a run all offers pass through the tray, and later letters are fewer.
 fn give_back(tray: &mut VecDeque<Letter>)
     ensures { tray.new.items ≡ tray.old.items }
 {
