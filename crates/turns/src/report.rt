@@ -46,9 +46,11 @@ impl Report {
         self.next_ns >= self.seen_ns.saturating_add(window_ns)
     }
 
-    /// Whether it should post and look for letters before it goes on: it has not posted for long; or a letter waits that comes before its
-    /// next event; or its next event waits for GVT; or nothing is due, and GVT is much further on, or what it did has not been posted for a
-    /// while, after so many looks in vain of its worker.
+    /// Whether it should post and look for letters before it goes on. It should if it has not posted for `MOST_UNPOSTED` messages, or if
+    /// a letter waits that comes before the limit, in ns, and no later than its next event. If its next event is beyond the window, it
+    /// should if it has something to post or GVT is further on. If it has no event before the limit, it should if GVT is `BEHIND_NS`
+    /// further on, or if it has something to post and its worker has looked in vain `LOOKS_BEFORE_POST` times; if the window is less than
+    /// `LEAD_NS`, at once.
     pub(crate) fn is_to_meet(
         &self,
         moments: &Moments,
