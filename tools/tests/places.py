@@ -13,4 +13,4 @@ os.environ["PYTHONPATH"] = TOOLS
 
 def tool_words(name):
     """The words that run the tool of a command of `afdx` in a process of its own. No program is chosen for it."""
-    return [sys.executable, "-m", OF_TOOLS[name.replace("_", "-")].module]
+    return [sys.executable, "-m", OF_TOOLS[name].module]

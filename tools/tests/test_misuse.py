@@ -56,11 +56,11 @@ ROWS = [
     ("bounds net.toml --fit /dev/full", 2, "/dev/full: cannot be written: No space left on device"),
     ("bounds net.toml >> net.toml", 2, "standard output: " + READ.format("net.toml")),
     ("explain net.toml >> link.toml", 2, "standard output: " + READ.format("net.toml")),
-    ("from_table net.csv -o net.csv", 2, "net.csv: " + READ.format("net.csv")),
-    ("from_table --back net.toml -o hard.toml", 2, "hard.toml: " + READ.format("net.toml")),
-    ("second_opinion net.toml --trace link.toml", 2, "link.toml: " + READ.format("net.toml")),
-    ("second_opinion net.toml --trace tables.csv >> tables.csv", 2, "tables.csv: would be written over standard output, which is written too; nothing is written"),
-    ("make_journal net.toml >> net.toml", 2, "standard output: " + READ.format("net.toml")),
+    ("table net.csv -o net.csv", 2, "net.csv: " + READ.format("net.csv")),
+    ("table --back net.toml -o hard.toml", 2, "hard.toml: " + READ.format("net.toml")),
+    ("second-opinion net.toml --trace link.toml", 2, "link.toml: " + READ.format("net.toml")),
+    ("second-opinion net.toml --trace tables.csv >> tables.csv", 2, "tables.csv: would be written over standard output, which is written too; nothing is written"),
+    ("make-journal net.toml >> net.toml", 2, "standard output: " + READ.format("net.toml")),
     ("campaign DIR/seed-42.toml --seeds 1 --keep -o DIR", 2, "DIR/seed-42.toml: " + READ.format("DIR/seed-42.toml")),
     ("campaign net.toml --seeds 1 --limits DIR/merged.csv -o DIR", 2, "DIR/merged.csv: " + READ.format("DIR/merged.csv")),
     ("campaign net.toml --seeds 1 -o LINKED", 2, "LINKED/merged.csv: " + READ.format("net.toml")),
@@ -75,9 +75,9 @@ ROWS = [
     ("bounds net.toml -o /dev/full", 2, "/dev/full: cannot be written: No space left on device"),
     ("bounds net.toml >> /dev/full", 2, "standard output: cannot be written: No space left on device"),
     ("explain net.toml >> /dev/full", 2, "standard output: cannot be written: No space left on device"),
-    ("large_network >> /dev/full", 2, "standard output: cannot be written: No space left on device"),
-    ("make_journal net.toml >> /dev/full", 2, "standard output: cannot be written: No space left on device"),
-    ("second_opinion net.toml >> /dev/full", 2, "standard output: cannot be written: No space left on device"),
+    ("large-network >> /dev/full", 2, "standard output: cannot be written: No space left on device"),
+    ("make-journal net.toml >> /dev/full", 2, "standard output: cannot be written: No space left on device"),
+    ("second-opinion net.toml >> /dev/full", 2, "standard output: cannot be written: No space left on device"),
     ("bounds net.toml >&-", 2, "standard output: cannot be written: it is closed"),
     # What is of another network, another run, or another campaign. other.toml is net.toml with 10 Mbit/s, 100 bytes and seed 1;
     # RUNS is the folder of a campaign of net.toml with the seeds 42 to 44, and copy.csv its merged tables.
@@ -133,11 +133,11 @@ ROWS = [
     ("pcap net.toml tables.csv -o net.pcapng", 2, "tables.csv line 1: the columns are not those of a trace: time_ns,where,vl,what,value"),
     ("pcap net.toml trace.csv -o /dev/full", 2, "/dev/full: cannot be written: No space left on device"),
     ("pcap net.toml none.csv -o net.pcapng", 2, "none.csv: cannot be read: No such file or directory"),
-    ("second_opinion net.toml --hops link.toml", 2, "link.toml: " + READ.format("net.toml")),
-    ("second_opinion net.toml --trace new.csv --hops ./new.csv", 2, "./new.csv: would be written over new.csv, which is written too; nothing is written"),
-    ("long_form net.toml tables.csv -o hard.toml", 2, "hard.toml: " + READ.format("net.toml")),
-    ("long_form net.toml tables.csv >> tables.csv", 2, "standard output: " + READ.format("tables.csv")),
-    ("long_form net.toml trace.csv", 2, "trace.csv line 1: the columns are not those of tables: table,vl,where,cause,count,least_ns,greatest_ns,sum_ns"),
+    ("second-opinion net.toml --hops link.toml", 2, "link.toml: " + READ.format("net.toml")),
+    ("second-opinion net.toml --trace new.csv --hops ./new.csv", 2, "./new.csv: would be written over new.csv, which is written too; nothing is written"),
+    ("long-form net.toml tables.csv -o hard.toml", 2, "hard.toml: " + READ.format("net.toml")),
+    ("long-form net.toml tables.csv >> tables.csv", 2, "standard output: " + READ.format("tables.csv")),
+    ("long-form net.toml trace.csv", 2, "trace.csv line 1: the columns are not those of tables: table,vl,where,cause,count,least_ns,greatest_ns,sum_ns"),
     ("campaign net.toml --set vl.1.depth=1,2 -o LINKED", 2, "LINKED/merged.csv: " + READ.format("net.toml")),
     ("campaign net.toml --aim 1 -o LINKED", 2, "LINKED/merged.csv: " + READ.format("net.toml")),
     ("campaign net.toml --aim 2 -o DIR --replace", 2, "net.toml line 30: --aim 2: there is no such virtual link"),
@@ -146,9 +146,9 @@ ROWS = [
     ("bounds long.toml -o new.csv", 2, "long.toml line 20: link 1 a names " + "x" * 60 + ".. of 5,000 characters, which is no node"),
     # Two outputs of one name, however it is spelled; and what cannot be written is said before the first run, which the program
     # here would tell of by a file. HAS_A_FOLDER has one called merged.csv.
-    ("second_opinion net.toml --trace new.csv --hops new.csv", 2, "new.csv: " + TWICE.format("new.csv")),
-    ("second_opinion net.toml --trace one.csv --hops DOUBLE/merged.csv", 2, "DOUBLE/merged.csv: " + TWICE.format("one.csv")),
-    ("second_opinion net.toml --trace hard.csv --hops tables.csv", 2, "tables.csv: " + TWICE.format("hard.csv")),
+    ("second-opinion net.toml --trace new.csv --hops new.csv", 2, "new.csv: " + TWICE.format("new.csv")),
+    ("second-opinion net.toml --trace one.csv --hops DOUBLE/merged.csv", 2, "DOUBLE/merged.csv: " + TWICE.format("one.csv")),
+    ("second-opinion net.toml --trace hard.csv --hops tables.csv", 2, "tables.csv: " + TWICE.format("hard.csv")),
     ("report net.toml tables.csv --limits limits.csv --junit page.html -o page.html", 2, "page.html: " + TWICE.format("page.html")),
     ("report net.toml tables.csv --limits limits.csv --junit ./page.html -o page.html", 2, "./page.html: " + TWICE.format("page.html")),
     ("bounds net.toml -o new.csv --limits limits.csv --junit new.csv", 2, "new.csv: " + TWICE.format("new.csv")),
@@ -156,11 +156,11 @@ ROWS = [
     ("campaign net.toml --seeds 1 -o limits.csv/runs", 2, "limits.csv/runs: cannot be made: Not a directory"),
     ("campaign net.toml --seeds 1 -o HAS_A_FOLDER --replace", 2, "HAS_A_FOLDER/merged.csv: cannot be written: Is a directory"),
     ("campaign net.toml --seeds 1 -o DIR", 2, "DIR: has files of an earlier campaign: merged.csv, seed-42.toml. Name another folder, or --replace them"),
-    ("second_opinion huge_run.toml --trace none/trace.csv", 2, "none/trace.csv: cannot be written: No such file or directory"),
+    ("second-opinion huge_run.toml --trace none/trace.csv", 2, "none/trace.csv: cannot be written: No such file or directory"),
     # Standard output is no file.
     ("report net.toml tables.csv -o -", 2, "-: " + NO_FILE),
     ("pcap net.toml trace.csv -o -", 2, "-: " + NO_FILE),
-    ("second_opinion net.toml --trace -", 2, "-: " + NO_FILE),
+    ("second-opinion net.toml --trace -", 2, "-: " + NO_FILE),
     ("campaign net.toml --seeds 1 -o -", 2, "-: is no folder: what a campaign writes are files, and ./- is a folder of this name"),
     # Outages after the end of the run, lines of Windows, and records of earlier versions.
     ("campaign net.toml --each-outage 2000001 -o NEW", 2, "net.toml line 1: --each-outage 2000001: the run ends before that, at 2000000 ns"),
@@ -170,19 +170,19 @@ ROWS = [
     ("report net.toml EARLIER -o page.html", 2, "EARLIER/campaign.json: is no record of a campaign: it has no files. Run the campaign anew: an earlier version wrote this"),
     ("report net.toml WRONG -o page.html", 2, "WRONG/campaign.json: is no record of a campaign: program is \"{{'name': 1}}\""),
     (
-        "from_table misspelt.csv -o new.toml", 1,
+        "table misspelt.csv -o new.toml", 1,
         "misspelt.csv line 1: the column 'prioritty' is not known, and priority may be meant: write it so, or say what it is by --column "
         "'prioritty=priority', or 'prioritty=-' where it is to be passed over",
     ),
-    ("from_table two.csv net.csv --column Box=source -o new.toml", 2, "two.csv: cannot be read: No such file or directory"),
-    ("from_table net.csv --column Box=source -o new.toml", 1, "net.csv: no table has a column 'box' that --column can make 'source'"),
-    ("from_table twofold.csv -o new.toml", 1, "twofold.csv line 3: virtual link 1 is in line 2 too, and bag_ms is '16' here and '8' there"),
-    ("from_table broken.xlsx -o new.toml", 2, "broken.xlsx: is no workbook that can be read: BadZipFile: File is not a zip file"),
+    ("table two.csv net.csv --column Box=source -o new.toml", 2, "two.csv: cannot be read: No such file or directory"),
+    ("table net.csv --column Box=source -o new.toml", 1, "net.csv: no table has a column 'box' that --column can make 'source'"),
+    ("table twofold.csv -o new.toml", 1, "twofold.csv line 3: virtual link 1 is in line 2 too, and bag_ms is '16' here and '8' there"),
+    ("table broken.xlsx -o new.toml", 2, "broken.xlsx: is no workbook that can be read: BadZipFile: File is not a zip file"),
 ]
 
 
 def tool_tells(line):
-    return 1 if line.startswith("large_network") else 0
+    return 1 if line.startswith("large-network") else 0
 
 
 def tree_of(folder):
@@ -280,7 +280,7 @@ class Rows(unittest.TestCase):
         before = tree_of(self.folder)
         for line, status, said in ROWS:
             with self.subTest(line):
-                name = line.split(" ")[0] + ".py: "
+                name = f"afdx {line.split(' ')[0]}: "
                 found = self.call(line)
                 # What large_network tells of its network goes before.
                 told = found[2].splitlines()[tool_tells(line) :]
@@ -365,7 +365,7 @@ class Ends(Rows):
         before = tree_of(self.folder)
         for words in (
             "report pipe tables.csv -o page.html", "report net.toml pipe -o page.html", "bounds pipe -o bounds.csv", "explain pipe",
-            "from_table pipe -o net.csv", "second_opinion pipe --trace trace.csv", "make_journal pipe", "long_form net.toml pipe -o long.json",
+            "table pipe -o net.csv", "second-opinion pipe --trace trace.csv", "make-journal pipe", "long-form net.toml pipe -o long.json",
             "pcap net.toml pipe -o net.pcapng", "report net.toml tables.csv --trace pipe -o page.html",
             "campaign net.toml --each-outage --limits pipe -o DIR --program ./afdxsim",
             "campaign pipe --seeds 3 -o DIR --program afdxsim",
@@ -380,7 +380,7 @@ class Ends(Rows):
                     with open(self.path("pipe"), "w"):
                         run.send_signal(number)
                         out, told = run.communicate(timeout=60)
-                    self.assertEqual((run.returncode, out, told), (status, "", f"{words.split()[0]}.py: {said}\n"))
+                    self.assertEqual((run.returncode, out, told), (status, "", f"afdx {words.split()[0]}: {said}\n"))
                     self.assertEqual(os.listdir(self.path("tmp")), [])
                     os.rmdir(self.path("tmp"))
                     self.assertEqual(tree_of(self.folder), before)
@@ -416,15 +416,15 @@ class Ends(Rows):
         with open(self.path("large"), "w") as out:
             out.truncate(600_000_000)
         little = lambda: resource.setrlimit(resource.RLIMIT_AS, (400_000_000, 400_000_000))
-        for words in ("report large tables.csv -o page.html", "bounds large", "explain large", "from_table large", "report net.toml tables.csv --trace large -o page.html"):
+        for words in ("report large tables.csv -o page.html", "bounds large", "explain large", "table large", "report net.toml tables.csv --trace large -o page.html"):
             run = self.started(*words.split(), preexec_fn=little)
-            self.assertEqual((*run.communicate(timeout=60), run.returncode), ("", f"{words.split()[0]}.py: out of memory\n", 2))
+            self.assertEqual((*run.communicate(timeout=60), run.returncode), ("", f"afdx {words.split()[0]}: out of memory\n", 2))
 
     def test_a_closed_pipe(self):
         """What comes behind `head` is told in one line."""
         for words in (
-            "bounds net.toml", "explain net.toml", "second_opinion net.toml", "make_journal net.toml", "from_table --back net.toml",
-            "long_form net.toml tables.csv", "report net.toml tables.csv --limits limits.csv -o /dev/null", "bounds net.toml --limits limits.csv",
+            "bounds net.toml", "explain net.toml", "second-opinion net.toml", "make-journal net.toml", "table --back net.toml",
+            "long-form net.toml tables.csv", "report net.toml tables.csv --limits limits.csv -o /dev/null", "bounds net.toml --limits limits.csv",
         ):
             read, write = os.pipe()
             os.close(read)
@@ -433,7 +433,7 @@ class Ends(Rows):
                 [*tool_words(tool), *rest], cwd=self.folder, stdout=write, stderr=subprocess.PIPE
             )
             os.close(write)
-            said = f"{tool}.py: standard output: cannot be written: Broken pipe\n"
+            said = f"afdx {tool}: standard output: cannot be written: Broken pipe\n"
             self.assertEqual((run.returncode, run.stderr.decode()), (2, said))
 
 

@@ -298,14 +298,14 @@ class Browser:
                 late = fault
         raise late
 
-    def open(self, path, script, address="", wide=800):
+    def open(self, path, script, address="", wide=800, more=()):
         """The page as the browser has it once it is loaded, at an address of it, in a window that is so wide, and a script has
         run, with the processor seconds it took."""
         tried = os.path.join(self.folder, "tried.html")
         with open(tried, "w", encoding="utf-8") as out:
             out.write(read(path) + f'<script>addEventListener("load", () => {{{script}}})</script>')
         before = resource.getrusage(resource.RUSAGE_CHILDREN)
-        run = self.run(f"--window-size={wide},600", "--dump-dom", "file://" + tried + address)
+        run = self.run(f"--window-size={wide},600", *more, "--dump-dom", "file://" + tried + address)
         after = resource.getrusage(resource.RUSAGE_CHILDREN)
         page = Page(run.stdout.decode("utf-8"))
         page.seconds = after.ru_utime - before.ru_utime + after.ru_stime - before.ru_stime

@@ -1,5 +1,5 @@
 -- Where the words have no fault, the program's parse gives one of its commands, with what that command requires, and numbers within their limits.
-use Rattle.std.proofs.Common.{◌≡◌, ◌⊎◌, inl, inr, ℕ, Bool, true, false, cond, List, [], Option, Some, None, codes, refl, sym, subst, ◌&&◌, ◌||◌, not, find, option_map, is_some, bytes_eq}
+use Rattle.std.proofs.Common.{◌≡◌, ◌⊎◌, inl, inr, ℕ, Bool, true, false, cond, List, [], Option, Some, None, codes, refl, sym, subst, ap, get_or, arith, ◌&&◌, ◌||◌, not, find, option_map, is_some, bytes_eq}
 use Rattle.std.specs.Prelude.{⊤}
 use Rattle.std.specs.Option.{option_map_or}
 use Rattle.std.proofs.lemmas.Slice.Eq.{bytes_eq-Decides}
@@ -72,6 +72,9 @@ no_help word none names = go (bytes_eq (codes "help") word) refl names
 plain : (a : Rule) → a.defaults ≡ [] → KeepsByDefault (IsFilled limits_of) a
 plain = no_default (IsFilled limits_of)
 
+not_replay : codes "bounds" ≡ codes "replay" → ⊥
+not_replay e = let first : 98 ≡ 114 = ap (λ (text : Text). get_or text 0 0) e in omega (arith, first)
+
 each_gives : (word : Text) → Each (Gives word) ready.subs
 each_gives word = (
   λ no_help_called answers. gives _ (is_set limits_of _ _ refl refl refl, (help_keeps _ _ _ refl, tt))
@@ -97,7 +100,7 @@ each_gives word = (
           λ no_help_called answers. gives _ (is_set limits_of _ _ refl refl refl, (help_keeps _ _ _ refl, tt))
               (plain _ refl, (plain _ refl, tt)) (inr (inr (inr (inr refl))))
               (λ rows none. requires_one (is_given (codes "NET") rows) _ none)
-              (λ rows none is. cc),
+              (λ rows none is. absurd (not_replay is)),
           (λ no_help_called answers. absurd (no_help word no_help_called answers), tt),
         ),
       ),

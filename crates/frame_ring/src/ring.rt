@@ -1,11 +1,13 @@
 //! A ring of frames that wait. The buffer is std's `VecDeque`. The ring stores its room itself, since the capacity of a `VecDeque` can be
 //! greater than requested.
 ghost use Rattle.std.specs.Prelude.{◌≡◌, ◌*◌, ◌<◌, ◌≤◌, ◌↔◌, [], ◌∷◌, ◌++◌, length, IsTrue, IsNone, IfOk, IfSome, IfNone};
+ghost use Rattle.std.specs.VecDeque.{deque_capacity};
 ghost use Rattle.frame_ring.specs.Queue.{bytes_of};
 
 use std::alloc::{AllocError, Global};
 use std::collections::VecDeque;
 use std::marker::Model;
+use std::mem;
 use vlink::Frame;
 
 /// Waiting frames in one buffer with a fixed room, and the sum of their sizes.
@@ -122,6 +124,21 @@ impl FrameRing {
     {
         let first = self.frames.pop_front()?;
         self.bytes -= u64::from(first.size.bytes());
+        begin_again(&mut self.frames);
         Some(first)
+    }
+}
+
+/// Moves the start of an empty buffer back to its first place. Without this each frame goes one place further, and a long run touches the
+/// whole buffer even if few frames wait. The call takes no memory.
+#[inline(always)]
+fn begin_again(frames: &mut VecDeque<Frame>)
+    ensures same { frames.new.items ≡ frames.old.items }
+    ensures capacity { deque_capacity frames.new ≡ deque_capacity frames.old }
+{
+    if frames.is_empty() {
+        let none = VecDeque::new(*frames.allocator());
+        let emptied = mem::replace(frames, none);
+        *frames = VecDeque::from_vec(emptied.into_vec());
     }
 }

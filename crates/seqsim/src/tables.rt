@@ -17,15 +17,16 @@ use std::alloc::Global;
 use trace_tables::Tables;
 use traffic::offers;
 
-/// Handles the messages, one after another, until none waits. Their rows are counted, and not stored.
+/// Handles the messages, one after another, until none waits. Their rows are counted, and not stored. The function drops the nodes before
+/// it makes the tables, so that memory never holds both.
 fn count_all<W: Watch>(
     alloc: Global,
     network: &Network,
-    nodes: &mut [Node],
-    waiting: &mut Waiting,
+    mut nodes: Vec<Node>,
+    mut waiting: Waiting,
     watch: &mut W,
 ) -> Result<Tables, SimFault>
-    requires { StandsAt (simulation_of network.now) 0 nodes.old waiting.old [] }
+    requires { StandsAt (simulation_of network.now) 0 nodes.items waiting [] }
     ensures whole { IfOk result (λ tables. (rows : List Row) × AreRowsOf network.now rows × (tables ≡ tables_of network.now rows)) }
     ensures exhausted { result ≡ Err Exhausted → (n : ℕ) × IsExhaustedAt (simulation_of network.now) n }
     ensures numbers { OnOk result (HasNumbersFrom (simulation_of network.now) 0) }
@@ -33,7 +34,9 @@ fn count_all<W: Watch>(
 {
     network_law(network);
     let mut counted = Counted::none(alloc, network)?;
-    handle_all(nodes, waiting, &mut counted, watch)?;
+    handle_all(&mut nodes, &mut waiting, &mut counted, watch)?;
+    drop(nodes);
+    drop(waiting);
     Ok(counted.into_tables()?)
 }
 
@@ -56,7 +59,7 @@ pub fn run_tables<W: Watch>(
 {
     network_law(network);
     let offers = offers(alloc, network)?;
-    let mut nodes = nodes_of(alloc, network)?;
-    let mut waiting = Waiting::of_offers(alloc, offers, nodes.len())?;
-    count_all(alloc, network, &mut nodes, &mut waiting, watch)
+    let nodes = nodes_of(alloc, network)?;
+    let waiting = Waiting::of_offers(alloc, offers, nodes.len())?;
+    count_all(alloc, network, nodes, waiting, watch)
 }

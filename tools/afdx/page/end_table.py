@@ -129,5 +129,9 @@ class EndTable:
         if bounds:
             is_above = found.ns is not None and row.count and row.greatest > found.ns
             yield from (("bound_tone", BAD if is_above else 0), ("skew", found.skew_ns))
+            if bounds.has_proved():
+                proved = bounds.proved(*key)
+                is_above = proved is not None and row.count and row.greatest > proved
+                yield from (("proved", proved), ("proved_tone", BAD if is_above else 0))
             yield from (("sure", " and ".join(found.sure) or "neither"), ("sure_tone", 0 if found.sure else WARN))
             yield from (("skew_max", vl.skew_ns), ("skew_tone", WARN if found.may_be_twice else 0))

@@ -86,7 +86,7 @@ def given_by(words):
     bounds = bounds_file.Bounds(words.bounds, net) if words.bounds else None
     margins = limits.margins_of(limits.limits_of(words.limits, net), tables.latencies, bounds) if words.limits else []
     measured = hops.Hops(words.hops, tables) if words.hops else None
-    way = hops.OnTheWay(net, measured, bounds and bounds.of_kind) if measured or bounds else None
+    way = hops.OnTheWay(net, measured, bounds and bounds.of_kind, tables.latencies) if measured or bounds else None
     other = None
     if words.against:
         before, record_before = tables_of(words.against, Network(words.against_net) if words.against_net else net)

@@ -81,6 +81,8 @@ class Page:
                 side: [[self.line_number[line] for line in model.lines_of_path(path)] for path in vl.paths[side]]
                 for side in "AB"
             }
+            if self.is_packed():
+                paths = {side: list(json_text.after_the_one_before(found)) for side, found in paths.items()}
             row = {key: getattr(vl, key) for key in FACTS}
             lost = [[it.where, loss_panels.side_of(self, it), it.cause, it.count] for it in self.lost.get(vl.id, ())]
             yield row | {"paths": paths, "lost": lost}
@@ -97,15 +99,28 @@ class Page:
     def data(self):
         low, high = self.axis()
         if self.is_packed():
-            # The script knows the lines of each virtual link.
-            large = {"ends": self.ends} | {name: self.rows[name] for name in ("parts", "delays", "jitters") if name in self.rows}
-            large |= {"delays": without(large["delays"], "vl", "line")} if "delays" in large else {}
-            self.rows |= {name: json_text.Blocks(columns) for name, columns in large.items()}
+            self.pack()
         return {
             "ends": self.ends, "lines": self.lines(), "nodes": list(self.ends_of.values()), "vls": self.virtual_links(),
             "grids": self.grids, "low": low, "high": high, "percents": PERCENTS, "bars": BARS,
-            "enough": ENOUGH_FOR_BARS, **self.rows,
+            "enough": ENOUGH_FOR_BARS, "packed": self.is_packed(), **self.rows,
         }
+
+    def pack(self):
+        """Leaves out of the tables of a large page what the script knows without it, and puts the rest into blocks."""
+        large = {"ends": self.ends} | {name: self.rows[name] for name in ("parts", "delays", "jitters") if name in self.rows}
+        if "delays" in large:
+            large["delays"] = without(large["delays"], "vl", "line")
+        if self.given.bounds:
+            large["parts"] = parts = without(large["parts"], "vl", "where", "skew_max", "skew_bound")
+            sums = zip(self.ends["bound"], parts["network_bound"], parts["wait_bound"])
+            if all(bound == (None if network is None or wait is None else network + wait) for bound, network, wait in sums):
+                large["ends"] = without(self.ends, "bound")
+        near = {"network_b_bound": "network_a_bound", "network_bound": "network_a_bound", "greatest": "least", "mean": "least"}
+        for name, columns in large.items():
+            first = [it for it in near.values() if it in columns]
+            ordered = {it: columns[it] for it in [*first, *columns]}
+            self.rows[name] = json_text.Blocks(ordered, near)
 
     def is_packed(self):
         return len(self.tables.latencies) > MOST_PLAIN

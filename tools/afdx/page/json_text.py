@@ -13,14 +13,20 @@ ROWS_OF_A_BLOCK = 256
 
 
 class Blocks:
-    """A table by blocks of rows, of its columns."""
+    """A table by blocks of rows, of its columns. Of a column that is hardly another than one before it, as `near` says, what it is
+    more than that stands there: a number where both are numbers, and [number] where the other one is none."""
 
-    def __init__(self, columns: dict[str, Iterable[Any]]) -> None:
-        self.columns = columns
+    def __init__(self, columns: dict[str, Iterable[Any]], near: dict[str, str]) -> None:
+        self.columns, self.near = columns, {name: of for name, of in near.items() if name in columns}
+
+    def less(self, name: str) -> Iterator[Any]:
+        for own, other in zip(self.columns[name], self.columns[self.near[name]]):
+            yield None if own is None else [own] if other is None else own - other
 
     def pieces(self) -> Iterator[str]:
-        yield f'{{"columns":{dumps(list(self.columns))},"blocks":['
-        rows, before = [iter(it) for it in self.columns.values()], ""
+        names = [[name, self.near[name]] if name in self.near else name for name in self.columns]
+        yield f'{{"columns":{dumps(names)},"blocks":['
+        rows, before = [self.less(name) if name in self.near else iter(it) for name, it in self.columns.items()], ""
         while (block := [list(itertools.islice(it, ROWS_OF_A_BLOCK)) for it in rows]) and block[0]:
             yield before + dumps(block)
             before = ","
@@ -50,6 +56,15 @@ def pieces(value: Any) -> Iterator[str]:
         yield "]"
     else:
         yield dumps(value)
+
+
+def after_the_one_before(lists: list[list[int]]) -> Iterator[list[int]]:
+    """Of each list how many items it begins with as the one before it, and the rest."""
+    before: list[int] = []
+    for found in lists:
+        alike = next((i for i, (own, other) in enumerate(zip(found, before)) if own != other), min(len(found), len(before)))
+        yield [alike, *found[alike:]]
+        before = found
 
 
 def packed(texts: Iterable[str]) -> Iterator[str]:

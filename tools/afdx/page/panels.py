@@ -115,6 +115,9 @@ def latency(page):
         columns.append(time_column("limit", "limit", "", "limit_tone"))
     if has_bounds:
         columns.append(time_column("bound", "bound", "a bound of this model, computed outside the proofs", "bound_tone"))
+    if has_bounds and page.given.bounds.has_proved():
+        hint = "the bound that the program prints: proved to be the number of the formula in docs/BOUNDS.md"
+        columns.append(time_column("proved", "bound by the program", hint, "proved_tone"))
     if has_limits:
         hint = "the limit less " + ("the bound" if has_bounds else "the greatest")
         columns.append(time_column("margin", "margin", hint, "limit_tone") | {"order": "margin_order"})

@@ -2,7 +2,23 @@
 const data = window.unpacked ?? JSON.parse(document.getElementById("data").textContent);
 // A large page has its tables by blocks of rows.
 for (const [name, table] of Object.entries(data))
-  if (table.blocks) data[name] = Object.fromEntries(table.columns.map((key, i) => [key, table.blocks.flatMap(it => it[i])]));
+  if (table.blocks) {
+    data[name] = {};
+    table.columns.forEach((column, i) => {
+      const [key, near] = [column].flat(), other = near && data[name][near], own = table.blocks.flatMap(it => it[i]);
+      const more = (value, row) => value === null ? null : Array.isArray(value) ? value[0] : value + other[row];
+      data[name][key] = near ? own.map(more) : own;
+    });
+  }
+if (data.packed) {
+  const {ends, parts} = data, sum = (a, b) => a === null || b === null ? null : a + b;
+  if (parts && !parts.vl) Object.assign(parts, {vl: ends.vl, where: ends.where, skew_max: ends.skew_max, skew_bound: ends.skew});
+  if (parts && !ends.bound && parts.network_bound) ends.bound = parts.network_bound.map((ns, i) => sum(ns, parts.wait_bound[i]));
+  for (const {paths} of data.vls) for (const side of ["A", "B"]) {
+    let before = [];
+    paths[side] = paths[side].map(([alike, ...rest]) => before = [...before.slice(0, alike), ...rest]);
+  }
+}
 const ends = data.ends, lines = data.lines, vls = new Map(data.vls.map(vl => [vl.id, vl]));
 const element = id => document.getElementById(id);
 

@@ -10,6 +10,6 @@ const unpack = async () => {
   document.body.append(script);
   document.getElementById("unpacking").remove();
 };
-unpack().catch(fault => {
+window.unpacking = unpack().catch(fault => {
   document.getElementById("unpacking").textContent = `This browser cannot unpack the data of this page (${fault}). Open it in one of 2023 or later.`;
 });

@@ -21,7 +21,7 @@ COLUMNS = [
     "description",
 ]
 # What is kept of a destination, a line and a switch of a virtual link.
-OF_DESTINATIONS = ("bound", "network", "network_a", "network_b", "skew", "flags")
+OF_DESTINATIONS = ("bound", "proved", "network", "network_a", "network_b", "skew", "flags")
 OF_LINES, OF_SWITCHES = ("delay",), ("jitter", "refuses")
 # What stands in an array for a number that is none, and for one that the file does not have.
 NONE, ABSENT = -1, -2
@@ -98,7 +98,7 @@ class Bounds:
         if self.number(first, vl, where, ABSENT) != ABSENT:
             raise Fault(self.path, i, f"says again what line {self.line_of(row['vl'], where)} says")
         if first == "bound":
-            known = {kind: number(kind + "_ns") for kind in ("wait", "network", "network_a", "network_b", "skew") if row.get(kind + "_ns")}
+            known = {kind: number(kind + "_ns") for kind in ("wait", "proved", "network", "network_a", "network_b", "skew") if row.get(kind + "_ns")}
             self.waits[vl] = known.pop("wait", None)
             if row["sure"] not in SURE:
                 raise Fault(self.path, i, f"sure is {cut(row['sure'])}, and must be A, B, AB or nothing")
@@ -183,6 +183,13 @@ class Bounds:
 
     def bound(self, vl, where):
         return self.number("bound", vl, where)
+
+    def has_proved(self):
+        """Whether the file has the bounds of the program, too."""
+        return "proved_ns" in self.columns
+
+    def proved(self, vl, where):
+        return self.number("proved", vl, where)
 
     def of_kind(self, kind, vl, where):
         """The bound of what `afdx second-opinion --hops` measures, or None."""

@@ -97,9 +97,11 @@ class Column:
 
 class OnTheWay:
     """What was measured on the way beside its bound, each of which may be absent, column by column: of destinations,
-    of hops, of switches and of ports. `bound` answers that of a kind, a virtual link and a place, or None."""
+    of hops, of switches and of ports. `bound` answers that of a kind, a virtual link and a place, or None; `ends` has the virtual
+    links with their destinations in order."""
 
-    def __init__(self, net, hops, bound):
+    def __init__(self, net, hops, bound, ends):
+        self.ends = ends
         self.net, self.is_measured, self.is_bounded = net, hops is not None, bound is not None
         self.measured = hops.greatest if hops else lambda *_: None
         self.bound = bound or (lambda *_: None)
@@ -117,7 +119,7 @@ class OnTheWay:
         return found
 
     def destinations(self):
-        of_each = lambda ask: ((vl.id, ask(vl, where)) for vl in self.net.vls.values() for where in vl.destinations)
+        of_each = lambda ask: ((vl, ask(self.net.vls[vl], where)) for vl, where in self.ends)
         found = self.columns(["network", "network_a", "network_b", "skew"], lambda: of_each(lambda _, where: where), ["vl", "where"])
         waits = self.columns(["wait"], lambda: of_each(lambda vl, _: vl.source), [])
         return found | waits | {"skew_max": Column(lambda: (found for _, found in of_each(lambda vl, _: vl.skew_ns)))}

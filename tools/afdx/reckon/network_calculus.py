@@ -10,7 +10,7 @@ from collections import namedtuple
 
 from afdx import model
 from afdx.files import program
-from afdx.reckon import transmit_jitter
+from afdx.reckon import proved_bounds, transmit_jitter
 
 COLUMNS = [
     "vl", "where", "bound_ns", "wait_ns", "waiting_bytes", "port_bytes", "why", "sure", "skew_ns", "skew_max_ns", "jitter_ns",
@@ -720,12 +720,14 @@ class Bounds:
                 warnings += ["transmit_jitter"] if transmit.is_broken(line) else []
             yield row | {"why": port.why if port.most is None else "", "warning": " ".join(warnings)}
 
-    def pieces(self):
-        """The text of bounds.csv, in pieces of which no two need be in memory."""
+    def pieces(self, proved=None):
+        """The text of bounds.csv, in pieces of which no two need be in memory, with the proved bounds beside these if they are given."""
+        columns = [*COLUMNS[:-2], *(proved_bounds.COLUMNS if proved else []), *COLUMNS[-2:]]
         behind = f",{model.checksum(self.net.text)},{program.tool('bounds').cell()}\n"
-        lines = [",".join(COLUMNS) + "\n"]
+        lines = [",".join(columns) + "\n"]
         for row in self.rows():
-            lines.append(",".join([str(row.get(column, "")) for column in COLUMNS[:-2]]) + behind)
+            row |= proved.cells(row) if proved else {}
+            lines.append(",".join([str(row.get(column, "")) for column in columns[:-2]]) + behind)
             if len(lines) == AT_ONCE:
                 yield "".join(lines)
                 lines = []
@@ -739,7 +741,7 @@ def long_rows(rows):
     """The rows of bounds.csv in long form, without what is no number."""
     for row in rows:
         kind = "port" if "vl" not in row else "account" if "jitter_ns" in row else "hop" if "delay_ns" in row else "bound"
-        for column in COLUMNS[2:]:
+        for column in [*COLUMNS[2:], *proved_bounds.COLUMNS]:
             if str(row.get(column, "")).isdigit():
                 yield kind, row.get("vl"), row["where"], column, int(row[column])
 

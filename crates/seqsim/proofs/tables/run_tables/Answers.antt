@@ -15,8 +15,8 @@ use Rattle.seqsim.proofs.tables.run_tables.Goals as goal
 pub count_all-requires : goal.count_all-requires
 count_all-requires g c =
     let plan = c.args.network.now in
-    started (simulation_of plan).rules (setting_of plan) c.deref_mut.result.now c.in_ok-offers.offers.items c.in_ok-waiting.waiting []
-    (opened plan _ _ _ _ c.deref_mut.ensures.value refl c.in_ok-nodes.ensures c.in_ok-offers.ensures) c.in_ok-waiting.ensures.offered refl
+    started (simulation_of plan).rules (setting_of plan) c.in_ok-nodes.nodes.items c.in_ok-offers.offers.items c.in_ok-waiting.waiting []
+    (opened plan _ _ _ _ refl refl c.in_ok-nodes.ensures c.in_ok-offers.ensures) c.in_ok-waiting.ensures.offered refl
 
 -- tables of rows of the run are those of all such rows
 abbrev AreTablesOfSome : Plan → TableLists → Type 0
