@@ -15,7 +15,7 @@ from math import floor
 from unittest import mock
 
 from afdx import model
-from afdx.commands import bounded_runs
+from afdx.commands import bounded_runs, large_network
 from afdx.files import program
 from afdx.reckon import network_calculus
 from tests.places import EXAMPLES, tool_words
@@ -464,6 +464,101 @@ class OfRuns(unittest.TestCase):
             self.assertIn(first, said)
             number, run = words[words.index("--first") + 1], int(words[words.index("--runs") + 1]) - 1
             self.assertIn(f"network-{number}-run-{run}.toml", os.listdir(folder))
+
+
+@unittest.skipUnless(os.path.isfile(model.PROGRAM), f"there is no built program at {model.PROGRAM}: ./afdx build, or ./test")
+class OfProgram(unittest.TestCase):
+    """The bounds that the program prints."""
+
+    def shares(self, text):
+        """What each of these bounds is by that of the tool, which takes the network where a frame takes longer, too."""
+        net = model.Network("net.toml", text)
+        found, proved, shares = network_calculus.Bounds(net), bounded_runs.bounds_by(model.PROGRAM, net, text), []
+        for key in net.destinations:
+            ways = [way.longest for way in found.by_network.get(key, {}).values()]
+            if ways and None not in ways and proved.of[key] is not None:
+                shares.append(proved.of[key] / (max(ways) + found.links[key[0]].wait))
+        return sorted(shares)
+
+    def test_they_are_little_above_those_of_the_tool(self):
+        for path in sorted(glob.glob(os.path.join(EXAMPLES, "*.toml"))):
+            with self.subTest(os.path.basename(path)), open(path, encoding="utf-8") as file:
+                shares = self.shares(file.read())
+                self.assertGreaterEqual(shares[0], 1)
+                self.assertLessEqual(shares[-1], 1.05)
+
+    def test_on_a_large_network_too(self):
+        pieces = []
+        large_network.write_network(large_network.words_of([]), pieces.append, lambda _: None)
+        shares = self.shares("".join(pieces))
+        self.assertGreater(len(shares), 5000)
+        self.assertLessEqual(shares[len(shares) // 2], 1.01)
+        self.assertLessEqual(shares[-1], 1.07)
+
+    def test_no_drawn_run_is_above_them(self):
+        said = io.StringIO()
+        with contextlib.redirect_stdout(said):
+            status = bounded_runs.main(["--networks", "30", "--runs", "8", "--program", model.PROGRAM])
+        self.assertEqual(status, 0, said.getvalue())
+        self.assertRegex(said.getvalue(), r"bounds by the program: \d{4} latencies and \d{4} ports, 0 above; ")
+
+
+class Proved(unittest.TestCase):
+    """What the program prints, beside the bounds of the tool."""
+
+    LINES = (model.BOUNDS_HEAD, "bound,1,ES2,27720,0,27720", "port,ES1>SW1,,84,yes,", "port,SW1>ES1,,0,yes,", "port,SW1>ES2,,84,yes,", "port,ES2>SW1,,0,yes,")
+
+    def setUp(self):
+        folder = tempfile.TemporaryDirectory()
+        self.addCleanup(folder.cleanup)
+        self.folder, self.net = folder.name, os.path.join(EXAMPLES, "n1.toml")
+
+    def call(self, lines, *words):
+        path = os.path.join(self.folder, "proved.csv")
+        with open(path, "w", encoding="utf-8") as file:
+            file.write("".join(line + "\n" for line in lines))
+        run = subprocess.run([*tool_words("bounds"), self.net, "--proved", path, *words], capture_output=True, text=True)
+        return run.returncode, run.stdout, run.stderr.replace(path, "proved.csv")
+
+    def test_they_stand_beside_the_others(self):
+        status, text, errors = self.call(self.LINES)
+        self.assertEqual((status, errors), (0, ""))
+        head, *rows = (line.split(",") for line in text.splitlines())
+        rows = [dict(zip(head, row)) for row in rows]
+        self.assertEqual((rows[0]["bound_ns"], rows[0]["proved_ns"], rows[0]["proved_bytes"]), ("27720", "27720", ""))
+        self.assertEqual({row["where"]: row["proved_bytes"] for row in rows if row["waiting_bytes"]}, {"ES1>SW1": "84", "SW1>ES2": "84"})
+
+    def test_limits_go_by_them(self):
+        limits = os.path.join(self.folder, "limits.csv")
+        with open(limits, "w", encoding="utf-8") as file:
+            file.write("1,ES2,27719\n")
+        for bound, verdict, wanted in (("27720", "below its bound", 1), ("27000", "kept", 0)):
+            lines = [self.LINES[0], f"bound,1,ES2,{bound},0,{bound}", *self.LINES[2:]]
+            status, text, _ = self.call(lines, "--limits", limits, "--strict")
+            self.assertEqual((status, text.splitlines()[1].split(",")[-1]), (wanted, verdict))
+
+    def test_none_is_none(self):
+        lines = [self.LINES[0], "none,1,ES2,rate,,", *self.LINES[2:4], "none,SW1>ES2,,rate,,", self.LINES[5]]
+        status, text, _ = self.call(lines)
+        self.assertEqual(status, 0)
+        self.assertIn(",none,,", text.splitlines()[1])
+
+    def test_another_file_is_refused(self):
+        for lines, told in (
+            ((), "begins with '' in place of kind,of,where,"),
+            (("vl,where", *self.LINES[1:]), "line 1: begins with 'vl,where'"),
+            ((self.LINES[0], "bound,2,ES2,1,0,1"), "line 2: virtual link 2 at 'ES2' is not in "),
+            ((self.LINES[0], "port,ES9>SW1,,84,yes,"), "line 2: ES9>SW1 is not in "),
+            ((*self.LINES, self.LINES[1]), "line 7: says virtual link 1 at 'ES2' again"),
+            ((self.LINES[0], *self.LINES[2:]), "the file ends without virtual link 1 at ES2"),
+            (self.LINES[:-1], "the file ends without the port before ES2>SW1"),
+            ((self.LINES[0], "bounds,1,ES2"), "line 2: is no line of bounds"),
+        ):
+            with self.subTest(told):
+                status, text, errors = self.call(lines)
+                self.assertEqual((status, text), (2, ""))
+                self.assertIn(told, errors)
+                self.assertEqual(errors.count("\n"), 1)
 
 
 class Command(unittest.TestCase):

@@ -1,4 +1,4 @@
-//! How long frames are on their way in the one-thread run of a network. No product code.
+//! How long frames are in transit in the one-thread run of a network. No product code.
 #![tactic(auto)]
 
 ghost use Rattle.frame_ages.specs.Latencies.{AreLatenciesBounded};
@@ -11,24 +11,24 @@ pub fn sizes_law()
     ensures sized { AreAllSized }
 {}
 
-/// In the one-thread run frames wait no longer at an output port than numbers of it say that pass the check: they count each virtual link that
-/// goes out there with its BAG, with the jitter of its account at a switch, and with the size of its frames, and each line by which frames come with
-/// the greatest of these.
+/// In the one-thread run frames wait no longer at an output port than its numbers state, if these pass the check. They count each virtual
+/// link that goes out there with its BAG, with the jitter of its account at a switch, and with the size of its frames. They count each line
+/// by which frames come with the greatest of these sizes.
 pub fn ports_law()
     ensures high { AreHighsInTime }
     ensures low { AreLowsInTime }
 {}
 
-/// In the one-thread run no frame of a virtual link is delivered at a node later after its offer than its regulator holds it and its way takes:
-/// the sum of the bounds of the ports on the way, the propagation of the lines and the delays of the switches. Where the virtual link goes over both
-/// networks, that is the longer of the two ways.
+/// In the one-thread run no frame of a virtual link is delivered at a node later after its offer than its regulator holds it and its way
+/// takes: the sum of the bounds of the ports on the way, the propagation times of the lines and the latencies of the switches. If the
+/// virtual link uses both networks, that is the longer of the two ways.
 pub fn latencies_law()
     ensures bounded { AreLatenciesBounded }
 {}
 
-/// In the one-thread run the regulator of a virtual link without sub-virtual links holds a frame no longer than a full list takes, one BAG for each
-/// frame (`lists`). If frames are offered by a period, each with a jitter, and neither the BAG nor the jitter is longer than the period, it holds none
-/// longer than jitter + BAG - period (`periods`), also where it drops others.
+/// In the one-thread run the regulator of a virtual link without sub-virtual links holds a frame no longer than a full list takes, one BAG
+/// for each frame (`lists`). If frames are offered by a period, each with a jitter, and neither the BAG nor the jitter is longer than the
+/// period, it holds none longer than jitter + BAG - period (`periods`), also if it drops others.
 pub fn waits_law()
     ensures lists { AreListsHeld }
     ensures periods { ArePeriodsHeld }
