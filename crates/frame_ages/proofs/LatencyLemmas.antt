@@ -102,7 +102,7 @@ module _ (x : Setting NodeState) (L : Laws (simulation_of (rules_of node) x)) (N
       none : (r : Priority) → Every (λ put. link_of put ≡ v → ⊥) (puts_with r (trace_at x C.from C.from_port C.outlet n))
       none r = every-weaker (λ put. IsPutFit x L N size O C.from C.from_port C.from_inside C.outlet.ahead.byte_ns r put) (λ put. link_of put ≡ v → ⊥)
           (λ put k e. C.barred put.line r (subst (λ z. IsThrough (x.opening C.from).equipment C.from_port z put.line r) e k.through))
-          (puts_with r (trace_at x C.from C.from_port C.outlet n)) (fits x L N size O C.from C.from_port C.outlet C.from_inside C.way.port n r)
+          (puts_with r (trace_at x C.from C.from_port C.outlet n)) (fits x L N size O C.from C.from_port C.outlet C.from_inside n r)
 
   module _ (source to wait most : ℕ) (held : IsHeldWithin x source v wait) (C : ComesWithin x size v source to most) where
     all-come : AllComeTimely v (wait + most) (x.opening to).equipment (events f n to)
