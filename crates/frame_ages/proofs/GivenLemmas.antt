@@ -86,7 +86,7 @@ every-both P Q (x ∷ xs) h k = ((h.0, k.0), every-both P Q xs h.1 k.1)
 
 -- ---- numbers: what is below so many units and one more ns is no more ns
 
-below : (u a b : ℕ) → u * a < u * (b + 1) → a ≤ b
+pub below : (u a b : ℕ) → u * a < u * (b + 1) → a ≤ b
 below u a b h = elim (cases_lt b a) [ inl more ↦ absurd (let k : u * (b + 1) ≤ u * a = mul-le u (b + 1) u a (omega arith) (omega arith) in omega arith) | inr less ↦ less ]
 
 sent-by : (u burst delay sent at : ℕ) → u * sent ≤ u * at + burst → burst < u * (delay + 1) → sent ≤ at + delay

@@ -13,3 +13,4 @@ pub mod RegulatorTurns
 pub mod ReleaseTimer
 pub mod WaitLemmas
 pub mod HeldLemmas
+pub mod RoomLemmas
