@@ -39,7 +39,7 @@ use Rattle.frame_ages.proofs.GivenLemmas.{every-weaker, fits}
 use Rattle.frame_ages.proofs.NoteLemmas.{IsDelivery, delivered-come}
 use Rattle.frame_ages.proofs.PutLemmas.{IsPutFit}
 
-kept-in : {X : Type 0} (P : X → Type 0) (test : X → Bool) (xs : List X) → All P (filter test xs) → All (λ x. test x ≡ true → P x) xs
+pub kept-in : {X : Type 0} (P : X → Type 0) (test : X → Bool) (xs : List X) → All P (filter test xs) → All (λ x. test x ≡ true → P x) xs
 kept-in P test [] h = All-nil (λ x. test x ≡ true → P x)
 kept-in P test (x ∷ xs) h = go (test x) refl h (λ k. kept-in P test xs k)
   where
@@ -47,7 +47,7 @@ kept-in P test (x ∷ xs) h = go (test x) refl h (λ k. kept-in P test xs k)
     go true e k rest = All-cons (λ x. test x ≡ true → P x) x xs (λ t. All-head P x (filter test xs) k) (rest (All-tail P x (filter test xs) k))
     go false e k rest = All-cons (λ x. test x ≡ true → P x) x xs (λ t. absurd (let z : ⊥ = cc in z)) (rest k)
 
-some-before : (a : Option PortEvent) (o : Option Outlet) (outlet : Outlet) → option_map (done_at a) o ≡ Some outlet → (before : Outlet) × (o ≡ Some before)
+pub some-before : (a : Option PortEvent) (o : Option Outlet) (outlet : Outlet) → option_map (done_at a) o ≡ Some outlet → (before : Outlet) × (o ≡ Some before)
 some-before a None outlet h = absurd (let z : ⊥ = cc in z)
 some-before a (Some before) outlet h = (before, refl)
 

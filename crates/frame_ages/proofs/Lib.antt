@@ -14,3 +14,5 @@ pub mod ReleaseTimer
 pub mod WaitLemmas
 pub mod HeldLemmas
 pub mod RoomLemmas
+pub mod FullNotes
+pub mod KeptLemmas

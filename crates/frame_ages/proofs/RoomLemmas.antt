@@ -1,10 +1,9 @@
 -- Why a port never drops a frame whose bytes no more than may wait: the frame put, counted with all that wait, is within the bound of what waits.
-use Rattle.std.proofs.Common.{◌≡◌, ℕ, ◌+◌, ◌-◌, ◌*◌, ◌<◌, ◌≤◌, Bool, true, false, cond, nat_le, List, [], ◌∷◌, ◌++◌, Option, Some, None, is_some, append_assoc, append-nil, refl, sym, ap, ◌∙◌, subst, arith, leb-true, leb-false, le-leb}
-use Rattle.std.specs.Prelude.{⊤, sum_by}
-use Rattle.std.proofs.lemmas.Bool.{both_ways, cases_lt}
+use Rattle.std.proofs.Common.{◌≡◌, ℕ, ◌+◌, ◌*◌, ◌<◌, ◌≤◌, Bool, true, false, cond, List, [], ◌∷◌, ◌++◌, Option, Some, None, is_some, append_assoc, refl, sym, ap, ◌∙◌, subst, arith, leb-true, le-leb}
+use Rattle.std.specs.Prelude.{⊤}
+use Rattle.std.proofs.lemmas.Bool.{both_ways}
 use Rattle.std.proofs.lemmas.Nat.{mul-le}
 use Rattle.std.proofs.lemmas.List.Sums.{sum_by-cons}
-use Rattle.vlink.specs.Wire.{busy_for}
 use Rattle.vlink.specs.declared.frame.Frame.{Frame}
 use Rattle.frame_ring.specs.Queue.{bytes_of}
 use Rattle.output_port.specs.Port as real
@@ -15,7 +14,7 @@ use Rattle.output_port.specs.declared.event.PortEvent.{PortEvent}
 use Rattle.output_port.specs.declared.event.PortEvent.TheVariants.{Put, Free}
 use Rattle.output_port.specs.declared.event.PortAnswer.{PortAnswer}
 use Rattle.output_port.specs.declared.event.PortAnswer.TheVariants.{Dropped, Idle, Kept, Nothing, Started}
-use Rattle.port_bounds.specs.Frames.{IsBetween, IsWithin, PutFrame, cost_of}
+use Rattle.port_bounds.specs.Frames.{IsWithin, PutFrame, cost_of}
 use Rattle.port_bounds.specs.Port.{Event, IsBy, IsServed, Port, after, highs_of, idle, lows_of, outcome}
 use Rattle.port_bounds.specs.Port as bounded
 use Rattle.port_bounds.specs.Sublists.{Every}
@@ -201,8 +200,9 @@ grown-after byte_ns bytes p (e ∷ es) more h =
     let one = event-grown p bytes more e.event h.0 in
     let rest = grown-after byte_ns bytes (port.after p e.event) es (subst (λ k. k ≤ bytes) (sym (bytes-stay p e.event)) more) h.1 in (
       ap (λ a. seen_as byte_ns e.at e.line e.event a ++ trace_of byte_ns (port.after (grown p bytes) e.event) es) one.answer ∙
-      (ap (λ s. seen_as byte_ns e.at e.line e.event (port.out p e.event) ++ trace_of byte_ns s es) one.state ∙ ap (λ z. seen_as byte_ns e.at e.line e.event (port.out p e.event) ++ z) rest.0),
-      ap (λ s. state_after s es) one.state ∙ rest.1)
+          (ap (λ s. seen_as byte_ns e.at e.line e.event (port.out p e.event) ++ trace_of byte_ns s es) one.state ∙ ap (λ z. seen_as byte_ns e.at e.line e.event (port.out p e.event) ++ z) rest.0),
+      ap (λ s. state_after s es) one.state ∙ rest.1,
+    )
 
 -- why a frame is dropped
 dropped-why : (p : PortState) (frame : Frame) (q : Priority) → port.out p (Put frame q) ≡ Dropped → (p.busy ≡ true) × (may_wait p frame ≡ false)
@@ -268,17 +268,17 @@ module _ (byte_ns bytes u bh rh bl rl : ℕ) (p : PortState) (es : List PortEven
       let kept : port.out (grown now k) (Put frame r) ≡ Kept = keeps now k frame r busy (omega arith) in
       let big = grown-after byte_ns k p pre (omega arith) none in
       let whole : trace_of byte_ns (grown p k) es ≡ first ++ rest =
-          ap (trace_of byte_ns (grown p k)) are ∙ (trace-append byte_ns (grown p k) pre (record { at = t; line = line; event = Put frame r } ∷ post) ∙
-          (ap (λ z. z ++ trace_of byte_ns (state_after (grown p k) pre) (record { at = t; line = line; event = Put frame r } ∷ post)) big.0 ∙
-          (ap (λ s. trace_of byte_ns p pre ++ trace_of byte_ns s (record { at = t; line = line; event = Put frame r } ∷ post)) big.1 ∙
-          (ap (λ o. trace_of byte_ns p pre ++ (seen_as byte_ns t line (Put frame r) o ++ rest)) kept ∙
-          sym (append_assoc (trace_of byte_ns p pre) (put_event r x ∷ []) rest))))) in
+      ap (trace_of byte_ns (grown p k)) are ∙ (trace-append byte_ns (grown p k) pre (record { at = t; line = line; event = Put frame r } ∷ post) ∙
+      (ap (λ z. z ++ trace_of byte_ns (state_after (grown p k) pre) (record { at = t; line = line; event = Put frame r } ∷ post)) big.0 ∙
+      (ap (λ s. trace_of byte_ns p pre ++ trace_of byte_ns s (record { at = t; line = line; event = Put frame r } ∷ post)) big.1 ∙
+      (ap (λ o. trace_of byte_ns p pre ++ (seen_as byte_ns t line (Put frame r) o ++ rest)) kept ∙
+      sym (append_assoc (trace_of byte_ns p pre) (put_event r x ∷ []) rest))))) in
       let served : IsServed idle 0 first = served-put byte_ns p idle 0 pre t line frame r post (subst (AreAskedBy byte_ns p idle 0) are runs.asked) 0 (subst (λ z. IsServed idle 0 (trace_of byte_ns p z)) are runs.served) in
       let highs : IsWithin u bh rh (highs_of first) = within-front u bh rh (highs_of first) (highs_of rest) (subst (IsWithin u bh rh) (ap highs_of whole ∙ highs-append first rest) (high-within (grown p k))) in
       let lows : IsWithin u bl rl (lows_of first) = within-front u bl rl (lows_of first) (lows_of rest) (subst (IsWithin u bl rl) (ap lows_of whole ∙ lows-append first rest) (low-within (grown p k))) in
       let backlog = (low.are_bounded (highs_of first) (lows_of first) u bh rh bl rl slow highs lows first 0 None [] [] (low.opening first) served).1 in
       let more : cost_of (after idle first).high + cost_of (after idle first).low ≡ (cost_of a.high + cost_of a.low) + x.cost =
-          ap (λ z. cost_of z.high + cost_of z.low) (after-append idle (trace_of byte_ns p pre) (put_event r x ∷ [])) ∙ waits-more a x r (sym alike.busy ∙ busy) in
+      ap (λ z. cost_of z.high + cost_of z.low) (after-append idle (trace_of byte_ns p pre) (put_event r x ∷ [])) ∙ waits-more a x r (sym alike.busy ∙ busy) in
       let waits = wait-put (IsCosted byte_ns) (trace_of byte_ns p pre) None [] [] tt tt (costed pre).high (costed pre).low in
       let high-bytes : bytes_of now.high * byte_ns ≤ cost_of a.high = subst (λ z. bytes_of z * byte_ns ≤ cost_of a.high) (sym alike.high) (bytes-cost byte_ns a.high waits.high) in
       let low-bytes : bytes_of now.low * byte_ns ≤ cost_of a.low = subst (λ z. bytes_of z * byte_ns ≤ cost_of a.low) (sym alike.low) (bytes-cost byte_ns a.low waits.low) in
