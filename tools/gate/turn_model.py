@@ -293,7 +293,7 @@ class Model:
     def handle_due(self, s, me, number):
         group = me.group
         most = min(PIECE, TURN - me.handled)
-        count = self.groups.work(s, group, most, min(me.limit, s.seen[group] + self.window))
+        count = self.groups.work(s, group, most, min(me.limit, s.letter_ns[group], s.seen[group] + self.window))
         me.handled += count
         s.seat_next[group], letters = self.groups.next_moment(s, group), self.groups.letters_moment(s, group)
         s.next_ns[group] = min(s.seat_next[group], letters)

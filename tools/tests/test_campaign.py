@@ -18,8 +18,7 @@ import unittest
 from unittest import mock
 
 from afdx import model
-from afdx.commands import campaign
-from afdx.page import report
+from afdx.commands import campaign, report
 from afdx.reckon import latency_counts
 from afdx.runs.merged import Merged
 from afdx.runs.second_opinion import CAUSES, Simulation
@@ -144,8 +143,8 @@ class WithTheProgram(Here):
             self.assertEqual(self.call(COCKPIT, "--seeds", "5", "--jobs", jobs)[0], 0)
             self.assertEqual(read(self.merged), expected)
             self.assertEqual(sorted(os.listdir(self.output)), ["campaign.json", "greatest.csv", "merged.csv"])
-        net = report.Network(COCKPIT)
-        self.assertTrue(report.Tables(self.merged, net).merged)
+        net = model.Network(COCKPIT)
+        self.assertTrue(model.Tables(self.merged, net).merged)
 
     def test_offsets_are_drawn_within_each_period(self):
         words = [SATURATED, "--seeds", "4", "--first", "30", "--offsets", "--keep"]

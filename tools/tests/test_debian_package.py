@@ -295,8 +295,8 @@ class Used:
 
     def test_what_needs_a_clone_or_the_kit_says_so(self):
         for words, message in (
-            (["build"], "afdx: there is no command 'build': afdx --help tells all\n"),
-            (["package"], "afdx: there is no command 'package': afdx --help tells all\n"),
+            (["build"], "afdx: there is no command 'build': afdx --help lists all\n"),
+            (["package"], "afdx: there is no command 'package': afdx --help lists all\n"),
             (["seq", f"{self.examples}/n1.toml", "--by", "try"], "afdx: `rt`, the kit's command, is not on the PATH\n"),
         ):
             found = self.run_there("afdx", *words)

@@ -6,9 +6,8 @@ import unittest
 import xml.etree.ElementTree as xml
 
 from afdx import model
-from afdx.commands import bounds, explain, from_table
-from afdx.page import report
-from afdx.reckon import limits
+from afdx.commands import bounds, explain, from_table, report
+from afdx.reckon import bounds_file, limits
 from tests.test_campaign import COCKPIT, Here, read
 
 TABLES = COCKPIT.replace(".toml", ".tables.csv")
@@ -83,9 +82,9 @@ class Margins(Here):
         """By the greatest latency, by the bound where there are bounds, and by the bound alone; the least first."""
         path, page, junit = (os.path.join(self.folder, name) for name in ("bounds.csv", "page.html", "limits.xml"))
         self.assertEqual(self.call(bounds, COCKPIT, "-o", path), (0, "", ""))
-        row = report.Tables(TABLES, NET).latencies[101, "DU_R"]
-        bound = limits.Bounds(path, NET).bound(101, "DU_R")
-        other = limits.Bounds(path, NET).bound(102, "DU_L")
+        row = model.Tables(TABLES, NET).latencies[101, "DU_R"]
+        bound = bounds_file.Bounds(path, NET).bound(101, "DU_R")
+        other = bounds_file.Bounds(path, NET).bound(102, "DU_L")
         self.assertLess(row.greatest, bound)
         for ns, by_latency, by_bound in (
             (row.greatest - 1, "broken", "broken"),

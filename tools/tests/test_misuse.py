@@ -101,7 +101,7 @@ ROWS = [
         "sized.csv line 2: a frame of virtual link 1 has 65 bytes, and in twice.toml it has 64",
     ),
     ("report net.toml tables.csv --bounds tables.csv -o page.html", 2, "tables.csv line 1: the columns are not those of bounds: bound_ns is not among them"),
-    ("report net.toml tables.csv --seeds 3 -o page.html", 2, "tables.csv: these are the tables of one run, and --seeds tells of a campaign"),
+    ("report net.toml tables.csv --seeds 3 -o page.html", 2, "tables.csv: these are the tables of one run, and --seeds means a campaign"),
     ("report net.toml DIR -o page.html", 2, "DIR: has no campaign.json that is the record of its merged.csv"),
     ("report net.toml RUNS --trace trace.csv -o page.html", 2, "trace.csv: is the trace of one run, and RUNS/merged.csv has the tables of several"),
     ("report net.toml RUNS --seeds 4 -o page.html", 2, "RUNS/merged.csv: the campaign had 3 seeds from 42 on, without drawn offsets, and the words say something else: leave them out"),

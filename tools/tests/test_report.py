@@ -17,12 +17,13 @@ from fractions import Fraction
 from html.parser import HTMLParser
 
 from afdx import model
-from afdx.commands import campaign
+from afdx.commands import campaign, report
 from afdx.files.page_text import span, two_places
-from afdx.page import report
+from afdx.model import traces
+from afdx.page import end_table
 from afdx.page.drawing import Drawing
 from afdx.reckon.frames import Ends, drawn_offsets
-from afdx.reckon.limits import BOUNDS_COLUMNS
+from afdx.reckon.bounds_file import COLUMNS as BOUNDS_COLUMNS
 from afdx.runs.second_opinion import Simulation
 from tests import drawn
 from tests.places import EXAMPLES, tool_words
@@ -469,7 +470,7 @@ class InTheBrowser(unittest.TestCase):
                 with open(path, "rb") as file:
                     net = tomllib.load(file)
                 page = self.browser.open(self.page, UNFOLD)
-                self.compare(page, net, tables, rows, run.ends(report.Network(path)))
+                self.compare(page, net, tables, rows, run.ends(model.Network(path)))
                 self.each_number_has_its_unit(page)
 
     def each_number_has_its_unit(self, page):
@@ -487,7 +488,7 @@ class InTheBrowser(unittest.TestCase):
         """It opens within three seconds, shows ten rows, and all of them within half a second; so long takes a sort."""
         path = large_network(os.path.join(self.folder, "large.toml"), *LARGE)
         rows, tables, trace, run = simulated(path, self.folder)
-        net = report.Network(path)
+        net = model.Network(path)
         limits, bounds = self.limits_and_bounds(net, tables)
         self.made(path, tables, "--trace", trace, "--limits", limits, "--bounds", bounds)
         told = """
@@ -560,7 +561,7 @@ class InTheBrowser(unittest.TestCase):
     def limits_and_bounds(self, net, tables):
         """A limit and a bound for each destination that has got something: some limits are below the bound."""
         limits, bounds = os.path.join(self.folder, "limits.csv"), os.path.join(self.folder, "bounds.csv")
-        found = report.Tables(tables, net).latencies
+        found = model.Tables(tables, net).latencies
         with open(limits, "w", encoding="ascii") as out:
             out.write("vl,destination,limit_ns\n")
             out.writelines(f"{vl},{where},{5 * row.greatest}\n" for (vl, where), row in found.items() if row.count)
@@ -609,7 +610,7 @@ class InTheBrowser(unittest.TestCase):
             document.documentElement.dataset.told = JSON.stringify([told, choices]);
         """
         told, choices = json.loads(self.browser.open(self.page, script).words["data-told"])
-        net = report.Network(path)
+        net = model.Network(path)
         self.assertEqual(told, [[0, "button"]] * len(net.mbit))
         self.assertEqual(choices, [True, True, False])
 
@@ -640,7 +641,7 @@ class InTheBrowser(unittest.TestCase):
         with open(merged, "w") as out:
             out.writelines(line + (",seed" if i == 0 else ",1007") + "\n" for i, line in enumerate(lines))
         with open(limits, "w") as out:
-            out.writelines(f"{vl},{where},99000000\n" for vl, where in report.Network(path).destinations)
+            out.writelines(f"{vl},{where},99000000\n" for vl, where in model.Network(path).destinations)
         self.made(path, merged, "--limits", limits, "--bounds", bounds)
         script = """
             for (const key of ["least", "mean", "greatest", "spread", "limit", "bound", "margin", "jitter", "policing"])
@@ -657,7 +658,7 @@ class InTheBrowser(unittest.TestCase):
         """Thirty virtual links on both networks, and an outage on A: copies are lost, and no frame is."""
         path = trial(os.path.join(self.folder, "trial.toml"))
         rows, tables, trace, run = simulated(path, self.folder)
-        net = report.Network(path)
+        net = model.Network(path)
         ends = run.ends(net)
         self.assertEqual(sum(missing for _, _, missing, _ in ends.values()), 0)
         lost = sum(what not in ("delivered", "duplicate") for _, _, _, what, _ in rows)
@@ -681,7 +682,7 @@ class InTheBrowser(unittest.TestCase):
 
     def test_limits_bounds_and_margins(self):
         path, tables = example("cockpit")
-        greatest = {key: row.greatest for key, row in report.Tables(tables, report.Network(path)).latencies.items()}
+        greatest = {key: row.greatest for key, row in model.Tables(tables, model.Network(path)).latencies.items()}
         limits, bounds = os.path.join(self.folder, "limits.csv"), os.path.join(self.folder, "bounds.csv")
         given = {(101, "FMC1"): 140170, (101, "DU_R"): 169759, (102, "DU_L"): 300000, (201, "DU_R"): 10**9}
         with open(limits, "w", encoding="ascii") as out:
@@ -742,8 +743,8 @@ class InTheBrowser(unittest.TestCase):
     def test_limits_alone(self):
         """Without bounds the margin is to the greatest latency; where nothing came no limit is kept."""
         path, tables = example("n3")
-        net = report.Network(path)
-        key, row = next(iter(report.Tables(tables, net).latencies.items()))
+        net = model.Network(path)
+        key, row = next(iter(model.Tables(tables, net).latencies.items()))
         limits = os.path.join(self.folder, "limits.csv")
         with open(limits, "w", encoding="ascii") as out:
             out.write(f"# one\n\n{key[0]},{key[1]},{row.greatest + 5}\n")
@@ -865,7 +866,7 @@ class InTheBrowser(unittest.TestCase):
         with open(path, "rb") as file:
             net = tomllib.load(file)
         sound = simulated(net | {"outage": []}, self.folder, "sound-")[1]
-        before, after = (report.Tables(it, report.Network(path)).latencies for it in (sound, tables))
+        before, after = (model.Tables(it, model.Network(path)).latencies for it in (sound, tables))
         change = {key: after[key].greatest - before[key].greatest for key in after}
         fewer = {key: before[key].count - after[key].count for key in after}
         for words, change, fewer in (
@@ -912,7 +913,7 @@ class InTheBrowser(unittest.TestCase):
         self.made(path, tables)
         short, whole = self.browser.printed(self.page, ""), self.browser.printed(self.page, UNFOLD)
         strokes = [len(re.findall(rb"(?<![\w/])S(?!\w)", content)) for content in short]
-        self.assertGreaterEqual(strokes[0], len(report.Network(path).mbit))
+        self.assertGreaterEqual(strokes[0], len(model.Network(path).mbit))
         self.assertLess(max(strokes[1:]), strokes[0])
         self.assertGreater(len(whole), len(short))
 
@@ -977,18 +978,18 @@ class WithoutABrowser(unittest.TestCase):
 
     def test_loads(self):
         """The loads that are told in the examples' own words, worked out by hand."""
-        net = report.Network(example("saturated_port")[0])
+        net = model.Network(example("saturated_port")[0])
         self.assertEqual(two_places(net.load["CAM1>SW"]), "6.15")
         self.assertEqual(two_places(net.load["SW>REC"]), "128.54")
         self.assertEqual(net.load["REC>SW"], 0)
-        net = report.Network(example("n1")[0])
+        net = model.Network(example("n1")[0])
         self.assertEqual(net.load["SW1>ES2"], Fraction(84 * 8 * 1000 * 100, 100 * 10**12))
 
     def test_percentiles(self):
         values = list(range(1, 101))
-        self.assertEqual([report.percentile(values, it) for it in (50, 95, 99)], [50, 95, 99])
-        self.assertEqual([report.percentile([1, 2, 3], it) for it in (50, 95, 99)], [2, 3, 3])
-        self.assertEqual(report.percentile([7], 50), 7)
+        self.assertEqual([end_table.percentile(values, it) for it in (50, 95, 99)], [50, 95, 99])
+        self.assertEqual([end_table.percentile([1, 2, 3], it) for it in (50, 95, 99)], [2, 3, 3])
+        self.assertEqual(end_table.percentile([7], 50), 7)
 
     def test_numbers_as_text(self):
         self.assertEqual(
@@ -1001,10 +1002,10 @@ class WithoutABrowser(unittest.TestCase):
 
     def hold_ends(self, text, cases):
         """Holds what is said of each destination of a network against the frames that a run followed."""
-        net = report.Network(self.file("net.toml", text))
+        net = model.Network(self.file("net.toml", text))
         _, tables, trace, run = simulated(tomllib.loads(text), self.folder)
-        tables, followed = report.Tables(tables, net), run.ends(net)
-        for trace in (None, report.Trace(trace, tables)):
+        tables, followed = model.Tables(tables, net), run.ends(net)
+        for trace in (None, traces.Trace(trace, tables)):
             found = Ends(tables, [net.seed], trace=trace).of
             for key, (offered, under_way, missing, lost) in followed.items():
                 end = found[key]
@@ -1070,7 +1071,7 @@ class WithoutABrowser(unittest.TestCase):
     def test_drawn_offsets_are_those_of_a_campaign(self):
         path, _ = example("cockpit")
         drawn = tomllib.loads(campaign.Network(path, "true").with_seed(7, True))["vl"]
-        self.assertEqual({vl["id"]: vl["offset_ns"] for vl in drawn}, drawn_offsets(report.Network(path), 7))
+        self.assertEqual({vl["id"]: vl["offset_ns"] for vl in drawn}, drawn_offsets(model.Network(path), 7))
 
     def test_a_run_that_is_too_short_is_not_good(self):
         """Nothing is lost, and nothing came: that is told as no good sign."""
@@ -1170,7 +1171,7 @@ class WithoutABrowser(unittest.TestCase):
             1,
         )
         text = text.replace("[[vl]]", '[[link]]\na = "SWC"\nb = "SWB"\nmbit = 10\npropagation_ns = 1\n[[vl]]', 1)
-        net = report.Network(self.file("net.toml", text.replace('b = [["ES1", "SWB"', 'b = [["ES1", "SWC", "SWB"')))
+        net = model.Network(self.file("net.toml", text.replace('b = [["ES1", "SWB"', 'b = [["ES1", "SWC", "SWB"')))
         drawn = re.findall('data-line="(.*?)"', Drawing(net).svg())
         self.assertEqual(sorted(drawn), sorted(line.replace(">", "&gt;") for line in net.mbit))
 

@@ -9,7 +9,7 @@ import tty
 import unittest
 from collections import namedtuple
 
-from afdx.model import PROGRAM, TABLES_HEAD, TRACE_HEAD
+from afdx.model import BOUNDS_HEAD, PROGRAM, TABLES_HEAD, TRACE_HEAD
 from gate.refuse_memory import library_in
 from tests.row_files import blocks, changed, lines_of, network, repeated, rows
 
@@ -178,6 +178,13 @@ class Rows(Ends):
                 self.says(found, 0, tables, "")
                 if is_traced:
                     self.assertEqual(found.trace.decode(), f"{TRACE_HEAD}\n{lines_of(trace)}")
+
+    def test_bounds_are_those_worked_out_by_hand(self):
+        for row in blocks("bounds"):
+            with self.subTest(row):
+                net, told = changed(row)
+                bounds = f"{BOUNDS_HEAD}\n{lines_of(told.replace(' ', ''))}"
+                self.says(self.ended("bounds net.toml", net), 0, bounds, "")
 
     def test_a_journal_is_done_or_its_fault_is_told(self):
         for row in rows("journals"):

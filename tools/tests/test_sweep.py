@@ -7,8 +7,8 @@ import tomllib
 import unittest
 
 from afdx import model
+from afdx.commands import report
 from afdx.model import long_form
-from afdx.page import report
 from afdx.reckon import network_calculus
 from afdx.runs.second_opinion import Simulation
 from tests.test_campaign import COCKPIT, Here, N1, SATURATED, read

@@ -8,7 +8,7 @@ import tempfile
 import unittest
 
 from afdx import model
-from afdx.page import report
+from afdx.commands import report
 from afdx.reckon import description_warnings
 from afdx.reckon.transmit_jitter import TransmitJitter
 from afdx.runs import second_opinion

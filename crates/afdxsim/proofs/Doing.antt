@@ -84,6 +84,7 @@ module _ {S F O E : Type 0} (outside : Outside S F O E) (old new : S) where
         subst (λ host. ShowsAlone outside host new) (none_kept (option_map string_bytes o.journal) (IsJournalText plan) files.0 left.0 none files.2) left.2,
       )
   trace_left plan (ordered.Replay o) path done none some = absurd (let bad : None ≡ Some path = some in cc)
+  trace_left plan (ordered.Bounds o) path done none some = absurd (let bad : None ≡ Some path = some in cc)
 
   -- of one that asks for a journal
   pub journal_left : (plan : Plan) (order : Order) (path : List ℕ) → DoneOn outside old new plan order → journal_of order ≡ Some path →
@@ -95,3 +96,4 @@ module _ {S F O E : Type 0} (outside : Outside S F O E) (old new : S) where
       let files = left.1 in
       (files.0, left.0, there (option_map string_bytes o.journal) path (IsJournalText plan) files.0 left.0 some files.2, left.2)
   journal_left plan (ordered.Replay o) path done some = absurd (let bad : None ≡ Some path = some in cc)
+  journal_left plan (ordered.Bounds o) path done some = absurd (let bad : None ≡ Some path = some in cc)

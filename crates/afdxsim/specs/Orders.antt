@@ -1,10 +1,11 @@
 -- The result of an order. A new command is a case of `DoneOn` and of `IsFaultOn`, and of the files that it names.
-use Rattle.std.specs.Prelude.{◌≡◌, ◌≢◌, ◌⊎◌, ℕ, Bool, false, List, option_map, string_bytes}
+use Rattle.std.specs.Prelude.{◌≡◌, ◌≢◌, ◌⊎◌, ℕ, Bool, true, false, List, option_map, string_bytes}
 use Rattle.command_line.specs.declared.orders.Order.{Order}
 use Rattle.command_line.specs.declared.orders.Order.TheVariants as ordered
 use Rattle.network.specs.Words.{Plan}
 use Rattle.commands.specs.declared.fault.Fault.{Fault}
 use Rattle.commands.specs.declared.fault.Fault.TheVariants.{CannotWrite}
+use Rattle.commands.specs.Bounding.{ShowsBounds}
 use Rattle.commands.specs.Checking.{check_text}
 use Rattle.commands.specs.Files.{LacksOutput, LacksSeq, LeavesSeq, ShowsAlone, TellsAlone}
 use Rattle.commands.specs.Naming.{NamesApart, NamesTwice, TellsTwice, net_of}
@@ -22,6 +23,7 @@ asks_progress (ordered.Check o) = false
 asks_progress (ordered.Seq o) = o.progress
 asks_progress (ordered.Run o) = o.progress
 asks_progress (ordered.Replay o) = false
+asks_progress (ordered.Bounds o) = false
 
 -- a line of progress of the order on this network
 abbrev pub IsLineOf : Order → Plan → List ℕ → Type 0
@@ -29,6 +31,7 @@ IsLineOf (ordered.Check o) plan = IsProgressLine plan.until
 IsLineOf (ordered.Seq o) plan = IsProgressLine plan.until
 IsLineOf (ordered.Run o) plan = IsWorkersLine plan
 IsLineOf (ordered.Replay o) plan = IsProgressLine plan.until
+IsLineOf (ordered.Bounds o) plan = IsProgressLine plan.until
 
 -- the host was `old` before, and is `new` after
 module _ {S F O E : Type 0} (outside : Outside S F O E) (old new : S) where
@@ -43,6 +46,7 @@ module _ {S F O E : Type 0} (outside : Outside S F O E) (old new : S) where
       LeavesRun outside (option_map string_bytes o.journal) (option_map string_bytes o.trace) (heard_host outside old o.progress (outside.errors new)) new plan ×
       IsHeard outside old o.progress (IsWorkersLine plan) (outside.errors new)
   DoneOn plan (ordered.Replay o) = ShowsReplay outside old new plan (string_bytes o.steps)
+  DoneOn plan (ordered.Bounds o) = ShowsBounds outside old new plan × ShowsAlone outside old new × IsQuiet outside old new
 
   -- why the order was not done on this network, and what is left: the host is `new` once the fault was met
   abbrev pub IsFaultOn : Plan → Order → Fault → Type 0
@@ -53,6 +57,7 @@ module _ {S F O E : Type 0} (outside : Outside S F O E) (old new : S) where
       LacksRun outside (option_map string_bytes o.journal) (option_map string_bytes o.trace) o.workers
       (heard_host outside old o.progress (outside.errors new)) new plan fault
   IsFaultOn plan (ordered.Replay o) fault = LacksReplay outside old new plan (string_bytes o.steps) fault
+  IsFaultOn plan (ordered.Bounds o) fault = LacksOutput outside true old new fault
 
   -- a read of NET may give a text that describes a network, and the order was done on that
   abbrev pub Done : Order → Type 0

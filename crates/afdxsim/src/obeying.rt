@@ -8,7 +8,8 @@ ghost use Rattle.afdxsim.specs.Orders.{Done, DoneOn, Ends, IsFaultOf, IsFaultOn,
 use crate::run::run;
 use command_line::Order;
 use commands::{
-    Fault, Host, check, named_twice, net_of, network_of, refuse_twice, replay, seq, tell_outcome,
+    Fault, Host, bounds, check, named_twice, net_of, network_of, refuse_twice, replay, seq,
+    tell_outcome,
 };
 use network::Network;
 use std::alloc::Global;
@@ -46,6 +47,11 @@ fn done_on<'a, H: Host, T: Threads + Wait + Clock + Sync>(
             done
         }
         Order::Replay(order) => replay(alloc, network, order, host),
+        Order::Bounds(_) => {
+            let done = bounds(alloc, &network, host);
+            drop(network);
+            done
+        }
     }
 }
 

@@ -12,14 +12,14 @@ use std::sync::Wait;
 use std::thread::Threads;
 use std::time::Clock;
 
-/// The whole program. The words are those after its name; the answer is the status that it ends with: 0 done, or help was asked for;
-/// 2 bad words; 3 a bad description or journal; 4 a file or standard output failed, or a worker did not start; 5 memory or the numbers of a
-/// process were wanting, or a journal has too many lines or is torn.
+/// Runs the whole program. The words are those after its name. Returns the status with which it ends: 0 done, or help was asked for; 2 bad
+/// words; 3 a bad description or journal; 4 a file or standard output failed, or a worker did not start; 5 memory or the numbers of a
+/// process ran out, or a journal has too many lines or is torn.
 ///
-/// What the words ask for goes to standard output and into files. Bad words are told on error output by clap's text, and any other fault by
-/// one line there; where error output fails, nothing more is said. A fault ends the program at once, and what was written before it stays.
-/// Words are bad, too, where two of the description, the trace and the journal are one file, as far as the host tells: a line names it, and
-/// nothing is read, made or written.
+/// What the words ask for goes to standard output and into files. Bad words are reported on error output by clap's text, and any other
+/// fault by one line there; if error output fails, nothing more is written. A fault ends the program at once, and what was written before
+/// it stays. Words are also bad if two of the description, the trace and the journal are one file, as far as the host knows: a line names
+/// it, and nothing is read, created or written.
 pub fn perform<'a, S: AsStr, H: Host, T: Threads + Wait + Clock + Sync>(
     rt: &T,
     alloc: Global,

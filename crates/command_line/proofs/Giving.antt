@@ -1,5 +1,5 @@
 -- Where the words have no fault, the program's parse gives one of its commands, with what that command requires, and numbers within their limits.
-use Rattle.std.proofs.Common.{◌≡◌, ◌⊎◌, inl, inr, ℕ, Bool, true, false, cond, List, [], Option, Some, None, codes, refl, sym, subst, ◌&&◌, ◌||◌, not, find, option_map, is_some, bytes_eq}
+use Rattle.std.proofs.Common.{◌≡◌, ◌⊎◌, inl, inr, ℕ, Bool, true, false, cond, List, [], Option, Some, None, codes, refl, sym, subst, ap, get_or, arith, ◌&&◌, ◌||◌, not, find, option_map, is_some, bytes_eq}
 use Rattle.std.specs.Prelude.{⊤}
 use Rattle.std.specs.Option.{option_map_or}
 use Rattle.std.proofs.lemmas.Slice.Eq.{bytes_eq-Decides}
@@ -32,7 +32,7 @@ requires_two true false x none = cc
 requires_two false h x none = cc
 
 abbrev IsCommand : Text → Type 0
-IsCommand name = (name ≡ codes "check") ⊎ ((name ≡ codes "seq") ⊎ ((name ≡ codes "run") ⊎ (name ≡ codes "replay")))
+IsCommand name = (name ≡ codes "check") ⊎ ((name ≡ codes "seq") ⊎ ((name ≡ codes "run") ⊎ ((name ≡ codes "replay") ⊎ (name ≡ codes "bounds"))))
 
 gives : (s : Shape) → Each (Keeps s.args_override_self (IsFilled limits_of)) s.rules → Each (KeepsByDefault (IsFilled limits_of)) s.rules → IsCommand s.name
     → ((rows : List Row) → check_fault s rows false ≡ [] → is_given (codes "NET") rows ≡ true)
@@ -72,6 +72,9 @@ no_help word none names = go (bytes_eq (codes "help") word) refl names
 plain : (a : Rule) → a.defaults ≡ [] → KeepsByDefault (IsFilled limits_of) a
 plain = no_default (IsFilled limits_of)
 
+not_replay : codes "bounds" ≡ codes "replay" → ⊥
+not_replay e = let first : 98 ≡ 114 = ap (λ (text : Text). get_or text 0 0) e in omega (arith, first)
+
 each_gives : (word : Text) → Each (Gives word) ready.subs
 each_gives word = (
   λ no_help_called answers. gives _ (is_set limits_of _ _ refl refl refl, (help_keeps _ _ _ refl, tt))
@@ -90,10 +93,16 @@ each_gives word = (
           (λ rows none is. cc),
       (
         λ no_help_called answers. gives _ (is_set limits_of _ _ refl refl refl, (is_set limits_of _ _ refl refl refl, (help_keeps _ _ _ refl, tt)))
-            (plain _ refl, (plain _ refl, (plain _ refl, tt))) (inr (inr (inr refl)))
+            (plain _ refl, (plain _ refl, (plain _ refl, tt))) (inr (inr (inr (inl refl))))
             (λ rows none. (requires_two (is_given (codes "NET") rows) (is_given (codes "STEPS") rows) _ none).0)
             (λ rows none is. (requires_two (is_given (codes "NET") rows) (is_given (codes "STEPS") rows) _ none).1),
-        (λ no_help_called answers. absurd (no_help word no_help_called answers), tt),
+        (
+          λ no_help_called answers. gives _ (is_set limits_of _ _ refl refl refl, (help_keeps _ _ _ refl, tt))
+              (plain _ refl, (plain _ refl, tt)) (inr (inr (inr (inr refl))))
+              (λ rows none. requires_one (is_given (codes "NET") rows) _ none)
+              (λ rows none is. absurd (not_replay is)),
+          (λ no_help_called answers. absurd (no_help word no_help_called answers), tt),
+        ),
       ),
     ),
   ),

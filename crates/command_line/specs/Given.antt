@@ -8,7 +8,7 @@ abbrev pub IsUpTo : ℕ → Option Text → Type 0
 IsUpTo most word = IfSome word (IsUnsignedIn 1 most)
 
 pub record IsGiven (name : Text) (rows : List Row) : Type 0 where
-  pub known : (name ≡ codes "check") ⊎ ((name ≡ codes "seq") ⊎ ((name ≡ codes "run") ⊎ (name ≡ codes "replay")))
+  pub known : (name ≡ codes "check") ⊎ ((name ≡ codes "seq") ⊎ ((name ≡ codes "run") ⊎ ((name ≡ codes "replay") ⊎ (name ≡ codes "bounds"))))
   pub net : is_some (first_of (codes "NET") rows) ≡ true
   pub steps : name ≡ codes "replay" → is_some (first_of (codes "STEPS") rows) ≡ true
   pub workers : IsUpTo 64 (one_of (codes "workers") rows)

@@ -9,6 +9,7 @@ use Rattle.command_line.specs.declared.orders.Check.{Check}
 use Rattle.command_line.specs.declared.orders.Seq.{Seq}
 use Rattle.command_line.specs.declared.orders.Run.{Run}
 use Rattle.command_line.specs.declared.orders.Replay.{Replay}
+use Rattle.command_line.specs.declared.orders.Bounds.{Bounds}
 use Rattle.command_line.specs.declared.orders.Order.{Order}
 use Rattle.command_line.specs.declared.orders.Order.TheVariants as order
 
@@ -26,6 +27,7 @@ command_of (order.Check o) = codes "check"
 command_of (order.Seq o) = codes "seq"
 command_of (order.Run o) = codes "run"
 command_of (order.Replay o) = codes "replay"
+command_of (order.Bounds o) = codes "bounds"
 
 -- the number that these digits tell
 abbrev pub number_in : Text → ℕ
@@ -61,12 +63,16 @@ pub record NamesReplay (rows : List Row) (o : Replay) : Type 0 where
   pub net : first_of (codes "NET") rows ≡ Some (string_bytes o.net)
   pub steps : first_of (codes "STEPS") rows ≡ Some (string_bytes o.steps)
 
+pub record NamesBounds (rows : List Row) (o : Bounds) : Type 0 where
+  pub net : first_of (codes "NET") rows ≡ Some (string_bytes o.net)
+
 -- each value of the order is the one that the words name for it
 abbrev pub Names : List Row → Order → Type 0
 Names rows (order.Check o) = NamesCheck rows o
 Names rows (order.Seq o) = NamesSeq rows o
 Names rows (order.Run o) = NamesRun rows o
 Names rows (order.Replay o) = NamesReplay rows o
+Names rows (order.Bounds o) = NamesBounds rows o
 
 pub record RunDefaults (rows : List Row) (o : Run) : Type 0 where
   pub workers : one_of (codes "workers") rows ≡ None → o.workers ≡ 4

@@ -55,6 +55,10 @@ run_app = with_outputs (with_rule (with_paces (network_app (codes "run"))) (file
 abbrev pub replay_app : App
 replay_app = with_rule (network_app (codes "replay")) (path_rule (codes "STEPS"))
 
+-- `bounds NET`
+abbrev pub bounds_app : App
+bounds_app = network_app (codes "bounds")
+
 -- the program without its commands: a command has to be named, the program's own name is not among the words, and `--version` asks for its version
 abbrev pub bare_program : App
 bare_program = on_top (λ s. record s { no_binary_name = true; subcommand_required = true; has_version = true }) (new_app (codes "afdxsim"))
@@ -63,8 +67,8 @@ bare_program = on_top (λ s. record s { no_binary_name = true; subcommand_requir
 abbrev pub program : App
 program =
     with_subcommand
-    (with_subcommand (with_subcommand (with_subcommand bare_program check_app.top) seq_app.top) run_app.top)
-    replay_app.top
+    (with_subcommand (with_subcommand (with_subcommand (with_subcommand bare_program check_app.top) seq_app.top) run_app.top) replay_app.top)
+    bounds_app.top
 
 -- the command knows just this, and has no argument that is its subcommands' too
 pub record Knows (command : Command) (known : App) : Type 0 where

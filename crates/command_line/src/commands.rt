@@ -3,9 +3,9 @@ ghost use Rattle.std.specs.Prelude.{◌≡◌, ◌≤◌, IfOk, IfSome, true, co
 ghost use Rattle.clap.specs.Words.{first_of, found_of, one_of, rows_of};
 ghost use Rattle.vlink.specs.declared.time.TheConstants.{LATEST_NS};
 ghost use Rattle.command_line.specs.Given.{IsGiven, IsUpTo};
-ghost use Rattle.command_line.specs.Meaning.{HasDefaults, IsWithinLimits, Names, NamesCheck, NamesReplay, NamesRun, NamesSeq, RunDefaults, RunLimits, command_of, number_in};
+ghost use Rattle.command_line.specs.Meaning.{HasDefaults, IsWithinLimits, Names, NamesBounds, NamesCheck, NamesReplay, NamesRun, NamesSeq, RunDefaults, RunLimits, command_of, number_in};
 
-use crate::orders::{Check, Order, Replay, Run, Seq};
+use crate::orders::{Bounds, Check, Order, Replay, Run, Seq};
 use crate::paces::{
     MOST_GROUPS, MOST_TURN, MOST_WORKERS, USUAL_TURN, USUAL_WINDOW_NS, USUAL_WORKERS,
 };
@@ -31,6 +31,7 @@ pub(crate) fn order_of(
         "seq" => Ok(Order::Seq(seq_of(alloc, values)?)),
         "run" => Ok(Order::Run(run_of(alloc, values)?)),
         "replay" => Ok(Order::Replay(replay_of(alloc, values)?)),
+        "bounds" => Ok(Order::Bounds(bounds_of(alloc, values)?)),
         _ => unreachable!(),
     }
 }
@@ -105,4 +106,12 @@ fn replay_of(alloc: Global, values: &ArgMatches<'_>) -> Result<Replay, AllocErro
     let net = given_text_of(alloc, values, "NET")?;
     let steps = given_text_of(alloc, values, "STEPS")?;
     Ok(Replay { net, steps })
+}
+
+fn bounds_of(alloc: Global, values: &ArgMatches<'_>) -> Result<Bounds, AllocError>
+    requires { is_some (first_of (codes "NET") (rows_of (found_of values.now))) ≡ true }
+    ensures names { IfOk result (NamesBounds (rows_of (found_of values.now))) }
+{
+    let net = given_text_of(alloc, values, "NET")?;
+    Ok(Bounds { net })
 }

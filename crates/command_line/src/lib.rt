@@ -9,5 +9,5 @@ mod program;
 mod values;
 mod words;
 
-pub use orders::{Check, Order, Replay, Run, Seq};
+pub use orders::{Bounds, Check, Order, Replay, Run, Seq};
 pub use words::order;

@@ -11,6 +11,8 @@ pub enum Order {
     Run(Run),
     /// `replay NET STEPS`.
     Replay(Replay),
+    /// `bounds NET`.
+    Bounds(Bounds),
 }
 
 /// Judge a network.
@@ -59,4 +61,11 @@ pub struct Replay {
     pub net: String,
     /// The path of the journal's text.
     pub steps: String,
+}
+
+/// Bound what each run of a network can come to.
+#[derive(Drop)]
+pub struct Bounds {
+    /// The path of the network's description.
+    pub net: String,
 }

@@ -1,7 +1,7 @@
 //! The words that the program knows, and what its help says.
 ghost use Rattle.std.specs.Prelude.{◌≡◌, IfOk, codes, false};
 ghost use Rattle.clap.specs.Words.{App, Rule, app_of, new_app, rule_of, with_rule, with_subcommand};
-ghost use Rattle.command_line.specs.Program.{Knows, bare_program, check_app, network_app, program, replay_app, run_app, seq_app, with_outputs, with_paces};
+ghost use Rattle.command_line.specs.Program.{Knows, bare_program, bounds_app, check_app, network_app, program, replay_app, run_app, seq_app, with_outputs, with_paces};
 
 use crate::arguments::{file, flag, path};
 use crate::paces::{groups, turn, window, workers};
@@ -14,15 +14,19 @@ const VERSION: &str = "0.2.0";
 const PROGRESS: &str =
     "Prints to error output, at most four times a second, how far the run is and how long it may still take";
 
-const EXAMPLES: &str =
-    "Examples:\n  afdxsim check examples/n1.toml\n  afdxsim seq examples/n1.toml --trace t.csv\n  afdxsim run examples/n1.toml --workers 8 --journal steps.txt\n  afdxsim replay examples/n1.toml steps.txt\n\nThe program prints the first fault of a description; afdx explain prints all of them at once, each with its line.";
+const BOUNDS: &str =
+    "Example: afdxsim bounds examples/n1.toml\n\nLines of the output:\n  bound,VL,NAME,NETWORK_NS,WAIT_NS,BOUND_NS  from its release a frame of VL takes NETWORK_NS at most to NAME;\n                                             from its offer BOUND_NS, WAIT_NS of these in the regulator\n  port,LINE,,BYTES,HOLDS,                    BYTES wait at most before LINE; HOLDS is yes if the port has room for so many\n  none,VL,NAME,WHY,,  or  none,LINE,,WHY,,   no bound. WHY is rate: more may come to a port than its line sends. Or bytes:\n                                             policing counts bytes, and frames are shorter than smax\n\nThe bounds hold for any seed, end, outages, offsets, periods and jitters; WAIT_NS for the stated period and jitter.\ndocs/BOUNDS.md has the formula, and an example worked by hand.";
 
-/// The program with its four commands.
+const EXAMPLES: &str =
+    "Examples:\n  afdxsim check examples/n1.toml\n  afdxsim seq examples/n1.toml --trace t.csv\n  afdxsim run examples/n1.toml --workers 8 --journal steps.txt\n  afdxsim replay examples/n1.toml steps.txt\n  afdxsim bounds examples/n1.toml\n\nThe program prints the first fault of a description; afdx explain prints all of them at once, each with its line.";
+
+/// The program with its five commands.
 pub(crate) fn program<'a>(alloc: Global) -> Result<Command<'a>, AllocError>
     ensures { IfOk result (λ command. app_of command ≡ program) }
 {
     let runs = with_command(plain_program(alloc), run(alloc));
-    with_command(runs, replay(alloc))
+    let replays = with_command(runs, replay(alloc));
+    with_command(replays, bounds(alloc))
 }
 
 /// The program with the two commands that want no thread and no journal.
@@ -114,6 +118,17 @@ fn replay<'a>(alloc: Global) -> Result<Command<'a>, AllocError>
     with_arg(
         command,
         path(alloc, "STEPS", "The journal that run wrote by --journal"),
+    )
+}
+
+fn bounds<'a>(alloc: Global) -> Result<Command<'a>, AllocError>
+    ensures { IfOk result (λ command. Knows command bounds_app) }
+{
+    of_network(
+        alloc,
+        "bounds",
+        "Prints how long a frame takes at most to each destination, in any run of the network, and how many bytes wait at most at each port, as CSV",
+        BOUNDS,
     )
 }
 

@@ -3,6 +3,7 @@ pub mod Outside
 pub mod Telling
 pub mod Ending
 pub mod Checking
+pub mod Bounding
 pub mod Sequencing
 pub mod Files
 pub mod Naming

@@ -12,6 +12,7 @@ net_of (ordered.Check o) = string_bytes o.net
 net_of (ordered.Seq o) = string_bytes o.net
 net_of (ordered.Run o) = string_bytes o.net
 net_of (ordered.Replay o) = string_bytes o.net
+net_of (ordered.Bounds o) = string_bytes o.net
 
 -- the path of the file that is to get the journal, if one is
 abbrev pub journal_of : Order → Option (List ℕ)
@@ -19,6 +20,7 @@ journal_of (ordered.Check o) = None
 journal_of (ordered.Seq o) = None
 journal_of (ordered.Run o) = option_map string_bytes o.journal
 journal_of (ordered.Replay o) = None
+journal_of (ordered.Bounds o) = None
 
 -- the path of the file that is to get the trace, if one is
 abbrev pub trace_of : Order → Option (List ℕ)
@@ -26,6 +28,7 @@ trace_of (ordered.Check o) = None
 trace_of (ordered.Seq o) = option_map string_bytes o.trace
 trace_of (ordered.Run o) = option_map string_bytes o.trace
 trace_of (ordered.Replay o) = None
+trace_of (ordered.Bounds o) = None
 
 -- these paths, where both are there, differ, unless the file keeps nothing, and the host may tell that they name two files
 abbrev pub AreTwo : (List ℕ → List ℕ → Bool → Type 0) → Option (List ℕ) → Option (List ℕ) → Type 0

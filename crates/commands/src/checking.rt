@@ -1,4 +1,4 @@
-//! `check NET`: what a network has whose description is accepted.
+//! `check NET`: counts the contents of a network whose description is accepted.
 ghost use Rattle.std.specs.Prelude.{◌≡◌, ◌≢◌, false, IfOk, IfErr, OnOk, string_bytes};
 ghost use Rattle.commands.specs.declared.fault.Fault.TheVariants.{CannotWrite};
 ghost use Rattle.commands.specs.Checking.{counts_text, check_text};
@@ -13,14 +13,14 @@ use std::alloc::{AllocError, Global};
 use trace_tables::{Sink, write_all};
 use traffic::offer_count;
 
-/// How many processes, virtual links and offers there are.
+/// Makes the line with the numbers of processes, virtual links and offers.
 fn counts_line(alloc: Global, processes: u16, vls: usize, offers: u64) -> Result<String, AllocError>
     ensures { IfOk result (λ line. string_bytes line ≡ counts_text processes vls offers) }
 {
     format!(in alloc; "ok: {processes} processes, {vls} virtual links, {offers} offers\n")
 }
 
-/// What is said of a network that is accepted: how many processes, virtual links and offers it has.
+/// Makes the line of an accepted network: its numbers of processes, virtual links and offers.
 fn line_of(alloc: Global, network: &Network) -> Result<String, AllocError>
     ensures { IfOk result (λ line. string_bytes line ≡ check_text network.now) }
 {
@@ -29,7 +29,7 @@ fn line_of(alloc: Global, network: &Network) -> Result<String, AllocError>
     counts_line(alloc, processes, vls, offer_count(network))
 }
 
-/// Writes what is said of a network that is accepted.
+/// Writes the line of an accepted network.
 fn show_counts<O: Sink>(
     alloc: Global,
     network: &Network,
@@ -46,8 +46,8 @@ fn show_counts<O: Sink>(
     }
 }
 
-/// Tells on standard output what a network has: processes, virtual links and offers. Nothing is run: its offers are counted, and no list of
-/// them is made.
+/// Writes to standard output how many processes, virtual links and offers a network has. It runs nothing: it counts the offers without
+/// making a list of them.
 pub fn check<H: Host>(alloc: Global, network: &Network, host: &mut H) -> Result<(), Fault<'static>>
     ensures text { OnOk result (Shows H.outside host.old host.new (check_text network.now)) }
     ensures left { OnOk result (ShowsAlone H.outside host.old host.new) }

@@ -1,4 +1,4 @@
-//! Why the program ends before it has done what it was told to do.
+//! Why the program ends before it has done its order.
 ghost use Rattle.std.specs.Prelude.{◌≡◌, ◌⊎◌};
 ghost use Rattle.commands.specs.Telling.{status_of};
 
@@ -8,19 +8,19 @@ use seqsim::SimFault;
 use std::alloc::AllocError;
 use thiserror::Error;
 
-/// The status where all was done.
+/// The status if all was done.
 pub const DONE: u8 = 0;
 
 /// The status of bad words.
 pub const BAD_WORDS: u8 = 2;
 
-/// Why the program ends before it has done what it was told to do.
+/// Why the program ends before it has done its order.
 #[derive(Clone, Copy, Debug, Error)]
 pub enum Fault<'a> {
     /// The description of the network has this fault.
     #[error("description: {0}")]
     Description(DescFault),
-    /// The line with this number, from 1, is the first of a journal that is the text of no step.
+    /// The line with this number, from 1, is the first of a journal that is not the text of a step.
     #[error("journal line {0}")]
     JournalLine(u64),
     /// A journal has more lines than are allowed, or a run by workers more steps.
@@ -29,22 +29,22 @@ pub enum Fault<'a> {
     /// The file with this path cannot be read.
     #[error("cannot read {0}")]
     CannotRead(&'a str),
-    /// The file with this path cannot be made or written.
+    /// The file with this path cannot be created or written.
     #[error("cannot write {0}")]
     CannotWriteFile(&'a str),
-    /// Standard output takes no more.
+    /// Standard output cannot be written.
     #[error("cannot write")]
     CannotWrite,
-    /// The library that lays out rows failed, though no growth was refused.
+    /// The library that lays out rows failed, though memory was not refused.
     #[error("cannot lay out rows")]
     Layout,
-    /// A growth was refused.
+    /// Memory was refused.
     #[error("out of memory")]
     OutOfMemory,
-    /// A process has not enough numbers left for what one event can send.
+    /// A process does not have enough numbers left for what one event can send.
     #[error("numbers used up")]
     Exhausted,
-    /// A worker cannot be started.
+    /// A worker could not be started.
     #[error("cannot start a worker")]
     Spawn,
     /// Rows of the trace of a run by workers are missing or come twice, or left a process and were not counted.
@@ -53,7 +53,7 @@ pub enum Fault<'a> {
 }
 
 impl Fault<'_> {
-    /// The status that the program ends with.
+    /// Returns the status with which the program ends.
     pub fn status(&self) -> u8
         ensures value { result ≡ status_of self.now }
         ensures known { (result ≡ 3) ⊎ (result ≡ 4) ⊎ (result ≡ 5) }

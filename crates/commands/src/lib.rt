@@ -2,6 +2,7 @@
 #![tactic(auto)]
 
 mod answering;
+mod bounding;
 mod checking;
 mod conclusion;
 mod fault;
@@ -20,6 +21,7 @@ mod telling;
 mod telling_host;
 
 pub use answering::{answer, refuse_twice, tell_outcome};
+pub use bounding::bounds;
 pub use checking::check;
 pub use conclusion::Conclusion;
 pub use fault::Fault;

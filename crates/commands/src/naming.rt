@@ -50,6 +50,7 @@ pub fn net_of(order: &Order) -> &str
         Order::Seq(order) => order.net.as_str(),
         Order::Run(order) => order.net.as_str(),
         Order::Replay(order) => order.net.as_str(),
+        Order::Bounds(order) => order.net.as_str(),
     }
 }
 
@@ -69,7 +70,7 @@ fn journal_of(order: &Order) -> Option<&str>
 {
     match order {
         Order::Run(order) => path_in(&order.journal),
-        Order::Check(_) | Order::Seq(_) | Order::Replay(_) => None,
+        Order::Check(_) | Order::Seq(_) | Order::Replay(_) | Order::Bounds(_) => None,
     }
 }
 
@@ -80,7 +81,7 @@ fn trace_of(order: &Order) -> Option<&str>
     match order {
         Order::Seq(order) => path_in(&order.trace),
         Order::Run(order) => path_in(&order.trace),
-        Order::Check(_) | Order::Replay(_) => None,
+        Order::Check(_) | Order::Replay(_) | Order::Bounds(_) => None,
     }
 }
 

@@ -1,4 +1,4 @@
--- Letters on their way between groups of processes.
+-- Letters in transit between groups of processes.
 use Rattle.std.specs.Prelude.{◌<◌, ◌≤◌, ◌-◌, ◌^◌, ℕ, ◌==◌, Bool, false, List, [], filter, length, min, slice_get, get_or, All, Option, Some, None}
 use Rattle.vlink.specs.declared.message.Message.{Message}
 use Rattle.vlink.specs.Letters.{Letter}

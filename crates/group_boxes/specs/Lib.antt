@@ -1,2 +1,2 @@
--- Letters on their way between groups of processes.
+-- Letters in transit between groups of processes.
 pub mod Boxing

@@ -6,7 +6,7 @@ use Rattle.std.proofs.lemmas.List.Elements.{All-cons, All-nil}
 use Rattle.vlink.specs.declared.message.Message.{Message}
 use Rattle.vlink.specs.Order.{message_order}
 use Rattle.vlink.specs.Numbering.{greatest_number}
-use Rattle.virtual_time.specs.Law.{IsOrder, World, IsAscending, IsIn, IsSafeGroup, done_by, in_hand, minuses, pluses, reached, times_in}
+use Rattle.virtual_time.specs.Law.{IsOrder, World, IsAscending, IsIn, IsSafeGroup, done_by, in_hand, minuses, next_of, pluses, reached, times_in}
 use Rattle.virtual_time.specs.declared.step.Step.{Step}
 use Rattle.virtual_time.proofs.Ascending.{ascending-once}
 use Rattle.virtual_time.proofs.Letters.{received-mine}
@@ -127,18 +127,23 @@ module _ {S K : Type 0} (plain : Plain S Message Sends K) (O : IsOrder message_o
       sym (ap messages_of e ∙ messages-of (rules_of plain) O V (reached (rules_of plain) (x.opening p) (v.parts p).committed) (v.parts p).done)
 
   -- the first message of the queue, where it is not done, is what its receiver handles next
+  pub next-first : (m : Message) → Contains h.flow.queue m → All (λ y. is_before y m ≡ false) h.flow.queue → (IsAscending message_order (messages_of h.done) → All (λ y. y ≢ m) (messages_of h.done)) →
+      next_of message_order (v.parts m.receiver) ≡ Some m
+  next-first m c before new =
+      let i = contains-in O h.flow.queue m c in
+      let t = waits m i in
+      next-here (rules_of plain) O V (x.opening m.receiver) m.receiver (v.parts m.receiver) (at m t).0 h stands.beside (its m t) m refl i
+      (none-among O (messages_of h.done) m (new stands.ascending)) (λ y j. in-all message_order O (λ z. is_before z m ≡ false) y h.flow.queue before j)
+
+  -- and wants numbers, where it has too few
   pub wants : (m : Message) → Contains h.flow.queue m → All (λ y. is_before y m ≡ false) h.flow.queue → (IsAscending message_order (messages_of h.done) → All (λ y. y ≢ m) (messages_of h.done)) →
       ((s : S) → slice_get h.members m.receiver ≡ Some (Some s) → greatest_number < plain.counter s + MOST_SENT) →
       (is_ours h.members m.receiver ≡ true) × WantsNumbers (simulation_of (rules_of plain) x) [] (v.parts m.receiver)
   wants m c before new few =
-      let i = contains-in O h.flow.queue m c in
-      let low : (y : Message) → IsIn message_order y h.flow.queue → message_order.less y m ≡ false = λ y j. in-all message_order O (λ z. is_before z m ≡ false) y h.flow.queue before j in
-      let none = none-among O (messages_of h.done) m (new stands.ascending) in
-      let t = waits m i in
-      let k = its m t in
-      let next = next-here (rules_of plain) O V (x.opening m.receiver) m.receiver (v.parts m.receiver) (at m t).0 h stands.beside k m refl i none low in (
+      let t = waits m (contains-in O h.flow.queue m c) in
+      let k = its m t in (
         stands.home m t,
-        (ap is_some next, subst (λ s. greatest_number < plain.counter s + MOST_SENT) (sym k.state) (few (at m t).0 (at m t).1)),
+        (ap is_some (next-first m c before new), subst (λ s. greatest_number < plain.counter s + MOST_SENT) (sym k.state) (few (at m t).0 (at m t).1)),
       )
 
 -- where the first message of a group is not handled for want of numbers, its receiver wants them

@@ -4,7 +4,7 @@ use Rattle.std.proofs.lemmas.Bool.{cases_eq}
 use Rattle.std.proofs.lemmas.List.Elements.{All-nil, All-weaker}
 use Rattle.vlink.specs.declared.message.Message.{Message}
 use Rattle.vlink.specs.declared.note.Note.{Note}
-use Rattle.virtual_time.specs.Law.{Rules, Laws, World, done_by, in_hand, lowest, received_by, start, times_of}
+use Rattle.virtual_time.specs.Law.{Rules, Laws, World, AreDone, done_by, in_hand, lowest, received_by, start, times_of}
 use Rattle.virtual_time.specs.declared.step.Step.{Step}
 use Rattle.virtual_time.proofs.Journal.{run-then}
 use Rattle.reverse.specs.Setting.{Setting, simulation_of}
@@ -18,6 +18,7 @@ use Rattle.group_exchange.specs.Effects.{takes_of}
 use Rattle.group_exchange.proofs.Owners.{of-other, of-within}
 use Rattle.group_exchange.proofs.Alike.{stands-alike}
 use Rattle.group_exchange.proofs.Marks.{marks-set}
+use Rattle.group_exchange.proofs.Enabled.{done-then, takes-done}
 use Rattle.group_exchange.proofs.Taken.{TakesAll, takes-all, with-alike, with-floor, with-mail, with-others}
 use Rattle.group_exchange.proofs.SafeNow.{safe-now}
 use Rattle.group_exchange.proofs.Holding.{holds-empty}
@@ -104,6 +105,10 @@ module _ {S K : Type 0} {r : Rules Message S K Note} {number end : S → ℕ} {i
           })
         ];
         gvt_is = k.gvt_is ∙ sym taken.gvt;
+        enabled = subst (λ ss. AreDone f ss (start f)) (sym more) (done-then f steps (takes_of r.order (box_of mail.boxes g)) (start f) k.enabled
+            (takes-done f (is_of owners g) (box_of mail.boxes g) w (k.home g within)
+            (All-weaker (λ l. is_of owners g (r.order.receiver l.message) ≡ true) (λ l. r.order.receiver l.message < x.processes) (λ l e. of-process k.grouped g (r.order.receiver l.message) e)
+            (box_of mail.boxes g) (k.home g within)) (λ p e. k.mail_is g p e)));
         marked = marks-set k.marked steps' g others-stay now last place (omega arith) standings' told;
       }
 

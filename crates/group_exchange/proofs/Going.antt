@@ -1,5 +1,5 @@
 -- One call of a group after another.
-use Rattle.std.proofs.Common.{◌≡◌, ℕ, suc, false, ◌∷◌, ◌≤◌, inl, min, List, [], ◌++◌, All, IsPermutation, Option, Some, None, IfNone, Result, Ok, Err, IfErr, sym, ap, ◌∙◌, subst, arith}
+use Rattle.std.proofs.Common.{◌≡◌, ℕ, suc, false, ◌∷◌, ◌≤◌, inl, min, List, [], ◌++◌, All, IsPermutation, Option, Some, None, IfNone, Result, Ok, Err, IfErr, refl, sym, ap, ◌∙◌, subst, arith}
 use Rattle.std.proofs.lemmas.List.Elements.{All-nil, All-cons, All-weaker}
 use Rattle.virtual_time.proofs.Lists.{in-head}
 use Rattle.std.proofs.lemmas.List.Sorted.{All-permutation}
@@ -10,11 +10,15 @@ use Rattle.virtual_time.specs.Law.{IsIn, IsOrder, Simulation}
 use Rattle.virtual_time.proofs.Order.{not_less-time}
 use Rattle.reverse.specs.Rules.{is_before}
 use Rattle.journal.specs.declared.fault.PoolFault.{PoolFault}
-use Rattle.journal.specs.declared.fault.PoolFault.TheVariants.{OutOfMemory}
+use Rattle.journal.specs.declared.fault.PoolFault.TheVariants.{OutOfMemory, JournalFull}
 use Rattle.group_hand.specs.Flow.{Flow}
-use Rattle.group_exchange.specs.Views.{GroupState}
-use Rattle.group_exchange.specs.Effects.{Goes, IsGroupAsBefore, WorksSome}
-use Rattle.group_exchange.proofs.Worked.{went-both, went-nowhere}
+use Rattle.group_hand.specs.declared.block.Did.{Did}
+use Rattle.group_hand.specs.Block.{steps_told}
+use Rattle.group_hand.proofs.Adding.{commits-none}
+use Rattle.group_exchange.specs.Views.{GroupState, in_group, is_of}
+use Rattle.group_exchange.specs.Effects.{AreTimely, Ends, Goes, IsGroupAsBefore, Went, WorksSome}
+use Rattle.group_exchange.proofs.Timely.{timely-append}
+use Rattle.group_exchange.proofs.Worked.{told-append, went-both, went-nowhere}
 
 -- what holds of each message that is in a list
 pub each-inside : IsOrder message_order → (P : Message → Type 0) (ms : List Message) → ((y : Message) → IsIn message_order y ms → P y) → All P ms
@@ -35,28 +39,46 @@ none-early O limit m ms first late = All-weaker (λ y. is_before y m ≡ false) 
 
 module _ {S K : Type 0} (f : Simulation Message S K Note) (owners : List ℕ) where
   -- nothing joined the block
-  pub goes-same : (h k : GroupState S K) → IsGroupAsBefore h k → Goes f owners h k
-  goes-same h k a = record { did = []; went = went-nowhere f owners h k (ap (λ (z : Flow). z.words) a.flow) a.others }
+  pub goes-same : (limit : ℕ) (h k : GroupState S K) → IsGroupAsBefore h k → Goes f owners limit h k
+  goes-same limit h k a = record { did = []; went = went-nowhere f owners h k (ap (λ (z : Flow). z.words) a.flow) a.others; timely = tt; no_commit = refl }
 
-  pub goes-both : (h mid k : GroupState S K) → Goes f owners h mid → Goes f owners mid k → Goes f owners h k
-  goes-both h mid k a b = record { did = a.did ++ b.did; went = went-both f owners a.did b.did h mid k a.went b.went }
+  pub goes-both : (limit : ℕ) (h mid k : GroupState S K) → Goes f owners limit h mid → Goes f owners limit mid k → Goes f owners limit h k
+  goes-both limit h mid k a b =
+      let same : mid.number ≡ h.number = ap (λ (z : GroupState S K). z.number) a.went.others in
+      let ours = is_of owners h.number in
+      record {
+        did = a.did ++ b.did;
+        went = went-both f owners a.did b.did h mid k a.went b.went;
+        timely = subst (λ xs. AreTimely f limit ours xs (in_group f h)) (sym (told-append a.did b.did))
+            (timely-append f ours limit (steps_told a.did) (steps_told b.did) (in_group f h) a.timely
+            (subst (λ w. AreTimely f limit ours (steps_told b.did) w) a.went.ends (subst (λ n. AreTimely f limit (is_of owners n) (steps_told b.did) (in_group f mid)) same b.timely)));
+        no_commit = commits-none a.did b.did a.no_commit b.no_commit;
+      }
 
   -- nothing joined the block, and then some words did
-  pub goes-later : (h mid begun k : GroupState S K) → IsGroupAsBefore h mid → begun ≡ mid → Goes f owners begun k → Goes f owners h k
-  goes-later h mid begun k a e b = goes-both h mid k (goes-same h mid a) (subst (λ z. Goes f owners z k) e b)
+  pub goes-later : (limit : ℕ) (h mid begun k : GroupState S K) → IsGroupAsBefore h mid → begun ≡ mid → Goes f owners limit begun k → Goes f owners limit h k
+  goes-later limit h mid begun k a e b = goes-both limit h mid k (goes-same limit h mid a) (subst (λ z. Goes f owners limit z k) e b)
 
-  pub goes-seen : (h k : GroupState S K) → Goes f owners h k → k.seen ≡ h.seen
-  goes-seen h k a = ap (λ (z : GroupState S K). z.seen) a.went.others
+  pub goes-seen : (limit : ℕ) (h k : GroupState S K) → Goes f owners limit h k → k.seen ≡ h.seen
+  goes-seen limit h k a = ap (λ (z : GroupState S K). z.seen) a.went.others
+
+  -- letters arrived and messages were handled, and then events were committed
+  pub goes-ends : (limit : ℕ) (h mid k : GroupState S K) → (a : Goes f owners limit h mid) → (b : Ends f owners mid k) → Went f owners (a.did ++ b.did) h k
+  goes-ends limit h mid k a b = went-both f owners a.did b.did h mid k a.went b.went
 
   -- some words joined the block, and then a growth was refused
-  pub works-some : (h k : GroupState S K) → Goes f owners h k → (r : Result ℕ PoolFault) → IfErr r (λ fault. fault ≡ OutOfMemory) → IfErr r (WorksSome f owners h k)
-  works-some h k a (Ok n) memory = tt
-  works-some h k a (Err fault) memory = record {
-    did = a.did;
-    went = a.went;
+  pub works-some : (h k : GroupState S K) (did : List Did) → Went f owners did h k → (r : Result ℕ PoolFault) → IfErr r (λ fault. fault ≡ OutOfMemory) → IfErr r (WorksSome f owners h k)
+  works-some h k did went (Ok n) memory = tt
+  works-some h k did went (Err fault) memory = record {
+    did = did;
+    went = went;
     numbers = λ e. absurd (let t = sym memory ∙ e in cc);
     faults = inl memory;
   }
+
+-- want of memory is not that the journal is full
+pub not-full : {T X : Type 0} (fault : PoolFault) (r : Result T PoolFault) → fault ≡ OutOfMemory → r ≡ Err fault → r ≡ Err JournalFull → X
+not-full fault r memory is full = absurd (let e = sym is ∙ full in let m = memory in cc)
 
 -- what none tells, where that tells more
 pub when-none : {X : Type 0} (o : Option X) (P Q : Type 0) → (P → Q) → IfNone o P → IfNone o Q

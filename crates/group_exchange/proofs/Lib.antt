@@ -3,6 +3,7 @@ pub mod Alike
 pub mod Marks
 pub mod Holding
 pub mod Taken
+pub mod Enabled
 pub mod SafeNow
 pub mod Collected
 pub mod InTime
@@ -13,7 +14,9 @@ pub mod Worked
 pub mod Words
 pub mod Halves
 pub mod Below
+pub mod Timely
 pub mod Told
+pub mod Ran
 pub mod Opened
 pub mod Trays
 pub mod Again

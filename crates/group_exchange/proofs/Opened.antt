@@ -70,6 +70,7 @@ module _ {S K : Type 0} {r : Rules Message S K Note} {number end : S → ℕ} {i
             let same : suc x.until ≡ d = (let a : Some (suc x.until) ≡ Some d = sym (each g i) ∙ e in cc) in
             record { bound = λ p o. omega arith; reached = inl (sym same) };
         gvt_is = zero-is;
+        enabled = tt;
         marked = record {
           count = count;
           each = λ g s e. let b = blanks g s e in record {

@@ -23,6 +23,7 @@ use Rattle.group_exchange.specs.Views.{Boxes, box_of, for_group, is_of, last_in,
 use Rattle.group_exchange.specs.Keeps.{AreAsIn, AreGrouped, Holds, IsLeastFloor, IsMarked, IsRecorded}
 use Rattle.group_exchange.proofs.Owners.{of-other, owner-is, received-group}
 use Rattle.group_exchange.proofs.Alike.{are-done-same, done-same, in-hand-same, stands-alike}
+use Rattle.group_exchange.proofs.Enabled.{block-done, done-then}
 use Rattle.group_exchange.proofs.Marks.{marks-set}
 use Rattle.group_exchange.proofs.Holding.{holds-empty}
 use Rattle.group_exchange.proofs.InTime.{letters-lawful}
@@ -162,6 +163,8 @@ module _ {S K : Type 0} {r : Rules Message S K Note} {number end : S → ℕ} {i
           })
         ];
         gvt_is = k.gvt_is ∙ sym posted.gvt;
+        enabled = subst (λ ss. AreDone f ss (start f)) (sym more) (done-then f steps (map (behind (waiting_in f w)) (steps_told h.flow.words)) (start f) k.enabled
+            (block-done f (is_of owners g) s.seen (steps_told h.flow.words) (world_after f (last_in s)) w m.same (let a = m.seen_low in let b = k.gvt_is in omega arith) old.by old.enabled));
         marked = marks-set k.marked steps' g others-stay now last place (let a = m.seen_low in omega arith) standings' told;
       }
 

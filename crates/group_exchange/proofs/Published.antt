@@ -2,7 +2,7 @@
 use Rattle.std.proofs.Common.{◌≡◌, ℕ, suc, ◌≤◌, Bool, true, false, List, [], ◌∷◌, ◌++◌, refl, sym, ap, ◌∙◌, subst}
 use Rattle.vlink.specs.declared.message.Message.{Message}
 use Rattle.vlink.specs.declared.note.Note.{Note}
-use Rattle.virtual_time.specs.Law.{Rules, Simulation, Laws, World, gvt_over}
+use Rattle.virtual_time.specs.Law.{Rules, Simulation, Laws, World, AreDone, gvt_over, start}
 use Rattle.virtual_time.specs.declared.step.Step.{Step}
 use Rattle.virtual_time.specs.declared.step.Step.TheVariants.{Gvt}
 use Rattle.virtual_time.proofs.Safety.{rises}
@@ -12,6 +12,7 @@ use Rattle.group_exchange.specs.declared.mark.Standing.{Standing}
 use Rattle.group_exchange.specs.Views.{Boxes, Ledger, is_of, world_after}
 use Rattle.group_exchange.specs.Keeps.{AreAsIn, IsLeastFloor, IsRecorded}
 use Rattle.group_exchange.specs.Effects.{publishes}
+use Rattle.group_exchange.proofs.Enabled.{done-then, gvt-done}
 use Rattle.group_exchange.proofs.Least.{gvt-set}
 use Rattle.group_exchange.proofs.Marks.{marks-stay}
 
@@ -43,6 +44,7 @@ module _ {S K : Type 0} {r : Rules Message S K Note} {number end : S → ℕ} {i
         until = k.until;
         floors_is = λ g d e. subst (λ (z : World Message S). IsLeastFloor (is_of owners g) (suc x.until) z.floors d) (sym next) (k.floors_is g d e);
         gvt_is = is ∙ ap (λ (z : World Message S). z.gvt) (sym next);
+        enabled = subst (λ ss. AreDone f ss (start f)) (sym more) (done-then f steps (Gvt ∷ []) (start f) k.enabled (gvt-done f w));
         marked = marks-stay k.marked steps' (λ g. subst (λ (z : World Message S). AreAsIn (is_of owners g) w z) (sym next) (record { parts = λ p o. refl; floors = λ p o. refl }))
             gvt' (subst (λ n. gvt ≤ n) (sym is) gvt-rises);
       }

@@ -30,6 +30,7 @@ module _ {S K : Type 0} {r : Rules Message S K Note} {number end : S → ℕ} {i
     until = k.until;
     floors_is = k.floors_is;
     gvt_is = k.gvt_is;
+    enabled = k.enabled;
     marked = k.marked;
   }
 

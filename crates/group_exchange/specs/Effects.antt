@@ -1,16 +1,16 @@
 -- What each call does to an exchange of groups and to a group.
-use Rattle.std.specs.Prelude.{◌≡◌, ◌≢◌, ℕ, ◌+◌, ◌<◌, ◌≤◌, ◌==◌, ◌⊎◌, Bool, true, false, List, [], ◌∷◌, ◌++◌, map, length, set, All, IsSome, IsPermutation}
+use Rattle.std.specs.Prelude.{◌≡◌, ◌≢◌, ℕ, ◌+◌, ◌<◌, ◌≤◌, ◌==◌, ◌⊎◌, Bool, true, false, List, [], ◌∷◌, ◌++◌, map, length, set, All, IsSome, Some, IsPermutation, ⊤}
 use Rattle.vlink.specs.declared.message.Message.{Message}
 use Rattle.vlink.specs.declared.note.Note.{Note}
 use Rattle.vlink.specs.Numbering.{greatest_number}
 use Rattle.vlink.specs.Letters.{Letter}
-use Rattle.virtual_time.specs.Law.{Order, Simulation, Part, next_of, received_by, gvt_over, AreBy, AreDone, behind, done_by, waiting_in}
+use Rattle.virtual_time.specs.Law.{Order, Simulation, Part, World, next_of, received_by, gvt_over, AreBy, AreDone, behind, done_by, waiting_in}
 use Rattle.virtual_time.specs.declared.step.Step.{Step}
-use Rattle.virtual_time.specs.declared.step.Step.TheVariants.{Take, Gvt}
+use Rattle.virtual_time.specs.declared.step.Step.TheVariants.{Take, Arrive, Run, Post, Gvt, Commit}
 use Rattle.journal.specs.declared.fault.PoolFault.{PoolFault}
 use Rattle.journal.specs.declared.fault.PoolFault.TheVariants.{OutOfMemory, Exhausted}
 use Rattle.group_hand.specs.declared.block.Did.{Did}
-use Rattle.group_hand.specs.Block.{steps_told}
+use Rattle.group_hand.specs.Block.{commits_in, runs_in, steps_told}
 use Rattle.group_hand.specs.DoneEvents.{messages_of}
 use Rattle.group_hand.specs.Hands.{Held}
 use Rattle.group_exchange.specs.Views.{Ledger, GroupState, is_of, mark_at, block_of, world_after, in_group}
@@ -43,6 +43,22 @@ pub record IsGroupAsBefore {S K : Type 0} (old new : GroupState S K) : Type 0 wh
   pub rows : new.held.rows ≡ old.held.rows
   pub flow : new.held.flow ≡ record old.held.flow { queue = new.held.flow.queue; extra = new.held.flow.extra; room = new.held.flow.room }
   pub others : new ≡ record old { held = new.held }
+
+module _ {S K : Type 0} (f : Simulation Message S K Note) where
+  -- a step that handles a message handles one that is earlier than the limit, where no letter waits to arrive at these processes
+  abbrev pub IsTimely : ℕ → (ℕ → Bool) → Step → World Message S → Type 0
+  IsTimely limit ours (Take p i) v = ⊤
+  IsTimely limit ours (Arrive p) v = ⊤
+  IsTimely limit ours (Run p) v =
+      ((m : Message) × (next_of f.rules.order (v.parts p) ≡ Some m) × (f.rules.order.time m < limit)) × ((q : ℕ) → ours q ≡ true → (v.parts q).tray ≡ [])
+  IsTimely limit ours (Post p) v = ⊤
+  IsTimely limit ours Gvt v = ⊤
+  IsTimely limit ours (Commit p) v = ⊤
+
+  -- so does each of these steps, one after another
+  abbrev pub AreTimely : ℕ → (ℕ → Bool) → List Step → World Message S → Type 0
+  AreTimely limit ours [] v = ⊤
+  AreTimely limit ours (x ∷ xs) v = IsTimely limit ours x v × AreTimely limit ours xs (done_by f (x ∷ []) v)
 
 module _ {S K : Type 0} (f : Simulation Message S K Note) (owners : List ℕ) where
   -- all letters that wait for processes of the group were taken, so many; both marks note the steps of the journal then, and the GVT of the exchange
@@ -100,10 +116,18 @@ module _ {S K : Type 0} (f : Simulation Message S K Note) (owners : List ℕ) wh
     pub ends : in_group f k ≡ done_by f (steps_told did) (in_group f h)
     pub others : k ≡ record h { held = k.held }
 
-  -- some words joined the block
-  pub record Goes (h k : GroupState S K) : Type 0 where
+  -- some words joined the block: letters arrived, and messages were handled that are earlier than the limit, each where no letter waited
+  pub record Goes (limit : ℕ) (h k : GroupState S K) : Type 0 where
     pub did : List Did
     pub went : Went did h k
+    pub timely : AreTimely f limit (is_of owners h.number) (steps_told did) (in_group f h)
+    pub no_commit : commits_in did ≡ 0
+
+  -- words of committed events joined the block
+  pub record Ends (h k : GroupState S K) : Type 0 where
+    pub did : List Did
+    pub went : Went did h k
+    pub commits : commits_in did ≡ length did
 
   -- a message that is earlier than the limit waits at no process of the group
   abbrev pub IsIdleBefore : ℕ → GroupState S K → Type 0
@@ -114,7 +138,17 @@ module _ {S K : Type 0} (f : Simulation Message S K Note) (owners : List ℕ) wh
   pub record Works (most window : ℕ) (h k : GroupState S K) (count : ℕ) : Type 0 where
     pub did : List Did
     pub went : Went did h k
+    -- words of letters and of messages that were handled, and then those of committed events
+    pub worked : List Did
+    pub ended : List Did
+    pub parts : did ≡ worked ++ ended
+    pub no_commit : commits_in worked ≡ 0
+    pub commits : commits_in ended ≡ length ended
+    -- so many messages were handled, each earlier than the GVT seen and the window, where no letter waited
+    pub counted : runs_in worked ≡ count
     pub within : count ≤ most
+    pub timely : AreTimely f (h.seen + window) (is_of owners h.number) (steps_told worked) (in_group f h)
+    -- there were no more of them, unless there were as many as could be
     pub idle : (count ≡ most) ⊎ IsIdleBefore (h.seen + window) k
     pub arrived : k.held.flow.tray ≡ []
     pub committed_below : All (λ m. h.seen ≤ f.rules.order.time m) (messages_of k.held.done)

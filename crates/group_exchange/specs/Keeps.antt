@@ -2,7 +2,7 @@
 use Rattle.std.specs.Prelude.{◌≡◌, ℕ, suc, ◌<◌, ◌≤◌, ◌⊎◌, Bool, true, List, length, slice_get, slice_index, take, Some, All}
 use Rattle.vlink.specs.declared.message.Message.{Message}
 use Rattle.vlink.specs.declared.note.Note.{Note}
-use Rattle.virtual_time.specs.Law.{Rules, World, AreBy, AreDone, IsSafeGroup, in_hand, done_by, received_by}
+use Rattle.virtual_time.specs.Law.{Rules, World, AreBy, AreDone, IsSafeGroup, in_hand, done_by, received_by, start}
 use Rattle.virtual_time.specs.declared.step.Step.{Step}
 use Rattle.reverse.specs.Setting.{Setting, simulation_of, IsLaidOut}
 use Rattle.gvt.specs.Horizon.{Floors}
@@ -73,6 +73,8 @@ module _ {S K : Type 0} (r : Rules Message S K Note) (number end : S → ℕ) (i
     pub floors_is : (g floor : ℕ) → slice_get floors.floors g ≡ Some floor →
         IsLeastFloor (is_of owners g) (suc x.until) (world_after (simulation_of r x) steps).floors floor
     pub gvt_is : gvt ≡ (world_after (simulation_of r x) steps).gvt
+    -- each step could be done where it stands
+    pub enabled : AreDone (simulation_of r x) steps (start (simulation_of r x))
     pub marked : AreMarked groups steps gvt standings
 
   -- a group: its members are those of its number, and it stands for what the journal and then its block make of them, in which each step could be

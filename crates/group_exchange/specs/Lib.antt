@@ -1,4 +1,4 @@
--- The exchange of groups: what its values are for contracts, what they keep, and what each call does.
+-- The exchange of groups: what its values are for contracts, what stays true of them, and what each call does.
 pub mod Telling
 pub mod Listing
 pub mod Rows

@@ -1,4 +1,4 @@
--- For which steps that stands which is added to a journal at one go.
+-- The steps that an addition to a journal represents.
 use Rattle.std.specs.Prelude.{List, [], ◌∷◌, map}
 use Rattle.virtual_time.specs.Law.{behind}
 use Rattle.virtual_time.specs.declared.step.Step.{Step}

@@ -1,4 +1,4 @@
--- What contracts see of an exchange of groups and of a group, and the worlds that they tell of.
+-- What contracts see of an exchange of groups and of a group, and the worlds that they represent.
 use Rattle.std.specs.Prelude.{◌≡◌, ℕ, List, [], ◌∷◌, map, length, get_or}
 use Rattle.vlink.specs.declared.message.Message.{Message}
 use Rattle.vlink.specs.declared.note.Note.{Note}

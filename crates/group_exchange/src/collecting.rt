@@ -1,4 +1,4 @@
-//! A group takes the letters that are on their way to it.
+//! A group takes the letters that are in transit to it.
 ghost use Rattle.std.specs.Prelude.{List, ◌≡◌, ◌≢◌, ◌<◌, ◌≤◌, ◌+◌, ◌⊎◌, ℕ, [], ◌∷◌, ◌++◌, set, length, slice_get, All, IfOk, OnOk, OnErr, IfErr, Err, true};
 ghost use Rattle.std.specs.Option.{option_map};
 ghost use Rattle.vlink.specs.declared.message.Message.{Message};
@@ -7,7 +7,7 @@ ghost use Rattle.vlink.specs.Order.{message_order};
 ghost use Rattle.virtual_time.specs.Law.{World, lowest, times_of};
 ghost use Rattle.reverse.specs.Rules.{rules_of};
 ghost use Rattle.reverse.specs.Setting.{Setting, simulation_of};
-ghost use Rattle.journal.specs.declared.fault.PoolFault.TheVariants.{OutOfMemory, JournalFull, Torn};
+ghost use Rattle.journal.specs.declared.fault.PoolFault.TheVariants.{OutOfMemory, JournalFull};
 ghost use Rattle.group_hand.specs.Hands.{IsAsBefore, StandsForGroup, is_ours};
 ghost use Rattle.group_exchange.specs.Views.{mark_at, with_letters, world_after};
 ghost use Rattle.group_exchange.specs.Effects.{AreWaiting, Collects, IsGroupAsBefore, TookLetters};
@@ -23,14 +23,13 @@ use journal::PoolFault;
 use reverse::{Actor, actor_law};
 use vlink::Letter;
 
-/// The tray gets room for so many letters more than are taken, so that it is not copied to a larger place while the first of them arrive.
+/// The tray gets room for this number of letters more than are taken, so that it is not copied to a larger place while the first of them arrive.
 const SPARE: usize = 64;
 
-/// All letters on their way to a group go to the tray of its hand, with a step in the journal for each. Both marks note how long the journal is then, and
-/// the GVT of the exchange. The answer is how many letters were taken.
+/// Moves all letters in transit to a group to the tray of its hand, with a step in the journal for each. Both marks note the length of the
+/// journal then, and the GVT of the exchange. Returns how many letters were taken.
 ///
 /// Any refusal leaves both as they were. `JournalFull`: exactly where the steps would pass the limit, which is looked at before any growth.
-/// `Torn`: the journal is kept, and another one has written the places of the steps in the table, which is seen behind all growths.
 pub fn collect<R: Actor, J: GroupRun<R>>(
     group: &mut Group<R, J>,
     exchange: &mut GroupExchange<R, J>,
@@ -42,7 +41,7 @@ pub fn collect<R: Actor, J: GroupRun<R>>(
         × AreWaiting (simulation_of (rules_of R.plain) J.setting) J.owners exchange.old group.old letters × (exchange.old.limit < length exchange.old.steps + length letters) }
     ensures limited { (result ≡ Err JournalFull → ⊥) → (letters : List Letter)
         × AreWaiting (simulation_of (rules_of R.plain) J.setting) J.owners exchange.old group.old letters × (length exchange.old.steps + length letters ≤ exchange.old.limit) }
-    ensures faults { IfErr result (λ fault. (fault ≡ OutOfMemory) ⊎ ((fault ≡ JournalFull) ⊎ ((fault ≡ Torn) × (J.keeps ≡ true)))) }
+    ensures faults { IfErr result (λ fault. (fault ≡ OutOfMemory) ⊎ (fault ≡ JournalFull)) }
 {
     actor_law::<R>();
     hand_law::<R>();
@@ -81,7 +80,7 @@ pub fn collect<R: Actor, J: GroupRun<R>>(
     Ok(count as u64)
 }
 
-/// Makes room for so many letters in the tray, and for as many steps in the journal.
+/// Makes room for `count` letters in the tray, and for as many steps in the journal.
 fn reserve_collect<R: Actor>(
     hand: &mut Hand<R>,
     journal: &mut Steps,
@@ -92,7 +91,7 @@ fn reserve_collect<R: Actor>(
     ensures steps { journal.new.steps ≡ journal.old.steps }
     ensures keeps { journal.new.keeps ≡ journal.old.keeps }
     ensures step_room { OnOk result (count ≤ journal.new.room) }
-    ensures faults { IfErr result (λ fault. (fault ≡ OutOfMemory) ⊎ ((fault ≡ Torn) × (journal.old.keeps ≡ true))) }
+    ensures memory { IfErr result (λ fault. fault ≡ OutOfMemory) }
 {
     if hand.reserve_letters(count.saturating_add(SPARE)).is_err() {
         return Err(PoolFault::OutOfMemory);
@@ -100,7 +99,7 @@ fn reserve_collect<R: Actor>(
     journal.reserve(count)
 }
 
-/// These letters go to the back of the tray. There is room for them.
+/// Puts these letters at the back of the tray. The room for them was made before.
 fn deliver_all<R: Actor>(hand: &mut Hand<R>, letters: &[Letter])
     requires ours { All (λ l. is_ours hand.old.members l.message.receiver ≡ true) letters.now }
     requires room { length letters.now ≤ hand.old.flow.room }
@@ -113,7 +112,7 @@ fn deliver_all<R: Actor>(hand: &mut Hand<R>, letters: &[Letter])
     }
 }
 
-/// The floor of a group falls to the least time of these letters.
+/// Lowers the floor of a group to the least time of these letters, if that is lower.
 fn lower_floor(floors: &mut Floors, group: u16, letters: &[Letter])
     requires within { group < length floors.old.floors }
     ensures floor { slice_get floors.new.floors group

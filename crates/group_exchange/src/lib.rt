@@ -1,5 +1,6 @@
-//! The exchange of letters between groups of processes, each group in one hand, and the journal of what they did, over lent values: no thread and
-//! no lock. A group (`Group`) collects letters, works alone and posts; the `GroupExchange` has letters on their way, floors, GVT and the journal.
+//! The exchange of letters between groups of processes, each group in one hand, and the journal of what they did, over borrowed values: no
+//! thread and no lock. A group (`Group`) collects letters, works alone and posts. The `GroupExchange` has letters in transit, floors, GVT
+//! and the journal.
 #![tactic(auto)]
 
 mod addition;

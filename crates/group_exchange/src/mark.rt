@@ -1,4 +1,4 @@
-//! What an exchange and a group in hand both say of the group.
+//! What an exchange and a group in hand both state of the group.
 ghost use Rattle.std.specs.Prelude.{◌≡◌, ◌<◌, map, set, length, slice_index};
 ghost use Rattle.group_exchange.specs.Views.{IsUnplaced, last_in};
 
@@ -8,10 +8,10 @@ use std::alloc::Global;
 use std::snapshot::Snapshot;
 use vlink::Time;
 
-/// How long the journal was when a group last collected or posted, and the GVT that its last `collect` saw.
+/// The length of the journal when a group last collected or posted, and the GVT that its last `collect` saw.
 #[derive(Clone, Copy, Debug, PartialEq, Eq)]
 pub struct Mark {
-    /// How many steps the journal had after the group's last `collect` or, where it had a block, `post`; 0 before any.
+    /// The number of steps of the journal after the group's last `collect` or, if it had a block, `post`; 0 before any.
     pub steps: u64,
     /// The GVT that its last `collect` saw, in ns; 0 before any.
     pub seen: Time,
@@ -21,20 +21,20 @@ pub struct Mark {
 /// of one value, and always equal.
 #[derive(Drop)]
 pub struct Standing {
-    /// The steps that the journal had after the group's last `collect` or, where it had a block, `post`. It has no bytes.
+    /// The steps that the journal had after the group's last `collect` or, if it had a block, `post`. It has no bytes.
     pub last: Snapshot<Steps>,
-    /// How many they are.
+    /// The number of these steps.
     pub steps: u64,
     /// The GVT that its last `collect` saw, in ns; 0 before any.
     pub seen: Time,
 }
 
 impl Standing {
-    /// Of a group that the journal does not tell of yet.
+    /// Of a group that has no step in the journal yet.
     pub(crate) fn unplaced(alloc: Global) -> Self
         ensures { IsUnplaced result }
     {
-        let none = Steps::new(alloc, None);
+        let none = Steps::new(alloc, false);
         Standing {
             last: Snapshot::of(&none),
             steps: 0,
@@ -44,7 +44,7 @@ impl Standing {
 }
 
 /// A group collects or posts when the journal has these steps, and has seen GVT at this moment, in ns: so it stands from now on, and both halves of its
-/// mark tell it.
+/// mark have it.
 pub(crate) fn stand_here(
     standing: &mut Standing,
     marks: &mut Vec<LeftHalf<Standing>>,
@@ -71,7 +71,7 @@ pub(crate) fn stand_here(
     tell_both(marks, half, group, standing);
 }
 
-/// The two halves of the standing of a group tell another one.
+/// Both halves of the standing of a group become this one.
 pub(crate) fn tell_both(
     marks: &mut Vec<LeftHalf<Standing>>,
     half: &mut RightHalf<Standing>,

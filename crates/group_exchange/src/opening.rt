@@ -1,5 +1,5 @@
 //! An exchange and its groups at the start.
-ghost use Rattle.std.specs.Prelude.{◌≡◌, ℕ, ◌<◌, ◌≤◌, ◌^◌, ◌+◌, suc, true, false, [], map, replicate, length, slice_get, slice_index, All, Some, None, is_some, OnOk, IfOk, IfErr};
+ghost use Rattle.std.specs.Prelude.{◌≡◌, ℕ, ◌<◌, ◌≤◌, ◌^◌, ◌+◌, suc, true, false, [], map, replicate, length, slice_get, slice_index, All, Some, None, OnOk, IfOk, IfErr};
 ghost use Rattle.vlink.specs.declared.time.TheConstants.{GREATEST_NS};
 ghost use Rattle.reverse.specs.Rules.{rules_of};
 ghost use Rattle.reverse.specs.Setting.{Opens, IsLaidOut};
@@ -19,7 +19,7 @@ use group_boxes::Boxes;
 use group_hand::{Hand, hand_law};
 use gvt::Floors;
 use halves::{LeftHalf, RightHalf};
-use journal::{PoolFault, Table};
+use journal::PoolFault;
 use reverse::{Actor, actor_law};
 use std::alloc::Global;
 use std::marker::PhantomData;
@@ -27,15 +27,15 @@ use vlink::{Message, Time, process_number};
 
 impl<R: Actor + Drop, J: GroupRun<R>> GroupExchange<R, J> {
     /// An exchange with no step, and a group in hand for each pair of marks, in order: `owners` has for each actor the number of its group. Each actor is
-    /// in its opening state, the offers are on their way, every floor is the moment after the end, and GVT is 0. The journal can have `limit` steps; it is
-    /// kept where there is a table, and has its places there. It is refused for memory alone.
+    /// in its opening state, the offers are on their way, every floor is the moment after the end, and GVT is 0. The journal can have `limit` steps; `keeps`
+    /// says whether it is kept to be read. It is refused for memory alone.
     pub fn open(
         alloc: Global,
         actors: Vec<R>,
         offers: &[Message],
         owners: Vec<u16>,
         until: Time,
-        table: Option<Table>,
+        keeps: bool,
         pairs: Pairs,
         limit: u64,
     ) -> Result<(GroupExchange<R, J>, Vec<Group<R, J>>), PoolFault>
@@ -45,7 +45,7 @@ impl<R: Actor + Drop, J: GroupRun<R>> GroupExchange<R, J> {
         requires until { until ≡ J.setting.until }
         requires end { until < GREATEST_NS }
         requires layout { IsLaidOut (rules_of R.plain) R.number R.end R.is_placed J.setting }
-        requires keeps { is_some table ≡ J.keeps }
+        requires keeps { keeps ≡ J.keeps }
         requires names { pairs ≡ J.names }
         requires few { J.setting.processes ≤ 4096 }
         requires few_groups { length J.names ≤ 4096 }
@@ -56,8 +56,7 @@ impl<R: Actor + Drop, J: GroupRun<R>> GroupExchange<R, J> {
         ensures memory { IfErr result (λ fault. fault ≡ OutOfMemory) }
     {
         actor_law::<R>();
-        let keeps = table.is_some();
-        let journal = Steps::new(alloc, table);
+        let journal = Steps::new(alloc, keeps);
         let end = Time::of_known(until.ns() + 1);
         let Pairs { lefts, rights } = pairs;
         let count = process_number(lefts.len());
@@ -79,7 +78,7 @@ impl<R: Actor + Drop, J: GroupRun<R>> GroupExchange<R, J> {
     }
 }
 
-/// A group in hand for each mark, in order, with the actors of its number.
+/// Makes a group in hand for each mark, in order, with the actors of its number.
 fn groups_of<R: Actor + Drop, J: GroupRun<R>>(
     alloc: Global,
     actors: Vec<R>,
@@ -114,7 +113,7 @@ fn groups_of<R: Actor + Drop, J: GroupRun<R>>(
     groups
 }
 
-/// The groups, in order, each with the actors of its number, which leave their slots, and the first mark that is left.
+/// Makes the groups, in order, each with the actors of its number, which leave their slots, and the first mark that is left.
 fn open_all<R: Actor + Drop, J: GroupRun<R>>(
     alloc: Global,
     slots: &mut Vec<Option<R>>,
@@ -156,7 +155,7 @@ fn open_all<R: Actor + Drop, J: GroupRun<R>>(
 }
 
 impl<R: Actor + Drop, J: GroupRun<R>> Group<R, J> {
-    /// The group with this number and these members, which has done nothing.
+    /// Makes the group with this number and these members, which has done nothing.
     fn open(
         alloc: Global,
         number: u16,

@@ -1,11 +1,11 @@
-//! What a group did goes to the journal, and its letters on their way.
+//! A group puts what it did into the journal, and its letters into the boxes.
 ghost use Rattle.std.specs.Prelude.{◌≡◌, ◌<◌, ◌≤◌, ◌+◌, ◌^◌, ◌⊎◌, ◌++◌, ℕ, [], map, length, All, OnOk, OnErr, IfErr, Err, true};
 ghost use Rattle.vlink.specs.declared.message.Message.{Message};
 ghost use Rattle.vlink.specs.Order.{message_order};
 ghost use Rattle.virtual_time.specs.Law.{IsAscending, World, behind, in_hand};
 ghost use Rattle.reverse.specs.Rules.{rules_of};
 ghost use Rattle.reverse.specs.Setting.{Setting, simulation_of};
-ghost use Rattle.journal.specs.declared.fault.PoolFault.TheVariants.{OutOfMemory, JournalFull, Torn};
+ghost use Rattle.journal.specs.declared.fault.PoolFault.TheVariants.{OutOfMemory, JournalFull};
 ghost use Rattle.group_hand.specs.Block.{steps_told};
 ghost use Rattle.group_hand.specs.DoneEvents.{messages_of};
 ghost use Rattle.group_hand.specs.Hands.{FirstWaits, StandsForGroup};
@@ -24,11 +24,10 @@ use journal::PoolFault;
 use reverse::{Actor, actor_law};
 use std::alloc::Global;
 
-/// The block of a group goes to the journal, its letters for others are on their way, and its floor is what it has left. With an empty block nothing
-/// changes.
+/// Puts the block of a group into the journal and its letters for others into the boxes, and sets its floor to the least moment of what it
+/// has left. If the block is empty it changes nothing.
 ///
 /// Any refusal leaves both as they were. `JournalFull`: exactly where the steps would pass the limit, which is looked at before any growth.
-/// `Torn`: the journal is kept, and another one has written the places of the steps in the table, which is seen behind all growths.
 pub fn post<R: Actor, J: GroupRun<R>>(
     group: &mut Group<R, J>,
     exchange: &mut GroupExchange<R, J>,
@@ -37,7 +36,7 @@ pub fn post<R: Actor, J: GroupRun<R>>(
     ensures unchanged { OnErr result ((exchange.new ≡ exchange.old) × IsGroupAsBefore group.old group.new) }
     ensures full { result ≡ Err JournalFull → (0 < length (block_of group.old)) × (exchange.old.limit < length exchange.old.steps + length (block_of group.old)) }
     ensures limited { exchange.old.limit < length exchange.old.steps + length (block_of group.old) → 0 < length (block_of group.old) → result ≡ Err JournalFull }
-    ensures faults { IfErr result (λ fault. (fault ≡ OutOfMemory) ⊎ ((fault ≡ JournalFull) ⊎ ((fault ≡ Torn) × (J.keeps ≡ true)))) }
+    ensures faults { IfErr result (λ fault. (fault ≡ OutOfMemory) ⊎ (fault ≡ JournalFull)) }
 {
     actor_law::<R>();
     hand_law::<R>();
@@ -77,7 +76,7 @@ pub fn post<R: Actor, J: GroupRun<R>>(
     Ok(())
 }
 
-/// Makes room for so many steps in the journal, and in the boxes for the letters to others. Messages that are done already count beside, so that the
+/// Makes room for `count` steps in the journal, and in the boxes for the letters to others. Messages that are done already count beside, so that the
 /// floor is exact.
 fn reserve_post<R: Actor>(
     hand: &mut Hand<R>,
@@ -94,7 +93,7 @@ fn reserve_post<R: Actor>(
     ensures steps { journal.new.steps ≡ journal.old.steps }
     ensures keeps { journal.new.keeps ≡ journal.old.keeps }
     ensures step_room { OnOk result (count ≤ journal.new.room) }
-    ensures faults { IfErr result (λ fault. (fault ≡ OutOfMemory) ⊎ ((fault ≡ Torn) × (journal.old.keeps ≡ true))) }
+    ensures memory { IfErr result (λ fault. fault ≡ OutOfMemory) }
 {
     if hand.count_done().is_err() {
         return Err(PoolFault::OutOfMemory);
@@ -103,7 +102,7 @@ fn reserve_post<R: Actor>(
     journal.reserve(count as usize)
 }
 
-/// The block ends, and is told to the journal, each Take behind the letters that are on their way; then the letters to others are, too. There is room
+/// The block ends and joins the journal, each Take behind the letters that are on their way. Then the letters to others are on their way. There is room
 /// for all.
 fn post_reserved<R: Actor>(
     hand: &mut Hand<R>,

@@ -1,8 +1,8 @@
-//! GVT is set.
-ghost use Rattle.std.specs.Prelude.{◌≡◌, ◌<◌, ◌≤◌, ◌⊎◌, ℕ, length, IfOk, IfErr, OnErr, Err, true};
+//! Sets GVT.
+ghost use Rattle.std.specs.Prelude.{◌≡◌, ◌<◌, ◌≤◌, ◌⊎◌, ℕ, length, IfOk, IfErr, OnErr, Err};
 ghost use Rattle.reverse.specs.Rules.{rules_of};
 ghost use Rattle.reverse.specs.Setting.{simulation_of};
-ghost use Rattle.journal.specs.declared.fault.PoolFault.TheVariants.{OutOfMemory, JournalFull, Torn};
+ghost use Rattle.journal.specs.declared.fault.PoolFault.TheVariants.{OutOfMemory, JournalFull};
 ghost use Rattle.group_exchange.specs.Effects.{Publishes, IsHeldBack};
 
 use crate::groups::GroupExchange;
@@ -12,11 +12,11 @@ use journal::PoolFault;
 use reverse::{Actor, actor_law};
 use vlink::Time;
 
-/// Sets GVT to the least of all floors and of the times of all letters on their way, with a step in the journal; where that is the GVT of before, there
-/// is no step. The answer is GVT, in ns.
+/// Sets GVT to the least of all floors and of the times of all letters in transit, with a step in the journal. If GVT does not change, no
+/// step is added. Returns GVT, in ns.
 ///
 /// Any refusal leaves the exchange as it was. `JournalFull`: exactly where the steps would pass the limit, which is looked at before any
-/// growth. `Torn`: the journal is kept, and another one has written the step's place in the table, which is seen behind all growths.
+/// growth.
 pub fn publish<R: Actor, J: GroupRun<R>>(
     exchange: &mut GroupExchange<R, J>,
 ) -> Result<Time, PoolFault>
@@ -24,7 +24,7 @@ pub fn publish<R: Actor, J: GroupRun<R>>(
     ensures unchanged { OnErr result (exchange.new ≡ exchange.old) }
     ensures full { result ≡ Err JournalFull → IsHeldBack (simulation_of (rules_of R.plain) J.setting) J.owners exchange.old × (exchange.old.limit ≤ length exchange.old.steps) }
     ensures limited { IsHeldBack (simulation_of (rules_of R.plain) J.setting) J.owners exchange.old → exchange.old.limit ≤ length exchange.old.steps → result ≡ Err JournalFull }
-    ensures faults { IfErr result (λ fault. (fault ≡ OutOfMemory) ⊎ ((fault ≡ JournalFull) ⊎ ((fault ≡ Torn) × (J.keeps ≡ true)))) }
+    ensures faults { IfErr result (λ fault. (fault ≡ OutOfMemory) ⊎ (fault ≡ JournalFull)) }
 {
     actor_law::<R>();
     let gvt = horizon(&exchange.boxes, &exchange.floors, exchange.end);

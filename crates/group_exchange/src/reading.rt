@@ -1,6 +1,9 @@
-//! What is asked of a group in hand, and of the exchange.
+//! What a group in hand, and the exchange, can be asked.
 ghost use Rattle.std.specs.Prelude.{◌≡◌, ◌≢◌, ◌<◌, ◌≤◌, true, false, [], length, slice_get, All, Contains, IfSome, IfNone};
 ghost use Rattle.vlink.specs.declared.message.Message.{Message};
+ghost use Rattle.virtual_time.specs.Law.{AreDone, start};
+ghost use Rattle.reverse.specs.Rules.{rules_of};
+ghost use Rattle.reverse.specs.Setting.{simulation_of};
 ghost use Rattle.group_hand.specs.Hands.{IsAsBefore};
 
 use crate::group::Group;
@@ -20,28 +23,28 @@ impl<R: Actor, J: GroupRun<R>> Group<R, J> {
         0 < steps
     }
 
-    /// The GVT that it saw, in ns.
+    /// Returns the GVT that it saw, in ns.
     pub fn gvt_seen(&self) -> Time
         ensures { result ≡ self.now.seen }
     {
         self.standing.seen
     }
 
-    /// The moment, in ns, before which rows of its committed events may have left. None has where it is 0.
+    /// Returns the moment, in ns, before which rows of its committed events may have left. None has left if it is 0.
     pub fn gone_before(&self) -> Time
         ensures { result ≡ self.now.gone }
     {
         self.gone
     }
 
-    /// The letters for other groups that wait to be posted, in order.
+    /// Returns the letters for other groups that wait to be posted, in order.
     pub fn letters_abroad(&self) -> &[Letter]
         ensures { result.now ≡ self.now.held.flow.abroad }
     {
         self.hand.letters_abroad()
     }
 
-    /// The moment of the first message of its queue, in ns, if there is one; of letters that are still in the tray it says nothing.
+    /// Returns the moment of the first message of its queue, in ns, if any. Letters that are still in the tray do not count.
     pub fn next_time(&mut self) -> Option<Time>
         ensures same { IsAsBefore self.old.held self.new.held }
         ensures others { self.new ≡ record self.old { held = self.new.held } }
@@ -55,7 +58,7 @@ impl<R: Actor, J: GroupRun<R>> Group<R, J> {
 }
 
 impl<R: Actor, J: GroupRun<R>> GroupExchange<R, J> {
-    /// The number of the group of this process. None: there is no such process.
+    /// Returns the number of the group of this process, or none if the process does not exist.
     pub fn owner(&self, process: u16) -> Option<u16>
         ensures is { result ≡ slice_get J.owners process }
         ensures within { IfSome result (λ group. group < length J.names) }
@@ -63,10 +66,12 @@ impl<R: Actor, J: GroupRun<R>> GroupExchange<R, J> {
         self.boxes.owner(process)
     }
 
-    /// The steps of a journal that is kept, in order.
+    /// Returns the steps of a stored journal, in order.
     pub fn step_list(&self) -> &[Step]
         requires { J.keeps ≡ true }
-        ensures { result.now ≡ self.now.steps }
+        ensures steps { result.now ≡ self.now.steps }
+        // each could be done where it stands
+        ensures enabled { AreDone (simulation_of (rules_of R.plain) J.setting) result.now (start (simulation_of (rules_of R.plain) J.setting)) }
     {
         self.journal.list()
     }

@@ -1,8 +1,8 @@
-//! The journal of a run by groups: steps of the law of virtual time.
-ghost use Rattle.std.specs.Prelude.{◌≡◌, ◌+◌, ◌<◌, ◌≤◌, ◌⊎◌, ◌^◌, [], ◌∷◌, ◌++◌, true, map, is_some, length, OnOk, IfErr};
+//! The journal of a run by groups: steps of the laws of virtual time.
+ghost use Rattle.std.specs.Prelude.{◌≡◌, ◌+◌, ◌<◌, ◌≤◌, ◌^◌, [], ◌∷◌, ◌++◌, true, map, length, OnOk, IfErr};
 ghost use Rattle.virtual_time.specs.Law.{behind};
 ghost use Rattle.virtual_time.specs.declared.step.Step.TheVariants.{Take, Gvt};
-ghost use Rattle.journal.specs.declared.fault.PoolFault.TheVariants.{OutOfMemory, Torn};
+ghost use Rattle.journal.specs.declared.fault.PoolFault.TheVariants.{OutOfMemory};
 ghost use Rattle.group_hand.specs.Block.{steps_told};
 ghost use Rattle.group_boxes.specs.Boxing.{box_of, waiting_for};
 
@@ -10,27 +10,20 @@ use crate::addition::Addition;
 use crate::listing::{list_block, list_takes};
 use group_boxes::Boxes;
 use group_hand::Words;
-use journal::{PoolFault, Table};
+use journal::PoolFault;
 use std::alloc::Global;
 use std::marker::Model;
 use std::snapshot::Snapshot;
 use vlink::Step;
 
-/// The steps that are kept, and the table whose places they have.
-#[derive(Drop)]
-pub(crate) struct Kept {
-    pub(crate) steps: Vec<Step>,
-    pub(crate) table: Table,
-}
-
-/// The steps of a journal, in order. They are there as what was added at each go, in snapshots, which have no bytes and are read in proofs alone; and,
-/// where they are kept, once more as they are.
+/// The steps of a journal, in order. They exist as what was added at each go, in snapshots, which have no bytes and are read by proofs
+/// alone. If the steps are stored, they exist once more as values.
 #[derive(Drop)]
 pub struct Steps {
     told: Vec<Snapshot<Addition>>,
-    /// How many steps there are.
+    /// The number of steps.
     count: u64,
-    kept: Option<Kept>,
+    kept: Option<Vec<Step>>,
 }
 
 impl Model for Steps {
@@ -44,63 +37,49 @@ impl Model for Steps {
     ghost view = { λ s. record {
       steps = flat_map (λ t. steps_by t.value) s.told.items;
       keeps = is_some s.kept;
-      room = room_of (vec_capacity s.told - vec_len s.told) (option_map (λ k. vec_capacity k.steps - vec_len k.steps) s.kept);
+      room = room_of (vec_capacity s.told - vec_len s.told) (option_map (λ k. vec_capacity k - vec_len k) s.kept);
     } };
 
     ghost invariant = { λ s. (s.count ≡ length (flat_map (λ t. steps_by t.value) s.told.items))
-        × IfSome s.kept (λ k. k.steps.items ≡ flat_map (λ t. steps_by t.value) s.told.items) };
+        × IfSome s.kept (λ k. k.items ≡ flat_map (λ t. steps_by t.value) s.told.items) };
 }
 
 impl Steps {
-    /// No step. Those that come are kept where there is a table, and have its places.
-    pub fn new(alloc: Global, table: Option<Table>) -> Self
+    /// No step, and whether those that come are kept.
+    pub fn new(alloc: Global, keeps: bool) -> Self
         ensures steps { result.steps ≡ [] }
-        ensures keeps { result.keeps ≡ is_some table }
+        ensures keeps { result.keeps ≡ keeps }
     {
-        let told = Vec::new(alloc);
-        match table {
-            Some(table) => Steps {
-                told,
-                count: 0,
-                kept: Some(Kept {
-                    steps: Vec::new(alloc),
-                    table,
-                }),
-            },
-            None => Steps {
-                told,
-                count: 0,
-                kept: None,
-            },
+        Steps {
+            told: Vec::new(alloc),
+            count: 0,
+            kept: if keeps { Some(Vec::new(alloc)) } else { None },
         }
     }
 
-    /// How many there are.
+    /// Returns the number of steps.
     pub fn len(&self) -> u64
         ensures { result ≡ length self.now.steps }
     {
         self.count
     }
 
-    /// Makes room for so many more, and then writes their places in the table. Where they are not kept it takes no memory and nothing is
-    /// written. `Torn`: another journal has written there before, which is looked at behind the growths.
+    /// Makes room for `more` steps. Where they are not kept it takes no memory.
     pub fn reserve(&mut self, more: usize) -> Result<(), PoolFault>
         ensures room { OnOk result (more ≤ self.new.room) }
         ensures steps { self.new.steps ≡ self.old.steps }
         ensures keeps { self.new.keeps ≡ self.old.keeps }
-        ensures faults { IfErr result (λ fault. (fault ≡ OutOfMemory) ⊎ ((fault ≡ Torn) × (self.old.keeps ≡ true))) }
+        ensures memory { IfErr result (λ fault. fault ≡ OutOfMemory) }
     {
         self.told.reserve(more)?;
         if let Some(kept) = &mut self.kept {
-            kept.steps.reserve(more)?;
-            if !kept.table.write(self.count, more as u64) {
-                return Err(PoolFault::Torn);
-            }
+            kept.reserve(more)?;
         }
         Ok(())
     }
 
-    /// All letters for a group were taken, each the first of the mail of its receiver. There is room for these steps, and for one at the least.
+    /// Adds a Take for each letter for a group, the first of the mail of its receiver. The room for these steps, and for at least one, was
+    /// made before.
     pub fn collect(&mut self, boxes: &Boxes, group: u16)
         requires within { group < length boxes.now.boxes }
         requires some { 0 < self.old.room }
@@ -113,11 +92,11 @@ impl Steps {
         self.count += letters.len() as u64;
         self.told.push_reserved(Snapshot::of(&Addition::Collected(group, Snapshot::of(boxes))));
         if let Some(kept) = &mut self.kept {
-            list_takes(&mut kept.steps, letters);
+            list_takes(kept, letters);
         }
     }
 
-    /// A group did what these words tell, so many steps, each Take behind the letters that are on their way. There is room for these steps, and for
+    /// A group did these words, which are `count` steps, each Take behind the letters that are on their way. There is room for these steps, and for
     /// one at the least.
     pub fn post(&mut self, words: &Words, boxes: &Boxes, count: u64)
         requires count { count ≡ length (steps_told words.now.words) }
@@ -134,11 +113,11 @@ impl Steps {
             Snapshot::of(boxes),
         )));
         if let Some(kept) = &mut self.kept {
-            list_block(&mut kept.steps, words, boxes);
+            list_block(kept, words, boxes);
         }
     }
 
-    /// GVT was set. There is room for this step.
+    /// Adds that GVT was set. The room for this step was made before.
     pub fn publish(&mut self)
         requires room { 0 < self.old.room }
         requires few { length self.old.steps < 2 ^ 63 }
@@ -148,17 +127,17 @@ impl Steps {
         self.count += 1;
         self.told.push_reserved(Snapshot::of(&Addition::Published));
         if let Some(kept) = &mut self.kept {
-            kept.steps.push_reserved(Step::Gvt);
+            kept.push_reserved(Step::Gvt);
         }
     }
 
-    /// The steps, where they are kept.
+    /// Returns the steps, if they are stored.
     pub fn list(&self) -> &[Step]
         requires { self.now.keeps ≡ true }
         ensures { result.now ≡ self.now.steps }
     {
         match &self.kept {
-            Some(kept) => kept.steps.as_slice(),
+            Some(kept) => kept.as_slice(),
             None => unreachable!(),
         }
     }

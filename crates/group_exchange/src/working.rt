@@ -1,11 +1,15 @@
 //! What a group does alone.
-ghost use Rattle.std.specs.Prelude.{◌≡◌, ◌≤◌, ◌⊎◌, false, [], OnOk, IfOk, IfErr, IfNone, Ok, Err, All, IsPermutation};
+ghost use Rattle.std.specs.Prelude.{◌≡◌, ℕ, ◌+◌, ◌≤◌, ◌⊎◌, false, [], OnOk, IfOk, IfErr, IfNone, Ok, Err, All, IsPermutation};
+ghost use Rattle.vlink.specs.Order.{message_order};
+ghost use Rattle.virtual_time.specs.Law.{IsAscending, one_if};
 ghost use Rattle.reverse.specs.Rules.{rules_of};
 ghost use Rattle.reverse.specs.Setting.{simulation_of};
 ghost use Rattle.journal.specs.declared.fault.PoolFault.TheVariants.{OutOfMemory, Exhausted};
+ghost use Rattle.group_hand.specs.Block.{runs_in};
 ghost use Rattle.group_hand.specs.DoneEvents.{messages_of};
-ghost use Rattle.group_hand.specs.declared.in_order.InOrder.TheVariants.{Idle, Late};
-ghost use Rattle.group_exchange.specs.Effects.{Goes, IsGroupAsBefore, IsIdleBefore, IsShort, Works, WorksSome};
+ghost use Rattle.group_hand.specs.Hands.{FirstWaits};
+ghost use Rattle.group_hand.specs.declared.in_order.InOrder.TheVariants.{Ran, Idle, Late};
+ghost use Rattle.group_exchange.specs.Effects.{Ends, Goes, IsGroupAsBefore, IsIdleBefore, IsShort, Works, WorksSome};
 
 use crate::group::Group;
 use crate::run_of::GroupRun;
@@ -15,12 +19,12 @@ use journal::{Gate, PoolFault};
 use reverse::{Actor, actor_law};
 use vlink::{Message, Time};
 
-/// All letters of the tray arrive; then messages that are earlier than the GVT seen and `window`, in ns, are handled, `turn` at most, as long
-/// as there are any; then all done events below the GVT seen are committed. Each step joins the block. The answer is how many messages were handled. A
-/// gate that hears is told of each.
+/// Lets all letters of the tray arrive. Then it handles messages that are earlier than the GVT seen plus `window`, in ns: as many as there are, `turn` at
+/// most, and behind each it lets the letters arrive that the group sent itself. Then it commits all done events below the GVT seen. Each step joins the
+/// block. The answer is the number of messages that it handled. It calls the gate before and after each, if the gate hears.
 ///
-/// A refusal comes between two steps, and leaves what was done before it. `Exhausted`: the process that handles the first message has too few numbers
-/// left. `OutOfMemory`: a growth was refused.
+/// A refusal comes between two steps, and leaves what was done before it. `Exhausted`: the process that handles the first message has too
+/// few numbers left. `OutOfMemory`: memory was refused.
 pub fn work<R: Actor, J: GroupRun<R>, G: Gate>(
     group: &mut Group<R, J>,
     turn: u32,
@@ -36,7 +40,7 @@ pub fn work<R: Actor, J: GroupRun<R>, G: Gate>(
     Ok(count)
 }
 
-/// The receiver of the message, where that is earlier than the limit.
+/// Returns the receiver of the message, if the message is earlier than the limit.
 fn receiver_before(message: &Message, limit: Time) -> Option<u16>
     ensures { IfNone result (limit ≤ message.now.time) }
 {
@@ -47,10 +51,11 @@ fn receiver_before(message: &Message, limit: Time) -> Option<u16>
 }
 
 impl<R: Actor, J: GroupRun<R>> Group<R, J> {
-    /// Letters of the tray arrive, and messages that are earlier than the limit are handled, `turn` at most, as long as there are any; behind each of them
-    /// arrive the letters that it brought.
+    /// Letters of the tray arrive, and at most `turn` messages are handled, as long as they are earlier than the limit. After each of them
+    /// the letters that it brought arrive.
     fn run_turn<G: Gate>(&mut self, turn: u32, limit: Time, gate: &G) -> Result<u64, PoolFault>
-        ensures goes { Goes (simulation_of (rules_of R.plain) J.setting) J.owners self.old self.new }
+        ensures goes { Goes (simulation_of (rules_of R.plain) J.setting) J.owners limit self.old self.new }
+        ensures counted { IfOk result (λ count. runs_in self.new.held.flow.words ≡ runs_in self.old.held.flow.words + count) }
         ensures within { IfOk result (λ count. count ≤ turn) }
         ensures idle { IfOk result (λ count. (count ≡ turn) ⊎ IsIdleBefore (simulation_of (rules_of R.plain) J.setting) J.owners limit self.new) }
         ensures arrived { OnOk result (self.new.held.flow.tray ≡ []) }
@@ -70,7 +75,8 @@ impl<R: Actor, J: GroupRun<R>> Group<R, J> {
     /// All letters of the tray arrive.
     #[inline(always)]
     fn empty_tray(&mut self) -> Result<(), PoolFault>
-        ensures goes { Goes (simulation_of (rules_of R.plain) J.setting) J.owners self.old self.new }
+        ensures goes { (limit : ℕ) → Goes (simulation_of (rules_of R.plain) J.setting) J.owners limit self.old self.new }
+        ensures counted { runs_in self.new.held.flow.words ≡ runs_in self.old.held.flow.words }
         ensures arrived { OnOk result (self.new.held.flow.tray ≡ []) }
         ensures memory { IfErr result (λ fault. fault ≡ OutOfMemory) }
     {
@@ -81,11 +87,13 @@ impl<R: Actor, J: GroupRun<R>> Group<R, J> {
         }
     }
 
-    /// The first message is handled, if there is one that is earlier than the limit, and the gate is told of it, if it hears. The answer is whether there
+    /// Handles the first message, if it exists and is earlier than the limit, and calls the gate, if the gate hears. Returns whether there
     /// was one.
     #[inline(always)]
     fn run_one<G: Gate>(&mut self, limit: Time, gate: &G) -> Result<bool, PoolFault>
-        ensures goes { Goes (simulation_of (rules_of R.plain) J.setting) J.owners self.old self.new }
+        requires arrived { self.old.held.flow.tray ≡ [] }
+        ensures goes { Goes (simulation_of (rules_of R.plain) J.setting) J.owners limit self.old self.new }
+        ensures counted { IfOk result (λ ran. runs_in self.new.held.flow.words ≡ runs_in self.old.held.flow.words + one_if ran) }
         ensures idle { result ≡ Ok false → IsIdleBefore (simulation_of (rules_of R.plain) J.setting) J.owners limit self.new }
         ensures tray { result ≡ Ok false → self.new.held.flow.tray ≡ self.old.held.flow.tray }
         ensures short { result ≡ Err Exhausted → IsShort (simulation_of (rules_of R.plain) J.setting) J.owners self.new }
@@ -97,10 +105,12 @@ impl<R: Actor, J: GroupRun<R>> Group<R, J> {
         self.run_first(limit)
     }
 
-    /// The first message is handled, if there is one that is earlier than the limit, and the gate is told of it, before and after. The answer is whether
-    /// there was one.
+    /// Handles the first message, if it exists and is earlier than the limit, and calls the gate before and after. Returns whether there
+    /// was one.
     fn run_told<G: Gate>(&mut self, limit: Time, gate: &G) -> Result<bool, PoolFault>
-        ensures goes { Goes (simulation_of (rules_of R.plain) J.setting) J.owners self.old self.new }
+        requires arrived { self.old.held.flow.tray ≡ [] }
+        ensures goes { Goes (simulation_of (rules_of R.plain) J.setting) J.owners limit self.old self.new }
+        ensures counted { IfOk result (λ ran. runs_in self.new.held.flow.words ≡ runs_in self.old.held.flow.words + one_if ran) }
         ensures idle { result ≡ Ok false → IsIdleBefore (simulation_of (rules_of R.plain) J.setting) J.owners limit self.new }
         ensures tray { result ≡ Ok false → self.new.held.flow.tray ≡ self.old.held.flow.tray }
         ensures short { result ≡ Err Exhausted → IsShort (simulation_of (rules_of R.plain) J.setting) J.owners self.new }
@@ -118,10 +128,12 @@ impl<R: Actor, J: GroupRun<R>> Group<R, J> {
         Ok(has_run)
     }
 
-    /// The first message is handled, if there is one that is earlier than the limit. The answer is whether there was one.
+    /// Handles the first message, if it exists and is earlier than the limit. Returns whether there was one.
     #[inline(always)]
     fn run_first(&mut self, limit: Time) -> Result<bool, PoolFault>
-        ensures goes { Goes (simulation_of (rules_of R.plain) J.setting) J.owners self.old self.new }
+        requires arrived { self.old.held.flow.tray ≡ [] }
+        ensures goes { Goes (simulation_of (rules_of R.plain) J.setting) J.owners limit self.old self.new }
+        ensures counted { IfOk result (λ ran. runs_in self.new.held.flow.words ≡ runs_in self.old.held.flow.words + one_if ran) }
         ensures idle { result ≡ Ok false → IsIdleBefore (simulation_of (rules_of R.plain) J.setting) J.owners limit self.new }
         ensures tray { result ≡ Ok false → self.new.held.flow.tray ≡ self.old.held.flow.tray }
         ensures short { result ≡ Err Exhausted → IsShort (simulation_of (rules_of R.plain) J.setting) J.owners self.new }
@@ -134,10 +146,13 @@ impl<R: Actor, J: GroupRun<R>> Group<R, J> {
         }
     }
 
-    /// The first message is handled, where it is earlier than the limit and comes after all that the group has done.
+    /// Handles the first message, if it is earlier than the limit and comes after all that the group has done.
     #[inline(always)]
     fn run_in_order(&mut self, limit: Time) -> Result<InOrder, PoolFault>
-        ensures goes { Goes (simulation_of (rules_of R.plain) J.setting) J.owners self.old self.new }
+        requires arrived { self.old.held.flow.tray ≡ [] }
+        ensures goes { Goes (simulation_of (rules_of R.plain) J.setting) J.owners limit self.old self.new }
+        ensures counted { result ≡ Ok Ran → runs_in self.new.held.flow.words ≡ runs_in self.old.held.flow.words + 1 }
+        ensures words { (result ≡ Ok Idle) ⊎ (result ≡ Ok Late) → self.new.held.flow.words ≡ self.old.held.flow.words }
         ensures idle { result ≡ Ok Idle → IsIdleBefore (simulation_of (rules_of R.plain) J.setting) J.owners limit self.new }
         ensures tray { (result ≡ Ok Idle) ⊎ (result ≡ Ok Late) → self.new.held.flow.tray ≡ self.old.held.flow.tray }
         ensures short { result ≡ Err Exhausted → IsShort (simulation_of (rules_of R.plain) J.setting) J.owners self.new }
@@ -151,10 +166,12 @@ impl<R: Actor, J: GroupRun<R>> Group<R, J> {
         }
     }
 
-    /// The first message that is not done is handled, if there is one that is earlier than the limit, whether other members have done later events or not.
-    /// The answer is whether there was one.
+    /// Handles the first message that is not done, if it exists and is earlier than the limit, whether other members have done later events
+    /// or not. Returns whether there was one.
     fn run_next(&mut self, limit: Time) -> Result<bool, PoolFault>
-        ensures goes { Goes (simulation_of (rules_of R.plain) J.setting) J.owners self.old self.new }
+        requires arrived { self.old.held.flow.tray ≡ [] }
+        ensures goes { Goes (simulation_of (rules_of R.plain) J.setting) J.owners limit self.old self.new }
+        ensures counted { IfOk result (λ ran. runs_in self.new.held.flow.words ≡ runs_in self.old.held.flow.words + one_if ran) }
         ensures idle { result ≡ Ok false → IsIdleBefore (simulation_of (rules_of R.plain) J.setting) J.owners limit self.new }
         ensures tray { result ≡ Ok false → self.new.held.flow.tray ≡ self.old.held.flow.tray }
         ensures short { result ≡ Err Exhausted → IsShort (simulation_of (rules_of R.plain) J.setting) J.owners self.new }
@@ -169,9 +186,10 @@ impl<R: Actor, J: GroupRun<R>> Group<R, J> {
         }
     }
 
-    /// Messages at the front of the queue that are done already count beside, until the first is not done.
+    /// Moves messages at the front of the queue that are already done to the tally, until the first is not done.
     fn count_done(&mut self) -> Result<(), PoolFault>
         ensures stood { IsGroupAsBefore self.old self.new }
+        ensures waits { OnOk result (IsAscending message_order (messages_of self.new.held.done) → FirstWaits message_order self.new.held) }
         ensures memory { IfErr result (λ fault. fault ≡ OutOfMemory) }
     {
         match self.hand.count_done() {
@@ -180,7 +198,7 @@ impl<R: Actor, J: GroupRun<R>> Group<R, J> {
         }
     }
 
-    /// The process that handles the first message, if there is one that is earlier than the limit.
+    /// Returns the process that handles the first message, if that exists and is earlier than the limit.
     fn next_before(&mut self, limit: Time) -> Option<u16>
         ensures stood { IsGroupAsBefore self.old self.new }
         ensures idle { IfNone result (IsIdleBefore (simulation_of (rules_of R.plain) J.setting) J.owners limit self.new) }
@@ -193,11 +211,11 @@ impl<R: Actor, J: GroupRun<R>> Group<R, J> {
         }
     }
 
-    /// All done events that are earlier than the moment, which is the GVT seen, are committed. No letter waits in the tray.
+    /// Commits all done events that are earlier than the moment, which is the GVT seen. No letter waits in the tray.
     fn commit_below(&mut self, moment: Time) -> Result<(), PoolFault>
         requires tray { self.old.held.flow.tray ≡ [] }
         requires seen { moment ≡ self.old.seen }
-        ensures goes { Goes (simulation_of (rules_of R.plain) J.setting) J.owners self.old self.new }
+        ensures ends { Ends (simulation_of (rules_of R.plain) J.setting) J.owners self.old self.new }
         ensures below { OnOk result (All (λ m. self.old.seen ≤ m.time) (messages_of self.new.held.done)) }
         ensures queue { IsPermutation self.old.held.flow.queue self.new.held.flow.queue }
         ensures in_time { All (λ m. m.time ≤ J.setting.until) self.new.held.flow.queue }
@@ -211,7 +229,7 @@ impl<R: Actor, J: GroupRun<R>> Group<R, J> {
         }
     }
 
-    /// How many messages a process has handled, those that it handled again included.
+    /// Returns how many messages a process has handled, counting those that it handled again.
     fn run_count(&self, process: u16) -> u64 {
         match self.runs.get(usize::from(process)) {
             Some(runs) => *runs,
@@ -219,7 +237,7 @@ impl<R: Actor, J: GroupRun<R>> Group<R, J> {
         }
     }
 
-    /// A process has handled one message more. The count stops at its greatest value.
+    /// Counts one more message that a process handled. The count stops at its greatest value.
     fn count_run(&mut self, process: u16, run: u64)
         ensures { self.new ≡ self.old }
     {

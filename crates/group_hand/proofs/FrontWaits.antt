@@ -1,7 +1,7 @@
 -- Messages at the front of the queue that are done already count beside, until the first one waits.
-use Rattle.std.proofs.Common.{◌≡◌, ◌≢◌, false, Option, Some, IfSome, List, [], length, All, Contains, IsPermutation, refl, sym, ap, ◌∙◌, subst}
+use Rattle.std.proofs.Common.{◌≡◌, ◌≢◌, false, Option, Some, IfSome, List, [], length, All, Contains, IsPermutation, refl, sym, ap, ◌∙◌, subst, arith}
 use Rattle.std.proofs.lemmas.List.{nil_from_length}
-use Rattle.std.proofs.lemmas.List.Sorted.{Contains-permutation, All-permutation, length_permutation}
+use Rattle.std.proofs.lemmas.List.Sorted.{Contains-permutation, All-permutation, IsPermutation-refl, length_permutation}
 use Rattle.vlink.specs.declared.message.Message.{Message}
 use Rattle.vlink.specs.declared.note.Note.{Note}
 use Rattle.vlink.specs.Order.{message_order}
@@ -34,6 +34,15 @@ first-least O m old new p c a =
 -- it is none of the done events
 pub front-waits : {S K : Type 0} → IsOrder message_order → (h : Held S K) (m : Message) → least message_order h.flow.queue ≡ Some m → All (λ x. x ≢ m) (messages_of h.done) → FirstWaits message_order h
 front-waits O h m e a = subst (λ o. IfSome o (λ y. times_in message_order y (messages_of h.done) ≡ 0)) (sym e) (none-among O (messages_of h.done) m a)
+
+-- so a done message is not the first
+pub not-waiting : {S K : Type 0} → IsOrder message_order → (h : Held S K) (m : Message) → Contains h.flow.queue m → All (λ x. is_before x m ≡ false) h.flow.queue → Contains (messages_of h.done) m →
+    FirstWaits message_order h → ⊥
+not-waiting O h m c a there w =
+    let e = first-least O m h.flow.queue h.flow.queue (IsPermutation-refl h.flow.queue) c a in
+    let i = contains-in O (messages_of h.done) m there in
+    let z = subst (λ o. IfSome o (λ y. times_in message_order y (messages_of h.done) ≡ 0)) e w in
+    omega arith
 
 -- there is none
 pub nothing-waits : {S K : Type 0} (h : Held S K) → h.flow.queue ≡ [] → FirstWaits message_order h

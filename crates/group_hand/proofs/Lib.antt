@@ -1,6 +1,7 @@
 pub mod Shares
 pub mod Offers
 pub mod Telling
+pub mod Adding
 pub mod Steps
 pub mod Member
 pub mod Running

@@ -15,6 +15,7 @@ use Rattle.group_hand.specs.Block.{steps_told}
 use Rattle.group_hand.specs.Flow.{Flow, WentAbroad, CameHome, WasTaken}
 use Rattle.group_hand.specs.Hands.{StandsForSent, is_ours}
 use Rattle.group_hand.specs.Passing.{GoesOn, held}
+use Rattle.group_hand.proofs.Adding.{commits-none, runs-none}
 use Rattle.group_hand.proofs.Telling.{done-append, are_done-append, by-both, told-append}
 use Rattle.group_hand.proofs.Going.{stands-kept, came-steps, came-home}
 use Rattle.group_hand.proofs.Taking.{taken-steps, was-taken}
@@ -27,6 +28,8 @@ module _ {S K : Type 0} (plain : Plain S Message Sends K) (V : S → Message →
     words = sym (append-nil old.words);
     keeps = refl;
     by = tt;
+    no_run = refl;
+    no_commit = refl;
     stands = λ done rows x L v soon before g. (tt, g);
   }
 
@@ -37,6 +40,8 @@ module _ {S K : Type 0} (plain : Plain S Message Sends K) (V : S → Message →
     words = b.words ∙ (ap (λ z. z ++ b.did) a.words ∙ append_assoc old.words a.did b.did);
     keeps = b.keeps ∙ a.keeps;
     by = by-both (is_ours members) a.did b.did a.by b.by;
+    no_run = runs-none a.did b.did a.no_run b.no_run;
+    no_commit = commits-none a.did b.did a.no_commit b.no_commit;
     stands = λ done rows x L v soon before g.
         let f = simulation_of (rules_of plain) x in
         let one = a.stands done rows x L v soon before g in
@@ -54,6 +59,8 @@ module _ {S K : Type 0} (plain : Plain S Message Sends K) (V : S → Message →
       words = ap (λ z. z.words) e ∙ sym (append-nil mid.words);
       keeps = ap (λ z. z.keeps) e;
       by = tt;
+      no_run = refl;
+      no_commit = refl;
       stands = λ done rows x L v soon before g. (
         tt,
         stands-kept (rules_of plain) O V law x v (held members done rows mid) (held members done rows new) (map plus_of (m ∷ rest)) (map plus_of rest) refl refl refl
@@ -71,6 +78,8 @@ module _ {S K : Type 0} (plain : Plain S Message Sends K) (V : S → Message →
       words = c.words;
       keeps = c.keeps;
       by = (o, (o, tt));
+      no_run = refl;
+      no_commit = refl;
       stands = λ done rows x L v soon before g. (
         came-steps (rules_of plain) O V law x L v (held members done rows mid) (held members done rows new) m (map plus_of rest) refl refl refl c.extra c.tray c.abroad
             (λ y. times-permutation message_order y (m ∷ mid.queue) new.queue c.queue) c.none_before c.not_beside o (λ y i. before m y inside i) (soon m inside) g,
@@ -85,6 +94,8 @@ module _ {S K : Type 0} (plain : Plain S Message Sends K) (V : S → Message →
       words = ap (λ z. z.words) e;
       keeps = ap (λ z. z.keeps) e;
       by = (o, tt);
+      no_run = refl;
+      no_commit = refl;
       stands = λ done rows x L v soon before g. (
         taken-steps (rules_of plain) V x v (held members done rows mid) (held members done rows new) (plus_of m) refl refl refl (ap (λ z. z.queue) e) (ap (λ z. z.extra) e)
             (ap (λ z. z.tray) e) o (soon m inside) (ap (λ z. z.abroad) e) (map plus_of rest) g,

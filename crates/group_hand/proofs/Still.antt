@@ -5,7 +5,8 @@ use Rattle.std.proofs.lemmas.List.Sorted.{IsPermutation-refl, IsPermutation-sym,
 use Rattle.std.proofs.lemmas.List.Elements.{All-contains}
 use Rattle.vlink.specs.declared.message.Message.{Message}
 use Rattle.vlink.specs.Order.{message_order}
-use Rattle.virtual_time.specs.Law.{IsOrder, IsAscending, World, received_by}
+use Rattle.virtual_time.specs.Law.{IsOrder, IsAscending, World, least, received_by, times_in}
+use Rattle.virtual_time.proofs.Least.{least-from, least-none, least-some}
 use Rattle.virtual_time.proofs.Order.{not_less-time}
 use Rattle.reverse.specs.Plain.{Plain}
 use Rattle.reverse.specs.Rules.{rules_of, is_before}
@@ -15,10 +16,11 @@ use Rattle.two_lists.proofs.Counting.{times-permutation}
 use Rattle.group_hand.specs.declared.block.Did.{Did}
 use Rattle.group_hand.specs.DoneEvents.{DoneEvent, messages_of}
 use Rattle.group_hand.specs.Flow.{Flow, IsFirst, TookFirst}
-use Rattle.group_hand.specs.Handling.{IsHandled}
-use Rattle.group_hand.specs.Hands.{Held, DoesSent, StandsForSent, IsAsBefore, is_ours}
+use Rattle.group_hand.specs.Handling.{IsHandled, RanFirst}
+use Rattle.group_hand.specs.Hands.{Held, DoesSent, FirstWaits, StandsForSent, IsAsBefore, is_ours}
 use Rattle.group_hand.specs.Passing.{held}
 use Rattle.group_hand.specs.Rows.{Sealed}
+use Rattle.group_hand.proofs.Adding.{adds-run-again}
 use Rattle.group_hand.proofs.Going.{stands-kept}
 use Rattle.group_hand.proofs.Telling.{of_members-none}
 
@@ -123,6 +125,46 @@ handled-soon O limit h mid new a soon r =
         | inr p ↦ inr (IsPermutation-trans h.flow.queue mid.flow.queue (m ∷ new.flow.queue) a.queue p)
       ],
     )
+
+-- the same of the first message, which is not done
+pub ran-soon : {S K : Type 0} → IsOrder message_order → (limit : ℕ) (h mid new : Held S K) → IsAsBefore h mid → ((y : Message) × Contains h.flow.queue y × (y.time < limit)) →
+    ((m : Message) × RanFirst m mid new) → (m : Message) × (m.time < limit) × RanFirst m h new
+ran-soon O limit h mid new a soon r =
+    let m = r.0 in
+    let k = r.1 in
+    let y = soon.0 in
+    let back = IsPermutation-sym h.flow.queue mid.flow.queue a.queue in
+    let there = Contains-permutation h.flow.queue mid.flow.queue y a.queue soon.1 in
+    let e = not_less-time message_order O y m (All-contains (λ x. is_before x m ≡ false) mid.flow.queue y k.first there) in (
+      m,
+      (let l = soon.2 in omega arith),
+      record {
+        among = Contains-permutation mid.flow.queue h.flow.queue m back k.among;
+        first = All-permutation (λ x. is_before x m ≡ false) mid.flow.queue h.flow.queue back k.first;
+        not_done = subst (λ ds. IsAscending message_order (messages_of ds) → All (λ x. x ≢ m) (messages_of ds)) a.done k.not_done;
+        words = adds-run-again m.receiver h.flow.words mid.flow.words new.flow.words (ap (λ z. z.words) a.flow) k.words;
+      },
+    )
+
+least-same : IsOrder message_order → (old new : List Message) → IsPermutation old new → least message_order old ≡ least message_order new
+least-same O old new p = go (least message_order old) refl
+  where
+    go : (first : Option Message) → least message_order old ≡ first → least message_order old ≡ least message_order new
+    go None e = e ∙ sym (ap (least message_order) (nil_from_length new (length_permutation old new p ∙ ap length (least-none message_order O old e))))
+    go (Some m) e =
+        let k = least-some message_order O old m e in
+        e ∙ sym (least-from message_order O new m (record {
+          inside = let a = times-permutation message_order m old new p in let i = k.inside in omega arith;
+          lowest = λ y i. k.lowest y (let a = times-permutation message_order y old new p in omega arith);
+        }))
+
+-- the first message is not done either
+pub waits-still : {S K : Type 0} → IsOrder message_order → (h mid : Held S K) → IsAsBefore h mid → (IsAscending message_order (messages_of h.done) → FirstWaits message_order h) →
+    IsAscending message_order (messages_of mid.done) → FirstWaits message_order mid
+waits-still O h mid a w up =
+    let first = w (subst (λ ds. IsAscending message_order (messages_of ds)) a.done up) in
+    subst (λ ds. IfSome (least message_order mid.flow.queue) (λ m. times_in message_order m (messages_of ds) ≡ 0)) (sym a.done)
+    (subst (λ o. IfSome o (λ m. times_in message_order m (messages_of h.done) ≡ 0)) (least-same O h.flow.queue mid.flow.queue a.queue) first)
 
 module _ {S K : Type 0} (plain : Plain S Message Sends K) (V : S → Message → Type 0) (O : IsOrder message_order)
     (law : (s : S) (e : Message) → plain.before (plain.after s e) e (plain.saves s e) ≡ s) where

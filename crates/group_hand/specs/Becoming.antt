@@ -1,4 +1,4 @@
--- What becomes of the first message of a group.
+-- The result for the first message of a group.
 use Rattle.std.specs.Prelude.{◌≡◌, ℕ, ◌+◌, ◌<◌, ◌≤◌, true, false, List, Option, Some, Result, Ok, Err, slice_get}
 use Rattle.vlink.specs.declared.message.Message.{Message}
 use Rattle.vlink.specs.Numbering.{greatest_number}

@@ -1,9 +1,12 @@
 -- The first message of the queue, where members may have done later events than it: it is handled, or counts beside.
-use Rattle.std.specs.Prelude.{◌≡◌, ℕ, ◌+◌, ◌==◌, ◌⊎◌, true, false, List, ◌∷◌, ◌++◌, length, reverse, slice_get, Some, All, IsPermutation}
+use Rattle.std.specs.Prelude.{◌≡◌, ◌≢◌, ℕ, ◌+◌, ◌==◌, ◌⊎◌, true, false, List, ◌∷◌, ◌++◌, length, reverse, slice_get, Some, All, Contains, IsPermutation}
 use Rattle.vlink.specs.declared.message.Message.{Message}
 use Rattle.vlink.specs.declared.note.Note.{Note}
-use Rattle.virtual_time.specs.Law.{Order, Rules, IsIn, times_in, plus_of}
+use Rattle.vlink.specs.Order.{message_order}
+use Rattle.virtual_time.specs.Law.{Order, Rules, IsAscending, IsIn, times_in, plus_of}
+use Rattle.reverse.specs.Rules.{is_before}
 use Rattle.antimessages.specs.Counting.{HaveSameCounts, is_after, newest_of}
+use Rattle.group_hand.specs.Block.{AddsRun}
 use Rattle.group_hand.specs.DoneEvents.{DoneEvent, done_event_of, messages_of}
 use Rattle.group_hand.specs.Flow.{Flow}
 use Rattle.group_hand.specs.Hands.{Held}
@@ -53,6 +56,13 @@ pub record HasLater {K : Type 0} (o : Order Message) (m : Message) (done : List 
 -- one event more is done; or this message, which was done already, left the queue
 abbrev pub IsHandled : {S K : Type 0} → Message → Held S K → Held S K → Type 0
 IsHandled m old new = (length new.done ≡ length old.done + 1) ⊎ IsPermutation old.flow.queue (m ∷ new.flow.queue)
+
+-- this message, which is the first of the queue and is not done, was handled
+pub record RanFirst {S K : Type 0} (m : Message) (old new : Held S K) : Type 0 where
+  pub among : Contains old.flow.queue m
+  pub first : All (λ x. is_before x m ≡ false) old.flow.queue
+  pub not_done : IsAscending message_order (messages_of old.done) → All (λ x. x ≢ m) (messages_of old.done)
+  pub words : AddsRun m.receiver old.flow.words new.flow.words
 
 -- a message of the queue is done already: it leaves the queue and counts beside
 pub record CountsAgain {K : Type 0} (o : Order Message) (m : Message) (done : List (DoneEvent K)) (old new : Flow) : Type 0 where

@@ -1,4 +1,4 @@
--- What a group holds, when that stands for its processes in a small world of the law of virtual time, and what its calls do there.
+-- What a group holds, when it represents its processes in a small world of the laws of virtual time, and what its calls do there.
 use Rattle.std.specs.Prelude.{◌≡◌, ℕ, suc, ◌<◌, ◌≤◌, Bool, true, false, List, [], ◌++◌, map, length, slice_get, Option, Some, None, All, IfSome, min, ⊤, IsPermutation}
 use Rattle.vlink.specs.declared.message.Message.{Message}
 use Rattle.vlink.specs.declared.note.Note.{Note}

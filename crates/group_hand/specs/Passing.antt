@@ -7,7 +7,7 @@ use Rattle.vlink.specs.declared.note.Note.{Note}
 use Rattle.virtual_time.specs.Law.{Rules, Laws, World, IsIn, plus_of, AreBy, AreDone, done_by}
 use Rattle.reverse.specs.Setting.{Setting, simulation_of}
 use Rattle.group_hand.specs.declared.block.Did.{Did}
-use Rattle.group_hand.specs.Block.{steps_told}
+use Rattle.group_hand.specs.Block.{commits_in, runs_in, steps_told}
 use Rattle.group_hand.specs.DoneEvents.{DoneEvent, messages_of}
 use Rattle.group_hand.specs.Flow.{Flow}
 use Rattle.group_hand.specs.Hands.{Held, StandsForSent, is_ours}
@@ -23,6 +23,8 @@ pub record GoesOn {S K : Type 0} (r : Rules Message S K Note) (V : S → Message
   pub words : new.words ≡ old.words ++ did
   pub keeps : new.keeps ≡ old.keeps
   pub by : AreBy (is_ours members) (steps_told did)
+  pub no_run : runs_in did ≡ 0
+  pub no_commit : commits_in did ≡ 0
   pub stands : (done : List (DoneEvent K)) (rows : Sealed) (x : Setting S) → Laws (simulation_of r x) → (v : World Message S) →
       ((m : Message) → IsIn r.order m all → r.order.time m ≤ x.until) →
       ((m y : Message) → IsIn r.order m all → IsIn r.order y (messages_of done) → r.order.less y m ≡ true) →

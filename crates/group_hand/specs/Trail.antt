@@ -1,4 +1,4 @@
--- Items in the order in which they came, and for how many more there is room.
+-- Items in the order in which they came, and the room for more.
 use Rattle.std.specs.Prelude.{ℕ, List}
 
 pub record Items (T : Type 0) : Type 0 where

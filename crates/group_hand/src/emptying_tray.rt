@@ -1,6 +1,7 @@
-//! Letters that were taken arrive, one after another.
+//! The letters that were taken arrive, one after another.
 ghost use Rattle.std.specs.Prelude.{◌≡◌, ◌+◌, ◌<◌, ◌≤◌, true, false, Ok, OnOk, OnErr, IfErr, IfSome, IsPermutation, length, vec_len, vec_capacity};
 ghost use Rattle.reverse.specs.Rules.{rules_of};
+ghost use Rattle.group_hand.specs.Block.{AddsLetters};
 ghost use Rattle.group_hand.specs.Hands.{DoesTold, IsAsBefore, IsQuiet};
 ghost use Rattle.group_hand.specs.Undoing.{HasRoomFor, sent_in};
 ghost use Rattle.group_hand.specs.declared.fault.HandFault.TheVariants.{OutOfMemory};
@@ -16,7 +17,7 @@ use std::alloc::AllocError;
 use std::collections::VecDeque;
 use vlink::Letter;
 
-/// For so many letters at most an empty tray keeps room.
+/// The most letters for which an empty tray keeps room.
 const MOST_KEPT: usize = 4096;
 
 impl<R: Actor> Hand<R> {
@@ -28,10 +29,11 @@ impl<R: Actor> Hand<R> {
         self.letters.tray.is_empty()
     }
 
-    /// All letters that were taken arrive, and what is taken back by that within the group arrives too. A refusal stops between two letters.
+    /// All letters that were taken arrive. What is thereby taken back within the group arrives too. A refusal stops between two letters.
     #[inline(always)]
     pub fn arrive_all(&mut self) -> Result<(), HandFault>
         ensures did { DoesTold (rules_of R.plain) R.is_value self.old self.new }
+        ensures words { AddsLetters self.old.flow.words self.new.flow.words }
         ensures quiet { OnOk result (IsQuiet self.new) }
         ensures memory { IfErr result (λ fault. fault ≡ OutOfMemory) }
     {
@@ -44,16 +46,17 @@ impl<R: Actor> Hand<R> {
         Ok(())
     }
 
-    /// Where many messages wait in no order, they are put in order.
+    /// Sorts the messages that wait in no order, if they are many.
     fn sort_many(&mut self)
         ensures { IsAsBefore self.old self.new }
     {
         self.letters.sort_many();
     }
 
-    /// The front of the tray arrives, if there is one. The answer is whether there was. A refusal leaves all as it was.
+    /// The front letter of the tray arrives. Returns whether the tray had one. A refusal leaves all as it was.
     fn arrive_front(&mut self) -> Result<bool, HandFault>
         ensures did { DoesTold (rules_of R.plain) R.is_value self.old self.new }
+        ensures words { AddsLetters self.old.flow.words self.new.flow.words }
         ensures quiet { result ≡ Ok false → IsQuiet self.new }
         ensures fewer { result ≡ Ok true → length self.new.flow.tray + sent_in self.new.done < length self.old.flow.tray + sent_in self.old.done }
         ensures unchanged { OnErr result (IsAsBefore self.old self.new) }
@@ -80,7 +83,7 @@ impl<R: Actor> Hand<R> {
 }
 
 impl Letters {
-    /// Where many messages wait in no order, they are put in order. The room of a tray that was emptied of many letters is given back.
+    /// Sorts the messages that wait in no order, if they are many. Gives back the room of a tray that was emptied of many letters.
     fn sort_many(&mut self)
         ensures queue { IsPermutation self.old.queue self.new.queue }
         ensures others { self.new ≡ record self.old { queue = self.new.queue; room = self.new.room } }
@@ -91,8 +94,8 @@ impl Letters {
     }
 }
 
-/// Room that the tray does not need is given back, where there is much of it: the offers of a run come by it at the start, and so many letters do
-/// not come again.
+/// Gives back large room that the tray does not need: the offers of a run come through it at the start, and so many letters do not come
+/// again.
 fn give_back(tray: &mut VecDeque<Letter>)
     ensures { tray.new.items ≡ tray.old.items }
 {
@@ -101,7 +104,7 @@ fn give_back(tray: &mut VecDeque<Letter>)
     }
 }
 
-/// Makes room for all that comes of a letter that arrives, whatever is undone by it.
+/// Makes room for all that results from a letter that arrives, whatever it undoes.
 fn make_room<K: Copy>(
     done: &DoneEvents<K>,
     undoing: &mut Undoing<K>,
@@ -121,7 +124,8 @@ fn make_room<K: Copy>(
     undoing.reserve_for(done)
 }
 
-/// For how many letters and words there has to be room where so many events, which sent so many messages, can be undone: none where no number tells.
+/// Returns for how many letters and words room is needed if `events` events, which sent `sent` messages, can be undone; none if the number
+/// does not fit.
 fn room_for(events: usize, sent: usize) -> Option<usize>
     ensures { IfSome result (λ n. n ≡ events + sent + 2) }
 {

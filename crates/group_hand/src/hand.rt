@@ -1,9 +1,10 @@
-//! A group of processes in one hand.
+//! The hand of a group of processes.
 ghost use Rattle.std.specs.Prelude.{◌≡◌, ◌≤◌, ◌<◌, ◌+◌, ℕ, List, [], ◌++◌, false, All, Contains, OnOk, OnErr, IfOk, IfErr, IfSome, IfNone, IsPermutation, drop, length, slice_get, take};
 ghost use Rattle.vlink.specs.declared.message.Message.{Message};
 ghost use Rattle.virtual_time.specs.Law.{World};
 ghost use Rattle.reverse.specs.Rules.{rules_of, is_before};
 ghost use Rattle.reverse.specs.Setting.{Setting};
+ghost use Rattle.group_hand.specs.Block.{AddsCommits};
 ghost use Rattle.group_hand.specs.DoneEvents.{DoneEvent, messages_of};
 ghost use Rattle.group_hand.specs.Hands.{DoesTold, StandsForGroup, CommitsTold, StaysDone, IsAsBefore};
 ghost use Rattle.group_hand.specs.Sealing.{rows_in};
@@ -21,10 +22,10 @@ use vlink::{Message, Row, Time};
 
 /// The processes of a group: their actors, one queue of all messages that they have to handle, and one list of their done events.
 ///
-/// Between calls no letter of the group is on its way home, and no letter waits in an outbox.
+/// Between calls no letter of the group is on its way to a member, and no letter waits in an outbox.
 #[derive(Drop)]
 pub struct Hand<R: Actor> {
-    /// The actors by their numbers; none where the process is elsewhere.
+    /// The actors by their numbers; none if the process is elsewhere.
     pub(crate) members: Vec<Option<R>>,
     /// The done events in the order of their messages.
     pub(crate) done: DoneEvents<R::Record>,
@@ -51,8 +52,8 @@ impl<R: Actor> Model for Hand<R> {
 }
 
 impl<R: Actor + Drop> Hand<R> {
-    /// A group that has done nothing, of these members, by their numbers, where these offers are in the queue; and whether the words of its block are
-    /// kept to be read.
+    /// Makes a group that has done nothing, of these members, by their numbers, with these offers in the queue. `keeps` states whether the
+    /// words of its block are stored to be read.
     pub fn new(
         alloc: Global,
         members: Vec<Option<R>>,
@@ -85,7 +86,7 @@ impl<R: Actor + Drop> Hand<R> {
 }
 
 impl<R: Actor> Hand<R> {
-    /// The first message of the queue, if there is one: the least of all that the members have to handle, where none of them rolled back.
+    /// Returns the first message of the queue, if any: the least of all that the members have to handle, if none of them rolled back.
     pub fn next(&mut self) -> Option<Message>
         ensures same { IsAsBefore self.old self.new }
         ensures among { IfSome result (Contains self.old.flow.queue) }
@@ -95,14 +96,15 @@ impl<R: Actor> Hand<R> {
         self.letters.first()
     }
 
-    /// The done events that are earlier than the moment, in ns, are committed, the oldest first, up to one that counts other than once, or after which
-    /// the first message of the queue does not come. Their rows are sealed. A refusal leaves all as it was.
-    /// The list is in message order, so each look is at its front.
+    /// Commits the done events that are earlier than the moment, in ns, the oldest first, up to one whose signed count is not 1, or one
+    /// that does not come before the first message of the queue. Their rows are sealed. A refusal leaves all as it was. The list is in
+    /// message order, so each look is at its front.
     pub fn commit_below(&mut self, moment: Time) -> Result<(), HandFault>
         ensures did { CommitsTold (rules_of R.plain) R.is_value moment self.old self.new }
         ensures sealed { OnOk result ((ds : List (DoneEvent R.Record)) × (self.old.done ≡ ds ++ self.new.done)
             × (self.new.rows ≡ record self.old.rows { all = self.old.rows.all ++ rows_in ds }) × All (λ m. m.time < moment) (messages_of ds)) }
         ensures left { OnOk result (StaysDone moment self.new) }
+        ensures words { AddsCommits self.old.flow.words self.new.flow.words }
         ensures queue { IsPermutation self.old.flow.queue self.new.flow.queue }
         ensures flow { self.new.flow ≡ record self.old.flow { queue = self.new.flow.queue; words = self.new.flow.words; room = self.new.flow.room } }
         ensures memory { IfErr result (λ fault. fault ≡ OutOfMemory) }
@@ -120,14 +122,14 @@ impl<R: Actor> Hand<R> {
         }
     }
 
-    /// The rows of committed events but those that have left, in the order of their events.
+    /// Returns the rows of committed events, without those that have left, in the order of their events.
     pub fn rows(&self) -> &[Row]
         ensures { result.now ≡ drop self.now.rows.left self.now.rows.all }
     {
         self.rows.as_slice()
     }
 
-    /// The oldest rows that have not left do so, while they are earlier than the moment, in ns. A refusal leaves all as it was.
+    /// Lets the oldest rows leave, while they are earlier than the moment, in ns. A refusal leaves all as it was.
     pub fn let_rows_go(&mut self, moment: Time) -> Result<(), HandFault>
         ensures rows { self.new ≡ record self.old { rows = record self.old.rows { left = self.new.rows.left } } }
         ensures gone { (count : ℕ) × (self.new.rows.left ≡ self.old.rows.left + count)

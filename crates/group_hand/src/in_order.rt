@@ -1,10 +1,11 @@
-//! The first message of a group is handled, where it comes after all that the group has done.
+//! Handles the first message of a group, if it comes after all that the group has done.
 ghost use Rattle.std.specs.Prelude.{◌≡◌, ℕ, ◌+◌, ◌≤◌, ◌++◌, ◌∷◌, true, [], Some, length, slice_get};
 ghost use Rattle.vlink.specs.Order.{message_order};
 ghost use Rattle.vlink.specs.Numbering.{greatest_number};
 ghost use Rattle.reverse.specs.Rules.{rules_of};
 ghost use Rattle.antimessages.specs.Counting.{is_after, newest_of};
 ghost use Rattle.group_hand.specs.Becoming.{Becomes};
+ghost use Rattle.group_hand.specs.Block.{AddsRun};
 ghost use Rattle.group_hand.specs.DoneEvents.{DoneEvent, messages_of};
 ghost use Rattle.group_hand.specs.Hands.{DoesSent};
 ghost use Rattle.group_hand.specs.Flow.{Flow, TookFirst};
@@ -21,19 +22,19 @@ use crate::members::{act, has_numbers, send_all};
 use reverse::{Actor, Outbound, actor_rules_law};
 use vlink::{Message, Time};
 
-/// What became of the first message of a group.
+/// The result for the first message of a group.
 #[derive(Clone, Copy)]
 pub enum InOrder {
     /// It was handled.
     Ran,
-    /// There is none that is earlier than the limit.
+    /// No message is earlier than the limit.
     Idle,
     /// Some done event does not come before it.
     Late,
 }
 
-/// The first message, which was taken out of the queue and whose receiver is a member with numbers left, is handled, and what it sends goes on.
-/// There is room for all that comes of it.
+/// Handles the first message, which was taken out of the queue and whose receiver is a member with numbers left. What it sends is passed
+/// on. The room for all that results was made before.
 #[inline(always)]
 pub(crate) fn handle_in_order<R: Actor>(
     members: &mut [Option<R>],
@@ -51,6 +52,7 @@ pub(crate) fn handle_in_order<R: Actor>(
     ensures len { length members.new ≡ length members.old }
     ensures did { (rows : Sealed) (before : Flow) → TookFirst message.now before letters.old →
         DoesSent (rules_of R.plain) R.is_value (held members.old done.old.events rows before) [] (held members.new done.new.events rows letters.new) [] }
+    ensures words { AddsRun message.now.receiver letters.old.words letters.new.words }
     ensures done { (d : DoneEvent R.Record) × (done.new.events ≡ done.old.events ++ d ∷ []) × (d.message ≡ message.now) }
     ensures came { ((p : ℕ) → CameTo (rules_of R.plain) R.is_value members.old done.old.events p) → (p : ℕ) → CameTo (rules_of R.plain) R.is_value members.new done.new.events p }
 {
@@ -63,8 +65,8 @@ pub(crate) fn handle_in_order<R: Actor>(
     send_all(members, letters, out.messages());
 }
 
-/// What becomes of the first message of a group: whether it is earlier than the limit, comes after all that the group has done, and its receiver is a
-/// member with numbers left for what one event can send.
+/// Returns the result for the first message of a group: whether it is earlier than the limit, comes after all that the group has done, and
+/// its receiver is a member with numbers left for what one event can send.
 #[inline(always)]
 pub(crate) fn in_order_of<R: Actor>(
     members: &[Option<R>],

@@ -14,15 +14,15 @@ use std::collections::VecDeque;
 use std::marker::Model;
 use vlink::{Letter, Message, Sign, compare, message_order_law, order_law};
 
-/// For so many letters and words more than are asked for there is made room at one go.
+/// The number of letters and words for which room is made at a time, besides those asked for.
 const AHEAD: usize = 256;
 
 /// What waits for the members of a group, what they sent to others, and what was done.
 #[derive(Drop)]
 pub(crate) struct Letters {
-    /// What is present and not done. A message can be there several times.
+    /// What is present and not done. It can contain a message several times.
     pub(crate) queue: Queue,
-    /// The signed counts, less 1 for each message of the queue and each done event: nearly always none.
+    /// The signed counts, minus 1 for each message of the queue and each done event: nearly always none.
     pub(crate) extra: Tally,
     /// Letters to members that were taken, from the mail of the run or of the group, and have not arrived.
     pub(crate) tray: VecDeque<Letter>,
@@ -30,7 +30,7 @@ pub(crate) struct Letters {
     pub(crate) abroad: Vec<Letter>,
     /// What was done since the last entry.
     pub(crate) block: Words,
-    /// For how many letters and words more there is room in each of these, at the least: so one look tells it.
+    /// The number of letters and words for which each of these lists has room at least: so one comparison suffices.
     pub(crate) room: usize,
 }
 
@@ -56,7 +56,7 @@ impl Model for Letters {
 }
 
 impl Letters {
-    /// Nothing but these offers.
+    /// Makes the letters of a group with nothing but these offers.
     pub(crate) fn of_offers(
         alloc: Global,
         offers: Vec<Message>,
@@ -79,7 +79,7 @@ impl Letters {
         })
     }
 
-    /// Makes room for so many letters and words more, wherever they go. Mostly there is.
+    /// Makes room for `more` letters and words, wherever they go. Mostly it exists.
     #[inline(always)]
     pub(crate) fn reserve(&mut self, more: usize) -> Result<(), AllocError>
         ensures room { OnOk result (more ≤ self.new.room) }
@@ -91,7 +91,7 @@ impl Letters {
         self.grow(more.saturating_add(AHEAD))
     }
 
-    /// Makes room for so many letters and words more in each of the lists.
+    /// Makes room for `more` letters and words in each of the lists.
     #[inline(never)]
     fn grow(&mut self, more: usize) -> Result<(), AllocError>
         ensures room { OnOk result (more ≤ self.new.room) }
@@ -106,7 +106,7 @@ impl Letters {
         Ok(())
     }
 
-    /// The first message, if there is one.
+    /// Returns the first message, if any.
     #[inline(always)]
     pub(crate) fn first(&mut self) -> Option<Message>
         ensures same { IsPermutation self.old.queue self.new.queue }
@@ -119,7 +119,7 @@ impl Letters {
         self.queue.first()
     }
 
-    /// Takes the first message out of the queue, if there is one.
+    /// Removes and returns the first message of the queue, if any.
     #[inline(always)]
     pub(crate) fn pop(&mut self) -> Option<Message>
         ensures taken { IfSome result (λ m. TookFirst m self.old self.new) }
@@ -131,7 +131,7 @@ impl Letters {
         self.queue.pop()
     }
 
-    /// The first message, which is this one, is handled: it leaves the queue. There is room to tell of it.
+    /// Removes the first message, which is this one, from the queue, since it is handled. The room for its word was made before.
     #[inline(always)]
     pub(crate) fn take_first(&mut self, message: &Message)
         requires among { Contains self.old.queue message.now }
@@ -143,7 +143,7 @@ impl Letters {
         self.queue.take_first(message);
     }
 
-    /// A message of the group waits again: it joins the queue, which has room for it.
+    /// Puts a message of the group back into the queue, which has room for it.
     pub(crate) fn wait_again(&mut self, message: &Message)
         requires { 0 < self.old.room }
         ensures waits { IsPermutation (message.now ∷ self.old.queue) self.new.queue }
@@ -154,7 +154,7 @@ impl Letters {
         self.room -= 1;
     }
 
-    /// One word more, for which there is room.
+    /// Adds one word. The room for it was made before.
     #[inline(always)]
     pub(crate) fn tell(&mut self, did: Did)
         requires { 0 < self.old.room }
@@ -165,8 +165,8 @@ impl Letters {
         self.room -= 1;
     }
 
-    /// A message that was just sent goes on: to others; or to a member, whose letter is taken and joins the queue at once, where no letter is to
-    /// arrive before it and nothing of it counts beside, and else goes to the tray.
+    /// Passes a message that was just sent on. For another group its letter is posted. For a member its letter is taken; the message joins
+    /// the queue at once if no letter must arrive before it and the tally does not count it, and otherwise goes to the tray.
     #[inline(always)]
     pub(crate) fn pass(&mut self, message: &Message, is_home: bool)
         requires { 0 < self.old.room }
@@ -183,7 +183,7 @@ impl Letters {
         }
     }
 
-    /// A letter of this message joins those for others, for which there is room.
+    /// Adds a letter of this message to those for others. The room for it was made before.
     #[inline(always)]
     pub(crate) fn post(&mut self, message: &Message, sign: Sign)
         requires { 0 < self.old.room }
@@ -198,7 +198,7 @@ impl Letters {
         self.room -= 1;
     }
 
-    /// A letter of this message to a member is taken, and waits in the tray, for which there is room.
+    /// Puts a letter of this message to a member, which is taken, into the tray. The room for it was made before.
     pub(crate) fn hold(&mut self, message: &Message, sign: Sign)
         requires { 0 < self.old.room }
         ensures held { self.new ≡ record self.old { tray = self.old.tray ++ record { message = message.now; sign = sign } ∷ []; words = self.old.words ++ Taken message.now.receiver ∷ []; room = self.new.room } }
@@ -215,7 +215,7 @@ impl Letters {
         self.room -= 1;
     }
 
-    /// A letter of this message to a member is taken, and arrives at once: the message joins the queue, for which there is room.
+    /// Takes a letter of this message to a member, which arrives at once: the message joins the queue. The room for it was made before.
     #[inline(always)]
     fn join(&mut self, message: &Message)
         requires { 0 < self.old.room }

@@ -1,8 +1,8 @@
-//! A hand is what one worker holds of a network: a group of processes, with one queue of messages for all of them, from which their events are done in
-//! message order, one list of done events, by which those that come too early are undone, and the letters that they sent to others. So only letters
-//! between groups pass from worker to worker.
+//! A hand is the part of a network that one worker holds: a group of processes. It has one queue of messages for all of them, whose events
+//! it does in message order; one list of done events, by which it undoes those that were done too early; and the letters that they sent to
+//! others. So only letters between groups pass from worker to worker.
 //!
-//! Each call does steps of the law of virtual time, which join the block as words.
+//! Each call does steps of the laws of virtual time, which join the block as words.
 #![tactic(auto)]
 
 mod block;

@@ -1,4 +1,4 @@
-//! The first message of the queue is handled where other members have done later events, which stay done.
+//! Handles the first message of the queue, if other members have done later events. These stay done.
 ghost use Rattle.std.specs.Prelude.{◌≡◌, ◌≢◌, ℕ, ◌⊎◌, ◌+◌, ◌<◌, ◌≤◌, ◌++◌, [], ◌∷◌, true, false, All, Contains, List, Option, Some, length, map, slice_get};
 ghost use Rattle.vlink.specs.declared.message.Message.{Message};
 ghost use Rattle.vlink.specs.Numbering.{greatest_number};
@@ -6,6 +6,7 @@ ghost use Rattle.vlink.specs.Order.{message_order};
 ghost use Rattle.virtual_time.specs.Law.{IsAscending, plus_of};
 ghost use Rattle.reverse.specs.Rules.{rules_of, is_before};
 ghost use Rattle.group_hand.specs.Arriving.{WentOn};
+ghost use Rattle.group_hand.specs.Block.{AddsRun};
 ghost use Rattle.group_hand.specs.DoneEvents.{DoneEvent, messages_of};
 ghost use Rattle.group_hand.specs.Flow.{WasTaken, WentAbroad};
 ghost use Rattle.group_hand.specs.Handling.{HasLater, SetAside, StopsAt};
@@ -24,7 +25,7 @@ use reverse::{Actor, Outbound, actor_rules_law};
 use vlink::{Message, Sign, message_order_law, order_law};
 
 impl Letters {
-    /// A message that was just sent goes on: to others; or its letter is taken, and waits in the tray.
+    /// Passes a message that was just sent on: to others; or its letter to a member is taken, and waits in the tray.
     pub(crate) fn pass_later(&mut self, message: &Message, is_home: bool)
         requires { 0 < self.old.room }
         ensures abroad { is_home ≡ false → WentAbroad message.now self.old self.new }
@@ -39,7 +40,7 @@ impl Letters {
     }
 }
 
-/// What an event sent goes on, and what is for members waits in the tray. There is room for it.
+/// Passes on what an event sent. What is for members waits in the tray. The room for it was made before.
 fn send_later<S>(members: &[Option<S>], letters: &mut Letters, messages: &[Message])
     requires { length messages.now ≤ letters.old.room }
     ensures went { WentOn members.now (map plus_of messages.now) letters.old letters.new }
@@ -52,7 +53,7 @@ fn send_later<S>(members: &[Option<S>], letters: &mut Letters, messages: &[Messa
     }
 }
 
-/// The newest event is set aside, if it does not come before the message and is of another process than its receiver. The answer is whether it was.
+/// Sets the newest event aside, if it does not come before the message and is of another process than its receiver. Returns whether it did.
 fn set_newest_aside<K: Copy>(
     done: &mut DoneEvents<K>,
     aside: &mut DoneEvents<K>,
@@ -72,7 +73,7 @@ fn set_newest_aside<K: Copy>(
     true
 }
 
-/// The newest events are set aside, up to one that comes before the message or is of its receiver.
+/// Sets the newest events aside, up to one that comes before the message or is of its receiver.
 fn set_aside<K: Copy>(done: &mut DoneEvents<K>, aside: &mut DoneEvents<K>, message: &Message)
     requires empty { aside.old.events ≡ [] }
     requires space { HasRoomFor done.old.events aside.old }
@@ -83,8 +84,8 @@ fn set_aside<K: Copy>(done: &mut DoneEvents<K>, aside: &mut DoneEvents<K>, messa
     'events: while set_newest_aside(done, aside, message) {}
 }
 
-/// The message, which is the first of the queue and not done, and whose receiver is a member with numbers left, is handled. Later events of other
-/// members stay behind its own. There is room for all that comes of it.
+/// Handles the message, which is the first of the queue and not done, and whose receiver is a member with numbers left. Later events of
+/// other members stay behind its own. The room for all that results was made before.
 pub(crate) fn handle_out_of_order<R: Actor>(
     members: &mut [Option<R>],
     done: &mut DoneEvents<R::Record>,
@@ -108,6 +109,7 @@ pub(crate) fn handle_out_of_order<R: Actor>(
     ensures did { (rows : Sealed) → DoesSent (rules_of R.plain) R.is_value (held members.old done.old.events rows letters.old) [] (held members.new done.new.events rows letters.new) [] }
     ensures came { (p : ℕ) → CameTo (rules_of R.plain) R.is_value members.new done.new.events p }
     ensures empty { aside.new.events ≡ [] }
+    ensures words { AddsRun message.now.receiver letters.old.words letters.new.words ⊎ HasLater message_order message.now done.old.events }
     ensures handled { (length done.new.events ≡ length done.old.events + 1) ⊎ HasLater message_order message.now done.old.events }
 {
     actor_rules_law::<R>();

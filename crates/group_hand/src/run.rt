@@ -1,4 +1,4 @@
-//! The first message of a group is handled.
+//! Handles the first message of a group.
 ghost use Rattle.std.specs.Prelude.{◌≡◌, ◌≢◌, ◌≤◌, ◌<◌, ◌+◌, ◌++◌, ◌∷◌, [], false, true, Some, All, Contains, Ok, Err, OnOk, OnErr, slice_get};
 ghost use Rattle.vlink.specs.declared.message.Message.{Message};
 ghost use Rattle.vlink.specs.Order.{message_order};
@@ -8,8 +8,8 @@ ghost use Rattle.reverse.specs.Rules.{rules_of, is_before};
 ghost use Rattle.reverse.specs.Setting.{Setting};
 ghost use Rattle.antimessages.specs.Counting.{is_after, newest_of};
 ghost use Rattle.group_hand.specs.DoneEvents.{DoneEvent, messages_of};
-ghost use Rattle.group_hand.specs.Handling.{IsHandled};
-ghost use Rattle.group_hand.specs.Hands.{DoesTold, IsAsBefore, StandsForGroup};
+ghost use Rattle.group_hand.specs.Handling.{IsHandled, RanFirst};
+ghost use Rattle.group_hand.specs.Hands.{DoesTold, FirstWaits, IsAsBefore, StandsForGroup};
 ghost use Rattle.group_hand.specs.Undoing.{HasRoomFor};
 ghost use Rattle.group_hand.specs.declared.fault.HandFault.TheVariants.{Exhausted};
 ghost use Rattle.group_hand.specs.declared.in_order.InOrder.TheVariants.{Ran, Idle, Late};
@@ -30,12 +30,12 @@ use vlink::Time;
 const MOST_LETTERS: usize = MOST_SENT + 1;
 
 impl<R: Actor> Hand<R> {
-    /// The first message of all members is handled, where it is earlier than the limit and comes after all that the group has done. What it sends to
-    /// members is taken: it joins the queue, or waits in the tray where a letter is to arrive before it or its message counts beside. What it sends to
-    /// others joins the letters abroad.
+    /// Handles the first message of all members, if it is earlier than the limit and comes after all that the group has done. What it sends
+    /// to members is taken: it joins the queue, or waits in the tray if a letter must arrive before it or the tally counts its message.
+    /// What it sends to others joins the letters abroad.
     ///
-    /// `Exhausted`: its receiver, if it is a member, has not enough numbers left for what one event can send. `OutOfMemory`: a growth was refused.
-    /// Either leaves all as it was.
+    /// `Exhausted`: its receiver, if it is a member, does not have enough numbers left for what one event can send. `OutOfMemory`: memory
+    /// was refused. Either leaves all as it was.
     pub fn run_in_order(&mut self, limit: Time) -> Result<InOrder, HandFault>
         ensures did { DoesTold (rules_of R.plain) R.is_value self.old self.new }
         ensures idle { result ≡ Ok Idle → All (λ m. limit ≤ m.time) self.old.flow.queue }
@@ -45,6 +45,7 @@ impl<R: Actor> Hand<R> {
         ensures idle_still { result ≡ Ok Idle → IsAsBefore self.old self.new }
         ensures ran { result ≡ Ok Ran → (d : DoneEvent R.Record) × (self.new.done ≡ self.old.done ++ d ∷ [])
             × Contains self.old.flow.queue d.message × All (λ x. is_before x d.message ≡ false) self.old.flow.queue × (d.message.time < limit) }
+        ensures first { result ≡ Ok Ran → (m : Message) × (m.time < limit) × RanFirst m self.old self.new }
         ensures soon { result ≡ Ok Late → (m : Message) × Contains self.old.flow.queue m × (m.time < limit) }
         ensures exhausted { result ≡ Err Exhausted → (m : Message) × Contains self.old.flow.queue m × All (λ x. is_before x m ≡ false) self.old.flow.queue
             × (IsAscending message_order (messages_of self.old.done) → All (λ x. x ≢ m) (messages_of self.old.done))
@@ -77,18 +78,21 @@ impl<R: Actor> Hand<R> {
         }
     }
 
-    /// The first message of all members is handled, where it is earlier than the limit, whether other members have done later events or not; or, where it
-    /// is done already, it counts beside. What it sends to members is taken: it joins the queue, or waits in the tray. The answer is whether there was
-    /// one. Letters that wait in the tray are to arrive before.
+    /// Handles the first message of all members, if it is earlier than the limit, whether other members have done later events or not. If
+    /// it is already done, moves it to the tally instead. What it sends to members is taken: it joins the queue, or waits in the tray.
+    /// Returns whether there was such a message. Letters that wait in the tray must arrive before.
     ///
-    /// `Exhausted`: it is not done, and its receiver, if it is a member, has not enough numbers left for what one event can send. `OutOfMemory`: a
-    /// growth was refused. Either leaves all as it was.
+    /// `Exhausted`: the message is not done, and its receiver, if it is a member, does not have enough numbers left for what one event can
+    /// send. `OutOfMemory`: memory was refused. Either leaves all as it was.
     pub fn run_next(&mut self, limit: Time) -> Result<bool, HandFault>
         ensures did { DoesTold (rules_of R.plain) R.is_value self.old self.new }
         ensures idle { result ≡ Ok false → All (λ m. limit ≤ m.time) self.old.flow.queue }
         ensures still { result ≡ Ok false → IsAsBefore self.old self.new }
         ensures ran { result ≡ Ok true → (x : Setting R) (v : World Message R) → StandsForGroup (rules_of R.plain) R.is_value x v self.old →
             (m : Message) × Contains self.old.flow.queue m × (m.time < limit) × IsHandled m self.old self.new }
+        // where the first message of the queue is not done, it is handled
+        ensures first { result ≡ Ok true → (IsAscending message_order (messages_of self.old.done) → FirstWaits message_order self.old) →
+            (x : Setting R) (v : World Message R) → StandsForGroup (rules_of R.plain) R.is_value x v self.old → (m : Message) × (m.time < limit) × RanFirst m self.old self.new }
         ensures exhausted { result ≡ Err Exhausted → (m : Message) × Contains self.old.flow.queue m × All (λ x. is_before x m ≡ false) self.old.flow.queue
             × (IsAscending message_order (messages_of self.old.done) → All (λ x. x ≢ m) (messages_of self.old.done))
             × ((s : R) → slice_get self.old.members m.receiver ≡ Some (Some s) → greatest_number < R.plain.counter s + MOST_SENT) }
@@ -105,16 +109,18 @@ impl<R: Actor> Hand<R> {
         }
     }
 
-    /// The first message of the queue, which has one, is handled by its receiver, where other members have done later events; or, where it is done
-    /// already, it counts beside. What it sends to members waits in the tray.
+    /// The receiver of the first message of the queue, which must exist, handles it, although other members have done later events. If it
+    /// is already done, it moves to the tally instead. What it sends to members waits in the tray.
     ///
-    /// `Exhausted`: it is not done, and its receiver, if it is a member, has not enough numbers left for what one event can send. `OutOfMemory`: a
-    /// growth was refused. Either leaves all as it was.
+    /// `Exhausted`: the message is not done, and its receiver, if it is a member, does not have enough numbers left for what one event can
+    /// send. `OutOfMemory`: memory was refused. Either leaves all as it was.
     pub(crate) fn run_out_of_order(&mut self) -> Result<(), HandFault>
         requires { (m : Message) × Contains self.old.flow.queue m }
         ensures did { DoesTold (rules_of R.plain) R.is_value self.old self.new }
         ensures ran { OnOk result ((x : Setting R) (v : World Message R) → StandsForGroup (rules_of R.plain) R.is_value x v self.old →
             (m : Message) × Contains self.old.flow.queue m × All (λ y. is_before y m ≡ false) self.old.flow.queue × IsHandled m self.old self.new) }
+        ensures first { OnOk result ((IsAscending message_order (messages_of self.old.done) → FirstWaits message_order self.old) →
+            (x : Setting R) (v : World Message R) → StandsForGroup (rules_of R.plain) R.is_value x v self.old → (m : Message) × RanFirst m self.old self.new) }
         ensures exhausted { result ≡ Err Exhausted → (m : Message) × Contains self.old.flow.queue m × All (λ x. is_before x m ≡ false) self.old.flow.queue
             × (IsAscending message_order (messages_of self.old.done) → All (λ x. x ≢ m) (messages_of self.old.done))
             × ((s : R) → slice_get self.old.members m.receiver ≡ Some (Some s) → greatest_number < R.plain.counter s + MOST_SENT) }
@@ -163,7 +169,7 @@ fn make_room<K: Copy>(done: &mut DoneEvents<K>, letters: &mut Letters) -> Result
     done.reserve()
 }
 
-/// Makes room for all that one event gives, and to set all done events aside.
+/// Makes room for all that one event gives, and for setting all done events aside.
 fn make_late_room<K: Copy>(
     done: &mut DoneEvents<K>,
     aside: &mut DoneEvents<K>,

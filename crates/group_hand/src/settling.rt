@@ -1,10 +1,11 @@
-//! The front of the tray arrives, whether it comes late or not.
+//! The front letter of the tray arrives, whether it comes late or not.
 ghost use Rattle.std.specs.Prelude.{◌≡◌, ℕ, ◌+◌, ◌<◌, ◌≤◌, ◌++◌, [], ◌∷◌, List, OnOk, OnErr, length, map, vec_len, vec_capacity};
 ghost use Rattle.vlink.specs.declared.message.Message.{Message};
 ghost use Rattle.vlink.specs.Letters.{Letter};
 ghost use Rattle.virtual_time.specs.Law.{minus_of};
 ghost use Rattle.reverse.specs.Rules.{rules_of};
 ghost use Rattle.group_hand.specs.Arriving.{WentOn};
+ghost use Rattle.group_hand.specs.Block.{AddsLetters};
 ghost use Rattle.group_hand.specs.Hands.{DoesSent};
 ghost use Rattle.group_hand.specs.Passing.{held};
 ghost use Rattle.group_hand.specs.Rows.{Sealed};
@@ -19,8 +20,8 @@ use antimessages::OutOfMemory;
 use reverse::{Actor, actor_rules_law};
 use vlink::{Letter, Message};
 
-/// The front of the tray, which is this letter, arrives. Where it comes late, its receiver rolls back to it, and what the undone events sent is taken
-/// back. There is room for all that comes of it. A refusal changes nothing.
+/// The front letter of the tray, which is this one, arrives. If it comes late, its receiver rolls back to it, and what the undone events
+/// sent is taken back. The room for all that results was made before. A refusal changes nothing.
 pub(crate) fn arrive<R: Actor>(
     members: &mut [Option<R>],
     done: &mut DoneEvents<R::Record>,
@@ -38,6 +39,7 @@ pub(crate) fn arrive<R: Actor>(
     ensures len { length members.new ≡ length members.old }
     ensures did { OnOk result ((rows : Sealed) → DoesSent (rules_of R.plain) R.is_value (held members.old done.old.events rows letters.old) [] (held members.new done.new.events rows letters.new) []) }
     ensures came { (p : ℕ) → CameTo (rules_of R.plain) R.is_value members.new done.new.events p }
+    ensures words { OnOk result (AddsLetters letters.old.words letters.new.words) }
     ensures fewer { OnOk result (length letters.new.tray + sent_in done.new.events < length letters.old.tray + sent_in done.old.events) }
     ensures empty { undoing.new.aside.events ≡ [] }
     ensures none_back { undoing.new.back.items ≡ [] }
@@ -53,7 +55,7 @@ pub(crate) fn arrive<R: Actor>(
     Ok(())
 }
 
-/// The message of a letter that arrived joins the queue, or is undone; before that its receiver rolls back to it.
+/// Puts the message of a letter that arrived into the queue, or undoes it. Before that its receiver rolls back to it.
 fn settle<R: Actor>(
     members: &mut [Option<R>],
     done: &mut DoneEvents<R::Record>,
@@ -90,7 +92,7 @@ fn settle<R: Actor>(
     }
 }
 
-/// What undone events sent is taken back, the first of `back` first. There is room for the antimessages.
+/// Takes back what undone events sent, the first of `back` first. The room for the antimessages was made before.
 fn take_back_all<R: Actor>(members: &[Option<R>], letters: &mut Letters, back: &mut Vec<Message>)
     requires { length back.old.items ≤ letters.old.room }
     ensures went { WentOn members.now (map minus_of back.old.items) letters.old letters.new }

@@ -68,14 +68,15 @@ a = [["ES2", "SW1", "ES1"]]
 b = []
 "#;
 
-// How many workers and how many groups of processes there are; how often a process looks whether the other one has begun, at most; two pairs of processes, of which the first
-// waits for the second; and a process that takes a letter, and one that handles a message. Then how many looked in vain, and whether in the
-// journal the first `T` of the one, of its first letter, stands before the first `R` of the other. A message of which the gate is told out of
-// order counts as one that looked in vain.
+// The number of workers and of groups of processes; how often a process looks at most whether the other one has begun; two pairs of
+// processes, of which the first waits for the second; and a process that takes a letter, and one that handles a message. Then how many
+// looked in vain, and whether in the journal the first `T` of the one, of its first letter, stands before the first `R` of the other. A
+// process for which the gate is called out of order counts as one that looked in vain.
 type Row = (u8, u16, u64, [(u16, u16); 2], u16, u16, &'static str);
 
-// With one worker the process that waits stands in the way of the other one. A process takes a letter before it handles a message. Of three groups one has
-// SW1 with the lines that lead to it, one ES1 and the line 4, and one ES2 and the line 5: there two processes of two groups of two wait for each other.
+// With one worker the process that waits blocks the other one. A process takes a letter before it handles a message. Of three groups one
+// has SW1 with the lines that lead to it, one ES1 and the line 4, and one ES2 and the line 5: there two processes of two groups of two wait
+// for each other.
 const ROWS: [Row; 6] = [
     (2, 7, 100_000_000, [(0, 6), (0, 6)], 6, 0, "0 true"),
     (1, 7, 4096, [(0, 6), (0, 6)], 6, 0, "1 false"),
@@ -98,7 +99,7 @@ fn processes_meet_in_a_run_by_workers(rt: HostRuntime) {
     }
 }
 
-// What comes of a run with one message a turn.
+// Writes the results of a run with one message a turn.
 fn told_by<T: Threads + Wait + Sync>(rt: &T, alloc: Global, row: Row) -> String {
     let mut told = String::new(alloc);
     match read(alloc, NETWORK) {

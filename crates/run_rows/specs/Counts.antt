@@ -1,4 +1,4 @@
--- The tables of a run, as far as its rows are counted while it goes on. Times are in ns.
+-- The tables of a run, of the rows that are counted so far. Times are in ns.
 use Rattle.std.specs.Prelude.{◌≡◌, ℕ, List, [], Option, Some, None, get_or, slice_get}
 use Rattle.vlink.specs.Letters.{Row}
 use Rattle.virtual_time.specs.Law.{rows_at}

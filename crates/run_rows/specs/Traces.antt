@@ -1,4 +1,5 @@
--- The trace of a run of a network, and what it is made of: batches, and what is written. Their rows are those of the one-thread run. Times are in ns.
+-- The trace of a run of a network, and what it is made of: batches, and what is written. Their rows are those of the one-thread run. Times
+-- are in ns.
 use Rattle.std.specs.Prelude.{◌≡◌, ℕ, ◌+◌, ◌≤◌, Bool, true, false, cond, List, [], Option, All}
 use Rattle.std.specs.Io.KnownBytes.{append_known}
 use Rattle.virtual_time.specs.Law.{rows_at}

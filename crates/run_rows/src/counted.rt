@@ -1,4 +1,4 @@
-//! The tables of a run, as far as its rows are counted while it goes on.
+//! The tables of a run, of the rows that are counted while it goes on.
 ghost use Rattle.std.specs.Prelude.{◌≡◌, ◌<◌, ◌≤◌, ℕ, length, replicate, IfOk, IfSome};
 ghost use Rattle.run_rows.specs.Counts.{moment_at, moment_of, AreCountedBefore, IsPartOfGroup};
 
@@ -12,8 +12,9 @@ use std::marker::PhantomData;
 use trace_tables::batches_in_order_law;
 use vlink::{Row, Time};
 
-/// The tables of rows of a run that are for good, or none where a growth was refused: of each group those before a moment of its own, where one
-/// is listed, and else before the moment `end`. By its type they are those of the rows that the one-thread run of the network has there.
+/// The tables of rows of a run that can no longer change, or none if memory was refused. Of each group they count the rows before a moment
+/// of its own, if one is listed, and otherwise before the moment `end`. By its type they are those of the rows that the one-thread run of
+/// the network has there.
 #[derive(Drop)]
 pub struct Counted<J: NetworkRun> {
     pub tables: Option<RowTables<J>>,
@@ -23,7 +24,7 @@ pub struct Counted<J: NetworkRun> {
     pub ghost of_run: { ∥ IfSome tables (AreCountedBefore J.plan (moment_at J.owners own.items end)) ∥₁ },
 }
 
-/// The moment before which the rows of a group are counted.
+/// Returns the moment before which the rows of a group are counted.
 pub fn moment_of(own: &[Time], end: Time, group: usize) -> Time
     ensures { result ≡ moment_of own.now end group }
 {
@@ -33,7 +34,7 @@ pub fn moment_of(own: &[Time], end: Time, group: usize) -> Time
     }
 }
 
-/// For each of so many groups the moment 0.
+/// Makes the moment 0 for each of `groups` groups.
 fn first_moments(alloc: Global, groups: usize) -> Result<Vec<Time>, AllocError>
     ensures { IfOk result (λ own. own.items ≡ replicate groups 0) }
 {
@@ -41,14 +42,14 @@ fn first_moments(alloc: Global, groups: usize) -> Result<Vec<Time>, AllocError>
 }
 
 impl<J: NetworkRun> Counted<J> {
-    /// No row is counted yet, and no group has a moment of its own. It is refused for memory alone.
+    /// Makes a counter of no rows, in which no group has a moment of its own. Only memory can be refused.
     pub fn none(alloc: Global, network: &Network) -> Result<Self, AllocError>
         requires { network.now ≡ J.plan }
     {
         Counted::with_moments(alloc, network, Vec::new(alloc))
     }
 
-    /// No row is counted yet, and each of so many groups has a moment of its own. It is refused for memory alone.
+    /// Makes a counter of no rows, in which each of `groups` groups has a moment of its own. Only memory can be refused.
     pub fn each(alloc: Global, network: &Network, groups: u16) -> Result<Self, AllocError>
         requires { network.now ≡ J.plan }
     {
@@ -56,7 +57,7 @@ impl<J: NetworkRun> Counted<J> {
         Counted::with_moments(alloc, network, own)
     }
 
-    /// No row is counted yet, and the groups have these moments, all of them 0. It is refused for memory alone.
+    /// Makes a counter of no rows, in which the groups have these moments, all of them 0. Only memory can be refused.
     fn with_moments(alloc: Global, network: &Network, own: Vec<Time>) -> Result<Self, AllocError>
         requires network { network.now ≡ J.plan }
         requires first { (p : ℕ) → moment_of own.items 0 p ≡ 0 }
@@ -69,8 +70,8 @@ impl<J: NetworkRun> Counted<J> {
         })
     }
 
-    /// Counts the rows of the next batch of the run, where no group has a moment of its own. Where a growth is refused, there are no tables from
-    /// then on. A batch that begins elsewhere than the last one ended is not counted, and changes nothing.
+    /// Counts the rows of the next batch of the run; no group has a moment of its own. If memory is refused, no tables exist from then on.
+    /// A batch that begins elsewhere than the last one ended is not counted, and changes nothing.
     pub fn take(&mut self, network: &Network, batch: &RunBatch<J>)
         requires { network.now ≡ J.plan }
     {
@@ -90,8 +91,8 @@ impl<J: NetworkRun> Counted<J> {
         self.end = batch.to();
     }
 
-    /// Counts rows of a group, from its moment on up to this one, which is its moment from then on. It fails only where memory is refused, or was before;
-    /// then there are no tables from then on.
+    /// Counts rows of a group, from its moment on up to this one, which is its moment from then on. It fails only if memory is or was
+    /// refused; then no tables exist from then on.
     pub fn take_of_group(
         &mut self,
         network: &Network,

@@ -1,5 +1,5 @@
-//! The rows of a network's run, as they are counted and written while it goes on. What a value here has is by its type that of the rows of the one-thread
-//! run of the network.
+//! Counts and writes the rows of a network's run while it goes on. By its type, a value here has the rows that the one-thread run of the
+//! network has.
 #![tactic(auto)]
 
 mod counted;

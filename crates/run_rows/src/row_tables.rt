@@ -10,7 +10,7 @@ use std::snapshot::Snapshot;
 use trace_tables::{Tables, TablesSoFar};
 use vlink::Row;
 
-/// The tables of rows so far, and these rows, which have no bytes and are read in proofs alone.
+/// The tables of rows so far, and these rows, which have no bytes and are read by proofs alone.
 ///
 /// Clauses see it as the rows.
 #[derive(Drop)]
@@ -33,7 +33,7 @@ impl<J: NetworkRun> Model for RowTables<J> {
 }
 
 impl<J: NetworkRun> RowTables<J> {
-    /// Of no row. It is refused for memory alone.
+    /// Makes the tables of no row. Only memory can be refused.
     pub fn none(alloc: Global, network: &Network) -> Result<Self, AllocError>
         requires { network.now ≡ J.plan }
         ensures { IfOk result (λ tables. tables ≡ []) }
@@ -45,7 +45,7 @@ impl<J: NetworkRun> RowTables<J> {
         })
     }
 
-    /// With these rows behind the others. It is refused for memory alone.
+    /// Counts these rows after the others. Only memory can be refused.
     pub fn with(self, network: &Network, rows: &[Row]) -> Result<Self, AllocError>
         requires { network.now ≡ J.plan }
         ensures { IfOk result (λ tables. tables ≡ self ++ rows.now) }
@@ -64,7 +64,7 @@ impl<J: NetworkRun> RowTables<J> {
         })
     }
 
-    /// The tables of all rows. It is refused for memory alone.
+    /// Returns the tables of all rows. Only memory can be refused.
     pub fn tables(self, network: &Network) -> Result<Tables, AllocError>
         requires { network.now ≡ J.plan }
         ensures { IfOk result (λ tables. tables ≡ tables_of J.plan self) }
@@ -73,7 +73,7 @@ impl<J: NetworkRun> RowTables<J> {
     }
 }
 
-/// These rows come behind the others. It takes no memory.
+/// Adds these rows behind the others. Takes no memory.
 fn tell_rows(all: &mut Vec<Snapshot<Row>>, rows: &[Row]) -> Result<(), AllocError>
     ensures { OnOk result (map (λ s. s.value) all.new.items ≡ map (λ s. s.value) all.old.items ++ rows.now) }
 {

@@ -15,7 +15,7 @@ pub struct RunBatch<J: NetworkRun> {
 }
 
 impl<J: NetworkRun> RunBatch<J> {
-    /// A batch of the run.
+    /// Makes a batch of the run.
     pub fn new(batch: Batch) -> Self
         requires { ∥ IsBatchOfRun J.plan batch ∥₁ }
         ensures { result.batch ≡ batch }

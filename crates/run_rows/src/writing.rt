@@ -1,5 +1,5 @@
 //! The trace of a run, as far as it is written.
-//! Which fault comes first is told here and not of the run: a channel tells nothing of what it was given.
+//! The contracts here state which fault comes first; that of the run does not, since a channel states nothing of what it was given.
 ghost use Rattle.std.specs.Prelude.{◌≡◌, ◌≢◌, true, false, Some, Err, OnOk, OnErr, IfErr, IfSome};
 ghost use Rattle.std.specs.Io.KnownBytes.{append_known};
 ghost use Rattle.std.proofs.Props.{props};
@@ -34,7 +34,7 @@ pub struct Writing<'a, J: NetworkRun, K: TraceRun, S: Sink> {
 }
 
 impl<'a, J: NetworkRun, K: TraceRun, S: Sink> Writing<'a, J, K, S> {
-    /// No batch came yet, and nothing is written.
+    /// Makes a writing of which no batch came yet.
     pub fn new(alloc: Global, network: &'a Network, sink: S) -> Self
         requires network { network.now ≡ J.plan }
         requires taken { S.taken sink ≡ K.taken }
@@ -48,11 +48,11 @@ impl<'a, J: NetworkRun, K: TraceRun, S: Sink> Writing<'a, J, K, S> {
         }
     }
 
-    /// Writes the lines of a batch of the run, as `TraceWriter::take` does. Where it is refused, that is the outcome, and what comes behind it is
+    /// Writes the lines of a batch of the run, as `TraceWriter::take` does. If it is refused, that is the outcome, and later batches are
     /// dropped.
     ///
     /// - `first`: after a fault nothing changes.
-    /// - `refused`, `written`: as long as there is none, a batch is written, or its fault is kept.
+    /// - `refused`, `written`: as long as no fault came, a batch is written, or its fault is kept.
     pub fn take(&mut self, batch: RunBatch<J>)
         ensures first { OnErr self.old.outcome ((self.new.outcome ≡ self.old.outcome) × (self.new.writer ≡ self.old.writer)) }
         ensures refused { OnOk self.old.outcome ((fault : TraceFault) → batch_fault self.old.writer batch.batch ≡ Some fault → self.new.outcome ≡ Err fault) }
@@ -69,8 +69,8 @@ impl<'a, J: NetworkRun, K: TraceRun, S: Sink> Writing<'a, J, K, S> {
         }
     }
 
-    /// Ends the trace, and gives the sink back. The outcome is that of `TraceWriter::finish`, where a write failed; else the first fault of a batch;
-    /// where there was none, that of a segment; where there was none either, that of `TraceWriter::finish` again.
+    /// Ends the trace, and returns the sink. The outcome is that of `TraceWriter::finish` if a write failed; otherwise the first fault of a
+    /// batch; if there was none, that of a segment; and if there was none either, that of `TraceWriter::finish` again.
     pub fn finish(self, gathering: Option<SegmentFault>) -> (Result<(), TraceFault>, S)
         requires { IfSome gathering IsPlaceFault }
         ensures { IsWritten J.plan K.taken K.failures result.0 (S.taken result.1) (S.failures result.1) }
@@ -86,8 +86,8 @@ impl<'a, J: NetworkRun, K: TraceRun, S: Sink> Writing<'a, J, K, S> {
     }
 }
 
-/// How the writing of a trace went: a write that failed is told in any case; else the fault of a batch; where there is none, that of a segment;
-/// where there is none either, how the end went.
+/// Returns the outcome of writing a trace: a write that failed is reported in any case; otherwise the fault of a batch; if there is none,
+/// that of a segment; and if there is none either, the outcome of the end.
 fn outcome_of(
     batches: Result<(), TraceFault>,
     gathering: Option<SegmentFault>,

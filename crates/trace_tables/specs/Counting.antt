@@ -1,4 +1,4 @@
--- How often rows tell a loss or a delivery.
+-- How often rows contain a loss or a delivery.
 use Rattle.std.specs.Prelude.{ℕ, ◌==◌, ◌&&◌, Bool, false, List, count_by}
 use Rattle.vlink.specs.declared.note.Note.{Note}
 use Rattle.vlink.specs.declared.note.Note.TheVariants.{Delivered, Dropped}

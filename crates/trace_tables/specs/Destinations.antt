@@ -1,4 +1,4 @@
--- Latencies by destination: the virtual link and the process where its frames end.
+-- Latencies by destination: the virtual link and the process at which its frames end.
 use Rattle.std.specs.Prelude.{ℕ, List, [], ◌∷◌, map, flat_map}
 use Rattle.std.specs.Option.{option_map_or}
 use Rattle.std.specs.Ordering.{nat_cmp, ordering_then}

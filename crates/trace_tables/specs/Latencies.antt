@@ -1,4 +1,4 @@
--- What is counted of the latencies of a virtual link at one of its destinations. Latencies are in ns.
+-- The counts of the latencies of a virtual link at one of its destinations. Latencies are in ns.
 use Rattle.std.specs.Prelude.{ℕ, ◌+◌, ◌==◌, cond, min, max, sum, length, List, [], ◌∷◌, flat_map}
 use Rattle.vlink.specs.declared.note.Note.{Note}
 use Rattle.vlink.specs.declared.note.Note.TheVariants.{Delivered, Dropped}

@@ -1,1 +1,1 @@
-mod LeastFault
+mod FirstOutcome

@@ -1,21 +1,21 @@
 //! The order of a worker's turns: a deque of its groups that are due, from which other workers steal.
 use crate::common::Common;
-use crate::hint::{Hint, TurnRun};
 use crate::moments::Moments;
 use crate::tasks::Tasks;
 use crate::{MOST_SLOTS, SLOTS};
 use crossbeam_deque::{Steal, Stealer, Worker as Deque};
 use std::alloc::{AllocError, Global};
+use turn_words::{Hint, TurnRun};
 
-/// A group of a worker, and the moment at which it has something to do, in ns, as the worker saw it last.
+/// A group of a worker, and the moment at which it has something to do, in ns, as the worker last saw it.
 #[derive(Drop)]
 struct Own<R: TurnRun> {
     hint: Hint<R>,
     first_ns: u64,
 }
 
-/// The groups of a worker. In each round those that are due are listed in a deque, the one that is furthest behind first. Others steal at the front, where
-/// the worker pops.
+/// The groups of a worker. In each round a deque lists those that are due, the one that is furthest behind first. Others steal at the
+/// front, where the worker pops.
 #[derive(Drop)]
 pub(crate) struct Agenda<R: TurnRun> {
     /// The number of the worker.
@@ -27,7 +27,7 @@ pub(crate) struct Agenda<R: TurnRun> {
 }
 
 impl<R: TurnRun> Agenda<R> {
-    /// The groups of the worker of this number, which no thread has yet. It is refused for memory alone.
+    /// Makes the agenda of the worker with this number, whose groups no thread holds yet. Only memory can be refused.
     fn of<G: Drop, K: Tasks<G, Run = R>>(
         alloc: Global,
         common: &Common<G, K>,
@@ -51,12 +51,13 @@ impl<R: TurnRun> Agenda<R> {
         })
     }
 
-    /// How many groups the worker has.
+    /// Returns the number of groups of the worker.
     pub(crate) fn groups(&self) -> usize {
         self.own.len()
     }
 
-    /// A round begins: the groups that are due before the limit, in ns, are listed, the one that is furthest behind first. What the deque does not take stands behind them.
+    /// Begins a round: lists the groups that are due before the limit, in ns, the one that is furthest behind first. Those that the deque
+    /// does not take stand behind them.
     pub(crate) fn begin_round(&mut self, moments: &Moments, limit_ns: u64) {
         let due = self.put_in_order(moments, limit_ns);
         self.listed = 0;
@@ -68,7 +69,7 @@ impl<R: TurnRun> Agenda<R> {
         }
     }
 
-    /// Puts the groups in the order of their moments. The answer is how many of them are due.
+    /// Sorts the groups by their moments. Returns how many of them are due.
     fn put_in_order(&mut self, moments: &Moments, limit_ns: u64) -> usize {
         let mut due: usize = 0;
         for own in self.own.iter_mut() {
@@ -81,8 +82,8 @@ impl<R: TurnRun> Agenda<R> {
         due
     }
 
-    /// Lists the group of this place. The answer is whether the deque took it: it does not where memory is refused, or where it has grown so large, since
-    /// a thread that is stopped while it steals keeps its slot, and the deque then grows without being full.
+    /// Lists the group at this place. Returns whether the deque took it. It does not if memory is refused, or if it has grown too large: a
+    /// thread that is stopped while it steals keeps its slot, and the deque then grows without being full.
     fn list(&mut self, place: usize) -> bool {
         match self.own.get(place) {
             Some(own) => {
@@ -92,7 +93,8 @@ impl<R: TurnRun> Agenda<R> {
         }
     }
 
-    /// The group whose turn is number `place` of the round: first what is listed, as far as nobody stole it, then the others in their order.
+    /// Returns the group whose turn is number `place` of the round: first the listed ones that nobody stole, then the others in their
+    /// order.
     pub(crate) fn next(&mut self, place: usize) -> Option<usize> {
         if place < self.listed {
             return match self.deque.pop() {
@@ -114,7 +116,7 @@ pub(crate) struct Stealers<R: TurnRun> {
 }
 
 impl<R: TurnRun> Stealers<R> {
-    /// Steals the group that the worker of this number lists first, and has not come to, if there is one.
+    /// Steals the group that the worker with this number lists first and has not reached, if any.
     pub(crate) fn steal(&self, worker: usize) -> Option<usize> {
         match self.stealers.get(worker)?.steal() {
             Steal::Success(hint) => Some(usize::from(hint.group)),
@@ -123,7 +125,7 @@ impl<R: TurnRun> Stealers<R> {
     }
 }
 
-/// The groups of each worker, and the fronts of their deques. No thread has a group yet. It is refused for memory alone.
+/// Makes the agenda of each worker, and the fronts of their deques. No thread holds a group yet. Only memory can be refused.
 pub(crate) fn agendas_of<G: Drop, K: Tasks<G>>(
     alloc: Global,
     common: &Common<G, K>,

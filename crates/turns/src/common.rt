@@ -1,4 +1,4 @@
-//! What all workers of a run have in common.
+//! What all workers of a run share.
 ghost use Rattle.std.specs.Prelude.{◌≡◌, IfOk, length, min};
 
 use crate::seats::Seats;
@@ -6,14 +6,14 @@ use crate::signals::Signals;
 use std::alloc::{AllocError, Global};
 use vlink::Time;
 
-/// What all workers of a run have in common.
+/// What all workers of a run share.
 #[derive(Drop)]
 pub struct Common<G, K> {
-    /// How many workers there are.
+    /// The number of workers.
     pub workers: usize,
-    /// How many messages a group handles in a turn at most.
+    /// The most messages that a group handles in a turn.
     pub turn: u32,
-    /// How far a group runs ahead of the GVT that it saw at most, in ns.
+    /// The most that a group runs ahead of the GVT that it saw, in ns.
     pub window_ns: u64,
     pub(crate) seats: Seats<G>,
     pub(crate) signals: Signals,
@@ -22,7 +22,8 @@ pub struct Common<G, K> {
 }
 
 impl<G: Drop, K: Drop> Common<G, K> {
-    /// No group has had a turn. There are as many workers as are asked for, but no more than groups. It is refused for memory alone.
+    /// Makes the shared state before any turn. It has as many workers as are asked for, but no more than groups. Only memory can be
+    /// refused.
     pub fn of(
         alloc: Global,
         groups: Vec<G>,
@@ -51,7 +52,7 @@ impl<G: Drop, K: Drop> Common<G, K> {
         }
     }
 
-    /// The groups, in order, and what was done with them. It is refused for memory alone.
+    /// Returns the groups, in order, and what was done with them. Only memory can be refused.
     pub fn into_groups(self, alloc: Global) -> Result<(Vec<G>, K), AllocError>
         ensures { IfOk result (λ r. r.1 ≡ self.tasks) }
     {
@@ -72,7 +73,7 @@ impl<G: Drop, K: Drop> Common<G, K> {
     }
 }
 
-/// What the workers tell one another of these groups, of which none has had a turn, and their seats. It is refused for memory alone.
+/// What the workers announce to one another of these groups, of which none has had a turn, and their seats. It is refused for memory alone.
 fn seated<G: Drop>(
     alloc: Global,
     until: Time,

@@ -1,29 +1,29 @@
 //! When each group has something to do next, and how far the workers have come.
 use crate::apart::Apart;
-use crate::{LEAD_NS, PIECE};
+use crate::{LEAD_NS, MOST_UNPOSTED, PIECE};
 use std::alloc::{AllocError, Global};
 use std::sync::atomic::{AtomicBool, AtomicU64, Ordering};
 use vlink::Time;
 
-/// What is told of a group.
+/// What workers announce of a group.
 #[derive(Drop)]
 struct Moment {
-    /// The moment of its next event, in ns, or of its earliest letter that is not posted, as who gave it a turn told it last.
+    /// The moment of its next event, in ns, or of its earliest letter that is not posted, as who gave it a turn announced it last.
     next_ns: AtomicU64,
-    /// The least moment of the letters that wait for it, in ns. Who posted one lowers it after that, and who takes them raises it in the same section.
-    /// So no letter is missed.
+    /// The least moment of the letters that wait for it, in ns. Whoever posts a letter lowers it afterwards, and whoever takes the letters
+    /// raises it in the same section. So no letter is missed.
     letter_ns: AtomicU64,
 }
 
 impl Moment {
-    /// The moment at which it has something to do, in ns.
+    /// Returns the moment at which it has something to do, in ns.
     fn first_ns(&self) -> u64 {
         self.next_ns
             .load(Ordering::SeqCst)
             .min(self.letter_ns.load(Ordering::SeqCst))
     }
 
-    /// It has something to do at this moment, in ns, or sooner. Its caller gives the group a turn.
+    /// Notes that it has something to do at this moment, in ns, or sooner. The caller gives the group a turn.
     fn lower_next(&self, moment_ns: u64) {
         if moment_ns < self.next_ns.load(Ordering::SeqCst) {
             self.next_ns.store(moment_ns, Ordering::SeqCst);
@@ -31,7 +31,7 @@ impl Moment {
     }
 }
 
-/// For each of so many groups a letter of the moment 0 waits. It is refused for memory alone.
+/// Makes the moments of `groups` groups, for each of which a letter of the moment 0 waits. Only memory can be refused.
 fn first_moments(alloc: Global, groups: usize) -> Result<Vec<Apart<Moment>>, AllocError> {
     let mut moments = Vec::with_capacity(alloc, groups)?;
     for _ in 0..groups {
@@ -43,7 +43,7 @@ fn first_moments(alloc: Global, groups: usize) -> Result<Vec<Apart<Moment>>, All
     Ok(moments)
 }
 
-/// The worker of each of so many groups: they belong to so many workers in turn. It is refused for memory alone.
+/// Gives groups to workers in turn, and returns the worker of each group. Only memory can be refused.
 fn owners_of(alloc: Global, groups: usize, workers: usize) -> Result<Vec<usize>, AllocError> {
     let mut owners = Vec::with_capacity(alloc, groups)?;
     let mut owner: usize = 0;
@@ -58,7 +58,7 @@ fn owners_of(alloc: Global, groups: usize, workers: usize) -> Result<Vec<usize>,
     Ok(owners)
 }
 
-/// What the workers tell one another.
+/// What the workers announce to one another.
 #[derive(Drop)]
 pub struct Moments {
     moments: Vec<Apart<Moment>>,
@@ -66,14 +66,15 @@ pub struct Moments {
     owners: Vec<usize>,
     /// The end time of the network, in ns.
     until_ns: u64,
-    /// Is set where a refusal ends all workers.
+    /// Set if a refusal ends all workers.
     stop: AtomicBool,
-    /// The GVT that was set last, in ns.
+    /// The last GVT, in ns.
     gvt_ns: Apart<AtomicU64>,
 }
 
 impl Moments {
-    /// A letter of the moment 0 waits for each of so many groups, which belong to so many workers in turn. It is refused for memory alone.
+    /// Makes the moments of `groups` groups, which belong to the workers in turn. A letter of the moment 0 waits for each group. Only
+    /// memory can be refused.
     pub(crate) fn new(
         alloc: Global,
         groups: usize,
@@ -96,13 +97,23 @@ impl Moments {
         }
     }
 
-    /// How many groups there are.
+    /// Returns the number of groups.
     pub(crate) fn groups(&self) -> usize {
         self.moments.len()
     }
 
-    /// So many messages a group handles at most before it tells how far it has come, where it has handled so many in its turn. Nobody asks how far the
-    /// only group is.
+    /// Returns the most messages that a group handles in a turn, from that of the run. Nobody waits for the only group: it goes on until it
+    /// should post.
+    pub(crate) fn turn(&self, turn: u32) -> u32 {
+        if self.groups() == 1 {
+            turn.max(MOST_UNPOSTED)
+        } else {
+            turn
+        }
+    }
+
+    /// Returns how many messages a group may handle before it announces how far it is, if it has handled `handled` in its turn. Nobody
+    /// needs to know how far the only group is.
     pub(crate) fn piece(&self, turn: u32, handled: u32) -> u32 {
         let left = turn.saturating_sub(handled);
         if self.groups() == 1 {
@@ -112,7 +123,7 @@ impl Moments {
         }
     }
 
-    /// The worker of a group, if there is a group of this number.
+    /// Returns the worker of a group, if the group exists.
     pub(crate) fn owner(&self, group: usize) -> Option<usize> {
         match self.owners.get(group) {
             Some(owner) => Some(*owner),
@@ -120,17 +131,17 @@ impl Moments {
         }
     }
 
-    /// Whether the group is this worker's.
+    /// Whether the group belongs to this worker.
     pub(crate) fn is_of(&self, group: usize, worker: usize) -> bool {
         self.owner(group) == Some(worker)
     }
 
-    /// The GVT that was set last, in ns.
+    /// Returns the last GVT, in ns.
     pub(crate) fn gvt_ns(&self) -> u64 {
         self.gvt_ns.value.load(Ordering::SeqCst)
     }
 
-    /// GVT is this moment, in ns. The answer is whether it is another one. Its caller has the lock of the exchange.
+    /// Sets GVT to this moment, in ns. Returns whether it changed. The caller has the lock of the exchange.
     pub fn publish(&self, gvt_ns: u64) -> bool {
         if self.gvt_ns() == gvt_ns {
             return false;
@@ -139,7 +150,7 @@ impl Moments {
         true
     }
 
-    /// A refusal ends all workers at their next turn.
+    /// Ends all workers at their next turn, because of a refusal.
     pub(crate) fn stop(&self) {
         self.stop.store(true, Ordering::SeqCst);
     }
@@ -149,7 +160,7 @@ impl Moments {
         self.gvt_ns() > self.until_ns || self.stop.load(Ordering::SeqCst)
     }
 
-    /// The group, other than those of this worker, that is furthest behind, if it has something to do before this moment, in ns.
+    /// Returns the group, other than those of this worker, that is furthest behind, if it has something to do before this moment, in ns.
     pub(crate) fn furthest_behind(&self, worker: usize, limit_ns: u64) -> Option<usize> {
         let mut least_ns = limit_ns;
         let mut behind = None;
@@ -163,7 +174,7 @@ impl Moments {
         behind
     }
 
-    /// Before which moment events are due now, in ns: `LEAD_NS` behind the least moment of all groups. The only group has none to wait for.
+    /// Before which moment events are due now, in ns: `LEAD_NS` later than the least moment of all groups. The only group has none to wait for.
     pub(crate) fn limit_ns(&self) -> u64 {
         if self.moments.len() == 1 {
             return u64::MAX;
@@ -175,7 +186,7 @@ impl Moments {
         least_ns.saturating_add(LEAD_NS)
     }
 
-    /// The moment at which the group has something to do, in ns.
+    /// Returns the moment at which the group has something to do, in ns.
     pub(crate) fn first_ns(&self, group: usize) -> u64 {
         match self.moments.get(group) {
             Some(moment) => moment.value.first_ns(),
@@ -188,7 +199,8 @@ impl Moments {
         self.first_ns(group) < limit_ns
     }
 
-    /// Whether nothing but GVT is to come for this worker: no group has an event before the end, or one of its own would be due but for the window.
+    /// Whether only GVT is missing for this worker: no group has an event before the end, or one of its own would be due without the
+    /// window.
     pub(crate) fn waits_for_gvt(&self, worker: usize) -> bool {
         let limit_ns = self.limit_ns();
         if limit_ns > self.until_ns {
@@ -202,7 +214,7 @@ impl Moments {
         false
     }
 
-    /// The least moment of the letters that wait for this group, in ns.
+    /// Returns the least moment of the letters that wait for this group, in ns.
     pub(crate) fn letter_ns(&self, group: u16) -> u64 {
         match self.moments.get(usize::from(group)) {
             Some(moment) => moment.value.letter_ns.load(Ordering::SeqCst),
@@ -210,28 +222,28 @@ impl Moments {
         }
     }
 
-    /// The group has its next event, or its earliest letter that is not posted, at this moment, in ns.
+    /// Announces the moment of the group's next event, or of its earliest letter that is not posted, in ns.
     pub(crate) fn tell(&self, group: u16, moment_ns: u64) {
         if let Some(moment) = self.moments.get(usize::from(group)) {
             moment.value.next_ns.store(moment_ns, Ordering::SeqCst);
         }
     }
 
-    /// The letters that waited for the group are collected. The answer is the least moment of those that were told of, in ns. Its caller has the lock of the
+    /// The letters that waited for the group are collected. The answer is the least moment of those that were announced, in ns. Its caller has the lock of the
     /// exchange.
     pub fn collect(&self, group: u16) -> u64 {
         let Some(moment) = self.moments.get(usize::from(group)) else {
             return u64::MAX;
         };
         let moment = &moment.value;
-        // In between the others are to believe in no later moment.
+        // In between, the others must see no later moment.
         moment.lower_next(moment.letter_ns.load(Ordering::SeqCst));
         let letter_ns = moment.letter_ns.swap(u64::MAX, Ordering::SeqCst);
         moment.lower_next(letter_ns);
         letter_ns
     }
 
-    /// A letter of this moment, in ns, waits for the group.
+    /// Announces that a letter of this moment, in ns, waits for the group.
     fn call(&self, group: usize, moment_ns: u64) {
         if let Some(moment) = self.moments.get(group) {
             moment
@@ -241,7 +253,7 @@ impl Moments {
         }
     }
 
-    /// The groups are told of the letters that are listed for them, the least moment of each, in ns; and none is listed from then on.
+    /// Announces to the groups the letters that are listed for them, the least moment of each, in ns; and none is listed from then on.
     pub(crate) fn call_all(&self, letters_ns: &mut [u64]) {
         for (group, letter_ns) in letters_ns.iter_mut().enumerate() {
             if *letter_ns != u64::MAX {

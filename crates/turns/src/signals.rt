@@ -1,4 +1,4 @@
-//! What the workers of a run tell one another: moments, who of them rests, and whether the run has ended.
+//! What the workers of a run announce to one another: moments, who of them rests, and whether the run has ended.
 use crate::REST_US;
 use crate::apart::Apart;
 use crate::moments::Moments;
@@ -8,7 +8,7 @@ use std::sync::atomic::{AtomicU64, Ordering};
 use std::time::Duration;
 use vlink::Time;
 
-/// None of so many workers rests. It is refused for memory alone.
+/// Makes the state in which no worker rests. Only memory can be refused.
 fn awake(alloc: Global, workers: usize) -> Result<Vec<Apart<AtomicU64>>, AllocError> {
     let mut rests = Vec::with_capacity(alloc, workers)?;
     for _ in 0..workers {
@@ -17,21 +17,21 @@ fn awake(alloc: Global, workers: usize) -> Result<Vec<Apart<AtomicU64>>, AllocEr
     Ok(rests)
 }
 
-/// What the workers tell one another.
+/// What the workers announce to one another.
 #[derive(Drop)]
 pub(crate) struct Signals {
     /// When each group has something to do next.
     pub(crate) moments: Moments,
-    /// Of each worker, 1 as long as it rests or is about to: who has something for it sets that to 0, and wakes it.
+    /// For each worker 1 as long as it rests or is about to. Whoever has something for it sets that to 0, and wakes it.
     rests: Vec<Apart<AtomicU64>>,
     /// How many workers rest, or are about to.
     resting: Apart<AtomicU64>,
-    /// 0 as long as the run goes on: a thread that watches waits for it to change.
+    /// 0 as long as the run goes on. A thread that watches waits for it to change.
     ended: Apart<AtomicU64>,
 }
 
 impl Signals {
-    /// None of so many groups has had a turn, none of so many workers rests, and the run goes on. It is refused for memory alone.
+    /// Makes the signals of a run that goes on: no group has had a turn, and no worker rests. Only memory can be refused.
     pub(crate) fn new(
         alloc: Global,
         groups: usize,
@@ -53,7 +53,7 @@ impl Signals {
         }
     }
 
-    /// A turn was given, or GVT was set: workers that rest are woken where a group of theirs is due.
+    /// Wakes workers that rest and have a group that is due, after a turn was given or GVT was set.
     pub(crate) fn wake_due(&self) {
         if self.resting.value.load(Ordering::SeqCst) == 0 {
             return;
@@ -68,7 +68,7 @@ impl Signals {
         }
     }
 
-    /// The worker goes on, if it rests.
+    /// Wakes the worker, if it rests.
     fn wake(&self, worker: usize) {
         if let Some(rests) = self.rests.get(worker) {
             if rests.value.load(Ordering::SeqCst) != 0 {
@@ -78,7 +78,7 @@ impl Signals {
         }
     }
 
-    /// The worker is about to rest, and will be woken from here on: before it rests it looks once more whether it is to.
+    /// Notes that the worker is about to rest, and will be woken from here on. Before it rests it checks once more whether it should.
     pub(crate) fn begin_rest(&self, worker: usize) {
         self.resting.value.fetch_add(1, Ordering::SeqCst);
         if let Some(rests) = self.rests.get(worker) {
@@ -86,7 +86,7 @@ impl Signals {
         }
     }
 
-    /// The worker, which the calling thread is, rests until it is woken, or `REST_US` have passed.
+    /// The worker, which is the calling thread, rests until it is woken, or `REST_US` have passed.
     pub(crate) fn rest<T: Wait>(&self, rt: &T, worker: usize) {
         if let Some(rests) = self.rests.get(worker) {
             rests
@@ -95,7 +95,7 @@ impl Signals {
         }
     }
 
-    /// The worker does not rest any more.
+    /// Notes that the worker does not rest any more.
     pub(crate) fn end_rest(&self, worker: usize) {
         if let Some(rests) = self.rests.get(worker) {
             rests.value.store(0, Ordering::SeqCst);
@@ -103,7 +103,7 @@ impl Signals {
         self.resting.value.fetch_sub(1, Ordering::SeqCst);
     }
 
-    /// The calling thread waits for so many microseconds, unless the run ends.
+    /// The calling thread waits for `most_us` microseconds, unless the run ends.
     pub(crate) fn watch<T: Wait>(&self, rt: &T, most_us: u64) {
         self.ended
             .value
@@ -115,7 +115,7 @@ impl Signals {
         self.ended.value.load(Ordering::SeqCst) != 0
     }
 
-    /// The run ends: no worker rests from here on.
+    /// Ends the run: no worker rests from here on.
     pub(crate) fn end(&self) {
         self.ended.value.store(1, Ordering::SeqCst);
         self.ended.value.wake_all();

@@ -4,15 +4,15 @@ use crate::agenda::{Agenda, Stealers};
 use crate::common::Common;
 use crate::looks::Looks;
 use crate::moments::Moments;
-use crate::refusal::Refusal;
 use crate::seat::Seat;
 use crate::signals::Signals;
 use crate::tasks::Tasks;
 use std::alloc::{AllocError, Global};
 use std::sync::Wait;
 use std::{hint, thread};
+use turn_words::Refusal;
 
-/// A worker with these groups gives turns until the run is over or a refusal ends it. One of its own ends the others at their next turn.
+/// A worker with these groups gives turns until the run is over or a refusal ends it. Its own refusal ends the others at their next turn.
 pub(crate) fn give_turns<G: Drop, K: Tasks<G>, T: Wait>(
     rt: &T,
     alloc: Global,
@@ -48,7 +48,7 @@ struct Worker<'s, G, K: Tasks<G>, T> {
 }
 
 impl<'s, G: Drop, K: Tasks<G>, T: Wait> Worker<'s, G, K, T> {
-    /// A worker with these groups, which has given no turn. It is refused for memory alone.
+    /// Makes a worker with these groups, which has given no turn. Only memory can be refused.
     fn new(
         rt: &'s T,
         alloc: Global,
@@ -81,8 +81,8 @@ impl<'s, G: Drop, K: Tasks<G>, T: Wait> Worker<'s, G, K, T> {
         Ok(())
     }
 
-    /// A turn for each group of its own that no other worker has, or stole: those that are due come first, the one that is furthest behind before the
-    /// others. The answer is whether a message was handled.
+    /// Gives a turn to each group of its own that no other worker has or stole: those that are due come first, the one that is furthest
+    /// behind before the others. Returns whether a message was handled.
     fn own_turns(&mut self) -> Result<bool, K::Fault> {
         let common = self.common;
         let moments = &common.signals.moments;
@@ -102,9 +102,9 @@ impl<'s, G: Drop, K: Tasks<G>, T: Wait> Worker<'s, G, K, T> {
         Ok(has_worked)
     }
 
-    /// A turn for a group of another worker, which may be off its core, where nothing was to do for its own for a while. The more often that served, the
-    /// sooner it does so. What the worker that is furthest behind has listed comes first; one that is off its core lists nothing, so then comes any group
-    /// that is due. The answer is whether a message was handled.
+    /// Gives a turn to a group of another worker, which may be off its core, if its own groups had nothing to do for a while. The more
+    /// often that succeeded, the sooner it does so. First comes what the worker that is furthest behind has listed; a worker that is off
+    /// its core lists nothing, so then comes any group that is due. Returns whether a message was handled.
     fn turn_of_others(&mut self) -> Result<bool, K::Fault> {
         if !self.looks.are_to_help() {
             return Ok(false);
@@ -128,13 +128,13 @@ impl<'s, G: Drop, K: Tasks<G>, T: Wait> Worker<'s, G, K, T> {
         Ok(false)
     }
 
-    /// The group that the worker of this group lists first, and has not come to, if there is one.
+    /// Returns the group that the worker of this group lists first and has not reached, if any.
     fn stolen(&self, group: usize) -> Option<usize> {
         let worker = self.common.signals.moments.owner(group)?;
         self.stealers.steal(worker)
     }
 
-    /// A turn for a group of another worker, if it has something to do before the limit, in ns. The answer is whether a message was handled.
+    /// Gives a turn to a group of another worker, if it has something to do before the limit, in ns. Returns whether a message was handled.
     fn help(&mut self, group: usize, limit_ns: u64) -> Result<bool, K::Fault> {
         let common = self.common;
         if !common.signals.moments.is_due(group, limit_ns)
@@ -146,7 +146,8 @@ impl<'s, G: Drop, K: Tasks<G>, T: Wait> Worker<'s, G, K, T> {
         Ok(true)
     }
 
-    /// A turn for a group, unless another thread has it. Events before the limit, in ns, are due. The answer is whether a message was handled.
+    /// Gives a turn to a group, unless another thread holds it. Events before the limit, in ns, are due. Returns whether a message was
+    /// handled.
     fn turn_of(&mut self, group: usize, limit_ns: u64, is_own: bool) -> Result<bool, K::Fault> {
         let common = self.common;
         let Some(mut seat) = common.seats.try_take(group) else {
@@ -155,13 +156,14 @@ impl<'s, G: Drop, K: Tasks<G>, T: Wait> Worker<'s, G, K, T> {
         let worked = self.turn(&mut seat, limit_ns, is_own);
         drop(seat);
         if !is_own {
-            // Its worker may have gone to rest while the group was not to be had.
+            // Its worker may have gone to rest while the group was held here.
             common.signals.wake_due();
         }
         worked
     }
 
-    /// A turn for a group. It meets the others first, if it has to, and at the end, if it has letters for them. The answer is whether a message was handled.
+    /// Gives a group its turn. It meets the others first, if it must, and at the end, if it has letters for them. Returns whether a message
+    /// was handled.
     fn turn(&mut self, seat: &mut Seat<G>, limit_ns: u64, is_own: bool) -> Result<bool, K::Fault> {
         let common = self.common;
         let moments = &common.signals.moments;
@@ -180,7 +182,7 @@ impl<'s, G: Drop, K: Tasks<G>, T: Wait> Worker<'s, G, K, T> {
         Ok(has_worked)
     }
 
-    /// The group meets the others. Then they are told of its letters, and only then of its next event, which may be later.
+    /// The group meets the others. Then it announces its letters to them, and only then its next event, which may be later.
     fn meet(&mut self, seat: &mut Seat<G>) -> Result<(), K::Fault> {
         let common = self.common;
         let tasks = &common.tasks;
@@ -189,7 +191,7 @@ impl<'s, G: Drop, K: Tasks<G>, T: Wait> Worker<'s, G, K, T> {
         let waits = report.waits_for_gvt(common.window_ns);
         let letters_ns = &mut self.letters_ns;
         let letter_ns = tasks.meet(&mut seat.group, waits, moments, letters_ns)?;
-        // A letter in the tray is to be worked on no later than an event of its moment.
+        // A letter in the tray must be worked on no later than an event of its moment.
         seat.next_ns = seat.next_ns.min(letter_ns);
         seat.unposted = 0;
         moments.call_all(letters_ns);
@@ -197,12 +199,12 @@ impl<'s, G: Drop, K: Tasks<G>, T: Wait> Worker<'s, G, K, T> {
         Ok(())
     }
 
-    /// The group handles messages as long as they are due, as many as a turn has, and tells now and then how far it is. It ends where it is to meet the
+    /// The group handles messages as long as they are due, as many as a turn has, and announces now and then how far it is. It ends where it is to meet the
     /// others. The answer is whether a message was handled.
     fn handle_due(&self, seat: &mut Seat<G>) -> Result<bool, K::Fault> {
         let common = self.common;
         let moments = &common.signals.moments;
-        let turn = common.turn;
+        let turn = moments.turn(common.turn);
         let mut handled = 0;
         for _ in 0..turn {
             let most = moments.piece(turn, handled);
@@ -217,7 +219,8 @@ impl<'s, G: Drop, K: Tasks<G>, T: Wait> Worker<'s, G, K, T> {
         Ok(handled != 0)
     }
 
-    /// Nothing was due: it looks again soon, and rests after many looks. Where it waits for GVT, or has waited for long, that is set now and then.
+    /// Acts on a look in vain: it looks again soon, and rests after many looks. If it waits for GVT, or has waited for long, it sets GVT
+    /// now and then.
     fn found_nothing(&mut self) -> Result<(), K::Fault> {
         let common = self.common;
         self.looks.look_in_vain();
@@ -236,8 +239,8 @@ impl<'s, G: Drop, K: Tasks<G>, T: Wait> Worker<'s, G, K, T> {
     }
 }
 
-/// The group handles messages that are due, so many at most, no further ahead of the GVT that it saw than the window, and tells how far it is: no further
-/// than its earliest letter that is not posted. The answer is how many.
+/// The group handles messages that are due, at most `most`, no further ahead of the GVT that it saw than the window. It announces how far
+/// it is: no further than its earliest letter that is not posted. Returns how many messages.
 fn handle_piece<G: Drop, K: Tasks<G>>(
     common: &Common<G, K>,
     seat: &mut Seat<G>,
@@ -246,7 +249,9 @@ fn handle_piece<G: Drop, K: Tasks<G>>(
     let tasks = &common.tasks;
     let moments = &common.signals.moments;
     let report = tasks.report(seat);
-    let due_ns = moments.limit_ns().saturating_sub(report.seen_ns);
+    // A letter that waits is to arrive before what is later.
+    let limit_ns = moments.limit_ns().min(moments.letter_ns(report.number));
+    let due_ns = limit_ns.saturating_sub(report.seen_ns);
     let count = tasks.handle(&mut seat.group, most, due_ns.min(common.window_ns))?;
     seat.next_ns = tasks.next_ns(&mut seat.group);
     moments.tell(report.number, tasks.report(seat).first_ns());
@@ -263,7 +268,7 @@ fn rest<G: Drop, K: Tasks<G>, T: Wait>(rt: &T, common: &Common<G, K>, number: us
     signals.end_rest(number);
 }
 
-/// Whether there is something to do for a group of a worker, which looked in vain for long, that no other thread has.
+/// Whether a group of a worker that looked in vain for long has something to do, and no other thread holds it.
 fn is_any_due<G: Drop, K: Tasks<G>>(common: &Common<G, K>, number: usize) -> bool {
     let moments = &common.signals.moments;
     let limit_ns = moments.limit_ns();
@@ -279,7 +284,7 @@ fn is_any_due<G: Drop, K: Tasks<G>>(common: &Common<G, K>, number: usize) -> boo
     false
 }
 
-/// Whether there is something to do for a group whose worker looked in vain for long.
+/// Whether a group whose worker looked in vain for long has something to do.
 fn is_to_go_on<G: Drop, K: Tasks<G>>(
     common: &Common<G, K>,
     seat: &Seat<G>,
@@ -291,7 +296,7 @@ fn is_to_go_on<G: Drop, K: Tasks<G>>(
         || report.is_to_meet(moments, limit_ns, common.window_ns, u64::MAX)
 }
 
-/// GVT is set, where no other thread is at the exchange; workers that rest are woken where there is something to do for them now.
+/// Sets GVT, if no other thread is at the exchange, and wakes workers that rest and now have something to do.
 fn publish<G: Drop, K: Tasks<G>>(tasks: &K, signals: &Signals) -> Result<(), K::Fault> {
     if tasks.publish(&signals.moments)? {
         signals.wake_due();

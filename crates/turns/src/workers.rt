@@ -1,13 +1,10 @@
 //! Threads that give turns to groups.
 ghost use Rattle.std.specs.Prelude.{◌≡◌, ◌+◌, ◌<◌, IfErr, IfOk, Some, length, slice_get};
-ghost use Rattle.turns.specs.Outcomes.{IsToldOf};
+ghost use Rattle.turn_words.specs.Outcomes.{IsToldOf};
 
 use crate::LOOK_US;
 use crate::agenda::{Agenda, Stealers, agendas_of};
 use crate::common::Common;
-use crate::hint::TurnRun;
-use crate::outcomes::{add_outcome, least_fault};
-use crate::refusal::Refusal;
 use crate::signals::Signals;
 use crate::standstill::Standstill;
 use crate::tasks::Tasks;
@@ -17,12 +14,13 @@ use std::alloc::{AllocError, Global};
 use std::sync::Wait;
 use std::thread;
 use std::thread::{JoinHandle, Threads};
+use turn_words::{Refusal, TurnRun, add_outcome, least_fault};
 use vlink::Time;
 
-/// Starts the workers, and joins all of them. Where there is no group, or no worker is asked for, none is started, and no fault told.
+/// Starts the workers, and joins all of them. If there is no group, or no worker is asked for, it starts none, and reports no fault.
 ///
-/// A refusal to one worker ends the others at their next turn. All of them are joined, and the answer is the least fault of what they ended
-/// with, and of the start. While they run, the calling thread shows the watch GVT; it is given back.
+/// A refusal to one worker ends the others at their next turn. All of them are joined, and the least fault of what they ended with, and of
+/// the start, is returned. While they run, the calling thread shows the watch GVT; the watch is given back.
 pub fn work_all<
     G: Drop + Send,
     F: Refusal + Send,
@@ -88,8 +86,8 @@ fn start_all<
     )
 }
 
-/// The watch is shown GVT until the run ends; where the start was refused, the workers are to end. They are joined. The answer is the least fault of
-/// what they ended with, and of the start.
+/// Shows the watch GVT until the run ends. If the start was refused, the workers must end. They are joined. Returns the least fault of what
+/// they ended with, and of the start.
 fn watch_all<F: Refusal, T: Threads + Wait, W: Watch + Drop>(
     rt: &T,
     alloc: Global,
@@ -110,11 +108,11 @@ fn watch_all<F: Refusal, T: Threads + Wait, W: Watch + Drop>(
     (join_all(rt, alloc, start, handles), watch)
 }
 
-/// The watch is shown GVT once in `LOOK_US`, until the run ends. Where it stands still, the workers end at their next turn, and no fault is told: one thread
+/// The watch is shown GVT once in `LOOK_US`, until the run ends. If it stands still, the workers end at their next turn, without a fault: one thread
 /// finishes the run then.
 ///
-/// A thread that the system has stopped may have the lock of the exchange, and then the other workers wait for it too. The calling thread cannot take the
-/// lock from it, and joins all of them: it waits until that thread goes on.
+/// A thread that the system has stopped may have the lock of the exchange; then the other workers wait for it too. The calling thread
+/// cannot take the lock from it, and joins all of them: it waits until that thread goes on.
 fn show_gvt<T: Wait, W: Watch>(rt: &T, signals: &Signals, watch: &mut W)
     ensures watched { W.becomes watch.old watch.new }
 {
@@ -136,8 +134,8 @@ fn show_gvt<T: Wait, W: Watch>(rt: &T, signals: &Signals, watch: &mut W)
     }
 }
 
-/// What the start came to, and behind it what each thread ended with, in their order: they are joined. It is refused for memory alone.
-#[tactic(auto, using(crate::proofs::LeastFault::first_stays))]
+/// Joins the threads, and lists the outcome of the start and then the outcome of each thread, in their order. Only memory can be refused.
+#[tactic(auto, using(crate::proofs::FirstOutcome::first_stays))]
 fn outcomes_of<F: Refusal, T: Threads + Wait>(
     rt: &T,
     alloc: Global,
@@ -155,7 +153,7 @@ fn outcomes_of<F: Refusal, T: Threads + Wait>(
     Ok(outcomes)
 }
 
-/// The threads are joined. The answer is the least fault of what they ended with, and of the start.
+/// Joins the threads. Returns the least fault of what they ended with, and of the start.
 fn join_all<F: Refusal, T: Threads + Wait>(
     rt: &T,
     alloc: Global,

@@ -1,4 +1,4 @@
--- The segments of a run that wait for others, and what is told of the first fault.
+-- The segments of a run that wait for others, and how the first fault is reported.
 use Rattle.std.specs.Prelude.{◌≡◌, ℕ, List, Option, Some, None, Result, Ok, Err, ⊤, length}
 use Rattle.vlink.specs.Letters.{Row}
 use Rattle.network.specs.Words.{Plan, process_count}

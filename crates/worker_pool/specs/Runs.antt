@@ -2,7 +2,7 @@
 use Rattle.std.specs.Prelude.{◌≡◌, ◌<◌, ◌≤◌, ℕ, Bool, true, false, List, [], length, slice_get, Some}
 use Rattle.vlink.specs.Letters.{Row}
 use Rattle.virtual_time.specs.declared.step.Step.{Step}
-use Rattle.virtual_time.specs.Law.{IsFinished}
+use Rattle.virtual_time.specs.Law.{AreDone, IsFinished, start}
 use Rattle.network.specs.Words.{Plan, process_count}
 use Rattle.nodes.specs.Words.{NodeState, simulation_of}
 use Rattle.nodes.specs.declared.node.NodeRecord.{NodeRecord}
@@ -40,9 +40,10 @@ pub record IsEnded (plan : Plan) (owners : List ℕ) (steps : List Step) (groups
 abbrev pub HaveGoneBy : List ℕ → ℕ → List (GroupState NodeState NodeRecord) → Type 0
 HaveGoneBy own end groups = (g : ℕ) (group : GroupState NodeState NodeRecord) → slice_get groups g ≡ Some group → group.gone ≤ moment_of own end g
 
--- after these steps the world of the network is finished
-abbrev pub IsJournalOf : Plan → List Step → Type 0
-IsJournalOf plan steps = IsFinished (simulation_of plan) (after plan steps)
+-- after these steps the world of the network is finished, and each of them could be done where it stands
+pub record IsJournalOf (plan : Plan) (steps : List Step) : Type 0 where
+  pub finished : IsFinished (simulation_of plan) (after plan steps)
+  pub enabled : AreDone (simulation_of plan) steps (start (simulation_of plan))
 
 -- these are the steps of a run, where they are asked for; where they are not, there are none
 abbrev pub IsJournalAsked : Plan → Bool → List Step → Type 0

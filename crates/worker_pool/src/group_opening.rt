@@ -1,5 +1,5 @@
 //! The exchange of a network's groups at the start.
-ghost use Rattle.std.specs.Prelude.{◌≡◌, [], length, is_some, IfOk};
+ghost use Rattle.std.specs.Prelude.{◌≡◌, [], length, IfOk};
 ghost use Rattle.reverse.specs.Setting.{Opens};
 ghost use Rattle.seqsim.specs.Networks.{setting_of};
 
@@ -8,7 +8,6 @@ use crate::network_run::{NetworkGroup, NetworkRun};
 use crate::shared::{Shared, most_steps};
 use crate::start::StartOf;
 use group_exchange::GroupExchange;
-use journal::Table;
 use network::Network;
 use nodes::Node;
 use seqsim::{layout_law, nodes_of};
@@ -16,8 +15,8 @@ use std::alloc::{AllocError, Global};
 use traffic::offers;
 use vlink::Message;
 
-/// The exchange of a network's groups, with no step in its journal, and each group in hand, in order, its nodes and lines in their opening states: the
-/// offers are on their way, and GVT is 0. It is refused for memory alone.
+/// Makes the exchange of a network's groups without steps in its journal, and each group in hand, in order, its nodes and lines in their
+/// opening states. The offers are in transit, and GVT is 0. Only memory can be refused.
 pub(crate) fn open_groups<J: NetworkRun>(
     alloc: Global,
     start: StartOf<'_, J>,
@@ -25,7 +24,7 @@ pub(crate) fn open_groups<J: NetworkRun>(
     ensures steps { IfOk result (λ r. r.0.steps ≡ []) }
     ensures count { IfOk result (λ r. length r.1.items ≡ start.entry.grouping.groups) }
 {
-    let (table, offers, nodes) = match opening_of(alloc, start.network, start.keeps) {
+    let (offers, nodes) = match opening_of(alloc, start.network) {
         Ok(opening) => opening,
         Err(fault) => {
             drop(start);
@@ -49,7 +48,7 @@ pub(crate) fn open_groups<J: NetworkRun>(
         &offers,
         owners,
         network.until(),
-        table,
+        keeps,
         pairs,
         most_steps(keeps),
     );
@@ -60,27 +59,11 @@ pub(crate) fn open_groups<J: NetworkRun>(
     }
 }
 
-/// What a network opens with: a table of its own for a journal that is kept, the offers, and its nodes. It is refused for memory alone.
-fn opening_of(
-    alloc: Global,
-    network: &Network,
-    keeps: bool,
-) -> Result<(Option<Table>, Vec<Message>, Vec<Node>), AllocError>
-    ensures table { IfOk result (λ r. is_some r.0 ≡ keeps) }
-    ensures opens { IfOk result (λ r. Opens (setting_of network.now) r.2.items r.1.items) }
+/// What a network opens with: the offers, and its nodes. It is refused for memory alone.
+fn opening_of(alloc: Global, network: &Network) -> Result<(Vec<Message>, Vec<Node>), AllocError>
+    ensures { IfOk result (λ r. Opens (setting_of network.now) r.1.items r.0.items) }
 {
     let offers = offers(alloc, network)?;
     let nodes = nodes_of(alloc, network)?;
-    Ok((table_of(alloc, keeps)?, offers, nodes))
-}
-
-/// A table of its own for a journal that is kept. It is refused for memory alone.
-fn table_of(alloc: Global, keeps: bool) -> Result<Option<Table>, AllocError>
-    ensures { IfOk result (λ table. is_some table ≡ keeps) }
-{
-    if keeps {
-        Ok(Some(Table::new(alloc)?))
-    } else {
-        Ok(None)
-    }
+    Ok((offers, nodes))
 }

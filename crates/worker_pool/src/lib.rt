@@ -23,7 +23,7 @@ mod tracing;
 mod workers;
 
 pub use grouping::group_number;
-pub use journal::{Gate, PoolFault, Table};
+pub use journal::{Gate, PoolFault};
 pub use network_runs::NetworkRun;
 pub use pace::Pace;
 pub use run_rows::TraceRun;

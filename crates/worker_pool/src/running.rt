@@ -29,7 +29,7 @@ use trace_tables::Tables;
 use turns::{Apart, Common};
 use vlink::{Row, Step};
 
-/// What a run has found: a row for each frame that was delivered or dropped, in message order, and their tables; and the steps that were
+/// The results of a run: a row for each frame that was delivered or dropped, in message order, and their tables; and the steps that were
 /// done, in their order.
 #[derive(Drop)]
 pub struct Outcome {
@@ -38,8 +38,8 @@ pub struct Outcome {
     pub journal: Vec<Step>,
 }
 
-/// Runs a network by workers until it is ended. Rows that are for good leave the groups, or stay, and where they are to be kept none has left at the
-/// end. The watch is shown GVT while the run goes on.
+/// Runs a network by workers until it is ended. Rows that can no longer change leave the groups, or stay; if they must stay, none has left
+/// at the end. The watch is shown GVT while the run goes on.
 pub(crate) fn run_to_end<
     'n,
     J: NetworkRun + Send + Sync,
@@ -67,7 +67,7 @@ pub(crate) fn run_to_end<
     to_end(rt, unlocked, leaving, keeps_rows, gate)
 }
 
-/// What the workers of a run have in common at the start. It is refused for memory alone.
+/// Makes what the workers of a run share at the start. Only memory can be refused.
 fn opened<'s, 'n, J: NetworkRun, G: Gate, T: Wait>(
     rt: &'s T,
     alloc: Global,
@@ -98,7 +98,7 @@ fn opened<'s, 'n, J: NetworkRun, G: Gate, T: Wait>(
     )
 }
 
-/// One thread has all in hand, and gives turns until the run is ended.
+/// Lets one thread, which holds everything, give turns until the run is ended.
 fn to_end<'n, J: NetworkRun, G: Gate, T: Wait>(
     rt: &T,
     unlocked: Unlocked<'n, J>,
@@ -121,7 +121,7 @@ fn to_end<'n, J: NetworkRun, G: Gate, T: Wait>(
 }
 
 impl<J: NetworkRun> Unlocked<'_, J> {
-    /// What an ended run has found whose rows have all stayed. It is refused for memory alone.
+    /// Returns the results of an ended run whose rows have all stayed. Only memory can be refused.
     fn outcome(&self, alloc: Global) -> Result<Outcome, AllocError>
         requires keeps { J.keeps ≡ true }
         requires ended { IsEnded J.plan J.owners self.now.exchange.steps self.now.groups.items }
@@ -141,7 +141,7 @@ impl<J: NetworkRun> Unlocked<'_, J> {
     }
 }
 
-/// What an ended run has found whose rows have all stayed. It is refused for memory alone.
+/// Returns the results of an ended run whose rows have all stayed. Only memory can be refused.
 fn outcome_of<J: NetworkRun>(alloc: Global, ended: Unlocked<'_, J>) -> Result<Outcome, AllocError>
     requires keeps { J.keeps ≡ true }
     requires ended { IsEnded J.plan J.owners ended.exchange.steps ended.groups.items }
@@ -184,15 +184,15 @@ fn run_named<J: NetworkRun + Send + Sync, G: Gate + Sync, T: Threads + Wait + Sy
     Ok(outcome_of(alloc, ended)?)
 }
 
-/// Simulates a network by workers that run ahead and roll back, as the pace says. The gate is told of each message that is handled.
+/// Simulates a network by workers that run ahead and roll back, as the pace states. It calls the gate for each message that is handled.
 ///
-/// Rows and tables are those of the one-thread run, as `seqsim::run` has them, whatever the threads did, and the world after the journal's
-/// steps is finished. Nothing is said of how long the run waits for its threads, or that it ends.
+/// Rows and tables are those of the one-thread run, as `seqsim::run` returns them, whatever the threads did, and the world after the
+/// journal's steps is finished. Not promised is how long the run waits for its threads, or that it ends.
 ///
-/// `OutOfMemory`: a growth was refused. `Exhausted`: a process had not enough numbers left for what its next message can send, so that some run of
-/// the network uses up numbers. `JournalFull`: the run takes more than 2^26 steps. `Spawn`: a worker cannot be started, so it comes only where there
-/// are workers and a process. `Torn` does not come. One worker's refusal ends the others at their next
-/// turn; of the faults of several the one with the least number is answered. Of a run that is refused nothing is left.
+/// `OutOfMemory`: memory was refused. `Exhausted`: a process did not have enough numbers left for what its next message can send, so that
+/// some run of the network uses up numbers. `JournalFull`: the run takes more than 2^26 steps. `Spawn`: a worker could not be started, so
+/// it comes only if there are workers and a process. `Torn` does not come. One worker's refusal ends the others at their next turn; of
+/// several faults the one with the least number is returned. Of a run that is refused nothing is left.
 pub fn run<G: Gate + Sync, T: Threads + Wait + Sync>(
     rt: &T,
     alloc: Global,

@@ -1,8 +1,8 @@
 //! The exchange that all workers of a run share.
-ghost use Rattle.std.specs.Prelude.{◌≡◌, ◌≢◌, ◌+◌, ◌<◌, ◌≤◌, ◌⊎◌, List, length, true, IfErr, Err};
+ghost use Rattle.std.specs.Prelude.{◌≡◌, ◌≢◌, ◌+◌, ◌<◌, ◌≤◌, ◌⊎◌, List, length, IfErr, Err};
 ghost use Rattle.vlink.specs.Letters.{Letter};
 ghost use Rattle.nodes.specs.Words.{simulation_of};
-ghost use Rattle.journal.specs.declared.fault.PoolFault.TheVariants.{OutOfMemory, Exhausted, JournalFull, Spawn, Torn};
+ghost use Rattle.journal.specs.declared.fault.PoolFault.TheVariants.{OutOfMemory, Exhausted, JournalFull, Spawn};
 ghost use Rattle.group_exchange.specs.Views.{block_of};
 ghost use Rattle.group_exchange.specs.Effects.{AreWaiting};
 ghost use Rattle.worker_pool.specs.Outcomes.{LackNumbers};
@@ -17,11 +17,11 @@ use nodes::Node;
 use std::marker::Model;
 use vlink::Time;
 
-/// GVT is set in one of so many sections of the exchange: who sets it has the lock for longer.
+/// GVT is set in one of this many sections of the exchange, since whoever sets it has the lock for longer.
 const SECTIONS_PER_GVT: u64 = 4;
 
-/// So many steps the journal of a run can have: 2^26 where it is kept, and 2^62 where it is not.
-/// It is a number, and not none, where the journal is not kept: no run comes there, and no clause changes its form.
+/// Returns the most steps that the journal of a run can have: 2^26 if it is stored, and 2^62 if it is not. It is a number, and not none,
+/// also if the journal is not stored: no run gets that far, and no clause changes its form.
 pub(crate) fn most_steps(keeps: bool) -> u64
     ensures { result ≡ most_steps keeps }
 {
@@ -32,7 +32,7 @@ pub(crate) fn most_steps(keeps: bool) -> u64
     }
 }
 
-/// The exchange of a run, whose journal can have so many steps, and how many sections workers had in it.
+/// The exchange of a run, with a limit on the steps of its journal, and how many sections workers had in it.
 ///
 /// Clauses see it as the exchange.
 #[derive(Drop)]
@@ -54,14 +54,14 @@ impl<J: NetworkRun> Model for Shared<J> {
 }
 
 impl<J: NetworkRun> Shared<J> {
-    /// The exchange.
+    /// Returns the exchange.
     pub(crate) fn as_exchange(&self) -> &GroupExchange<Node, OfGroups<J>>
         ensures { result.now ≡ self.now }
     {
         &self.inner
     }
 
-    /// All letters that wait for the group come to its tray. A group with a block, which a refusal left, takes none before that is posted.
+    /// Moves all letters that wait for the group to its tray. A group with a block, which a refusal left, takes none before that is posted.
     /// `JournalFull`: the steps would pass the most that a run can have.
     pub(crate) fn collect(&mut self, group: &mut NetworkGroup<J>) -> Result<(), RunFault<J>>
         ensures full { result ≡ Err JournalFull → (letters : List Letter) × AreWaiting (simulation_of J.plan) J.owners self.old group.old letters
@@ -77,13 +77,14 @@ impl<J: NetworkRun> Shared<J> {
         }
     }
 
-    /// What the group did goes to the journal, and its letters to the other groups. `JournalFull`: the steps would pass the most that a run can have.
+    /// Puts what the group did into the journal, and its letters into the boxes of the other groups. `JournalFull`: the steps would pass
+    /// the most that a run can have.
     pub(crate) fn post(&mut self, group: &mut NetworkGroup<J>) -> Result<(), RunFault<J>>
         ensures full { result ≡ Err JournalFull → (0 < length (block_of group.old))
             × (most_steps J.keeps < length self.old.steps + length (block_of group.old)) }
         ensures limited { most_steps J.keeps < length self.old.steps + length (block_of group.old) → 0 < length (block_of group.old) →
             result ≡ Err JournalFull }
-        ensures faults { IfErr result (λ fault. (fault ≡ OutOfMemory) ⊎ ((fault ≡ JournalFull) ⊎ ((fault ≡ Torn) × (J.keeps ≡ true)))) }
+        ensures faults { IfErr result (λ fault. (fault ≡ OutOfMemory) ⊎ (fault ≡ JournalFull)) }
         ensures no_spawn { IfErr result (λ fault. fault ≢ Spawn) }
     {
         match post(group, &mut self.inner) {
@@ -92,7 +93,7 @@ impl<J: NetworkRun> Shared<J> {
         }
     }
 
-    /// Sets GVT. The answer is GVT, in ns. `JournalFull`: there are as many steps as a run can have.
+    /// Sets GVT, and returns it, in ns. `JournalFull`: the journal already has as many steps as a run can have.
     pub(crate) fn publish(&mut self) -> Result<Time, RunFault<J>>
         ensures full { result ≡ Err JournalFull → most_steps J.keeps ≤ length self.old.steps }
         ensures no_spawn { IfErr result (λ fault. fault ≢ Spawn) }
@@ -103,7 +104,7 @@ impl<J: NetworkRun> Shared<J> {
         }
     }
 
-    /// A worker has a section. In one of `SECTIONS_PER_GVT`, and where it waits for it, GVT is set: then it is the answer, in ns.
+    /// Begins a section of a worker. In one of `SECTIONS_PER_GVT`, and if the worker waits for it, GVT is set and returned, in ns.
     pub(crate) fn publish_if_due(&mut self, waits: bool) -> Result<Option<Time>, RunFault<J>>
         ensures no_spawn { IfErr result (λ fault. fault ≢ Spawn) }
     {
@@ -115,7 +116,8 @@ impl<J: NetworkRun> Shared<J> {
         Ok(Some(gvt))
     }
 
-    /// A group gets a turn from who has all in hand: what it did is posted first, so that it sees GVT, and what it does then.
+    /// Gives a group a turn by the thread that holds everything: what the group did is posted first, so that it sees GVT, and then what it
+    /// does now.
     pub(crate) fn give_turn<G: Gate>(
         &mut self,
         group: &mut NetworkGroup<J>,
@@ -133,7 +135,8 @@ impl<J: NetworkRun> Shared<J> {
         self.post(group)
     }
 
-    /// The fault of a group at its work. Where a process of it lacks numbers, it does so in a run: after the steps of the journal and those of its block.
+    /// Makes the fault of a group at its work. If a process of it lacks numbers, it does so in a run: after the steps of the journal and
+    /// those of its block.
     pub(crate) fn fault_of(&self, group: &NetworkGroup<J>, fault: PoolFault) -> RunFault<J>
         requires { fault ≡ Exhausted → LackNumbers J.plan J.owners group.now }
         ensures { result ≡ fault }

@@ -14,7 +14,7 @@ use std::sync::{Mutex, Wait};
 use turns::{Apart, Common, Moments, Report, Seat, Tasks, TurnRun, locked_soon};
 use vlink::Letter;
 
-/// What workers use for the groups of a run that they have in hand: the lock of the exchange, and what becomes of rows.
+/// What workers use for the groups of a run that they hold: the lock of the exchange, and what happens to rows.
 #[derive(Drop)]
 pub(crate) struct NetworkTasks<'s, 'n, J: NetworkRun, G, T> {
     pub rt: &'s T,
@@ -25,7 +25,7 @@ pub(crate) struct NetworkTasks<'s, 'n, J: NetworkRun, G, T> {
     pub ghost planned: { network.now ≡ J.plan },
 }
 
-/// What all workers of a run have in common.
+/// What all workers of a run share.
 pub(crate) type CommonOf<'s, 'n, J, G, T> = Common<NetworkGroup<J>, NetworkTasks<'s, 'n, J, G, T>>;
 
 impl<J: NetworkRun> TurnRun for OfGroups<J> {
@@ -58,7 +58,7 @@ impl<J: NetworkRun, G: Gate, T: Wait> Tasks<NetworkGroup<J>> for NetworkTasks<'_
         }
     }
 
-    /// At a refusal the exchange tells whether numbers are used up.
+    /// At a refusal the exchange states whether numbers are used up.
     fn handle(
         &self,
         group: &mut NetworkGroup<J>,
@@ -97,8 +97,9 @@ impl<J: NetworkRun, G: Gate, T: Wait> Tasks<NetworkGroup<J>> for NetworkTasks<'_
     }
 }
 
-/// Where a worker has the exchange, what the group did goes to the journal, its letters go to the other groups, and are listed; its own come to it; and
-/// now and then, or where its next event waits for it, GVT is set in between, so that the group goes on by a GVT in which its own floor and letters count.
+/// In a section of a worker, what the group did goes to the journal, and its letters go to the other groups and are listed; then its own
+/// letters come to it. Now and then, or if its next event waits for it, GVT is set in between, so that the group goes on by a GVT in which
+/// its own floor and letters count.
 fn meet_at<J: NetworkRun>(
     shared: &mut Shared<J>,
     moments: &Moments,
@@ -115,7 +116,7 @@ fn meet_at<J: NetworkRun>(
     Ok(moments.collect(group.number()))
 }
 
-/// The least moment of these letters, in ns, or the greatest number where there is none.
+/// Returns the least moment of these letters, in ns, or the greatest number if there are none.
 fn least_ns(letters: &[Letter]) -> u64 {
     let mut least_ns = u64::MAX;
     for letter in letters {

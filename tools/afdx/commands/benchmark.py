@@ -1,5 +1,5 @@
 #!/usr/bin/env python3
-"""Measures how fast a build of the program is: `check`, `seq` and `run` on three networks that afdx large-network writes.
+"""Measures the speed of a build of the program: `check`, `seq` and `run` on three networks that afdx large-network writes.
 
     afdx benchmark PROGRAM [--sizes small,aircraft,limit] [--reps 5] [--workers 1,2,4]
 
@@ -9,17 +9,17 @@ output, one line for each network and command:
   network    small     16 end systems, 2 x 2 switches, 60 virtual links, 1 simulated second
              aircraft  120 end systems, 2 x 8 switches, 1,000 virtual links, 1 simulated second
              limit     760 end systems, 2 x 38 switches (4,096 processes), 65,536 virtual links, 0.1 simulated seconds
-  command    check, seq, or run with so many workers, where --workers names some; the whole run of the program counts,
+  command    check, seq, or run with a number of workers, if --workers names some; the whole run of the program counts,
              with its start and the reading of the description
-  events     messages handled by seq, counted once by afdx second-opinion --events. Empty where afdx large-network has been
-             changed, so that its text is no longer the one that was counted
-  rows       frames delivered and frames dropped, duplicates among them, as the tables of seq tell. It is the number of
-             lines that a trace would have after its first
+  events     messages handled by seq, counted once by afdx second-opinion --events. Empty if afdx large-network was changed,
+             so that its text is no longer the one that was counted
+  rows       frames delivered and frames dropped, with duplicates, by the tables of seq. It is the number of lines that a
+             trace would have after its first
   seconds    wall time, the median of the repetitions; the commands take turns, so that what else the machine does falls on all
   least      wall time, the least of them
   events/s   events by the median
   MiB        peak memory of the program, the greatest of the repetitions. The system counts from the start of a process,
-             so what is less than this script takes itself cannot be seen; that number is told below the table
+             so less than this script itself takes cannot be seen; the line below the table has that number
 
 The figures depend on the machine and on what else it does. Compare only figures of one machine, and let it be quiet.
 """

@@ -1,25 +1,28 @@
 #!/usr/bin/env python3
-"""Draws small networks, runs each with several seeds and offsets, and holds what happened against the bounds that
-afdx bounds works out: no latency may be above its bound, and at no output port may more bytes wait than its bound says. Nor
-may what happens on the way: the wait in a regulator, the delay of a hop, the jitter at a switch, the time on each network,
-the skew.
+"""Draws small networks, runs each with several seeds and offsets, and compares the runs with the bounds of afdx bounds: no
+latency may be above its bound, and at no output port may more bytes wait than its bound. The same holds on the way: for
+the wait in a regulator, the delay of a hop, the jitter at a switch, the time on each network, and the skew.
 
-What is drawn is meant to come near to the bounds: short BAGs, lines of both speeds that have little time left or none,
+The drawn networks come near to the bounds: short BAGs, lines of both speeds that have little time left or none,
 both priorities, sub-virtual links, rings of switches, accounts that refuse, regulators that overflow, small ports,
 outages. Of the runs of a network the first offers all at once; some are aimed at an output port, so that all frames come
 there at one moment if nothing delays them; others have offsets on few moments, and the rest has them anywhere in the
 periods.
 
-What is drawn follows from the number of the network and of the run alone, so a run can be made again. The runs are those
-of afdx second-opinion, which also sees what waits.
+With --program the bounds of latencies and ports that the program prints (`afdxsim bounds`) are compared with the same runs.
+
+The numbers of the network and of the run alone determine what is drawn, so a run can be made again. afdx second-opinion
+makes the runs, since it also measures what waits.
 """
 import argparse
 import os
 import random
+import subprocess
 import sys
+import tempfile
 
 from afdx import files, model
-from afdx.reckon import network_calculus
+from afdx.reckon import network_calculus, proved_bounds
 from afdx.runs import second_opinion
 
 EXAMPLES = """
@@ -175,6 +178,9 @@ class Count:
     def __init__(self):
         self.latencies = self.ports = self.others = self.unbounded = self.above = self.runs = 0
         self.shares = []
+        # The same of the bounds that the program prints.
+        self.by_program = [0, 0, 0, 0]
+        self.program_shares = []
 
     def hold(self, found, run, tell):
         """Holds a run against the bounds of its network."""
@@ -204,6 +210,27 @@ class Count:
                 self.above += 1
                 tell(text)
 
+    def hold_program(self, proved, run, tell):
+        """Holds a run against the bounds that the program prints of its network."""
+        held = [(proved.of[key], greatest, f"virtual link {key[0]} at {key[1]} took") for key, greatest in greatest_latencies(run).items()]
+        ports = [(run.names[place], greatest) for (kind, _, place), (_, _, greatest, _) in run.found.items() if kind == "backlog"]
+        for what, rows in enumerate((held, [(proved.waiting[where], most, f"before {where} waited") for where, most in ports])):
+            for bound, greatest, text in rows:
+                self.by_program[2 if bound is None else what] += 1
+                if bound is not None and what == 0:
+                    self.program_shares.append(greatest / bound)
+                if bound is not None and greatest > bound:
+                    self.by_program[3] += 1
+                    tell(f"{text} {greatest}, and the bound by the program is {bound}")
+
+    def program_text(self):
+        shares = sorted(self.program_shares) or [0]
+        latencies, ports, none, above = self.by_program
+        return (
+            f"bounds by the program: {latencies} latencies and {ports} ports, {above} above; {none} without a bound; "
+            f"greatest latency by bound: median {shares[len(shares) // 2]:.3f}, most {shares[-1]:.3f}"
+        )
+
     def text(self, networks):
         shares = sorted(self.shares) or [0]
         return (
@@ -222,16 +249,33 @@ def greatest_latencies(run):
     return found
 
 
-def hold_network(number, runs, keep, count, tell):
+def bounds_by(program, net, text):
+    """The bounds that a program prints of a network with this text."""
+    with tempfile.TemporaryDirectory() as folder:
+        path, printed = os.path.join(folder, "net.toml"), os.path.join(folder, "bounds.csv")
+        files.write_whole(path, text)
+        with open(printed, "wb") as out:
+            said = subprocess.run([program, "bounds", path], stdout=out, stderr=subprocess.PIPE, check=False)
+        if said.returncode:
+            raise model.Fault(net.path, None, f"{program} ends with {said.returncode}: {said.stderr.decode(errors='replace').strip()}")
+        return proved_bounds.ProvedBounds(printed, net)
+
+
+def hold_network(number, runs, keep, count, tell, program=None):
     """Makes the runs of a network and holds them against its bounds."""
     drawn = Drawn(number)
-    found = network_calculus.Bounds(model.Network(f"network {number}", model.text_of_tree(drawn.tree())))
+    text = model.text_of_tree(drawn.tree())
+    net = model.Network(f"network {number}", text)
+    found, proved = network_calculus.Bounds(net), bounds_by(program, net, text) if program else None
     for run in range(runs):
         tree = drawn.tree(run, drawn.offsets(run, found))
         simulation = second_opinion.Measured(tree)
         simulation.run()
         again = f"afdx bounded-runs --networks 1 --first {number} --runs {run + 1} --keep DIR"
-        count.hold(found, simulation, lambda text: tell(f"network {number}, run {run}: {text}; again: {again}"))
+        says = lambda text: tell(f"network {number}, run {run}: {text}; again: {again}")
+        count.hold(found, simulation, says)
+        if proved:
+            count.hold_program(proved, simulation, says)
         if keep:
             files.write_whole(os.path.join(keep, f"network-{number}-run-{run}.toml"), model.text_of_tree(tree))
 
@@ -245,6 +289,7 @@ def words_of(arguments=None):
     add("--first", type=whole(0, 10**9), default=0, metavar="N", help="number of the first (default 0)")
     add("--runs", type=whole(1, 10**4), default=10, metavar="N", help="how many runs of each (default 10)")
     add("--keep", metavar="DIR", help="writes the description of each run to this folder; it is made if need be")
+    add("--program", metavar="FILE", help="a program `afdxsim`, whose bounds are compared too")
     return parser.parse_args(arguments)
 
 
@@ -255,9 +300,11 @@ def main(arguments=None):
     if words.keep:
         os.makedirs(words.keep, exist_ok=True)
     for number in range(words.first, words.first + words.networks):
-        hold_network(number, words.runs, words.keep, count, files.say)
+        hold_network(number, words.runs, words.keep, count, files.say, words.program)
     files.say(count.text(words.networks))
-    return 1 if count.above else 0
+    if words.program:
+        files.say(count.program_text())
+    return 1 if count.above or count.by_program[3] else 0
 
 
 if __name__ == "__main__":

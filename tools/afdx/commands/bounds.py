@@ -2,15 +2,15 @@
 """Computes worst-case bounds of a network as CSV: of the latency of each virtual link at each destination, and of the
 bytes that wait at each output port.
 
-A bound of this model, computed outside the proofs. It is worked out from the description by network calculus, in whole
-numbers, with the rules of docs/TRAFFIC.md; no proof speaks of it, and it says nothing of real equipment. Tests hold it
-against runs: no latency of a run may be above its bound. Such a case is a defect of one of the two.
+A bound of this model, computed outside the proofs. Network calculus computes it from the description, in whole numbers,
+with the rules of docs/TRAFFIC.md. No proof covers it, and it claims nothing of real equipment. Tests compare it with
+runs: no latency of a run may be above its bound. Such a case is a defect of one of the two.
 
 A bound holds for all offsets, seeds and lengths of a run, with the outages that NET has; other outages need bounds of
 their own. It covers the time from the offer of a frame to its whole arrival at the destination, for each frame that is
 delivered, by whichever network. That is the wait in the regulator (wait_ns), and the longest way from the release on.
-What is used of the offers is their size alone, and for wait_ns their period and jitter: from its release on, a virtual
-link may send a frame in each BAG.
+Of the offers it uses the size alone, and for wait_ns also the period and the jitter: from its release on, a virtual link
+may send a frame in each BAG.
 """
 import argparse
 import os
@@ -18,14 +18,18 @@ import sys
 
 from afdx import files, model
 from afdx.model import judge, long_form
-from afdx.reckon import fit, limits, network_calculus
+from afdx.reckon import fit, limits, network_calculus, proved_bounds
 
 EXAMPLES = """
 examples:
   afdx bounds net.toml > bounds.csv
         all bounds of a network; afdx report --bounds bounds.csv shows them beside the latencies of a run
   afdx bounds net.toml -o bounds.csv --limits limits.csv --strict --junit limits.xml
-        for a build server: the margins, the least first, and the status 1 where a limit is below its bound
+        for a build server: the margins, the least first, and the status 1 if a limit is below its bound
+
+  afdxsim bounds net.toml > proved.csv
+  afdx bounds net.toml --proved proved.csv --limits limits.csv --strict
+        holds the limits against the bounds that the program prints
 
   afdx bounds net.toml --fit fitted.toml
         net.toml with policing jitters and port bytes that are just enough for the worst case; the rest of it, comments
@@ -55,6 +59,9 @@ columns (further ones may stand beside them; who reads the file goes by their na
                line, in ns, or none
   transmit_jitter_ns  of a line by which an end system sends: the longest time from the release of a frame to its first bit,
                in ns, or none
+  proved_ns, proved_bytes  with --proved: the bound of the latency at the destination, and of the bytes that wait at the
+               output port, that `afdxsim bounds` prints, or none. They are proved to be the numbers of the formula in
+               docs/BOUNDS.md, some percent above these
   transmit_rule_ns  what ARINC 664 Part 7 sets beside it: 40 us + the sum over the virtual links of the line of
                (20 + Smax) * 8 bits by its speed, in ns. A jitter is allowed up to this, and up to 500 us
   description  checksum of the description: the first 16 digits of its SHA-256
@@ -95,12 +102,14 @@ def words_of(arguments=None):
     parser.add_argument("--json", action="store_true", help="writes JSON in long form (docs/TOOLS.md, section 7) in place of CSV")
     says = "holds limits against the bounds: standard output has the margins, in place of the bounds"
     parser.add_argument("--limits", metavar="FILE", help=says + "; NET itself for its comments")
-    parser.add_argument("--strict", action="store_true", help="the status is 1 where a limit is below its bound, or has none")
+    says = "what `afdxsim bounds NET` printed: shows it beside these bounds, as proved_ns and proved_bytes; --limits goes by it"
+    parser.add_argument("--proved", metavar="FILE", help=says)
+    parser.add_argument("--strict", action="store_true", help="the status is 1 if a limit is below its bound, or has none")
     parser.add_argument("--junit", metavar="FILE", help="writes what became of each limit as JUnit's XML")
     says = "writes NET there with policing_jitter_ns and port_bytes by the bounds, all else as it is, in place of bounds"
     parser.add_argument("--fit", metavar="FILE", type=files.output_name, help=says)
     words = parser.parse_args(arguments)
-    if words.fit and (words.output or words.json or words.limits):
+    if words.fit and (words.output or words.json or words.limits or words.proved):
         parser.error("--fit writes a description, and no bounds: call afdx bounds of it")
     if (words.strict or words.junit) and not words.limits:
         parser.error("--strict and --junit are about limits, and there are none: --limits FILE")
@@ -128,9 +137,11 @@ def main(arguments=None):
     if words.fit:
         return write_fitted(net, words.fit)
     found = network_calculus.Bounds(net)
-    margins = limits.margins_of(limits.limits_of(words.limits, net), bounds=found) if words.limits else []
+    proved = proved_bounds.ProvedBounds(words.proved, net) if words.proved else None
+    margins = limits.margins_of(limits.limits_of(words.limits, net), bounds=proved or found) if words.limits else []
     files.judge(list(filter(None, [words.output, words.junit])), prints=not words.output or bool(words.limits))
-    pieces = [long_form.text_of(network_calculus.long_rows(found.rows()))] if words.json else found.pieces()
+    rows = (row | (proved.cells(row) if proved else {}) for row in found.rows())
+    pieces = [long_form.text_of(network_calculus.long_rows(rows))] if words.json else found.pieces(proved)
     if words.output:
         files.write_pieces(words.output, (piece.encode("utf-8", "backslashreplace") for piece in pieces))
     elif not words.limits:

@@ -1,31 +1,31 @@
 #!/usr/bin/env python3
 """Runs a network with many seeds, several runs side by side, and merges the tables of all runs into one.
 
-A seed decides the jitter of the offers, so one run shows one course of things among many. The first run has the seed of
-the description NET itself, the next ones have the numbers that follow it. With --offsets each run also draws the first
-offer of each virtual link, anew and evenly within its period: so frames that never meet in the description may do so.
+A seed decides the jitter of the offers, so one run shows one behaviour of many. The first run has the seed of the
+description NET itself, and the next ones have the numbers that follow it. With --offsets each run also draws the first
+offer of each virtual link, evenly within its period: so frames that never meet in the description may meet.
 
 DIR/merged.csv has the tables of all runs together, in the form in which the program prints tables, with one column
-more: the seed that gave the greatest latency of a line, or the most losses. afdx report makes a page of it. Counts
-and sums are added and leasts and greatests taken, exactly; so the merged tables do not depend on --jobs.
-DIR/campaign.json says of what description, seeds and program they are, and lists the files of DIR with their checksums.
-DIR/greatest.csv has of the greatest latencies of the runs the least, the mean and the greatest. With --histograms
-latencies are counted in bins of less than 0.1 percent (DIR/histograms.csv), and percentiles of the frames of all runs
-stand in DIR/greatest.csv.
+more: the seed that gave the greatest latency of a line, or the most losses. afdx report makes a page of it. The
+merge is exact: it adds counts and sums, and takes leasts and greatests; so the merged tables do not depend on --jobs.
+DIR/campaign.json names their description, seeds and program, and lists the files of DIR with their checksums.
+DIR/greatest.csv has the least, the mean and the greatest of the greatest latencies of the runs. --histograms counts
+latencies in bins of less than 0.1 percent (DIR/histograms.csv), and adds percentiles of the frames of all runs to
+DIR/greatest.csv.
 
-With --set a key of the description has several values in turn, or several keys each combination of theirs. DIR/sweep.csv
-and the page DIR/sweep.html tell what the values do, beside what the seeds do.
+With --set a key of the description has several values in turn, or several keys have each combination of theirs.
+DIR/sweep.csv and the page DIR/sweep.html show the effect of the values beside that of the seeds.
 
-With --aim the offsets are such that the frames of others meet those of a virtual link at each port of its way, just ahead
-of them. DIR/aim.csv has how much of its bounds is then reached. --aim all --limits FILE aims at each destination that has a
+With --aim the frames of others meet those of a virtual link at each port of its path, just ahead of them.
+DIR/aim.csv has how much of its bounds a run then reaches. --aim all --limits FILE aims at each destination that has a
 limit: drawn offsets hardly ever come near the worst case, and aimed ones often do.
 
 With --each-outage each link and each switch is out in turn, for the whole run or from a moment on. DIR/outages.csv and the
-page DIR/outages.html tell what is then lost end to end, and what becomes late, beside the same runs without it.
+page DIR/outages.html show what is then lost end to end, and what becomes late, beside the same runs without it.
 
-With --dask the runs are made by the workers of a Dask cluster, on several machines. What comes of it has the same bytes.
+With --dask the workers of a Dask cluster make the runs, on several machines. The results have the same bytes.
 
-With a file of limits, each run is held against them, and the status is 1 where a run breaks one.
+With a file of limits, each run is compared with them, and the status is 1 if a run breaks one.
 """
 import argparse
 import os

@@ -1,10 +1,10 @@
 #!/usr/bin/env python3
-"""Tells what is wrong with a description: all faults at once, each with its line, the value, and what is allowed.
+"""Prints all faults of a description at once, each with its line, the value, and what is allowed.
 
     net.toml:298: virtual link 117 (vl row 17), a, path 1: SW_A_2 is no node; SW_A2?
 
-The fault that `afdxsim` answers is the first one, and its line of `afdxsim` follows it in brackets. Of an accepted
-description it tells what is allowed and hardly meant, as warnings.
+The first fault is the one that `afdxsim` reports; the line of `afdxsim` follows it in brackets. If the description is
+accepted, warnings name what is allowed and probably a mistake.
 """
 import argparse
 import sys
@@ -12,7 +12,7 @@ from collections import Counter
 
 from afdx import files, model
 from afdx.model import Fault, judge
-from afdx.reckon import description_warnings, limits
+from afdx.reckon import bounds_file, description_warnings
 
 EXAMPLES = """
 examples:
@@ -79,7 +79,7 @@ def explain(path, bounds=None, tells_all=False):
         net = model.Network(path, text, description)
         warnings = description_warnings.Warnings(net).findings
         if bounds:
-            warnings += description_warnings.WorstCase(net, limits.Bounds(bounds, net)).findings
+            warnings += description_warnings.WorstCase(net, bounds_file.Bounds(bounds, net)).findings
         lines, count = told_of(path, warnings, tells_all)
         lines.append(f"{path}: accepted{count}")
     return "".join(line + "\n" for line in lines), 1 if found else 0

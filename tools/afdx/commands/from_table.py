@@ -1,12 +1,12 @@
 #!/usr/bin/env python3
-"""Makes a description of tables, as they stand in an interface control document: one line a virtual link or a
-destination of one, one line a node, one line a link, in one file or in several, each CSV or a workbook (.xlsx).
+"""Makes a description from the tables of an interface control document: one line for each virtual link or each of its
+destinations, one line for each node, and one line for each link, in one or several files, CSV or workbooks (.xlsx).
 
-Paths are shortest ones on both networks. What the tables leave open has usual values. The description says in comments
-which value is usual, which frame size was computed of a payload, and which line of which table each row is made of.
-The headings that are usual in interface control documents are known (Tx LRU, VL ID, Lmax, Rate (Hz), ..). A heading
-that looks misspelt, or that two columns fit, is a fault; --column says what it stands for. Columns of which this tool
-knows nothing are ignored, with a note on error output.
+Paths are shortest ones on both networks. What the tables leave open gets usual values. Comments of the description name
+each usual value, each frame size that was computed from a payload, and the line and table of each row. The tool knows
+the usual headings of interface control documents (Tx LRU, VL ID, Lmax, Rate (Hz), ..). A heading that looks misspelt,
+or that fits two columns, is a fault; --column states its meaning. Unknown columns are ignored, with a note on error
+output.
 
 --back makes the tables of a description, with the limits, ports and remarks of its comments.
 """

@@ -8,42 +8,42 @@ from afdx.files import program
 # Of a command of the program: which of its words are files that it reads, in order, and what it says.
 OfProgram = namedtuple("OfProgram", "files usage says")
 OF_PROGRAM = {
-    "check": OfProgram(1, "NET", "judge a description, and count what it has"),
-    "seq": OfProgram(1, "NET [--trace FILE] [--progress]", "simulate it on one thread; tables as CSV"),
+    "check": OfProgram(1, "NET", "check a description, and count its contents"),
+    "seq": OfProgram(1, "NET [--trace FILE] [--progress]", "simulate the network on one thread; prints tables as CSV"),
     "run": OfProgram(
         1, "NET [--workers N] [--groups N] [--turn N] [--window NS] [--journal FILE] [--trace FILE] [--progress]",
-        "the tables of seq, by Time Warp on several threads",
+        "print the tables of seq, by Time Warp on several threads",
     ),
-    "replay": OfProgram(2, "NET STEPS", "do the steps of a journal"),
+    "replay": OfProgram(2, "NET STEPS", "simulate the network by the steps of a journal"),
 }
 # Of a tool: its module, the option that it has in any case, and what it says.
 OfTool = namedtuple("OfTool", "module option usage says")
 OF_TOOLS = {
-    "explain": OfTool("afdx.commands.explain", None, "NET", "all faults of a description with their lines, or its warnings"),
-    "bounds": OfTool("afdx.commands.bounds", None, "NET [-o FILE]", "worst-case bounds of latencies and ports, as CSV"),
-    "table": OfTool("afdx.commands.from_table", None, "TABLE.. -o NET", "make a description of the tables of an interface document"),
+    "explain": OfTool("afdx.commands.explain", None, "NET", "print all faults of a description with their lines, or its warnings"),
+    "bounds": OfTool("afdx.commands.bounds", None, "NET [-o FILE]", "compute worst-case bounds of latencies and ports, as CSV"),
+    "table": OfTool("afdx.commands.from_table", None, "TABLE.. -o NET", "make a description from the tables of an interface document"),
     "campaign": OfTool("afdx.commands.campaign", None, "NET --seeds N -o DIR", "run many seeds, and merge their tables"),
     "outages": OfTool(
-        "afdx.commands.campaign", "--each-outage", "NET [--each-outage NS] -o DIR", "run with each link and each switch out in turn"
+        "afdx.commands.campaign", "--each-outage", "NET [--each-outage NS] -o DIR", "run with one link or switch out, each in turn"
     ),
-    "pcap": OfTool("afdx.commands.pcap", None, "NET TRACE -o FILE", "make a capture for Wireshark of a trace"),
-    "report": OfTool("afdx.page.report", None, "NET TABLES -o FILE", "make a page of tables that are there, of a campaign too"),
+    "pcap": OfTool("afdx.commands.pcap", None, "NET TRACE -o FILE", "make a capture for Wireshark from a trace"),
+    "report": OfTool("afdx.commands.report", None, "NET TABLES -o FILE", "make a page of existing tables, also of a campaign"),
     "second-opinion": OfTool(
-        "afdx.runs.second_opinion", None, "NET [--trace FILE] [--hops FILE]", "simulate it by a plain simulator, and measure on the way"
+        "afdx.runs.second_opinion", None, "NET [--trace FILE] [--hops FILE]", "simulate the network by a plain simulator, and measure each hop"
     ),
-    "long-form": OfTool("afdx.model.long_form", None, "FILE", "write tables as JSON, a list of rows in one form"),
-    "large-network": OfTool("afdx.commands.large_network", None, "[--virtual-links N] ..", "draw the description of a large network"),
-    "make-journal": OfTool("afdx.commands.make_journal", None, "NET -o FILE", "draw a journal that replay can be given"),
-    "bounded-runs": OfTool("afdx.commands.bounded_runs", None, "[--networks N] ..", "hold drawn runs of drawn networks against bounds"),
-    "benchmark": OfTool("afdx.commands.benchmark", None, "PROGRAM ..", "measure how fast a program is"),
+    "long-form": OfTool("afdx.model.long_form", None, "FILE", "write tables as JSON, a list of rows of one form"),
+    "large-network": OfTool("afdx.commands.large_network", None, "[--virtual-links N] ..", "write the description of a large network"),
+    "make-journal": OfTool("afdx.commands.make_journal", None, "NET -o FILE", "write a journal for replay"),
+    "bounded-runs": OfTool("afdx.commands.bounded_runs", None, "[--networks N] ..", "compare drawn runs of drawn networks with their bounds"),
+    "benchmark": OfTool("afdx.commands.benchmark", None, "PROGRAM ..", "measure the speed of a program"),
 }
 # The tools that have the program run.
 RUN_IT = ("campaign", "outages")
 OWN = {
-    "page": ("NET [TABLES] -o FILE", "explain, simulate, bound and draw: one page to look at"),
-    "build": ("[--jobs N]", "prove the program and build it"),
+    "page": ("NET [TABLES] -o FILE", "check, simulate, bound and draw: makes one page"),
+    "build": ("[--jobs N]", "prove and build the program"),
     "package": ("[-o DIR]", "make a Debian package of the proved program and the tools"),
-    "completion": ("bash", "print what completes words in a shell"),
+    "completion": ("bash", "print the completion of words for a shell"),
 }
 # The options of the program that have a value, and those that name a file which it writes.
 VALUED = ("--trace", "--journal", "--workers", "--groups", "--turn", "--window")
@@ -51,25 +51,25 @@ WRITES = ("--trace", "--journal")
 
 # What is said of `run` alone.
 OF_RUN = (
-    "run has threads that run ahead and roll back (Time Warp). Whether it is faster than seq depends on the network and on the\n"
-    "machine: where tables are all that is wanted, and you have not measured it, use seq."
+    "run uses threads that run ahead and roll back (Time Warp). Whether it is faster than seq depends on the network and on the\n"
+    "machine: if you want tables alone, and you have not measured it, use seq."
 )
 # What is said of the tools that have the program run.
 OF_CHOICE = "--by WHAT (proved, try or second-opinion; default: proved, else try) or --program PATH names who makes the runs."
 
 IN_A_CLONE = """\
-  the proved one, where it was built of these very sources: `afdx build` and ./test leave it, a package brings it;
-  else these sources by `rt try`, without a proof and with checks, where the kit is: it takes some two minutes, writes no
-  file, and passes on 1 MiB of each run;"""
-IN_A_PACKAGE = "  the proved one that the package has;"
+  the proved one, if it was built from these very sources: `afdx build` and ./test build it, and a package contains it;
+  else these sources by `rt try`, without a proof and with checks, if the kit is installed: it takes some two minutes,
+  writes no file, and passes on 1 MiB of each run;"""
+IN_A_PACKAGE = "  the proved one of the package;"
 
 HELP = """usage: afdx [--help] [--version] COMMAND ..
 
-One command for all that is done with a network: each line is a command, and `afdx COMMAND --help` tells its words.
+One command for all work on a network: each line is a command, and `afdx COMMAND --help` explains its words.
 
 {commands}
 
-which program runs is told on error output, once. It is
+error output names once which program runs. It is
 {which}
   with --by second-opinion the plain simulator in Python, for all but run and replay{only};
   with --program PATH the program that you name
@@ -78,15 +78,15 @@ which program runs is told on error output, once. It is
 
 examples:
   afdx page net.toml -o net.html
-        whether the description is accepted, its run, its bounds, and a page of all that
+        checks the description, simulates it, bounds it, and makes a page of all three
   afdx seq net.toml --trace trace.csv > tables.csv
         tables and trace of a run
   afdx page net.toml -o net.html --by second-opinion
         without the program, by Python alone
   source <(afdx completion bash)
-        words are completed by the tabulator
+        the tabulator completes words
 
-status: that of the program or the tool; 2 where a word is wrong, or where no program is there
+status: that of the program or the tool; 2 if a word is wrong, or if there is no program
 """
 
 

@@ -8,7 +8,7 @@ its switch on A and one to the switch at the same place on B. All links have 100
 Each virtual link has a drawn source, some drawn destinations, and the same paths on A and on B. The paths from one
 switch are always those of one tree of shortest ways, so the paths of a virtual link are a tree too.
 
-What is drawn follows shares that are near those published for large aircraft: most frames are shorter than 300 bytes,
+The drawn shares are near those published for large aircraft: most frames are shorter than 300 bytes,
 most BAGs are 16 ms and more, and a virtual link has 6 destinations, most of them one or two switches away. The same
 words on the command line give the same text, on every machine.
 """
@@ -304,7 +304,7 @@ def words_of(arguments=None):
     )
     number(
         "sub", 1, 4, 1, "N",
-        "the most sub-virtual links of a virtual link; each has 1 to so many. 1: no key sub is written",
+        "the most sub-virtual links of a virtual link; each has 1 to this number. 1: no key sub is written",
     )
     parser.add_argument(
         "--policing", choices=[*POLICINGS, "both"],

@@ -1,16 +1,15 @@
 #!/usr/bin/env python3
-"""Makes a journal of a network: the steps of a parallel run, a line each, which `afdxsim replay NET STEPS` can be given.
+"""Writes a journal of a network: the steps of a parallel run, one a line, as `afdxsim replay NET STEPS` reads them.
 
     python3 afdx make-journal NET.toml [--turn N] [--window NS] > steps.txt
 
 The processes take turns. In a turn a process commits its done events that are earlier than GVT, takes all letters of its mail, lets them
-arrive, handles messages, the first of them first, and posts what it sends. It handles so many messages at most, and only those that are
-earlier than GVT plus the window. Once no process has such a message left, GVT is set anew. At the end GVT is beyond the end, and every event
-is committed, so that the run is finished. The two words mean what they are to mean for `afdxsim run`, where
-both are greater unless told.
+arrive, handles messages, the first of them first, and posts what it sends. It handles at most N messages, and only those that are
+earlier than GVT plus the window. Once no process has such a message left, GVT is set again. At the end GVT is beyond the end, and every event
+is committed, so that the run is finished. The two words mean what they mean for `afdxsim run`, whose default window is greater.
 
-No letter comes late: a process handles a message only once all earlier ones were handled there. So no event is undone. The events are
-found by afdx second-opinion, which shares no code with the product.
+No letter comes late: a process handles a message only once all earlier ones were handled there. So no event is undone. afdx
+second-opinion, which shares no code with the product, finds the events.
 """
 import argparse
 import collections

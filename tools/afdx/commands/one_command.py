@@ -15,7 +15,7 @@ from afdx.reckon import output_sizes
 from afdx.runs import by_rt
 from afdx.runs.by_rt import tell
 
-TOO_LONG = "the trace is too long for `rt try`: the page has no histograms, and tells the losses of tables alone"
+TOO_LONG = "the trace is too long for `rt try`: the page has no histograms, and has the losses of tables alone"
 
 
 class Mistake(Exception):
@@ -427,7 +427,7 @@ def answer(words):
         taken = 1 if "=" in words[0] else 2
         asked, words = asked + words[:taken], words[taken:]
     if not words:
-        raise Mistake("which command? afdx --help tells all")
+        raise Mistake("which command? afdx --help lists all")
     name, words = words[0], words[1:] + asked if "--" not in words else asked + words[1:]
     if name in help_texts.OF_PROGRAM:
         return by_program(name, words)
@@ -435,7 +435,7 @@ def answer(words):
         return by_tool(name, words)
     own = {"page": page, "build": build, "package": debian_package.main, "completion": completion}
     if name not in own or name not in help_texts.commands():
-        raise Mistake(f"there is no command {name!r}: afdx --help tells all")
+        raise Mistake(f"there is no command {name!r}: afdx --help lists all")
     return own[name](words)
 
 

@@ -1,12 +1,12 @@
 #!/usr/bin/env python3
 """Writes the frames of a run as a capture for Wireshark (pcapng), with the moments of the run in ns.
 
-A trace has deliveries and losses. By which network a frame came, its sequence number, and when it was on which line is
-worked out by the simulator of afdx second-opinion, whose own trace must be TRACE line by line; else nothing is written.
+A trace has deliveries and losses. The simulator of afdx second-opinion computes by which network a frame came, its
+sequence number, and when it was on which line. Its own trace must be TRACE line by line; otherwise nothing is written.
 
-Each frame has the headers of ARINC 664 Part 7. Its bytes are as many as the description says, without the check
-sequence, so the sequence number is the last one; what the application would send is zeros. What happened to a frame stands
-in its comments: `delivered at DU_L: latency 72570 ns, 0 ns of it in the regulator`, or `lost at SWA: policed`.
+Each frame has the headers of ARINC 664 Part 7. It has as many bytes as the description states, without the check
+sequence, so the sequence number is the last one; the data of the application is zeros. The comments of a frame state
+what happened to it: `delivered at DU_L: latency 72570 ns, 0 ns of it in the regulator`, or `lost at SWA: policed`.
 """
 import argparse
 import itertools

@@ -22,6 +22,7 @@ from afdx.files import Fault, cut, is_same_file, program, text_of, toml_lines, w
 PROGRAM = os.path.join(program.ROOT, program.BUILT)
 
 CAUSES = ["queue_full", "port_full", "outage", "unknown", "too_long", "policed", "integrity", "duplicate"]
+BOUNDS_HEAD = "kind,of,where,network_ns,wait_ns,bound_ns"
 TABLES_HEAD = "table,vl,where,cause,count,least_ns,greatest_ns,sum_ns"
 TRACE_HEAD = "time_ns,where,vl,what,value"
 NUMBER = re.compile(r"0|[1-9][0-9]*")
@@ -541,6 +542,7 @@ class Tables:
         lines = lines_of(path, [TABLES_HEAD, TABLES_HEAD + ",seed"], "tables", text)
         self.merged = lines[0] != TABLES_HEAD
         self.latencies, self.losses = {}, {}
+        self.names = {name: name for name in net.process}
         for i, line in enumerate(lines[1:], 2):
             if not self.merged and self.takes(i, line):
                 continue
@@ -562,7 +564,10 @@ class Tables:
         if found:
             vl, where, *numbers = found.groups()
             count, least, greatest, total = map(int, numbers)
-            key = int(vl), where
+            # A place is kept once, and so is a number of a line.
+            key = int(vl), self.names.get(where, where)
+            greatest = least if greatest == least else greatest
+            total = least if total == least else total
             is_right = count * least <= total <= count * greatest and (count == 0) == (greatest == 0)
             if is_right and key in self.net.destinations and key not in self.latencies:
                 self.latencies[key] = Latency(*key, count, least, greatest, total, None, i)

@@ -4,7 +4,6 @@ from collections import Counter
 from afdx.files.page_text import counted, esc, frame_count, percent_of, span, two_places
 from afdx.model.traces import MOMENTS
 
-
 # ---- the network ----
 
 RAMP = [
@@ -265,7 +264,7 @@ def legend_of_loads(has_outages):
         f'<defs><linearGradient id="ramp">{stops}</linearGradient></defs>'
         f'<rect x="4" y="4" width="200" height="10" rx="3" fill="url(#ramp)"/>{ticks}</svg>'
         "<span>Load of a line. A link has two lines, one for each direction, as its arrows show; the number beside a "
-        "line is its load. A click on a line tells which virtual links use it, a click on a node which begin, "
+        "line is its load. A click on a line shows which virtual links use it, a click on a node which begin, "
         "end or pass there.</span>" + (outages if has_outages else "") + "</div>"
     )
 

@@ -1,5 +1,8 @@
 "use strict";
-const data = JSON.parse(document.getElementById("data").textContent);
+const data = window.unpacked ?? JSON.parse(document.getElementById("data").textContent);
+// A large page has its tables by blocks of rows.
+for (const [name, table] of Object.entries(data))
+  if (table.blocks) data[name] = Object.fromEntries(table.columns.map((key, i) => [key, table.blocks.flatMap(it => it[i])]));
 const ends = data.ends, lines = data.lines, vls = new Map(data.vls.map(vl => [vl.id, vl]));
 const element = id => document.getElementById(id);
 
@@ -265,6 +268,10 @@ for (const vl of data.vls) {
   vl.lines = [...new Set([...vl.paths.A, ...vl.paths.B].flat())];
   vl.nodes = [...new Set(vl.lines.flatMap(line => data.nodes[line]))];
   for (const line of vl.lines) usersOf[line].push(vl);
+}
+if (data.delays && !data.delays.line) {
+  data.delays.vl = data.vls.flatMap(vl => vl.lines.map(() => vl.id));
+  data.delays.line = data.vls.flatMap(vl => vl.lines.map(line => lines.name[line]));
 }
 const share = (vl, line) => (vl.size + 20) * 8e5 / Math.max(vl.bag_ns, vl.period_ns) / lines.mbit[line];
 const table = (id, columns, rows) => {

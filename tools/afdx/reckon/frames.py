@@ -31,7 +31,9 @@ class Range(namedtuple("Range", "least most")):
         return Range(max(self.least, other.least), min(self.most, other.most))
 
 
+@functools.lru_cache(4096)
 def exactly(count):
+    """The range of one count. Most are small, and kept once."""
     return Range(count, count)
 
 
@@ -170,7 +172,8 @@ class Ends:
         for loss in tables.losses.values():
             if loss.cause not in ("queue_full", "duplicate"):
                 self.losses.setdefault(loss.vl, []).append(loss)
-        self.of = {}
+        # Of frames that came to the same end alike one End is kept.
+        self.of, self.alike = {}, {}
         for vl, sent in self.all_sent(seeds, draws_offsets):
             self.compare(vl, sent.refused)
             for where in vl.destinations:
@@ -245,18 +248,21 @@ class Ends:
         too_long = 0 if self.trace else max(0, under_way.least - self.may_be_under_way(journey, sent, row))
         why = self.why_open(journey, sent) if missing.least < missing.most else ""
         under_way, missing = under_way + exactly(sent.waiting), missing + exactly(sent.refused)
-        return End(sent.offered, row.count, again, under_way, missing, copies, lost, too_long, why)
+        told = (sent.offered, row.count, again, under_way, missing, copies, tuple(lost.items()), too_long, why)
+        if told not in self.alike:
+            self.alike[told] = End(sent.offered, row.count, again, under_way, missing, copies, lost, too_long, why)
+        return self.alike[told]
 
     def why_open(self, journey, sent):
         """Why it is not known how many frames are missing, in words."""
         if sent.one is None:
-            return "merged tables do not tell of which frames the lost copies were"
+            return "merged tables do not show of which frames the lost copies were"
         if not self.trace:
-            return "tables do not tell of which frames the lost copies were; --trace tells more"
+            return "tables do not show of which frames the lost copies were; --trace shows more"
         full = [where for where, cause in self.trace.lost_on_the_way(journey.vl.id) if cause == "port_full" and where in journey.forks]
         if full:
-            return f"at {' and '.join(sorted(full))} copies go on by several ports, and no trace tells which of them was full"
-        return "copies were lost after the last frame that came, and no trace tells of which frames"
+            return f"at {' and '.join(sorted(full))} copies go on by several ports, and no trace shows which of them was full"
+        return "copies were lost after the last frame that came, and no trace shows of which frames"
 
     def may_be_under_way(self, journey, sent, row):
         """How many frames were released so late that they may be under way at the end, if none takes longer than twice the

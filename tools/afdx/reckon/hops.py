@@ -1,4 +1,5 @@
 """What afdx second-opinion --hops has measured on the way, as a file of a run, and beside it what afdx bounds reckons."""
+import functools
 from collections import namedtuple
 
 from afdx import model
@@ -17,7 +18,7 @@ class Hops:
     def __init__(self, path, tables):
         self.path, self.net, self.of = path, tables.net, {}
         if tables.merged:
-            raise Fault(path, None, f"tells of one run, and {tables.path} has several")
+            raise Fault(path, None, f"is of one run, and {tables.path} has several")
         lines = model.lines_of(path, [HOPS_HEAD], "what --hops writes")
         for i, line in enumerate(lines[1:], 2):
             fields = line.split(",")
@@ -84,6 +85,16 @@ def tone(measured, bound):
     return BAD if measured is not None and bound is not None and measured > bound else 0
 
 
+class Column:
+    """The values of a column, worked out each time that they are asked for: of hops there may be a million."""
+
+    def __init__(self, make):
+        self.make = make
+
+    def __iter__(self):
+        return self.make()
+
+
 class OnTheWay:
     """What was measured on the way beside its bound, each of which may be absent, column by column: of destinations,
     of hops, of switches and of ports. `bound` answers that of a kind, a virtual link and a place, or None."""
@@ -94,37 +105,41 @@ class OnTheWay:
         self.bound = bound or (lambda *_: None)
 
     def columns(self, kinds, places, names):
-        """The columns of places, each a virtual link or None and a name: those of these names, and for each kind what was
+        """The columns of places, each a virtual link or None and a name, as they are yielded: those of these names, and for each kind what was
         measured, its bound and its mark."""
-        found = {name: [place[i] for place in places] for i, name in enumerate(names) if name}
+        found = {name: Column(lambda i=i: (place[i] for place in places())) for i, name in enumerate(names) if name}
         for kind in kinds:
-            pairs = [(self.measured(kind, *place), self.bound(kind, *place)) for place in places]
-            found[kind], found[kind + "_bound"] = [it for it, _ in pairs], [it for _, it in pairs]
-            found[kind + "_tone"] = [tone(*pair) for pair in pairs]
+            measured, bound = (functools.partial(ask, kind) for ask in (self.measured, self.bound))
+            found[kind] = Column(lambda ask=measured: (ask(*place) for place in places()))
+            found[kind + "_bound"] = Column(lambda ask=bound: (ask(*place) for place in places()))
+            both = lambda measured=measured, bound=bound: (tone(measured(*place), bound(*place)) for place in places())
+            found[kind + "_tone"] = Column(both)
         return found
 
     def destinations(self):
-        places = [(vl.id, where) for vl in self.net.vls.values() for where in vl.destinations]
-        found = self.columns(["network", "network_a", "network_b", "skew"], places, ["vl", "where"])
-        waits = self.columns(["wait"], [(vl, self.net.vls[vl].source) for vl, _ in places], [])
-        return found | waits | {"skew_max": [self.net.vls[vl].skew_ns for vl, _ in places]}
+        of_each = lambda ask: ((vl.id, ask(vl, where)) for vl in self.net.vls.values() for where in vl.destinations)
+        found = self.columns(["network", "network_a", "network_b", "skew"], lambda: of_each(lambda _, where: where), ["vl", "where"])
+        waits = self.columns(["wait"], lambda: of_each(lambda vl, _: vl.source), [])
+        return found | waits | {"skew_max": Column(lambda: (found for _, found in of_each(lambda vl, _: vl.skew_ns)))}
 
     def hops(self):
-        places = [(vl.id, line) for vl in self.net.vls.values() for line in vl.lines]
+        places = lambda: ((vl.id, line) for vl in self.net.vls.values() for line in vl.lines)
         return self.columns(["delay"], places, ["vl", "line"])
 
     def switches(self):
         switches = {node.name for node in self.net.nodes.values() if node.kind == "switch"}
         in_order = lambda vl: sorted(switches.intersection(vl.places), key=self.net.process.get)
-        places = [(vl.id, name) for vl in self.net.vls.values() for name in in_order(vl)]
-        return self.columns(["jitter"], places, ["vl", "where"]) | {"allowed": [self.net.vls[vl].policing_ns for vl, _ in places]}
+        places = lambda: ((vl.id, name) for vl in self.net.vls.values() for name in in_order(vl))
+        allowed = Column(lambda: (self.net.vls[vl].policing_ns for vl, _ in places()))
+        return self.columns(["jitter"], places, ["vl", "where"]) | {"allowed": allowed}
 
     def ports(self):
         places = [(None, line) for line in self.net.mbit if self.net.users[line]]
         holds = [self.net.nodes[line.split(">")[0]].port_bytes for _, line in places]
-        return self.columns(["backlog"], places, [None, "line"]) | {"holds": holds}
+        return self.columns(["backlog"], lambda: iter(places), [None, "line"]) | {"holds": holds}
 
     def above(self):
         """How often something measured is above its bound."""
-        tables = [self.destinations(), self.hops(), self.switches(), self.ports()]
+        is_compared = self.is_measured and self.is_bounded
+        tables = [self.destinations(), self.hops(), self.switches(), self.ports()] if is_compared else []
         return sum(mark == BAD for table in tables for key, marks in table.items() if key.endswith("_tone") for mark in marks)

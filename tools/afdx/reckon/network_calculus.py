@@ -4,12 +4,13 @@ and of the bytes that wait at each output port. docs/TOOLS.md, section 12, state
 import collections.abc
 import heapq
 import itertools
+import math
 from bisect import bisect_left
 from collections import namedtuple
 
 from afdx import model
 from afdx.files import program
-from afdx.reckon import transmit_jitter
+from afdx.reckon import proved_bounds, transmit_jitter
 
 COLUMNS = [
     "vl", "where", "bound_ns", "wait_ns", "waiting_bytes", "port_bytes", "why", "sure", "skew_ns", "skew_max_ns", "jitter_ns",
@@ -30,6 +31,10 @@ MOST_STEPS = 126
 
 # So many lines of bounds.csv are written at once.
 AT_ONCE = 4096
+
+# Low frames behind high ones are counted whole, too, where there are at most so many pairs of a moment and a size. It lowers few
+# bounds, by some percent at most, and would take hours at ports of thousands of virtual links.
+MOST_WHOLE = 100_000
 
 # How often a port is looked at before the bursts that come to it are said to grow without end.
 MOST_ROUNDS = 1000
@@ -136,36 +141,55 @@ class WholeBehindHigh:
 
     A frame that comes at t starts at x at the latest, where x is the first moment by which the port could have sent the low ones
     before it and the high ones that came until x. `moments` has those at which low frames come, and how much has come by then: up to
-    the first low frame before which all is sent, since what comes from there on waits no longer than what came before."""
+    the first low frame before which all is sent, since what comes from there on waits no longer than what came before. `has_too_many`:
+    there are more than `most`."""
 
-    def __init__(self, high, low, speed):
-        self.high, self.speed, self.first = WholeFrames(high), speed, WholeFrames(high).come(0)
-        came = WholeFrames(low).come(0)
-        due = [(hop.link.vl.bag_ns - hop.spread % hop.link.vl.bag_ns, i) for i, hop in enumerate(low)]
-        heapq.heapify(due)
+    def __init__(self, high, low, speed, most=LONGEST_BAG_NS):
+        self.high, self.speed, self.most = high, speed, most
+        whole, came = WholeFrames(high), WholeFrames(low).come(0)
         self.moments = [(0, came)]
-        while True:
-            t, i = due[0]
-            if t >= LONGEST_BAG_NS or came + self.high.come(t - 1) <= t * speed:
+        for t, amount in self.arrivals(low):
+            if t >= LONGEST_BAG_NS or came + whole.come(t - 1) <= t * speed or len(self.moments) > most:
                 break
-            heapq.heapreplace(due, (t + low[i].link.vl.bag_ns, i))
-            came += low[i].link.amount * PARTS
+            came += amount
             self.moments.append((t, came))
+        self.has_too_many = len(self.moments) > most
+        # Between two arrivals of high frames ever more low ones could be sent until x: for each such time its first moment, what
+        # has come of the high ones, and how much of the low ones could be sent until its last moment, or until one before.
+        self.begins, self.came, self.room = [0], [whole.come(0)], []
+        self.due = self.arrivals(high)
+
+    @staticmethod
+    def arrivals(hops):
+        """When the frames of hops come behind those that come at once, and how much comes then."""
+        due = [(hop.link.vl.bag_ns - hop.spread % hop.link.vl.bag_ns, i) for i, hop in enumerate(hops)]
+        heapq.heapify(due)
+        while due:
+            t, i = due[0]
+            heapq.heapreplace(due, (t + hops[i].link.vl.bag_ns, i))
+            yield t, hops[i].link.amount * PARTS
+
+    def start(self, ahead):
+        """The first moment, cut to whole ns, by which the low ones ahead and the high ones until then could have been sent."""
+        while not self.room or self.room[-1] < ahead:
+            # What comes until the next arrival; the room never falls.
+            t, amount = next(self.due, (None, 0))
+            room = math.inf if t is None else t * self.speed - 1 - self.came[-1]
+            self.room.append(max(room, self.room[-1]) if self.room else room)
+            if t is not None:
+                self.begins.append(t)
+                self.came.append(self.came[-1] + amount)
+        place = bisect_left(self.room, ahead)
+        return max(self.begins[place], (ahead + self.came[place]) // self.speed)
 
     def longest(self, frame, most):
         """The longest wait of a frame of so many parts of a byte, in whole ns; `most` where it is not less."""
         found = 0
         for t, came in self.moments:
-            x, work = 0, came - frame + self.first
-            while work > x * self.speed:
-                x = work // self.speed
-                if x - t >= most:
-                    return most
-                again = came - frame + self.high.come(x)
-                if again == work:
-                    break
-                work = again
-            found = max(found, x - t)
+            wait = self.start(came - frame) - t
+            if wait >= most:
+                return most
+            found = max(found, wait)
         return found
 
 
@@ -370,7 +394,9 @@ class Port:
         found = {amount: behind.longest(amount * PARTS) for amount in {hop.link.amount for hop in after}}
         if not found or any(hop.spread is None for hop in self.hops):
             return found
-        whole = WholeBehindHigh(ahead, after, self.speed)
+        whole = WholeBehindHigh(ahead, after, self.speed, MOST_WHOLE // len(found))
+        if whole.has_too_many:
+            return found
         return {amount: whole.longest(amount * PARTS, most) for amount, most in found.items()}
 
     def set_delays(self, high, delay):
@@ -694,12 +720,14 @@ class Bounds:
                 warnings += ["transmit_jitter"] if transmit.is_broken(line) else []
             yield row | {"why": port.why if port.most is None else "", "warning": " ".join(warnings)}
 
-    def pieces(self):
-        """The text of bounds.csv, in pieces of which no two need be in memory."""
+    def pieces(self, proved=None):
+        """The text of bounds.csv, in pieces of which no two need be in memory, with the proved bounds beside these if they are given."""
+        columns = [*COLUMNS[:-2], *(proved_bounds.COLUMNS if proved else []), *COLUMNS[-2:]]
         behind = f",{model.checksum(self.net.text)},{program.tool('bounds').cell()}\n"
-        lines = [",".join(COLUMNS) + "\n"]
+        lines = [",".join(columns) + "\n"]
         for row in self.rows():
-            lines.append(",".join([str(row.get(column, "")) for column in COLUMNS[:-2]]) + behind)
+            row |= proved.cells(row) if proved else {}
+            lines.append(",".join([str(row.get(column, "")) for column in columns[:-2]]) + behind)
             if len(lines) == AT_ONCE:
                 yield "".join(lines)
                 lines = []
@@ -713,7 +741,7 @@ def long_rows(rows):
     """The rows of bounds.csv in long form, without what is no number."""
     for row in rows:
         kind = "port" if "vl" not in row else "account" if "jitter_ns" in row else "hop" if "delay_ns" in row else "bound"
-        for column in COLUMNS[2:]:
+        for column in [*COLUMNS[2:], *proved_bounds.COLUMNS]:
             if str(row.get(column, "")).isdigit():
                 yield kind, row.get("vl"), row["where"], column, int(row[column])
 

@@ -305,7 +305,7 @@ def page(found, path, made_by):
         heads += plain("limits broken")
     when = "the whole run" if found.from_ns == 0 else f"from {found.from_ns:,} ns to the end of the run"
     seeds = f"{len(found.seeds)} seeds from {found.seeds[0]} on" if len(found.seeds) > 1 else f"the seed {found.seeds[0]}"
-    words = f"Each link and each switch of {path} was out in turn, {when}, with {seeds}, and is told beside the same runs without it."
+    words = f"Each link and each switch of {path} was out in turn, {when}, with {seeds}, and is compared with the same runs without it."
     words += f" {unused} more are passed by no virtual link, so they change nothing." if unused else ""
     words += f" The runs ended early: {found.failure}." if found.failure else ""
     body = "".join(summary_row(it, bool(found.limits)) for it in summaries)
@@ -314,8 +314,8 @@ def page(found, path, made_by):
         f"<style>{STYLE}</style></head><body><main><h1>What if a link or a switch is out</h1><p>{html.escape(words)}</p>"
         f'<div class="tiles">{"".join(tiles)}</div><table id="outages"><thead>{row(heads, "th")}</thead><tbody>{body}</tbody>'
         "</table><footer>A frame is lost end to end where it is delivered by neither network. Where it is open how many are, it is "
-        "told from the least to the most: a trace tells neither which port of a switch was full where copies go on by several, "
+        "given from the least to the most: a trace shows neither which port of a switch was full where copies go on by several, "
         "nor of which frames copies were lost after the last frame that came. Later means that the greatest latency "
-        f"grows by more than {later_in_words(found.least_later)}; outages.csv has each. It tells what happened in these runs, and is no bound on what can happen. "
+        f"grows by more than {later_in_words(found.least_later)}; outages.csv has each. It shows what happened in these runs, and is no bound on what can happen. "
         f"They are by {html.escape(made_by)}. This page is by {html.escape(program.tool('campaign').in_words())}.</footer></main></body></html>\n"
     )

@@ -2,8 +2,8 @@
 """A second opinion on the tables of a network: a plain simulator of one thread, which shares no code with the program.
 
 It follows the rules of docs/TRAFFIC.md message by message, and prints the tables as `afdxsim seq` does; with --trace it
-writes the trace too, and with --hops what it has measured on the way. It needs nothing but Python, so it also serves where a
-table is wanted within a second and the program is not built yet. It handles some 60,000 messages a second.
+also writes the trace, and with --hops what it measured on the way. It needs Python alone, so use it if you want a table
+within a second and the program is not built yet. It handles some 60,000 messages a second.
 """
 import argparse
 import heapq
@@ -22,7 +22,7 @@ examples:
   afdx second-opinion net.toml --hops hops.csv > tables.csv
         the tables, and what was measured on the way: afdx report --hops shows it beside bounds
   afdx second-opinion net.toml | diff - tables.csv
-        whether the program, which printed tables.csv, says the same
+        compares its tables with tables.csv of the program
 
 what --hops measures, each with its count, least, greatest and sum (times in ns):
   wait       of a virtual link at its source: from the offer of a frame to its release by the regulator
@@ -33,8 +33,8 @@ what --hops measures, each with its count, least, greatest and sum (times in ns)
   jitter     at a switch: by how much frames of a virtual link come closer than a BAG, counted from any earlier one
   backlog    before a line: how many bytes of frames wait at the output port, whenever a frame comes there
 
-status: 0; 2 where a word is wrong, a file cannot be read or written, or the description is not accepted. One line on
-error output then names the file and the line; afdx explain tells all that is wrong with a description.
+status: 0; 2 if a word is wrong, a file cannot be read or written, or the description is not accepted. One line on
+error output then names the file and the line; afdx explain prints all faults of a description.
 """
 
 # More offers would not fit into memory, and take some hours.
@@ -361,7 +361,7 @@ def main(arguments=None):
     parser.add_argument("--trace", metavar="FILE", help="writes the trace to this file")
     parser.add_argument("--hops", metavar="FILE", help="writes what was measured on the way to this file")
     parser.add_argument("--json", action="store_true", help="prints the tables as JSON in long form (docs/TOOLS.md, section 7)")
-    parser.add_argument("--events", action="store_true", help="tells on error output how many messages were handled")
+    parser.add_argument("--events", action="store_true", help="prints on error output how many messages were handled")
     words = parser.parse_args(arguments)
     description = judge.accepted(words.net)
     net = small_enough(description)

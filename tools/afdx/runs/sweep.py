@@ -285,5 +285,5 @@ def page(sweep, path, made_by, has_limits):
         "<footer>The effect is how far the combinations are apart in the mean, over seeds, of the greatest latency of a run. "
         "The spread of seeds is how far the greatest latencies of the runs of one combination are apart, in the one where "
         "that is most. The effect of one key is how far its values are apart, each taken over all values of the others. It "
-        f"tells what happened in these runs, and is no bound on what can happen. They are by {esc(made_by)}. This page is by {esc(program.tool('campaign').in_words())}.</footer></main></body></html>\n"
+        f"shows what happened in these runs, and is no bound on what can happen. They are by {esc(made_by)}. This page is by {esc(program.tool('campaign').in_words())}.</footer></main></body></html>\n"
     )

@@ -6,10 +6,10 @@ use std::thread;
 use vlink::Step;
 use worker_pool::Gate;
 
-// What is known of one process.
+// The state of one process.
 #[derive(Drop)]
 struct Place {
-    // It is to handle its first message, or has handled it.
+    // It will handle its first message, or has handled it.
     has_begun: AtomicBool,
     // How many messages it has handled.
     handled: AtomicU64,
@@ -35,7 +35,7 @@ pub struct Meeting {
 }
 
 impl Meeting {
-    // Of the seven processes of the network, none of which has begun.
+    // Makes a gate for the seven processes of the network, none of which has begun.
     pub fn new(looks: u64, pairs: [(u16, u16); 2]) -> Self {
         Meeting {
             places: [
@@ -53,14 +53,15 @@ impl Meeting {
         }
     }
 
-    // Counts as one that looked in vain a process of which a message is told out of order: the number is that of those that it has handled.
+    // Counts a process as one that looked in vain if the gate is called for a message out of order: its number must be that of the messages
+    // handled before.
     fn check_number(&self, place: &Place, run: u64) {
         if place.handled.load(Ordering::SeqCst) != run {
             self.missed.fetch_add(1, Ordering::SeqCst);
         }
     }
 
-    // Whether it was seen that this process has begun.
+    // Whether this process was seen to have begun.
     fn sees(&self, process: u16) -> bool {
         let Some(place) = self.places.get(usize::from(process)) else {
             return false;
@@ -86,7 +87,7 @@ impl Meeting {
         true
     }
 
-    // What a row tells of a run. The gate was told of each message as often as the journal has it handled.
+    // Writes the results of a run. The gate was called for each message as often as the journal has it handled.
     pub fn tell(&self, journal: &[Step], taker: u16, runner: u16, told: &mut String) {
         if !self.was_told(journal) {
             let _ = told.push_str("not told ");

@@ -1,7 +1,7 @@
-//! What stands in a journal.
+//! Searches the steps of a journal.
 use vlink::Step;
 
-// How often the steps have that this process handled a message.
+// Returns in how many of the steps this process handled a message.
 pub fn runs_of(steps: &[Step], process: usize) -> u64 {
     let mut runs = 0u64;
     for step in steps {
@@ -14,7 +14,7 @@ pub fn runs_of(steps: &[Step], process: usize) -> u64 {
     runs
 }
 
-// Where this step stands for the first time, or how many there are where it does not.
+// Returns the place of the first such step, or the number of steps if there is none.
 pub fn place_of(steps: &[Step], wanted: Step) -> usize {
     for place in 0..steps.len() {
         if steps[place] == wanted {

@@ -10,7 +10,7 @@ use Rattle.reverse.specs.Setting.{simulation_of}
 use Rattle.group_hand.specs.Hands.{IsAsBefore, StandsForGroup, is_ours}
 use Rattle.halves.specs.declared.LeftHalf.{LeftHalf}
 use Rattle.halves.proofs.InLists.{half-within}
-use Rattle.journal.proofs.Refused.{faults-told, not-full, not-ok}
+use Rattle.journal.proofs.Refused.{not-ok}
 use Rattle.group_exchange.specs.declared.mark.Standing.{Standing}
 use Rattle.group_exchange.specs.Views.{box_of, is_of, last_in, marks_in, with_letters}
 use Rattle.group_exchange.specs.Keeps.{Holds, IsMarked}
@@ -18,6 +18,7 @@ use Rattle.group_exchange.specs.Effects.{AreWaiting, IsGroupAsBefore, TookLetter
 use Rattle.group_exchange.proofs.Again.{group-as-before, group-same, same-keeps, same-words}
 use Rattle.group_exchange.proofs.Collected.{kept-collected, holds-collected}
 use Rattle.group_exchange.proofs.Gathers.{collects-none, collects-shown, kept-none, holds-none, waiting}
+use Rattle.group_exchange.proofs.Going.{not-full}
 use Rattle.group_exchange.proofs.Halves.{marked-by, recorded-as}
 use Rattle.group_exchange.proofs.Holding.{holds-again, holds-as}
 use Rattle.group_exchange.proofs.RowsKept.{rows-again}
@@ -210,7 +211,7 @@ pub returns-then-exchange-len-clause-limited : goal.returns-then-exchange-len-cl
 returns-then-exchange-len-clause-limited g c = λ other. absurd (other refl)
 
 pub returns-then-exchange-len-clause-faults : goal.returns-then-exchange-len-clause-faults
-returns-then-exchange-len-clause-faults g c = inr (inl refl)
+returns-then-exchange-len-clause-faults g c = inr refl
 
 pub invariant_of-exchange-in-Err : goal.invariant_of-exchange-in-Err
 invariant_of-exchange-in-Err g c =
@@ -235,7 +236,7 @@ returns-in-Err-clause-unchanged g c =
     )
 
 pub returns-in-Err-clause-full : goal.returns-in-Err-clause-full
-returns-in-Err-clause-full g c = not-full c.in-Err.fault _ c.in-Err.ensures.faults _ refl
+returns-in-Err-clause-full g c = not-full c.in-Err.fault _ c.in-Err.ensures.memory refl
 
 pub returns-in-Err-clause-limited : goal.returns-in-Err-clause-limited
 returns-in-Err-clause-limited g c =
@@ -246,7 +247,7 @@ returns-in-Err-clause-limited g c =
     )
 
 pub returns-in-Err-clause-faults : goal.returns-in-Err-clause-faults
-returns-in-Err-clause-faults g c = faults-told c.in-Err.fault _ c.in-Err.ensures.faults g.J.GroupRun.keeps c.exchange.invariant.5
+returns-in-Err-clause-faults g c = inl c.in-Err.ensures.memory
 
 pub returns-clause-unchanged : goal.returns-clause-unchanged
 returns-clause-unchanged g c = tt

@@ -9,7 +9,7 @@ use Rattle.group_hand.specs.Flow.{Flow}
 use Rattle.group_boxes.specs.Boxing.{waiting_for}
 use Rattle.halves.specs.declared.LeftHalf.{LeftHalf}
 use Rattle.halves.proofs.InLists.{half-within}
-use Rattle.journal.proofs.Refused.{faults-told, not-full, not-ok}
+use Rattle.journal.proofs.Refused.{not-ok}
 use Rattle.group_exchange.specs.declared.mark.Standing.{Standing}
 use Rattle.group_exchange.specs.Effects.{IsGroupAsBefore}
 use Rattle.group_exchange.specs.Views.{block_of, box_of, for_group, is_of, last_in, marks_in, world_after}
@@ -17,6 +17,7 @@ use Rattle.group_exchange.specs.Keeps.{Holds, IsMarked}
 use Rattle.group_exchange.proofs.Again.{group-counted, group-same, left-block}
 use Rattle.group_exchange.proofs.Ends.{posts-some}
 use Rattle.group_exchange.proofs.Gathers.{posts-shown}
+use Rattle.group_exchange.proofs.Going.{not-full}
 use Rattle.group_exchange.proofs.Halves.{marked-by, recorded-as}
 use Rattle.group_exchange.proofs.Holding.{holds-again, holds-as}
 use Rattle.group_exchange.proofs.Posted.{abroad-lawful, kept-posted, holds-posted}
@@ -209,7 +210,7 @@ pub returns-then-exchange-len-clause-limited : goal.returns-then-exchange-len-cl
 returns-then-exchange-len-clause-limited g c = λ _ _. refl
 
 pub returns-then-exchange-len-clause-faults : goal.returns-then-exchange-len-clause-faults
-returns-then-exchange-len-clause-faults g c = inr (inl refl)
+returns-then-exchange-len-clause-faults g c = inr refl
 
 pub returns-in-Err-clause-ok : goal.returns-in-Err-clause-ok
 returns-in-Err-clause-ok g c = tt
@@ -223,7 +224,7 @@ returns-in-Err-clause-unchanged g c =
     )
 
 pub returns-in-Err-clause-full : goal.returns-in-Err-clause-full
-returns-in-Err-clause-full g c = not-full c.in-Err.fault _ c.in-Err.ensures.faults _ refl
+returns-in-Err-clause-full g c = not-full c.in-Err.fault _ c.in-Err.ensures.memory refl
 
 pub returns-in-Err-clause-limited : goal.returns-in-Err-clause-limited
 returns-in-Err-clause-limited g c =
@@ -231,7 +232,7 @@ returns-in-Err-clause-limited g c =
     λ over some. absurd (omega (arith, over, c.if-exchange-len.false, c.len.ensures, c.steps-count.ensures, words, ap (λ z. z.limit) c.exchange.view_is, ap (λ z. length z.steps) c.exchange.view_is, ap (λ z. length (block_of z)) c.group.view_is))
 
 pub returns-in-Err-clause-faults : goal.returns-in-Err-clause-faults
-returns-in-Err-clause-faults g c = faults-told c.in-Err.fault _ c.in-Err.ensures.faults g.J.GroupRun.keeps c.exchange.invariant.5
+returns-in-Err-clause-faults g c = inl c.in-Err.ensures.memory
 
 pub returns-clause-unchanged : goal.returns-clause-unchanged
 returns-clause-unchanged g c = tt

@@ -1,4 +1,4 @@
-use Rattle.std.proofs.Common.{inl, refl}
+use Rattle.std.proofs.Common.{refl}
 use Rattle.journal.proofs.Refused.{err-on-ok}
 use Rattle.group_exchange.proofs.posting.reserve_post.Goals as goal
 
@@ -23,8 +23,8 @@ returns-then-is_err-clause-keeps g c = refl
 pub returns-then-is_err-clause-step_room : goal.returns-then-is_err-clause-step_room
 returns-then-is_err-clause-step_room g c = tt
 
-pub returns-then-is_err-clause-faults : goal.returns-then-is_err-clause-faults
-returns-then-is_err-clause-faults g c = inl refl
+pub returns-then-is_err-clause-memory : goal.returns-then-is_err-clause-memory
+returns-then-is_err-clause-memory g c = refl
 
 pub returns-in_err-reserve-clause-waits : goal.returns-in_err-reserve-clause-waits
 returns-in_err-reserve-clause-waits g c = err-on-ok _ _ c.from_residual.result c.from_residual.ensures.1
@@ -62,5 +62,5 @@ returns-clause-keeps g c = c.reserve-2.ensures.keeps
 pub returns-clause-step_room : goal.returns-clause-step_room
 returns-clause-step_room g c = c.reserve-2.ensures.room
 
-pub returns-clause-faults : goal.returns-clause-faults
-returns-clause-faults g c = c.reserve-2.ensures.faults
+pub returns-clause-memory : goal.returns-clause-memory
+returns-clause-memory g c = c.reserve-2.ensures.memory

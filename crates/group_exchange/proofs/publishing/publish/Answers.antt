@@ -7,9 +7,10 @@ use Rattle.virtual_time.specs.declared.step.Step.TheVariants.{Gvt}
 use Rattle.reverse.specs.Rules.{rules_of}
 use Rattle.reverse.specs.Setting.{simulation_of}
 use Rattle.halves.specs.declared.LeftHalf.{LeftHalf}
-use Rattle.journal.proofs.Refused.{faults-told, not-full, not-ok}
+use Rattle.journal.proofs.Refused.{not-ok}
 use Rattle.group_exchange.specs.declared.mark.Standing.{Standing}
 use Rattle.group_exchange.specs.Views.{marks_in, world_after}
+use Rattle.group_exchange.proofs.Going.{not-full}
 use Rattle.group_exchange.proofs.Halves.{recorded-as}
 use Rattle.group_exchange.proofs.Least.{gvt-told}
 use Rattle.group_exchange.proofs.Published.{kept-published, publishes-more, publishes-none}
@@ -101,7 +102,7 @@ pub returns-then-len-exchange-clause-limited : goal.returns-then-len-exchange-cl
 returns-then-len-exchange-clause-limited g c = λ _ _. refl
 
 pub returns-then-len-exchange-clause-faults : goal.returns-then-len-exchange-clause-faults
-returns-then-len-exchange-clause-faults g c = inr (inl refl)
+returns-then-len-exchange-clause-faults g c = inr refl
 
 pub returns-in-Err-clause-ok : goal.returns-in-Err-clause-ok
 returns-in-Err-clause-ok g c = tt
@@ -112,13 +113,13 @@ returns-in-Err-clause-unchanged g c =
     (λ i. record { steps = c.reserve.ensures.steps i; marks = marks_in (map (λ (b : LeftHalf Standing). b.value) c.exchange.inside.marks.items); limit = c.exchange.inside.limit })
 
 pub returns-in-Err-clause-full : goal.returns-in-Err-clause-full
-returns-in-Err-clause-full g c = not-full c.in-Err.fault _ c.in-Err.ensures.faults _ refl
+returns-in-Err-clause-full g c = not-full c.in-Err.fault _ c.in-Err.ensures.memory refl
 
 pub returns-in-Err-clause-limited : goal.returns-in-Err-clause-limited
 returns-in-Err-clause-limited g c = λ back over. absurd (omega (arith, over, c.if-len-exchange.false, c.len.ensures, ap (λ z. z.limit) c.exchange.view_is, ap (λ z. length z.steps) c.exchange.view_is))
 
 pub returns-in-Err-clause-faults : goal.returns-in-Err-clause-faults
-returns-in-Err-clause-faults g c = faults-told c.in-Err.fault _ c.in-Err.ensures.faults g.J.GroupRun.keeps c.exchange.invariant.5
+returns-in-Err-clause-faults g c = inl c.in-Err.ensures.memory
 
 pub returns-clause-unchanged : goal.returns-clause-unchanged
 returns-clause-unchanged g c = tt

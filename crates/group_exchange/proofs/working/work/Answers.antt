@@ -1,21 +1,30 @@
-use Rattle.std.proofs.Common.{rules, ◌≤◌, ◌+◌, inl, inr, min, All, sym, ap, ◌∙◌, subst}
+use Rattle.std.proofs.Common.{rules, ◌≤◌, ◌+◌, ◌++◌, inl, inr, min, All, refl, sym, ap, ◌∙◌, subst, arith}
 use Rattle.vlink.specs.declared.message.Message.{Message}
 use Rattle.group_hand.specs.DoneEvents.{messages_of}
-use Rattle.group_exchange.proofs.Going.{goes-both, goes-seen, idle-late, works-some}
+use Rattle.group_exchange.proofs.Going.{goes-ends, goes-seen, idle-late, works-some}
+use Rattle.group_exchange.proofs.Timely.{runs-did, timely-weaker}
 use Rattle.group_exchange.proofs.working.work.Goals as goal
 
 pub returns-in_err-commit_below-clause-some : goal.returns-in_err-commit_below-clause-some
 returns-in_err-commit_below-clause-some g c =
-    works-some _ _ _ _ (goes-both _ _ _ _ _ c.run_turn.ensures.goes c.commit_below.ensures.goes) c.from_residual-in_err-commit_below.result (search rules)
+    works-some _ _ _ _ _ (goes-ends _ _ _ _ _ _ c.run_turn.ensures.goes c.commit_below.ensures.ends) c.from_residual-in_err-commit_below.result (search rules)
 
 pub returns-clause-ok : goal.returns-clause-ok
 returns-clause-ok g c =
-    let went = goes-both _ _ _ _ _ c.run_turn.ensures.goes c.commit_below.ensures.goes in
+    let goes = c.run_turn.ensures.goes in
+    let ends = c.commit_below.ensures.ends in
     let seen = ap (λ z. z.seen) c.group.view_is in
     let asked = c.args.group.now.seen + c.args.window in
     record {
-      did = went.did;
-      went = went.went;
+      did = goes.did ++ ends.did;
+      went = goes-ends _ _ _ _ _ _ goes ends;
+      worked = goes.did;
+      ended = ends.did;
+      parts = refl;
+      no_commit = goes.no_commit;
+      commits = ends.commits;
+      counted = runs-did _ _ goes.did _ goes.went.words c.in_ok-count.ensures.counted;
+      timely = timely-weaker _ _ c.of-reach.result.ahead asked (let a = c.of-reach.ensures.ahead ∙ ap (λ s. min (s + c.args.window) c.group.inside.end) seen in omega arith) _ _ goes.timely;
       within = c.in_ok-count.ensures.within;
       idle = elim c.in_ok-count.ensures.idle [
         | inl all ↦ inl all
@@ -23,8 +32,8 @@ returns-clause-ok g c =
             (c.of-reach.ensures.ahead ∙ ap (λ s. min (s + c.args.window) c.group.inside.end) seen) c.group.invariant.4 c.commit_below.ensures.queue late c.commit_below.ensures.in_time)
       ];
       arrived = c.commit_below.ensures.tray ∙ c.in_ok-count.ensures.arrived;
-      committed_below = subst (λ t. All (λ (m : Message). t ≤ m.time) (messages_of c.commit_below.new.self.held.done)) (goes-seen _ _ _ _ c.run_turn.ensures.goes) c.in_ok-commit_below.ensures.below;
+      committed_below = subst (λ t. All (λ (m : Message). t ≤ m.time) (messages_of c.commit_below.new.self.held.done)) (goes-seen _ _ _ _ _ c.run_turn.ensures.goes) c.in_ok-commit_below.ensures.below;
     }
 
 pub commit_below-requires-clause-seen : goal.commit_below-requires-clause-seen
-commit_below-requires-clause-seen g c = c.of-reach.ensures.good ∙ (ap (λ z. z.seen) c.group.view_is ∙ sym (goes-seen _ _ _ _ c.run_turn.ensures.goes))
+commit_below-requires-clause-seen g c = c.of-reach.ensures.good ∙ (ap (λ z. z.seen) c.group.view_is ∙ sym (goes-seen _ _ _ _ _ c.run_turn.ensures.goes))

@@ -5,6 +5,7 @@ use Rattle.reverse.specs.Rules.{rules_of}
 use Rattle.group_hand.specs.Hands.{DoesSent}
 use Rattle.group_hand.specs.Passing.{GoesOn, held}
 use Rattle.group_hand.specs.Undoing.{CameTo}
+use Rattle.group_hand.proofs.Adding.{adds-run}
 use Rattle.group_hand.proofs.Came.{pushed-came}
 use Rattle.group_hand.proofs.FirstEvent.{handles}
 use Rattle.std.proofs.lemmas.Option.{slice_get_within}
@@ -57,3 +58,9 @@ act-kept-requires-clause-within g c = slice_get_within c.args.members.now c.args
 
 pub act-kept-requires-clause-able : goal.act-kept-requires-clause-able
 act-kept-requires-clause-able g c = c.requires.able
+
+-- the word of the run, and then those of what it sent
+pub returns-clause-words : goal.returns-clause-words
+returns-clause-words g c =
+    let went = c.send_all.ensures.went in
+    adds-run c.args.message.now.receiver c.args.letters.now.words c.tell.new.self.words c.send_all.new.letters.words went.did (ap (λ z. z.words) c.tell.ensures.told) went.words went.no_run went.no_commit

@@ -4,11 +4,13 @@ use Rattle.std.proofs.lemmas.Option.{slice_get_within}
 use Rattle.vlink.specs.Order.{message_order}
 use Rattle.virtual_time.specs.Law.{rows_of, plus_of}
 use Rattle.reverse.specs.Rules.{rules_of}
-use Rattle.group_hand.specs.Arriving.{WentOn}
+use Rattle.group_hand.specs.Arriving.{WentOn, to_members}
+use Rattle.group_hand.specs.declared.block.Did.TheVariants.{Ran}
 use Rattle.group_hand.specs.DoneEvents.{DoneEvent, done_event_of, messages_of}
 use Rattle.group_hand.specs.Hands.{DoesSent}
 use Rattle.group_hand.specs.Passing.{held}
 use Rattle.group_hand.specs.Undoing.{CameTo, HasRoomFor}
+use Rattle.group_hand.proofs.Adding.{adds-run-taken}
 use Rattle.group_hand.proofs.Among.{none-among}
 use Rattle.group_hand.proofs.LateEvent.{set-back, late-came, late-handles}
 use Rattle.group_hand.proofs.NotLater.{has-later, one-more}
@@ -157,3 +159,14 @@ tell-requires g c = omega (arith, c.requires.room, c.take_first.ensures.room)
 
 pub send_later-requires : goal.send_later-requires
 send_later-requires g c = omega (arith, c.requires.room, c.take_first.ensures.room, c.tell.ensures.room, c.messages-2.ensures.few)
+
+pub returns-then-not-is_before-clause-words : goal.returns-then-not-is_before-clause-words
+returns-then-not-is_before-clause-words g c =
+    inr (has-later c.actor_rules_law.ensures.order c.args.message.now c.args.done.now.events c.set_aside.new.done.events c.set_aside.new.aside.events c.set_aside.ensures.aside
+    c.set_aside.ensures.stops (search rules))
+
+pub returns-clause-words : goal.returns-clause-words
+returns-clause-words g c =
+    inl (adds-run-taken c.args.message.now.receiver c.args.letters.now.words c.tell.new.self.words c.send_later.new.letters.words
+    (to_members c.act-kept.new.members (map plus_of c.messages-2.result.now))
+    (ap (λ z. z.words) c.tell.ensures.told ∙ ap (λ z. z.words ++ Ran c.args.message.now.receiver ∷ []) c.take_first.ensures.others) c.send_later.ensures.went.words)

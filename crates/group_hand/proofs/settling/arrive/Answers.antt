@@ -1,6 +1,10 @@
-use Rattle.std.proofs.Common.{[], refl, ap, ◌∙◌, arith}
+use Rattle.std.proofs.Common.{[], ◌∷◌, ◌++◌, map, refl, ap, ◌∙◌, arith}
 use Rattle.reverse.specs.Rules.{rules_of}
+use Rattle.virtual_time.specs.Law.{minus_of}
+use Rattle.group_hand.specs.declared.block.Did.TheVariants.{Arrived}
+use Rattle.group_hand.specs.Arriving.{to_members, words_taken}
 use Rattle.group_hand.specs.Passing.{held}
+use Rattle.group_hand.proofs.Adding.{adds-arrival}
 use Rattle.group_hand.proofs.Among.{contains-in, none-among}
 use Rattle.group_hand.proofs.Fronted.{Fronted, fronted, tray-fewer}
 use Rattle.group_hand.proofs.FrontTold.{front-told}
@@ -70,3 +74,11 @@ returns-clause-empty g c = c.settle.ensures.empty
 
 pub returns-clause-none_back : goal.returns-clause-none_back
 returns-clause-none_back g c = c.take_back_all.ensures.none_back
+
+-- the word of the arrival, and then those of what is taken back
+pub returns-clause-words : goal.returns-clause-words
+returns-clause-words g c =
+    adds-arrival c.args.letters.now.words c.take_front.new.self.words c.take_back_all.new.letters.words (Arrived c.args.letter.now.message.receiver)
+    (to_members c.settle.new.members (map minus_of c.settle.new.undoing.back.items)) refl refl
+    (c.take_front.ensures.words ∙ ap (λ z. z.words ++ Arrived c.args.letter.now.message.receiver ∷ []) c.count.ensures.others)
+    (c.take_back_all.ensures.went.words ∙ ap (λ z. z.words ++ words_taken (to_members c.settle.new.members (map minus_of c.settle.new.undoing.back.items))) c.settle.ensures.others)

@@ -6,6 +6,7 @@ use Rattle.group_hand.specs.DoneEvents.{messages_of}
 use Rattle.group_exchange.specs.Views.{is_of}
 use Rattle.group_exchange.proofs.Below.{all-late}
 use Rattle.group_exchange.proofs.Going.{each-inside}
+use Rattle.group_exchange.proofs.Ran.{ends-commits}
 use Rattle.group_exchange.proofs.RowsKept.{rows-again, rows-committed}
 use Rattle.group_exchange.proofs.Told.{commits}
 use Rattle.group_exchange.proofs.group.Group.commit_below.Goals.{in-Ok, in-Err}
@@ -35,13 +36,12 @@ invariant_of-self g c =
       ],
     )
 
-pub returns-clause-goes : goal.returns-clause-goes
-returns-clause-goes g c =
+pub returns-clause-ends : goal.returns-clause-ends
+returns-clause-ends g c =
     let h = c.self.invariant.0 in
     let seen = rw (sym c.self.view_is) at c.requires.seen in
     let d = rw seen at c.commit_below.ensures.did in
-    let t = commits h (c.actor_law.ensures g.J.GroupRun.setting h.laid) c.commit_below.new.self d in
-    rw (sym c.self.view_is) (record { did = d.did; went = t.went c.self.inside.gone })
+    rw (sym c.self.view_is) (ends-commits h (c.actor_law.ensures g.J.GroupRun.setting h.laid) c.commit_below.new.self c.self.inside.gone d c.commit_below.ensures.words)
 
 pub returns-clause-below : goal.returns-clause-below
 returns-clause-below g c =

@@ -1,11 +1,12 @@
-use Rattle.std.proofs.Common.{true, false, inl, inr, Ok, refl, ◌∙◌}
+use Rattle.std.proofs.Common.{true, false, inl, inr, Ok, refl, ap, ◌∙◌, arith}
+use Rattle.group_hand.specs.Block.{runs_in}
 use Rattle.journal.proofs.Refused.{not-ok}
 use Rattle.group_hand.proofs.Answering.{not-both}
 use Rattle.group_exchange.proofs.Going.{goes-both}
 use Rattle.group_exchange.proofs.group.Group.run_first.Goals as goal
 
 pub returns-in-Late-clause-goes : goal.returns-in-Late-clause-goes
-returns-in-Late-clause-goes g c = goes-both _ _ _ _ _ c.run_in_order.ensures.goes c.run_next.ensures.goes
+returns-in-Late-clause-goes g c = goes-both _ _ _ _ _ _ c.run_in_order.ensures.goes c.run_next.ensures.goes
 
 pub returns-in-Ran-clause-goes : goal.returns-in-Ran-clause-goes
 returns-in-Ran-clause-goes g c = c.run_in_order.ensures.goes
@@ -51,3 +52,15 @@ returns-in-Ran-clause-short g c = λ e. not-ok true _ _ refl e
 
 pub returns-in_err-run_in_order-clause-goes : goal.returns-in_err-run_in_order-clause-goes
 returns-in_err-run_in_order-clause-goes g c = c.run_in_order.ensures.goes
+
+pub run_next-requires : goal.run_next-requires
+run_next-requires g c = record { arrived = c.in_ok-run_in_order.ensures.tray (inr (λ j. Ok (c.in-Late.is j))) ∙ c.requires.arrived }
+
+pub returns-in-Ran-clause-counted : goal.returns-in-Ran-clause-counted
+returns-in-Ran-clause-counted g c = c.in_ok-run_in_order.ensures.counted (λ j. Ok (c.in-Ran.is j))
+
+pub returns-in-Idle-clause-counted : goal.returns-in-Idle-clause-counted
+returns-in-Idle-clause-counted g c = let a = ap runs_in (c.in_ok-run_in_order.ensures.words (inl (λ j. Ok (c.in-Idle.is j)))) in omega arith
+
+pub returns-in-Late-clause-counted : goal.returns-in-Late-clause-counted
+returns-in-Late-clause-counted g c = rw (ap runs_in (c.in_ok-run_in_order.ensures.words (inr (λ j. Ok (c.in-Late.is j))))) at c.run_next.ensures.counted

@@ -90,7 +90,7 @@ pub groups_of-requires-clause-end : goal.groups_of-requires-clause-end
 groups_of-requires-clause-end g c = omega (arith, c.of_known-end.ensures, c.ns.ensures.value, c.requires.until)
 
 pub groups_of-requires-clause-keeps : goal.groups_of-requires-clause-keeps
-groups_of-requires-clause-keeps g c = c.is_some-keeps.ensures ∙ c.requires.keeps
+groups_of-requires-clause-keeps g c = c.requires.keeps
 
 pub groups_of-requires-clause-few : goal.groups_of-requires-clause-few
 groups_of-requires-clause-few g c = c.requires.few_groups

@@ -19,8 +19,8 @@ invariant_of-self c =
     let count : c.self.inside.count + c.args.count ≡ length now =
     omega (arith, c.self.invariant.0, ap length longer, length-append was xs, length_behind (waiting_for c.args.boxes.now) (steps_told c.args.words.now.words), c.requires.count) in
     elim c.match-self.branch [
-      | in-Some w ↦ subst (λ (z : Inside). (z.count ≡ length (flat_map (λ t. steps_by t.value) z.told.items)) × IfSome z.kept (λ k. k.steps.items ≡ flat_map (λ t. steps_by t.value) z.told.items))
+      | in-Some w ↦ subst (λ (z : Inside). (z.count ≡ length (flat_map (λ t. steps_by t.value) z.told.items)) × IfSome z.kept (λ k. k.items ≡ flat_map (λ t. steps_by t.value) z.told.items))
           (sym w.self-inside-is) (count, w.list_block.ensures ∙ (ap (λ ys. ys ++ xs) (rw w.in-Some.is at c.self.invariant.1) ∙ sym longer))
-      | in_default w ↦ subst (λ (z : Inside). (z.count ≡ length (flat_map (λ t. steps_by t.value) z.told.items)) × IfSome z.kept (λ k. k.steps.items ≡ flat_map (λ t. steps_by t.value) z.told.items))
-          (sym w.self-inside-is) (count, subst (λ o. IfSome o (λ k. k.steps.items ≡ now)) (sym w.in_default.is) tt)
+      | in_default w ↦ subst (λ (z : Inside). (z.count ≡ length (flat_map (λ t. steps_by t.value) z.told.items)) × IfSome z.kept (λ k. k.items ≡ flat_map (λ t. steps_by t.value) z.told.items))
+          (sym w.self-inside-is) (count, subst (λ o. IfSome o (λ k. k.items ≡ now)) (sym w.in_default.is) tt)
     ]

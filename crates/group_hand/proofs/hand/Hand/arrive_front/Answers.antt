@@ -4,6 +4,7 @@ use Rattle.reverse.specs.Rules.{rules_of}
 use Rattle.group_hand.specs.Flow.{Flow}
 use Rattle.group_hand.specs.Hands.{DoesSent, IsAsBefore}
 use Rattle.group_hand.specs.Passing.{held}
+use Rattle.group_hand.proofs.Adding.{adds-both, adds-none}
 use Rattle.group_hand.proofs.Telling.{does-nothing, does-both}
 use Rattle.group_hand.proofs.Answering.{no-err, not-both, not-err}
 use Rattle.group_hand.proofs.Still.{as-roomy, on-err, still}
@@ -131,4 +132,23 @@ returns-clause-unchanged g c =
           (subst (λ ms. IsAsBefore c.args.self.now (held ms c.arrive.new.done.events c.self.inside.rows c.arrive.new.letters))
           (sym (with_items_is c.self.inside.members c.arrive.new.members (c.arrive.ensures.len ∙ c.deref_mut.ensures.len) ∙ (w.in-Err.ensures.members ∙ c.deref_mut.ensures.value)))
           (refused g (goal.at.returns-clause-unchanged g c).After-arrive w.in-Err.ensures.done w.in-Err.ensures.letters))
+    ]
+
+-- the words that joined the block
+pub returns-in_default-clause-words : goal.returns-in_default-clause-words
+returns-in_default-clause-words g c = adds-none c.args.self.now.flow.words c.args.self.now.flow.words refl
+
+made : (g : Over) (c : After-make_room g) → c.make_room.new.letters.words ≡ c.args.self.now.flow.words
+made g c = ap (λ (z : Flow). z.words) (as-it-was g c).flow
+
+pub returns-in_default-make_room-clause-words : goal.returns-in_default-make_room-clause-words
+returns-in_default-make_room-clause-words g c = adds-none _ _ (made g (goal.at.returns-in_default-make_room-clause-words g c).After-make_room)
+
+pub returns-clause-words : goal.returns-clause-words
+returns-clause-words g c =
+    let at = goal.at.returns-clause-words g c in
+    let before = made g at.After-make_room in
+    elim c.match-arrive.branch [
+      | in-Ok-arrive w ↦ adds-both c.args.self.now.flow.words c.make_room.new.letters.words c.arrive.new.letters.words (adds-none _ _ before) w.in-Ok-arrive.ensures.words
+      | in-Err w ↦ adds-none _ _ (ap (λ (z : Flow). z.words) w.in-Err.ensures.letters ∙ before)
     ]

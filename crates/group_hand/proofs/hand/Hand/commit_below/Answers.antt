@@ -9,6 +9,7 @@ use Rattle.group_hand.specs.Undoing.{CameTo}
 use Rattle.group_hand.specs.Passing.{held}
 use Rattle.group_hand.specs.DoneEvents.{messages_of}
 use Rattle.group_hand.specs.Sealing.{CanCommit, Stays, rows_in}
+use Rattle.group_hand.proofs.Adding.{adds-commits, adds-no-commit}
 use Rattle.group_hand.proofs.Answering.{no-err, no-ok, where-ok}
 use Rattle.group_hand.proofs.Still.{as-first, as-both, as-roomy, first-again, on-err, told-after, waits-after}
 use Rattle.group_hand.proofs.Came.{dropped-came}
@@ -129,4 +130,13 @@ returns-clause-flow g c =
     elim c.match-commit_first.branch [
       | in-Ok w ↦ changed g at c.commit_first.new.self _ w.in-Ok.ensures.told
       | in-Err w ↦ changed g at c.commit_first.new.self c.first-first.new.self.words w.in-Err.ensures.letters_stay
+    ]
+
+pub returns-clause-words : goal.returns-clause-words
+returns-clause-words g c =
+    let before = ap (λ (z : Flow). z.words) (looked g (goal.at.returns-clause-words g c).After-first-first).flow in
+    elim c.match-commit_first.branch [
+      | in-Ok w ↦ adds-commits c.args.self.now.flow.words c.first-first.new.self.words c.commit_first.new.self.words (take c.count_early-count.result c.self.inside.done.events) before
+          (ap (λ (z : Flow). z.words) w.in-Ok.ensures.told)
+      | in-Err w ↦ adds-no-commit _ _ (ap (λ (z : Flow). z.words) w.in-Err.ensures.letters_stay ∙ before)
     ]

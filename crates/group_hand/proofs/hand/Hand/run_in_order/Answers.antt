@@ -13,6 +13,7 @@ use Rattle.group_hand.specs.Hands.{DoesSent, IsAsBefore}
 use Rattle.group_hand.specs.Passing.{held}
 use Rattle.group_hand.specs.declared.in_order.InOrder.TheVariants.{Ran, Idle, Late}
 use Rattle.group_hand.specs.declared.fault.HandFault.TheVariants.{Exhausted}
+use Rattle.group_hand.proofs.Adding.{adds-run-again}
 use Rattle.group_hand.proofs.Answering.{not-both-faults, not-err, not-idle-late, not-idle-ran, not-ran-late}
 use Rattle.group_hand.proofs.NewestDone.{after-none}
 use Rattle.group_hand.proofs.Still.{as-both, as-empty, as-put_back, as-roomy, on-err, still, took-first}
@@ -282,3 +283,27 @@ pub returns-in_default-pop-clause-idle : goal.returns-in_default-pop-clause-idle
 returns-in_default-pop-clause-idle g c = λ _.
     subst (λ (q : List Message). All (λ m. c.args.limit ≤ m.time) q)
     (sym c.in_default-pop.ensures.none ∙ (ap (λ z. z.queue) c.make_room.ensures.letters ∙ ap (λ h. h.flow.queue) c.self.view_is)) (All-nil (λ (m : Message). c.args.limit ≤ m.time))
+
+-- the first message of the queue, which is not done, was handled
+pub returns-in-Ok-Ran-clause-first : goal.returns-in-Ok-Ran-clause-first
+returns-in-Ok-Ran-clause-first g c = λ _.
+    let k = first g (goal.at.returns-in-Ok-Ran-clause-first g c).In-Some in
+    let e : c.in_order_of-outcome.result ≡ Ok Ran = search rules in
+    let b = rw e at c.in_order_of-outcome.ensures in
+    let words = ap (λ z. z.words) c.in-Some.ensures.taken.others ∙ (ap (λ z. z.words) c.make_room.ensures.letters ∙ ap (λ h. h.flow.words) c.self.view_is) in (
+      c.in-Some.message,
+      b.0,
+      record {
+        among = k.0;
+        first = k.1;
+        not_done = subst (λ ds. IsAscending message_order (messages_of ds) → All (λ x. x ≢ c.in-Some.message) (messages_of ds)) (c.make_room.ensures.done ∙ ap (λ h. h.done) c.self.view_is)
+            (λ up. after-none c.actor_rules_law.ensures.order c.in-Some.message (messages_of c.make_room.new.done.events) up b.1);
+        words = adds-run-again c.in-Some.message.receiver c.args.self.now.flow.words c.pop.new.self.words c.handle_in_order.new.letters.words words c.handle_in_order.ensures.words;
+      },
+    )
+
+pub returns-in_default-clause-first : goal.returns-in_default-clause-first
+returns-in_default-clause-first g c = λ e. not-err Ran _ _ e refl
+
+pub returns-in_default-pop-clause-first : goal.returns-in_default-pop-clause-first
+returns-in_default-pop-clause-first g c = λ e. not-idle-ran _ refl e

@@ -6,7 +6,7 @@ use Rattle.reverse.specs.Rules.{rules_of}
 use Rattle.group_hand.specs.declared.fault.HandFault.TheVariants.{Exhausted}
 use Rattle.group_hand.proofs.Answering.{not-both, not-err}
 use Rattle.group_hand.proofs.Telling.{does-both}
-use Rattle.group_hand.proofs.Still.{as-both, exhausted-again, handled-soon, on-err, stands-still}
+use Rattle.group_hand.proofs.Still.{as-both, exhausted-again, handled-soon, on-err, ran-soon, stands-still, waits-still}
 use Rattle.group_hand.proofs.hand.Hand.run_next.Goals as goal
 use Rattle.reverse.specs.declared.sends.TheConstants.{MOST_SENT}
 
@@ -112,3 +112,27 @@ returns-in-Idle-clause-still g c = λ _. c.in_ok-run_in_order.ensures.idle_still
 
 pub returns-in_err-run_in_order-clause-did : goal.returns-in_err-run_in_order-clause-did
 returns-in_err-run_in_order-clause-did g c = c.run_in_order.ensures.did
+
+-- where the first message of the queue is not done, it is handled
+pub returns-in-Ran-clause-first : goal.returns-in-Ran-clause-first
+returns-in-Ran-clause-first g c = λ _ waits x v stands. c.in_ok-run_in_order.ensures.first (λ j. Ok (c.in-Ran.is j))
+
+pub returns-in_ok-run_out_of_order-in-Late-clause-first : goal.returns-in_ok-run_out_of_order-in-Late-clause-first
+returns-in_ok-run_out_of_order-in-Late-clause-first g c = λ _ waits x v stands.
+    let plain = g.R.Reversible.plain in
+    let V = g.R.Reversible.is_value in
+    let O = c.actor_rules_law.ensures.order in
+    let old = c.args.self.now in
+    let mid = c.run_in_order.new.self in
+    let still = c.in_ok-run_in_order.ensures.still (λ j. Ok (c.in-Late.is j)) in
+    ran-soon O c.args.limit old mid c.run_out_of_order.new.self still (c.in_ok-run_in_order.ensures.soon (λ j. Ok (c.in-Late.is j)))
+    (c.in_ok-run_out_of_order-in-Late.ensures.first (waits-still O old mid still waits) x v (stands-still plain V O c.actor_rules_law.ensures.undoes old mid still x v stands))
+
+pub returns-in_err-run_in_order-clause-first : goal.returns-in_err-run_in_order-clause-first
+returns-in_err-run_in_order-clause-first g c = λ e. not-err true _ c.from_residual.result e (err_from_is_err_and c.from_residual.result c.from_residual.ensures.1).1
+
+pub returns-in-Idle-clause-first : goal.returns-in-Idle-clause-first
+returns-in-Idle-clause-first g c = λ e. not-both _ e refl
+
+pub returns-in_err-run_out_of_order-in-Late-clause-first : goal.returns-in_err-run_out_of_order-in-Late-clause-first
+returns-in_err-run_out_of_order-in-Late-clause-first g c = λ e. not-err true _ c.from_residual-in_err-run_out_of_order-in-Late.result e (err_from_is_err_and c.from_residual-in_err-run_out_of_order-in-Late.result c.from_residual-in_err-run_out_of_order-in-Late.ensures.1).1

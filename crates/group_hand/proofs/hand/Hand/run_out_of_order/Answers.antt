@@ -6,14 +6,17 @@ use Rattle.vlink.specs.Order.{message_order}
 use Rattle.virtual_time.specs.Law.{IsAscending}
 use Rattle.reverse.specs.Rules.{rules_of, is_before}
 use Rattle.group_hand.specs.DoneEvents.{messages_of}
+use Rattle.group_hand.specs.Flow.{Flow}
 use Rattle.group_hand.specs.Handling.{HasLater}
 use Rattle.group_hand.specs.Hands.{DoesSent, IsAsBefore}
 use Rattle.group_hand.specs.Passing.{held}
 use Rattle.group_hand.specs.Undoing.{CameTo}
 use Rattle.group_hand.specs.declared.fault.HandFault.TheVariants.{Exhausted}
+use Rattle.group_hand.proofs.Adding.{adds-run-again}
 use Rattle.group_hand.proofs.Among.{contains-in}
 use Rattle.group_hand.proofs.Answering.{no-err, no-ok, not-both-faults, not-err, where-ok}
 use Rattle.group_hand.proofs.CountsAgain.{counts-again}
+use Rattle.group_hand.proofs.FrontWaits.{not-waiting}
 use Rattle.group_hand.proofs.NotLater.{not-later}
 use Rattle.group_hand.proofs.Telling.{does-both}
 use Rattle.group_hand.proofs.Still.{as-both, as-first, as-roomy, on-err, still}
@@ -249,4 +252,44 @@ returns-then-has-clause-unchanged g c =
       | in-Ok w ↦ no-err _ _ _ w.result-is
       | in-Err w ↦ on-err _ _ (subst (λ ls. IsAsBefore c.args.self.now (held c.self.inside.members.items c.self.inside.done.events c.self.inside.rows ls))
           (sym w.in-Err.ensures.unchanged) (as-looked g (goal.at.returns-then-has-clause-unchanged g c).After-first))
+    ]
+
+-- the first message of the queue was handled, if it was not done
+pub returns-clause-first : goal.returns-clause-first
+returns-clause-first g c = λ waits x v stands.
+    let m = c.in-Some.message in
+    let k = first g (goal.at.returns-clause-first g c).In-Some in
+    let same = c.make_late_room.ensures.done ∙ ap (λ h. h.done) c.self.view_is in
+    let able : (s : g.row.R.Denot) × (slice_get c.args.self.now.members m.receiver ≡ Some (Some s)) =
+    let a = c.if-not-has_numbers.ensures.yes refl in
+    (a.0, subst (λ ms. slice_get ms m.receiver ≡ Some (Some a.0)) (c.deref.ensures.value ∙ ap (λ h. h.members) c.self.view_is) a.1) in
+    let not_done = subst (λ ds. IsAscending message_order (messages_of ds) → All (λ y. y ≢ m) (messages_of ds)) (ap (λ h. h.done) c.self.view_is) (c.if-has.ensures.no refl) in
+    let words = ap (λ (z : Flow). z.words) (as-it-was g (goal.at.returns-clause-first g c).After-make_late_room).flow in (
+      m,
+      record {
+        among = k.0;
+        first = k.1;
+        not_done = not_done;
+        words = elim c.handle_out_of_order.ensures.words [
+          | inl e ↦ adds-run-again m.receiver c.args.self.now.flow.words c.make_late_room.new.letters.words c.handle_out_of_order.new.letters.words words e
+          | inr l ↦ absurd (not-later g.R.Reversible.plain g.R.Reversible.is_value c.actor_rules_law.ensures.order x v c.args.self.now m able.0 stands able.1 k.0 not_done
+              (subst (HasLater message_order m) same l))
+        ];
+      },
+    )
+
+pub returns-then-not-has_numbers-clause-first : goal.returns-then-not-has_numbers-clause-first
+returns-then-not-has_numbers-clause-first g c = tt
+
+pub returns-in_default-make_late_room-clause-first : goal.returns-in_default-make_late_room-clause-first
+returns-in_default-make_late_room-clause-first g c = tt
+
+pub returns-then-has-clause-first : goal.returns-then-has-clause-first
+returns-then-has-clause-first g c =
+    let O = c.actor_rules_law.ensures.order in
+    let k = first g (goal.at.returns-then-has-clause-first g c).In-Some in
+    let there = subst (λ ds. Contains (messages_of ds) c.in-Some.message) (ap (λ h. h.done) c.self.view_is) (c.if-has.ensures.yes refl) in
+    elim c.match-count_again.branch [
+      | in-Ok w ↦ where-ok _ _ w.result-is (λ waits x v stands. absurd (not-waiting O c.args.self.now c.in-Some.message k.0 k.1 there (waits stands.ascending)))
+      | in-Err w ↦ no-ok _ _ _ w.result-is
     ]

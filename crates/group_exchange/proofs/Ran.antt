@@ -1,0 +1,77 @@
+-- What a call of the hand did, as words that joined the block of a group.
+use Rattle.std.proofs.Common.{◌≡◌, ℕ, ◌<◌, true, List, [], ◌∷◌, length, slice_get, sym, ap, ◌∙◌, subst, arith}
+use Rattle.std.proofs.lemmas.List.{append_cancel_left}
+use Rattle.vlink.specs.declared.message.Message.{Message}
+use Rattle.vlink.specs.Order.{message_order}
+use Rattle.virtual_time.specs.Law.{Laws, World, done_by, in_hand, received_by}
+use Rattle.virtual_time.specs.declared.step.Step.{Step}
+use Rattle.reverse.specs.Plain.{Plain}
+use Rattle.reverse.specs.Rules.{rules_of}
+use Rattle.reverse.specs.Setting.{Setting, simulation_of}
+use Rattle.reverse.specs.declared.sends.Sends.{Sends}
+use Rattle.group_hand.specs.declared.block.Did.{Did}
+use Rattle.group_hand.specs.declared.block.Did.TheVariants.{Ran}
+use Rattle.group_hand.specs.Block.{AddsCommits, AddsLetters, commits_in, runs_in, steps_told}
+use Rattle.group_hand.specs.Handling.{RanFirst}
+use Rattle.group_hand.specs.Hands.{CommitsTold, DoesTold, Held}
+use Rattle.group_hand.proofs.Going.{held-is}
+use Rattle.group_exchange.specs.Views.{GroupState, is_of, world_after}
+use Rattle.group_exchange.specs.Keeps.{Holds}
+use Rattle.group_exchange.specs.Effects.{AreTimely, Ends, Goes}
+use Rattle.group_exchange.proofs.Below.{next-first}
+use Rattle.group_exchange.proofs.Timely.{timely-letters, timely-run}
+use Rattle.group_exchange.proofs.Told.{commits, does}
+
+module _ {S K : Type 0} {plain : Plain S Message Sends K} {number end : S → ℕ} {is_placed : S → Type 0} {x : Setting S} {owners : List ℕ} {V : S → Message → Type 0} {groups g seen : ℕ} {last : List Step}
+    {h : Held S K} (old : Holds (rules_of plain) number end is_placed x owners V groups g seen last h) (L : Laws (simulation_of (rules_of plain) x)) (new : Held S K) (gone : ℕ) where
+  -- what the group had in hand
+  abbrev now : World Message S
+  now = done_by (simulation_of (rules_of plain) x) (steps_told h.flow.words) (in_hand (simulation_of (rules_of plain) x) seen (world_after (simulation_of (rules_of plain) x) last))
+
+  abbrev with : Held S K → GroupState S K
+  with k = record { number = g; held = k; last = last; seen = seen; gone = gone }
+
+  pub goes-letters : DoesTold (rules_of plain) V h new → AddsLetters h.flow.words new.flow.words → (limit : ℕ) → Goes (simulation_of (rules_of plain) x) owners limit (with h) (with new)
+  goes-letters d a limit =
+      let f = simulation_of (rules_of plain) x in
+      let same = append_cancel_left h.flow.words d.did a.added (sym d.block ∙ a.words) in
+      record {
+        did = d.did;
+        went = (does old L new d).went gone;
+        timely = timely-letters f (is_of owners g) limit d.did now (ap runs_in same ∙ a.no_run);
+        no_commit = ap commits_in same ∙ a.no_commit;
+      }
+
+  -- no letter waits to arrive
+  quiet : h.flow.tray ≡ [] → (q : ℕ) → is_of owners g q ≡ true → (now.parts q).tray ≡ []
+  quiet none q o =
+      let m = held-is (slice_get h.members q) (old.ours q ∙ o) in
+      (old.stands.members q m.0 m.1).tray ∙ ap (received_by message_order q) none
+
+  -- the first message was handled
+  pub goes-run : DoesTold (rules_of plain) V h new → h.flow.tray ≡ [] → (limit : ℕ) → ((m : Message) × (m.time < limit) × RanFirst m h new) →
+      Goes (simulation_of (rules_of plain) x) owners limit (with h) (with new)
+  goes-run d none limit r =
+      let f = simulation_of (rules_of plain) x in
+      let m = r.0 in
+      let k = r.2 in
+      let a = k.words in
+      let same = append_cancel_left h.flow.words d.did (Ran m.receiver ∷ a.added) (sym d.block ∙ a.words) in
+      let next = next-first plain L.order V x now h old.stands m k.among k.first k.not_done in
+      record {
+        did = d.did;
+        went = (does old L new d).went gone;
+        timely = subst (λ ds. AreTimely f limit (is_of owners g) (steps_told ds) now) (sym same)
+            (timely-run f (is_of owners g) limit m.receiver a.added now ((m, next, r.1), quiet none) a.no_run);
+        no_commit = (let n = a.no_commit in let e = ap commits_in same in omega arith);
+      }
+
+  -- events were committed
+  pub ends-commits : CommitsTold (rules_of plain) V seen h new → AddsCommits h.flow.words new.flow.words → Ends (simulation_of (rules_of plain) x) owners (with h) (with new)
+  ends-commits d a =
+      let same = append_cancel_left h.flow.words d.did a.added (sym d.block ∙ a.words) in
+      record {
+        did = d.did;
+        went = (commits old L new d).went gone;
+        commits = subst (λ ds. commits_in ds ≡ length ds) (sym same) a.commits;
+      }

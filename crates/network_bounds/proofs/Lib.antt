@@ -1,0 +1,4 @@
+pub mod CapLemmas
+pub mod ShareLemmas
+pub mod PassingLemmas
+pub mod TextLemmas

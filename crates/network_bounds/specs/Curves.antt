@@ -1,0 +1,49 @@
+-- What a virtual link gives the port before a line, as its regulator or its account lets it pass: a burst and a rate.
+use Rattle.std.specs.Prelude.{ℕ, ◌+◌, ◌*◌, ◌/◌, ◌&&◌, nat_lt, Bool, true, false, if◌then◌else◌}
+use Rattle.vlink.specs.Wire.{busy_for}
+use Rattle.network_rows.specs.declared.rows.VirtualLink.{VirtualLink}
+use Rattle.network_rows.specs.declared.rows.Policing.{Policing}
+use Rattle.network_rows.specs.declared.rows.Policing.TheVariants.{Bytes, Frames}
+use Rattle.network_rows.specs.declared.rows.Priority.{Priority}
+use Rattle.network_rows.specs.declared.rows.Priority.TheVariants.{High, Low}
+use Rattle.port_bounds.specs.Mixtures.{Flow}
+
+-- how many BAGs of the virtual link 128 ms have
+abbrev pub parts_of : VirtualLink → ℕ
+parts_of link = 128 / link.bag_ms
+
+abbrev pub bag_of : VirtualLink → ℕ
+bag_of link = link.bag_ms * 1000000
+
+-- how much earlier than the BAG says a frame may come: no earlier from a regulator, and the policing jitter from an account
+abbrev pub slack_of : Bool → VirtualLink → ℕ
+slack_of is_end link = if is_end then 0 else link.policing_jitter_ns
+
+-- how long a frame keeps the line busy, in ns
+abbrev pub cost_of : ℕ → VirtualLink → ℕ
+cost_of byte_ns link = busy_for link.size byte_ns
+
+abbrev pub rate_of : ℕ → VirtualLink → ℕ
+rate_of byte_ns link = parts_of link * cost_of byte_ns link
+
+abbrev pub burst_of : Bool → ℕ → VirtualLink → ℕ
+burst_of is_end byte_ns link = rate_of byte_ns link * (bag_of link + slack_of is_end link)
+
+abbrev pub flow_of : Bool → ℕ → VirtualLink → Flow
+flow_of is_end byte_ns link = record { link = link.id.0; burst = burst_of is_end byte_ns link; rate = rate_of byte_ns link }
+
+abbrev pub is_high : Priority → Bool
+is_high High = true
+is_high Low = false
+
+-- whether its frames go first at the port: never at an end system
+abbrev pub is_first : Bool → VirtualLink → Bool
+is_first is_end link = if is_end then false else is_high link.priority
+
+abbrev pub counts_bytes : Policing → Bool
+counts_bytes Bytes = true
+counts_bytes Frames = false
+
+-- an account that counts bytes lets more frames pass than its BAGs say, where they are shorter than Smax
+abbrev pub is_loose : Bool → VirtualLink → Bool
+is_loose is_end link = if is_end then false else counts_bytes link.policing && nat_lt link.size link.smax

@@ -1,0 +1,121 @@
+//! Weights for what comes with one priority. Whatever they are, the bounds that follow are right; these make them small.
+
+use crate::mixing::{WHOLE, mixed};
+use crate::port::Port;
+use crate::share::{Share, share_at};
+use network::GREATEST_PORTS;
+
+/// A burst and a rate.
+#[derive(Clone, Copy)]
+pub struct Total {
+    pub burst: u128,
+    pub rate: u128,
+}
+
+/// What comes by each port with one priority.
+pub fn shares_of(port: &Port, is_high: bool) -> [Share; GREATEST_PORTS] {
+    let mut shares = [share_at(port, 0, is_high); GREATEST_PORTS];
+    for input in 1..GREATEST_PORTS {
+        shares[input] = share_at(port, input as u16, is_high);
+    }
+    shares
+}
+
+/// The mixture by these weights.
+pub fn weigh(shares: &[Share; GREATEST_PORTS], weights: &[u32; GREATEST_PORTS]) -> Total {
+    let mut total = Total { burst: 0, rate: 0 };
+    for input in 0..GREATEST_PORTS {
+        let share = &shares[input];
+        let weight = weights[input].min(WHOLE);
+        total = Total {
+            burst: mixed(weight, share.line_burst, share.burst).saturating_add(total.burst),
+            rate: mixed(weight, share.line_rate, share.rate).saturating_add(total.rate),
+        };
+    }
+    total
+}
+
+/// The weights of the least burst: of each line or of its virtual links.
+fn of_least_burst(shares: &[Share; GREATEST_PORTS]) -> [u32; GREATEST_PORTS] {
+    let mut weights = [0; GREATEST_PORTS];
+    for input in 0..GREATEST_PORTS {
+        let share = &shares[input];
+        if share.line_burst < share.burst {
+            weights[input] = WHOLE;
+        }
+    }
+    weights
+}
+
+/// Whether the rate of `a` falls by more than that of `b` for the burst that is added, where a line gives way to its virtual links.
+fn is_cheaper(a: &Share, b: &Share) -> bool {
+    let a_rate = a.line_rate.saturating_sub(a.rate);
+    let b_rate = b.line_rate.saturating_sub(b.rate);
+    let a_burst = a.burst.saturating_sub(a.line_burst);
+    let b_burst = b.burst.saturating_sub(b.line_burst);
+    a_burst.saturating_mul(b_rate) < b_burst.saturating_mul(a_rate)
+}
+
+/// Whether a line gives way to its virtual links before another one does, if there is one.
+fn is_before(share: &Share, other: Option<Share>) -> bool {
+    match other {
+        Some(other) => is_cheaper(share, &other),
+        None => true,
+    }
+}
+
+/// The line that gives way first, of those that count whole.
+fn cheapest(
+    shares: &[Share; GREATEST_PORTS],
+    weights: &[u32; GREATEST_PORTS],
+) -> Option<(usize, Share)> {
+    let mut place = None;
+    let mut found = None;
+    for input in 0..GREATEST_PORTS {
+        let share = &shares[input];
+        let can_give = weights[input] == WHOLE && share.rate < share.line_rate;
+        if can_give && is_before(share, found) {
+            place = Some(input);
+            found = Some(*share);
+        }
+    }
+    Some((place?, found?))
+}
+
+/// The weights of the least burst, where so many lines give way to their virtual links whole.
+pub fn lowered(shares: &[Share; GREATEST_PORTS], count: usize) -> [u32; GREATEST_PORTS] {
+    let mut weights = of_least_burst(shares);
+    for _ in 0..count {
+        if let Some((input, _)) = cheapest(shares, &weights) {
+            if let Some(weight) = weights.get_mut(input) {
+                *weight = 0;
+            }
+        }
+    }
+    weights
+}
+
+/// How many parts of a line count, where the rate is to fall by `over`, as far as this line goes.
+fn part_left(share: &Share, over: u128) -> u32 {
+    let step = share.line_rate.saturating_sub(share.rate);
+    let parts = over.checked_div(step).unwrap_or(0).saturating_add(1);
+    WHOLE - parts.min(u128::from(WHOLE)) as u32
+}
+
+/// The weights of the least burst, where as many lines as it takes give way to their virtual links until the rate is no greater than this. The
+/// last one gives way in part.
+pub fn filled(shares: &[Share; GREATEST_PORTS], room: u128) -> [u32; GREATEST_PORTS] {
+    let mut weights = of_least_burst(shares);
+    for _ in 0..GREATEST_PORTS {
+        let over = weigh(shares, &weights).rate.saturating_sub(room);
+        if over == 0 {
+            return weights;
+        }
+        if let Some((input, share)) = cheapest(shares, &weights) {
+            if let Some(weight) = weights.get_mut(input) {
+                *weight = part_left(&share, over);
+            }
+        }
+    }
+    weights
+}

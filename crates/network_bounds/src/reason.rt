@@ -1,0 +1,28 @@
+//! Why there is no bound.
+ghost use Rattle.std.specs.Prelude.{◌≡◌};
+ghost use Rattle.network_bounds.specs.Text.{reason_name};
+
+/// Why there is no bound.
+#[derive(Clone, Copy)]
+pub enum Reason {
+    /// More may come to a port than its line can send.
+    Rate,
+    /// A switch counts bytes, and frames are shorter than Smax: it lets more of them pass than their BAGs say.
+    Bytes,
+    /// The virtual link does not come there.
+    Way,
+    /// 128 bits do not hold a number.
+    Number,
+}
+
+/// How a reason is written.
+pub(crate) fn reason_name<'a>(reason: Reason) -> &'a str
+    ensures { result.now ≡ reason_name reason }
+{
+    match reason {
+        Reason::Rate => "rate",
+        Reason::Bytes => "bytes",
+        Reason::Way => "way",
+        Reason::Number => "number",
+    }
+}

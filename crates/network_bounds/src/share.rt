@@ -1,0 +1,102 @@
+//! What comes to a port by one line, with one priority.
+ghost use Rattle.std.specs.Prelude.{◌≡◌};
+ghost use Rattle.network.specs.Words.{IsLinkInLimits};
+ghost use Rattle.network_bounds.specs.Mixing.{flows_share, is_bounding, share_at, with_link};
+
+use crate::curves::{burst, cost, is_loose, rate};
+use crate::port::Port;
+use network::VirtualLink;
+
+/// How many units a ns has.
+pub const SCALE: u128 = 128_000_000;
+
+/// What comes to a port by one line, with one priority: bursts in units, rates in units a ns. All sums stop at the greatest number.
+#[derive(Clone, Copy)]
+pub struct Share {
+    /// Whether the line bounds what comes by it.
+    pub is_bounding: bool,
+    /// What it bounds then; else what its virtual links can give.
+    pub line_burst: u128,
+    pub line_rate: u128,
+    /// What its virtual links can give.
+    pub burst: u128,
+    pub rate: u128,
+    /// The greatest cost of a frame, in ns.
+    pub greatest: u64,
+    /// Whether an account lets more pass than its BAGs say.
+    pub is_loose: bool,
+}
+
+/// What comes, with one virtual link more.
+fn with_link(share: Share, port: &Port, link: &VirtualLink) -> Share
+    requires { IsLinkInLimits link.now }
+    ensures { result ≡ with_link share port.now.is_end port.now.byte_ns link.now }
+{
+    Share {
+        burst: share
+            .burst
+            .saturating_add(burst(port.is_end, port.byte_ns, link)),
+        rate: share
+            .rate
+            .saturating_add(u128::from(rate(port.byte_ns, link))),
+        greatest: share.greatest.max(u64::from(cost(port.byte_ns, link))),
+        is_loose: share.is_loose || is_loose(port.is_end, link),
+        ..share
+    }
+}
+
+/// What the virtual links can give that come by port `input`.
+fn flows_at(port: &Port, input: u16, is_high: bool) -> Share
+    ensures { result ≡ flows_share port.now input is_high }
+{
+    let mut share = Share {
+        is_bounding: false,
+        line_burst: 0,
+        line_rate: 0,
+        burst: 0,
+        rate: 0,
+        greatest: 0,
+        is_loose: false,
+    };
+    for passing in &port.passings {
+        if passing.comes(port.is_end, input, is_high) {
+            share = with_link(share, port, &passing.link);
+        }
+    }
+    share
+}
+
+/// Whether the line to this port bounds what comes by it: it is no faster than the line ahead.
+fn is_bounding(port: &Port, input: u16) -> bool
+    ensures { result ≡ is_bounding port.now input }
+{
+    if port.is_end {
+        return false;
+    }
+    match port.before.get(usize::from(input)) {
+        Some(Some(byte_ns)) => port.byte_ns <= *byte_ns,
+        _ => false,
+    }
+}
+
+/// What comes by port `input` with this priority.
+pub fn share_at(port: &Port, input: u16, is_high: bool) -> Share
+    ensures { result ≡ share_at port.now input is_high }
+{
+    let flows = flows_at(port, input, is_high);
+    if is_bounding(port, input) {
+        Share {
+            is_bounding: true,
+            line_burst: SCALE * u128::from(flows.greatest),
+            line_rate: SCALE,
+            ..flows
+        }
+    } else {
+        Share {
+            is_bounding: false,
+            line_burst: flows.burst,
+            line_rate: flows.rate,
+            ..flows
+        }
+    }
+}

@@ -1,0 +1,166 @@
+//! The bounds of a network as a whole text, into a sink.
+ghost use Rattle.std.specs.Prelude.{◌≡◌, ◌≢◌, ◌+◌, ℕ, List, OnOk, IfOk, IfErr};
+ghost use Rattle.std.specs.Io.KnownBytes.{append_known};
+ghost use Rattle.trace_segments.specs.declared.fault.OutFault.TheVariants.{Device};
+ghost use Rattle.trace_segments.specs.Words.{Adds, IsBeginning};
+ghost use Rattle.network.specs.Words.{IsLinkInLimits, lines_of};
+ghost use Rattle.network_bounds.specs.Delays.{AreBounds};
+ghost use Rattle.network_bounds.specs.Text.{IsBoundsText, bounds_text, destination_text, destinations_text, links_text, port_text, ports_text};
+
+use crate::ages::network_ns;
+use crate::delays::PortBound;
+use crate::port::Port;
+use crate::text;
+use csv::{Error, Writer};
+use network::{Network, VirtualLink};
+use std::alloc::{AllocError, Global};
+use trace_segments::line::{empty, text_of};
+use trace_segments::{OutFault, Sink, write_all};
+
+/// The bounds of the port before each line.
+fn bounds_of(alloc: Global, network: &Network) -> Result<Vec<PortBound>, AllocError>
+    ensures { IfOk result (λ bounds. AreBounds network.now (lines_of network.now) bounds.items) }
+{
+    let mut bounds = Vec::new(alloc);
+    for line in 0..network.line_count() {
+        let port = Port::new(alloc, network, line)?;
+        bounds.push(PortBound::of(&port))?;
+    }
+    Ok(bounds)
+}
+
+/// The bound of a virtual link at a destination, or why there is none.
+fn push_destination(
+    out: &mut Writer<Vec<u8>>,
+    network: &Network,
+    bounds: &[PortBound],
+    link: &VirtualLink,
+    node: usize,
+) -> Result<(), Error>
+    requires { IsLinkInLimits link.now }
+    ensures { OnOk result (Adds out.old out.new (destination_text network.now bounds.now link.now node)) }
+{
+    if node >= network.node_count() {
+        return Ok(());
+    }
+    match network_ns(network, bounds, link, node) {
+        Ok(ns) => text::push_bound(out, network, link, node, ns),
+        Err(reason) => text::push_no_bound(out, network, link, node, reason),
+    }
+}
+
+/// The bounds of a virtual link at these destinations.
+fn push_destinations(
+    out: &mut Writer<Vec<u8>>,
+    network: &Network,
+    bounds: &[PortBound],
+    link: &VirtualLink,
+    nodes: &[usize],
+) -> Result<(), Error>
+    requires limits { IsLinkInLimits link.now }
+    ensures { OnOk result (Adds out.old out.new (destinations_text network.now bounds.now link.now nodes.now)) }
+{
+    for node in nodes {
+        push_destination(out, network, bounds, link, *node)?;
+    }
+    Ok(())
+}
+
+/// The bounds of each virtual link at each destination.
+fn push_links(
+    out: &mut Writer<Vec<u8>>,
+    network: &Network,
+    bounds: &[PortBound],
+) -> Result<(), Error>
+    ensures { OnOk result (Adds out.old out.new (links_text network.now bounds.now)) }
+{
+    for vl in 0..network.vl_count() {
+        let link = network.virtual_link(vl);
+        push_destinations(out, network, bounds, &link, network.destinations(vl))?;
+    }
+    Ok(())
+}
+
+/// How much waits at the port before a line.
+fn push_port(
+    out: &mut Writer<Vec<u8>>,
+    network: &Network,
+    line: usize,
+    bound: &PortBound,
+) -> Result<(), Error>
+    ensures { OnOk result (Adds out.old out.new (port_text network.now line bound.now)) }
+{
+    if line >= network.line_count() {
+        return Ok(());
+    }
+    let bytes = network.port_bytes(usize::from(network.line(line).from));
+    match bound.waiting {
+        Ok(waiting) => text::push_port(out, network, line, bytes, waiting),
+        Err(reason) => text::push_no_room(out, network, line, reason),
+    }
+}
+
+/// How much waits at each port.
+fn push_ports(
+    out: &mut Writer<Vec<u8>>,
+    network: &Network,
+    bounds: &[PortBound],
+) -> Result<(), Error>
+    ensures { OnOk result (Adds out.old out.new (ports_text network.now bounds.now)) }
+{
+    for line in 0..bounds.len() {
+        push_port(out, network, line, &bounds[line])?;
+    }
+    Ok(())
+}
+
+/// The lines of the bounds. An error is the library's own.
+fn push_all(out: &mut Writer<Vec<u8>>, network: &Network, bounds: &[PortBound]) -> Result<(), Error>
+    ensures { OnOk result (Adds out.old out.new (bounds_text network.now bounds.now)) }
+{
+    text::push_head(out)?;
+    push_links(out, network, bounds)?;
+    push_ports(out, network, bounds)
+}
+
+/// The text of the bounds. An error is the library's own.
+fn csv_text(alloc: Global, network: &Network, bounds: &[PortBound]) -> Result<Vec<u8>, Error>
+    ensures { IfOk result (λ bytes. bytes.items ≡ bounds_text network.now bounds.now) }
+{
+    let mut out = empty(alloc);
+    let put = push_all(&mut out, network, bounds);
+    text_of(out, put)
+}
+
+/// That text, by weights that the program chooses.
+fn text_in(alloc: Global, network: &Network) -> Result<Vec<u8>, OutFault>
+    ensures text { IfOk result (λ bytes. IsBoundsText network.now bytes.items) }
+    ensures fault { IfErr result (λ fault. fault ≢ Device) }
+{
+    let bounds = bounds_of(alloc, network)?;
+    Ok(csv_text(alloc, network, bounds.as_slice())?)
+}
+
+/// Writes worst-case bounds of a network as comma-separated rows, each with a line feed at its end.
+///
+/// First `kind,of,where,network_ns,wait_ns,bound_ns`. Then for each virtual link and each of its destinations, by number,
+/// `bound,VL,NAME,NETWORK_NS,WAIT_NS,BOUND_NS`: the greatest age of a frame from its release on, how long the regulator holds it at
+/// most, and the sum, in ns. Then for each line `port,LINE,,BYTES,HOLDS,`: how many bytes wait at most at the port before it, and `yes` or `no`,
+/// whether the port holds so many. Where there is no bound the line is `none,VL,NAME,WHY,,` or `none,LINE,,WHY,,`.
+///
+/// The text is made whole before the first byte goes out. `Device` comes only where the sink failed; what went out is a beginning
+/// of the text. `OutOfMemory` comes only where memory was refused, and `Layout` only where the
+/// library that lays out rows failed otherwise; then nothing went out.
+pub fn write_bounds<S: Sink>(alloc: Global, network: &Network, sink: &mut S) -> Result<(), OutFault>
+    ensures text { OnOk result ((text : List ℕ) × IsBoundsText network.now text × (S.taken sink.new ≡ append_known (S.taken sink.old) text)) }
+    ensures went_well { OnOk result (S.failures sink.new ≡ S.failures sink.old) }
+    ensures device { IfErr result (λ fault. fault ≡ Device → (text : List ℕ) × IsBoundsText network.now text × IsBeginning (S.taken sink.old) (S.taken sink.new) text) }
+    ensures failed { IfErr result (λ fault. fault ≡ Device → S.failures sink.new ≡ S.failures sink.old + 1) }
+    ensures kept { IfErr result (λ fault. fault ≢ Device → sink.new ≡ sink.old) }
+{
+    let bytes = text_in(alloc, network)?;
+    match write_all(sink, bytes.as_slice()) {
+        Ok(()) => Ok(()),
+        Err(_) => Err(OutFault::Device),
+    }
+}

@@ -1,0 +1,30 @@
+"""The columns of the tables of a page, and how a cell is marked."""
+
+
+# How a cell is marked, as the script numbers it.
+WARN, BAD = 1, 2
+
+
+def column(key, look, name, unit="", hint="", tone=""):
+    """A column of a table of the page: where its values stand, how they look, its name and unit, what more
+    there is to know of it, and where it stands how a cell is marked."""
+    found = {"key": key, "look": look, "name": name, "unit": unit, "hint": hint, "tone": tone}
+    return {name: value for name, value in found.items() if value}
+
+
+def count_column(key, name, hint="", tone="", unit="frames", look="count"):
+    return column(key, look, name, unit, hint, tone)
+
+
+def time_column(key, name, hint="", tone=""):
+    return column(key, "us", name, "µs", hint, tone)
+
+
+def seed_column(hint):
+    return column("seed", "text_number", "seed", "number", hint)
+
+
+VL_COLUMN = column("vl", "vl", "VL", "number")
+DESTINATION_COLUMN = column("where", "text", "destination")
+DELIVERED_COLUMN = count_column("count", "delivered", "", "few")
+COPIES_COLUMN = count_column("copies", "copies", "second copies that were dropped as duplicate, which is ordinary")

@@ -1,0 +1,137 @@
+"""What the page has of each virtual link at each destination, column by column."""
+from array import array
+from collections.abc import Sequence
+
+from afdx.files.page_text import mean_ns, one_or_range, round_up
+from afdx.page.columns import BAD, WARN
+from afdx.reckon import limits
+from afdx.reckon.frames import Way, ways_of
+from afdx.runs.campaign_record import PERCENTS
+
+# Stands for the margin of a limit without a bound where margins are sorted.
+NO_BOUND = -(2**53)
+# Fewer frames than so many tell little of a destination.
+FEW = 10
+# Of so many frames or more there is a histogram; fewer are drawn one by one.
+ENOUGH_FOR_BARS = 30
+# Of more lines of latencies the page has the histograms of the worst so many.
+MOST_HISTOGRAMS = 20_000
+BARS = 28
+
+
+def percentile(rising, percent):
+    """The least of the values that so many percent of them do not exceed."""
+    return rising[-(-len(rising) * percent // 100) - 1]
+
+
+def histogram(rising):
+    """How many of the values are in each of the steps between the least and the greatest; or the values, if few."""
+    if len(rising) < ENOUGH_FOR_BARS:
+        return rising
+    least, counts = rising[0], [0] * BARS
+    for value in rising:
+        counts[(value - least) * BARS // (rising[-1] - least + 1)] += 1
+    return counts
+
+
+class Numbers(Sequence):
+    """Whole numbers, or None, in eight bytes each."""
+
+    NONE = -(2**63)
+
+    def __init__(self):
+        self.kept = array("q")
+
+    def takes(self, value):
+        return value is None or type(value) is int and self.NONE < value < -self.NONE
+
+    def append(self, value):
+        self.kept.append(self.NONE if value is None else value)
+
+    def __getitem__(self, place):
+        found = self.kept[place]
+        return None if found == self.NONE else found
+
+    def __len__(self):
+        return len(self.kept)
+
+
+class EndTable:
+    """What the page tells of each virtual link at each destination, column by column."""
+
+    def __init__(self, given):
+        self.given, self.columns = given, {}
+        worst = sorted(given.tables.latencies.values(), key=lambda row: -row.greatest)[:MOST_HISTOGRAMS]
+        self.drawn = {(row.vl, row.where) for row in worst}
+        for key, row in given.tables.latencies.items():
+            for name, value in self.of(key, row):
+                self.add(name, value)
+
+    def add(self, name, value):
+        column = self.columns.setdefault(name, Numbers())
+        if type(column) is Numbers and not column.takes(value):
+            column = self.columns[name] = list(column)
+        column.append(value)
+
+    def of(self, key, row):
+        given, vl = self.given, self.given.net.vls[row.vl]
+        is_there = row.count > 0
+        copies = given.tables.losses.get((*key, "duplicate"))
+        yield from (("vl", row.vl), ("where", row.where), ("count", row.count))
+        yield "copies", copies.count if copies else 0
+        yield from (("least", row.least if is_there else None), ("mean", mean_ns(row) if is_there else None))
+        yield "greatest", row.greatest if is_there else None
+        yield "spread", row.greatest - row.least if is_there else None
+        yield from (("bag", vl.bag_ns), ("jitter", vl.jitter_ns), ("policing", vl.policing_ns))
+        needed = self.needed_ns(vl, row)
+        yield from (("few", WARN if row.count < FEW else 0), ("needed", needed))
+        if given.tables.merged:
+            yield "seed", row.seed
+        if given.ends:
+            yield from self.of_end(given.ends.of[key])
+        if given.margins or given.bounds:
+            yield from self.of_limit(key, vl, row)
+        if given.trace:
+            rising = given.trace.rising(key)
+            for percent in PERCENTS:
+                yield f"p{percent}", percentile(rising, percent) if rising else None
+            yield "histogram", histogram(rising) if key in self.drawn else None
+        elif given.percentiles:
+            for percent, value in zip(PERCENTS, given.percentiles[key] or [None] * len(PERCENTS)):
+                yield f"p{percent}", value
+
+    def needed_ns(self, vl, row):
+        """How long a run must be for ten frames, where this one is too short for them."""
+        if row.count >= FEW:
+            return None
+        ways = (Way(self.given.net, vl, path) for path in ways_of(vl, row.where).values())
+        latency = row.greatest if row.count else min(way.arrival for way in ways)
+        needed = vl.offset_ns + vl.jitter_ns + (FEW - 1) * max(vl.period_ns, vl.bag_ns) + latency
+        return round_up(needed) if needed > self.given.net.until_ns else None
+
+    @staticmethod
+    def of_end(end):
+        yield from (("offered", end.offered), ("again", one_or_range(end.again)))
+        yield from (("under_way", one_or_range(end.under_way)), ("missing", one_or_range(end.missing)))
+        yield "missing_tone", BAD if end.missing.least else WARN if end.missing.most else 0
+        yield "why", end.why
+        for side in "AB":
+            yield "lost" + side, one_or_range(end.lost[side]) if side in end.lost else None
+
+    def of_limit(self, key, vl, row):
+        bounds, margin = self.given.bounds, self.given.margins.get(key)
+        found = bounds.of[key] if bounds else None
+        yield from (("limit", margin.limit.ns if margin else None), ("bound", found.ns if found else None))
+        yield "margin", margin.ns() if margin else None
+        # A limit without a bound stands before all margins.
+        yield "margin_order", (NO_BOUND if margin.has_bound and margin.bound is None else margin.ns()) if margin else None
+        yield "limit_tone", {limits.BROKEN: BAD, limits.BELOW: WARN}.get(margin.verdict(), 0) if margin else 0
+        if bounds:
+            is_above = found.ns is not None and row.count and row.greatest > found.ns
+            yield from (("bound_tone", BAD if is_above else 0), ("skew", found.skew_ns))
+            if bounds.has_proved():
+                proved = bounds.proved(*key)
+                is_above = proved is not None and row.count and row.greatest > proved
+                yield from (("proved", proved), ("proved_tone", BAD if is_above else 0))
+            yield from (("sure", " and ".join(found.sure) or "neither"), ("sure_tone", 0 if found.sure else WARN))
+            yield from (("skew_max", vl.skew_ns), ("skew_tone", WARN if found.may_be_twice else 0))

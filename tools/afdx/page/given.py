@@ -1,0 +1,104 @@
+"""What a page is made of: the files that the words name, held against each other."""
+import os
+from collections import namedtuple
+
+from afdx import files, model
+from afdx.files import cut
+from afdx.files.page_text import counted
+from afdx.model import Network, Tables
+from afdx.model.traces import Trace
+from afdx.reckon import bounds_file, frames, hops, limits, transmit_jitter
+from afdx.reckon.frames import Ends
+from afdx.runs import campaign_record
+
+# What a page is made of. `ends` is what became of all frames, where it can be known; `other` has the latencies of the
+# run to compare with and its Ends.
+# `margins` has those of the destinations that have a limit, the least first, and `files` all files that it is made of.
+# `way` has what was measured on the way and its bounds, or is None where there is neither. `percentiles` has those of all frames
+# of merged tables, where their campaign has counted each latency.
+# `transmit` has what is known of the transmit jitter of end systems.
+Given = namedtuple("Given", "net tables trace percentiles ends margins bounds other way transmit files made_by date")
+Other = namedtuple("Other", "tables ends bounds")
+
+
+# The seeds of the runs of merged tables, and whether their offsets were drawn.
+Runs = namedtuple("Runs", "seeds draws_offsets")
+
+
+def tables_of(path, net):
+    """The tables of a file or of the folder of a campaign, and the record of their campaign, or None."""
+    is_folder = os.path.isdir(path)
+    path = os.path.join(path, campaign_record.MERGED) if is_folder else path
+    text = files.text_of(path)
+    found = campaign_record.beside(path, text)
+    if is_folder and found is None:
+        raise files.Fault(os.path.dirname(path), None, f"has no {campaign_record.NAME} that is the record of its {campaign_record.MERGED}")
+    if found and found.description != model.checksum(net.text):
+        told = f"its checksum is {cut(found.description)}, and that of {net.path} is {model.checksum(net.text)}"
+        raise files.Fault(path, None, f"these are tables of a campaign with another description: {told}")
+    if found:
+        # The runs of a campaign may have an end of their own.
+        net.until_ns = found.until_ns
+    tables = Tables(path, net, text)
+    frames.hold(tables)
+    return tables, found
+
+
+def runs_of(words, tables, found):
+    """Which runs the tables are of: as their campaign says, else as the words say; None where nobody does."""
+    first, net = words.first, tables.net
+    if not tables.merged:
+        if words.seeds:
+            raise files.Fault(tables.path, None, "these are the tables of one run, and --seeds means a campaign")
+        return Runs([net.seed], False)
+    if found:
+        told = Runs(found.all_seeds(), found.offsets)
+        said = words.seeds in (None, found.seeds) and first in (None, found.first_seed)
+        if not said or words.seeds and words.offsets != found.offsets:
+            seeds = f"{found.seeds} seeds from {found.first_seed} on, {'with' if found.offsets else 'without'} drawn offsets"
+            raise files.Fault(tables.path, None, f"the campaign had {seeds}, and the words say something else: leave them out")
+        return told
+    if not words.seeds:
+        return None
+    first = net.seed if first is None else first
+    if first + words.seeds - 1 > model.GREATEST_SEED:
+        raise files.Fault(net.path, None, f"the seeds from {first} on would pass {model.GREATEST_SEED}")
+    seeds = range(first, first + words.seeds)
+    for row in (*tables.latencies.values(), *tables.losses.values()):
+        if row.seed is not None and row.seed not in seeds:
+            told = f"the seed {row.seed} is none of the {counted(words.seeds, 'seed')} from {first} on"
+            raise files.Fault(tables.path, row.line, f"{told}, so the campaign had others")
+    return Runs(seeds, words.offsets)
+
+
+def ends_of(words, tables, found, trace=None):
+    """What became of all frames; None where the seeds of merged tables are not told."""
+    runs = runs_of(words, tables, found)
+    return Ends(tables, runs.seeds, runs.draws_offsets, trace) if runs else None
+
+
+def given_by(words):
+    net = Network(words.net)
+    tables, found = tables_of(words.tables, net)
+    if tables.merged and words.trace:
+        raise files.Fault(words.trace, None, f"is the trace of one run, and {tables.path} has the tables of several")
+    trace = Trace(words.trace, tables) if words.trace else None
+    bounds = bounds_file.Bounds(words.bounds, net) if words.bounds else None
+    margins = limits.margins_of(limits.limits_of(words.limits, net), tables.latencies, bounds) if words.limits else []
+    measured = hops.Hops(words.hops, tables) if words.hops else None
+    way = hops.OnTheWay(net, measured, bounds and bounds.of_kind) if measured or bounds else None
+    other = None
+    if words.against:
+        before, record_before = tables_of(words.against, Network(words.against_net) if words.against_net else net)
+        ends_before = ends_of(words, before, record_before) if before.merged == tables.merged else None
+        other = Other(before, ends_before, bounds_file.Bounds(words.against_bounds, before.net) if words.against_bounds else None)
+    made_of = [net.path, tables.path, words.trace, words.limits, words.bounds, words.hops]
+    made_of += [words.against, words.against_net, words.against_bounds]
+    made_by = words.made_by or (f"{found.program.in_words()}, as their campaign says" if found else None)
+    margins = {it.limit[:2]: it for it in margins}
+    percentiles = campaign_record.percentiles(found, tables) if tables.merged else None
+    made_of += [os.path.join(os.path.dirname(tables.path), campaign_record.GREATEST)] if percentiles else []
+    ends, made_of = ends_of(words, tables, found, trace), list(filter(None, made_of))
+    of_delay = lambda found: found and (lambda vl, line: found("delay", vl, line))
+    transmit = transmit_jitter.TransmitJitter(net, of_delay(measured and measured.greatest), of_delay(bounds and bounds.of_kind))
+    return Given(net, tables, trace, percentiles, ends, margins, bounds, other, way, transmit, made_of, made_by, words.date)

@@ -1,0 +1,172 @@
+"""The page as HTML: its parts, and the data that its script draws as tables."""
+import math
+import os
+import re
+
+from afdx import files, model
+from afdx.files import program
+from afdx.files.page_text import counted, esc, hundredths, span
+from afdx.page import comparison_panels, json_text, loss_panels, panels, worst_case_panels
+from afdx.page.columns import WARN
+from afdx.page.drawing import heat
+from afdx.page.end_table import BARS, ENOUGH_FOR_BARS, EndTable
+from afdx.page.tiles import tiles
+from afdx.reckon import bounds_file
+from afdx.runs.campaign_record import PERCENTS
+
+# Of more lines of latencies the data of a page is packed. Browsers have what unpacks it since 2023.
+MOST_PLAIN = 20_000
+
+# What the page tells of a virtual link itself.
+FACTS = ["id", "source", "bag_ns", "period_ns", "offset_ns", "jitter_ns", "size", "smax", "priority", "policing"]
+FACTS += ["policing_ns", "skew_ns", "depth", "sub"]
+
+
+def part_of_page(name):
+    """The text of a file of the page: its style or its script."""
+    return files.text_of(os.path.join(os.path.dirname(os.path.abspath(__file__)), name))
+
+
+def without(columns, *names):
+    return {name: column for name, column in columns.items() if name not in names}
+
+
+class Page:
+    """The page. Its tables are data, which its script draws."""
+
+    def __init__(self, given):
+        self.given, self.net, self.tables = given, given.net, given.tables
+        self.ends = EndTable(given).columns
+        self.grids, self.rows, self.lost = [], {}, {}
+        for row in self.tables.losses.values():
+            if row.cause != "duplicate":
+                self.lost.setdefault(row.vl, []).append(row)
+        self.line_number = {line: i for i, line in enumerate(self.net.mbit)}
+        # For each line the node from which it leads, and the one to which.
+        links = [(link.a, link.b) for link in self.net.links]
+        self.ends_of = {here + ">" + there: (here, there) for a, b in links for here, there in ((a, b), (b, a))}
+
+    def grid(self, name, columns, sort, rows="ends", only=None, what="lines", up=False):
+        """A table: its columns, the one by which it is sorted, the greatest first or (`up`) the least, and where its values
+        stand. It has all rows, or those of these numbers alone."""
+        spec = {"name": name, "columns": columns, "sort": sort, "rows": rows, "what": what}
+        spec |= {"up": True} if up else {}
+        self.grids.append(spec if only is None else spec | {"only": only})
+        return f'<div class="grid" id="grid-{name}"></div>'
+
+    def lines(self):
+        """Each line of the network, column by column."""
+        net, bounds = self.net, self.given.bounds
+        found = {"name": list(net.mbit), "mbit": list(net.mbit.values())}
+        found["load"] = [hundredths(net.load[line]) for line in net.mbit]
+        found["carries"] = [hundredths(net.load[line] * net.mbit[line] / 100) for line in net.mbit]
+        found["users"] = [net.users[line] for line in net.mbit]
+        found["colour"] = [heat(net.load[line]) for line in net.mbit]
+        out = {line: [] for line in net.mbit}
+        for outage in net.outages:
+            out[outage.line].append([outage.from_ns, outage.to_ns])
+        found["outages"] = list(out.values())
+        if bounds:
+            ports = {line: bounds.waiting.get(line, bounds_file.Waiting(0, "")) for line in net.mbit}
+            found["waiting"] = [port.most for port in ports.values()]
+            found["holds"] = [bounds.holds(line) for line in net.mbit]
+            tones = zip(found["waiting"], found["holds"])
+            found["waiting_tone"] = [WARN if most is None or most > holds else 0 for most, holds in tones]
+        return found
+
+    def virtual_links(self):
+        """What the script needs of each virtual link, one by one."""
+        for vl in self.net.vls.values():
+            paths = {
+                side: [[self.line_number[line] for line in model.lines_of_path(path)] for path in vl.paths[side]]
+                for side in "AB"
+            }
+            row = {key: getattr(vl, key) for key in FACTS}
+            lost = [[it.where, loss_panels.side_of(self, it), it.cause, it.count] for it in self.lost.get(vl.id, ())]
+            yield row | {"paths": paths, "lost": lost}
+
+    def axis(self):
+        """From which to which power of ten the axis of all latencies goes, in ns."""
+        values = [ns for vl in self.net.vls.values() for ns in (vl.bag_ns, vl.jitter_ns, vl.policing_ns)]
+        for name in ("least", "greatest", "limit", "bound"):
+            values += [ns for ns in self.ends.get(name, ()) if ns]
+        values = [max(1000, ns) for ns in values if ns] or [1000]
+        low = math.floor(math.log10(min(values)))
+        return low, max(low + 1, math.ceil(math.log10(max(values))))
+
+    def data(self):
+        low, high = self.axis()
+        if self.is_packed():
+            # The script knows the lines of each virtual link.
+            large = {"ends": self.ends} | {name: self.rows[name] for name in ("parts", "delays", "jitters") if name in self.rows}
+            large |= {"delays": without(large["delays"], "vl", "line")} if "delays" in large else {}
+            self.rows |= {name: json_text.Blocks(columns) for name, columns in large.items()}
+        return {
+            "ends": self.ends, "lines": self.lines(), "nodes": list(self.ends_of.values()), "vls": self.virtual_links(),
+            "grids": self.grids, "low": low, "high": high, "percents": PERCENTS, "bars": BARS,
+            "enough": ENOUGH_FOR_BARS, **self.rows,
+        }
+
+    def is_packed(self):
+        return len(self.tables.latencies) > MOST_PLAIN
+
+    def parts(self):
+        given = self.given
+        found = [panels.network(self), panels.end_to_end(self), panels.latency(self)]
+        found += [worst_case_panels.worst_case(self)] if given.bounds else []
+        found += [worst_case_panels.on_the_way(self)] if given.way else []
+        found += [worst_case_panels.transmit_jitter(self)]
+        found += [comparison_panels.against(self)] if given.other else []
+        found += [panels.distribution(self)] if given.trace or given.percentiles else []
+        found += [loss_panels.losses(self)] + ([loss_panels.over_time(self)] if given.trace else []) + [loss_panels.second_copies(self)]
+        return [it for it in found if it]
+
+    def pieces(self):
+        """The page in pieces, so that a large one is nowhere whole."""
+        name, parts = os.path.basename(self.net.path), self.parts()
+        titles = [re.match(r'<section id="(.*?)"><h2>(.*?)</h2>', it).groups() for it in parts]
+        links = "".join(f'<a href="#{where}">{title}</a>' for where, title in titles)
+        yield (
+            f'<!DOCTYPE html>\n<html lang="en"><head><meta charset="utf-8"><title>{esc(name)} – afdxsim</title>\n'
+            f'<meta name="viewport" content="width=device-width,initial-scale=1"><style>\n{part_of_page("report.css")}</style></head>\n'
+            f"<body><main><header><h1>{esc(name)}</h1><p>{self.words()}</p><nav>{links}</nav></header>\n"
+            "<noscript><p>The tables of this page are drawn by its script, which may not run here.</p></noscript>\n"
+            f"{tiles(self.given, self.ends)}\n" + "\n".join(parts) + f"\n<footer>{self.foot()}</footer></main>\n"
+        )
+        script, data = part_of_page("report.js"), json_text.pieces(self.data())
+        if not self.is_packed():
+            yield '<script type="application/json" id="data">'
+            yield from (piece.replace("<", "\\u003c") for piece in data)
+            yield f"</script>\n<script>\n{script}</script></body></html>\n"
+        else:
+            yield '<p id="unpacking">The data of this page is unpacked, which takes some seconds.</p>\n<script type="text/plain" id="packed">'
+            yield from json_text.packed(data)
+            yield f'</script>\n<script type="text/plain" id="script">\n{script}</script>\n'
+            yield f"<script>\n{part_of_page('unpack.js')}</script></body></html>\n"
+
+    def words(self):
+        net = self.net
+        switches = [counted(len(net.of_kind("switch", side)), "switch", "switches") for side in "AB"]
+        words = f"{counted(len(net.of_kind('es')), 'end system')}, {switches[0]} on network A and {switches[1]} on "
+        words += f"network B, {counted(len(net.links), 'link')}, {counted(len(net.vls), 'virtual link')}. "
+        if self.tables.merged:
+            return words + "Several runs, merged: counts are those of all runs together."
+        return words + f"One run of {span(net.until_ns)} with the seed {net.seed}."
+
+    def foot(self):
+        """What the page is made of, and who made that: a date stands there where it is given, so the same words make the
+        same page."""
+        given = self.given
+        by = f"The tables are by {esc(given.made_by)}." if given.made_by else "Nothing says who made the tables (--made-by)."
+        by += f" The bounds are by {esc(given.bounds.made_by)}." if given.bounds and given.bounds.made_by else ""
+        by += f" This page is by {esc(program.tool('report').in_words())}."
+        date = f" {esc(given.date)}." if given.date else ""
+        return f"{self.made_of()} {by} Description: SHA-256 {model.checksum(self.net.text)}..{date}"
+
+    def made_of(self):
+        given = self.given
+        runs = "these runs" if self.tables.merged else "this run"
+        told = f"Made of {esc(', '.join(map(files.printable, given.files)))}. It tells what happened in {runs}"
+        if given.bounds:
+            return told + ". Bounds are bounds of this model, computed outside the proofs."
+        return told + ", and is no bound on what can happen."

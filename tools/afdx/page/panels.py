@@ -1,0 +1,168 @@
+"""The parts of every page: the network, what became of the frames, latencies and their distribution."""
+from afdx.files.page_text import counted
+from afdx.page.columns import (
+    COPIES_COLUMN, DELIVERED_COLUMN, DESTINATION_COLUMN, VL_COLUMN, column, count_column, seed_column, time_column,
+)
+from afdx.page.drawing import Drawing, legend_of_loads
+from afdx.page.end_table import BARS, ENOUGH_FOR_BARS, FEW
+from afdx.runs.campaign_record import PERCENTS
+
+
+def panel(name, title, words, *pieces):
+    """A part of the page with its title and what there is to know of it."""
+    said = f"<p>{words}</p>" if words else ""
+    return f'<section id="{name}"><h2>{title}</h2>{said}' + "".join(pieces) + "</section>"
+
+
+def legend(*items):
+    keys = "".join(f'<span><b class="k {look}"></b> {words}</span>' for look, words in items)
+    return f'<div class="legend">{keys}</div>'
+
+
+FIND = (
+    '<div class="find"><label for="find">Find a virtual link</label><input id="find" type="search" autocomplete="off" '
+    'placeholder="its number, or the name of an end system, a switch or a line"><ul id="found" hidden></ul></div>'
+    '<div id="chosen" hidden></div>'
+)
+
+
+def network(page):
+    net = page.net
+    picture = f'<div class="wide">{Drawing(net).svg()}</div>' if net.nodes else "<p>The network has no nodes.</p>"
+    pieces = [FIND, picture, legend_of_loads(bool(net.outages)), '<div id="one" hidden></div>']
+    if net.outages:
+        pieces += ["<h3>Outages</h3>", outages(page)]
+    columns = [
+        column("name", "line", "line"),
+        column("load", "load", "load", "%"),
+        column("carries", "percent", "carries", "Mbit/s", "what its virtual links can put on it"),
+        count_column("mbit", "speed", unit="Mbit/s"),
+        count_column("users", "virtual links", unit="number"),
+    ]
+    if page.given.bounds:
+        hint = "bound on the bytes that wait before the line; amber where its port does not hold them"
+        columns.append(count_column("waiting", "may wait", hint, "waiting_tone", "bytes"))
+        columns.append(count_column("holds", "port holds", unit="bytes"))
+    more = f"<details><summary>Load of each of the {counted(len(net.mbit), 'line')}</summary>"
+    pieces += [more, page.grid("loads", columns, "load", "lines"), "</details>"]
+    return panel("network", "The network", "", *pieces)
+
+
+def outages(page):
+    found = sorted(page.net.outages, key=lambda it: it.from_ns - it.to_ns)
+    columns = [column("line", "line", "line"), column("from", "ms", "out from", "ms")]
+    columns += [column("to", "ms", "to", "ms"), column("for", "ms", "for", "ms")]
+    rows = {"line": [it.line for it in found], "from": [it.from_ns for it in found]}
+    rows |= {"to": [it.to_ns for it in found], "for": [it.to_ns - it.from_ns for it in found]}
+    return page.grid("outages", columns, "for", rows)
+
+
+def end_to_end(page):
+    if not page.given.ends:
+        words = (
+            "How many frames were offered is not known of merged tables alone: give the folder of the campaign, or "
+            "<code>--seeds</code>, and <code>--first</code> and <code>--offsets</code> where the campaign had them."
+        )
+        return panel("ends", "End to end", words)
+    wide = {"look": "range_of_counts"}
+    columns = [
+        VL_COLUMN,
+        DESTINATION_COLUMN,
+        count_column("offered", "offered", "offered by the application until the end, drawn anew"),
+        DELIVERED_COLUMN,
+        count_column("under_way", "under way", "not delivered yet at the end, and may still come", **wide),
+        count_column("missing", "missing", "lost end to end", "missing_tone", **wide),
+    ]
+    if any(found != 0 for found in page.ends["again"]):
+        columns.append(count_column("again", "twice", "delivered a second time: SkewMax is too small", **wide))
+    for side in "AB":
+        hint = f"on the way by network {side}, or refused at the destination"
+        columns.append(count_column("lost" + side, "lost on " + side, hint, unit="copies", **wide))
+    columns.append(COPIES_COLUMN)
+    if any(page.ends["needed"]):
+        hint = "how long a run must be to bring ten frames"
+        columns.append(column("needed", "ms", "ten frames take", "ms", hint))
+    if any(page.ends["why"]):
+        columns.append(column("why", "words", "why it is open", hint="if missing is a range"))
+    words = (
+        "What the application offered, and what became of it at each destination. A frame is missing where no copy "
+        "of it came and none can come any more; copies that were lost while the other one came are counted apart."
+    )
+    return panel("ends", "End to end", words, page.grid("end-to-end", columns, "missing", only=by_trouble(page)))
+
+
+def by_trouble(page):
+    """The destinations, those first that lack most: frames, copies, or enough frames to tell anything."""
+    found = []
+    for i, end in enumerate(page.given.ends.of.values()):
+        lost = sum(count.least for count in end.lost.values())
+        found.append((-end.missing.least, -lost, min(FEW, end.delivered), i))
+    return [i for *_, i in sorted(found)]
+
+
+def latency(page):
+    has_limits, has_bounds = bool(page.given.margins), bool(page.given.bounds)
+    columns = [
+        VL_COLUMN,
+        DESTINATION_COLUMN,
+        column("greatest", "range", "range"),
+        time_column("least", "least"),
+        time_column("mean", "mean"),
+        time_column("greatest", "greatest"),
+        time_column("spread", "spread", "greatest less least"),
+    ]
+    if has_limits:
+        columns.append(time_column("limit", "limit", "", "limit_tone"))
+    if has_bounds:
+        columns.append(time_column("bound", "bound", "a bound of this model, computed outside the proofs", "bound_tone"))
+    if has_bounds and page.given.bounds.has_proved():
+        hint = "the bound that the program prints: proved to be the number of the formula in docs/BOUNDS.md"
+        columns.append(time_column("proved", "bound by the program", hint, "proved_tone"))
+    if has_limits:
+        hint = "the limit less " + ("the bound" if has_bounds else "the greatest")
+        columns.append(time_column("margin", "margin", hint, "limit_tone") | {"order": "margin_order"})
+    closer = "policing_jitter_ns: how much closer than a BAG frames may come to a switch"
+    columns += [
+        column("bag", "bag", "BAG", "ms"),
+        time_column("jitter", "jitter", "jitter_ns: how late the application may offer a frame"),
+        time_column("policing", "policing jitter", closer),
+        DELIVERED_COLUMN,
+        COPIES_COLUMN,
+    ]
+    if page.tables.merged:
+        columns.append(seed_column("the seed whose run gave the greatest latency"))
+    words = (
+        "From the offer of the application until the frame is whole at the destination, with the wait in the "
+        "regulator. Each step of the axis is ten times the one before."
+    )
+    marks = marks_of_ranges(has_limits, has_bounds)
+    # Where there are limits, the least margin comes first.
+    grid = page.grid("latencies", columns, "margin", up=True) if has_limits else page.grid("latencies", columns, "greatest")
+    return panel("latency", "Latencies", words, marks, grid)
+
+
+def marks_of_ranges(has_limits, has_bounds):
+    marks = [("range", "least to greatest"), ("range late", "the same, where the greatest is above the BAG")]
+    marks += [("dot", "mean"), ("bag", "BAG"), ("jit", "jitter of the offers"), ("pol", "policing jitter")]
+    if has_limits:
+        marks.append(("limit", "limit; red below the greatest" + (", amber below the bound" if has_bounds else "")))
+    if has_bounds:
+        marks.append(("bound", "worst-case bound of this model, computed outside the proofs"))
+    return legend(*marks)
+
+
+def distribution(page):
+    drawn = [column("histogram", "histogram", "histogram")] if page.given.trace else []
+    percents = [time_column(f"p{it}", f"{it}th", f"{it} % of the frames took no longer") for it in PERCENTS]
+    columns = [VL_COLUMN, DESTINATION_COLUMN, *drawn, *percents, time_column("greatest", "greatest"), DELIVERED_COLUMN]
+    title, grid = "Distribution of the latencies", page.grid("percentiles", columns, "greatest")
+    if not drawn:
+        words = "Of the frames of all runs together, as the campaign has counted them: histograms.csv has each latency."
+        return panel("distribution", title, words, grid)
+    words = (
+        f"From the trace. Each histogram goes from the least latency of its line to the greatest, in {BARS} steps "
+        "of the same length; the height of a bar is the share of the frames. Fewer than "
+        f"{ENOUGH_FOR_BARS} frames are drawn one by one."
+    )
+    marks = legend(*((f"p{percent}", f"{percent}th percentile") for percent in PERCENTS))
+    return panel("distribution", title, words, marks, grid)
