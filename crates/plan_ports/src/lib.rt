@@ -1,4 +1,4 @@
-//! What the laws of ports in a run ask of a network: its ports and lines, its virtual links at its nodes, and its offers. No product code.
+//! What a network gives the laws of ports in a run: its ports and lines, its virtual links at its nodes, and its offers. No product code.
 #![tactic(auto)]
 
 mod links;

@@ -3,10 +3,10 @@ ghost use Rattle.plan_ports.specs.Links.{AreBags, AreGreatest, AreRegulatorsEmpt
 
 use network::Network;
 
-/// What the nodes of a network have of its virtual links when a run begins. A switch has an account of each virtual link that leaves it
-/// (`have_transits`), and an end system has a regulator of each that leaves it (`have_sources`), with no frame in it (`empty`); they have
-/// no others (`transits`, `sources`). A virtual link is found by its number (`sizes`), and 128 ms are a whole number of its BAGs (`bags`), and its
-/// greatest frame has bytes, and no frame more than 1518 (`greatest`).
+/// The virtual links at the nodes of a network when a run begins. A switch has an account for each virtual link that leaves it
+/// (`have_transits`), and an end system has a regulator for each that leaves it (`have_sources`), with no frame in it (`empty`). They have
+/// no others (`transits`, `sources`). A virtual link is found by its number (`sizes`). 128 ms are a whole number of its BAGs (`bags`). Its
+/// greatest frame has at least one byte, and no frame has more than 1518 (`greatest`).
 pub fn links_law(network: &Network)
     ensures sizes { AreSizes network.now }
     ensures bags { AreBags network.now }

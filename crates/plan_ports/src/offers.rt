@@ -6,7 +6,7 @@ ghost use Rattle.plan_ports.specs.Links.{AreOffers};
 use network::Network;
 
 /// The processes of a network are nodes and lines that know their numbers and the end of the run, and its first messages are offers
-/// (`nodes`), each of a frame of one of its virtual links at the node where that begins (`offers`).
+/// (`nodes`). Each offer is a frame of one of its virtual links, at the node that is its source (`offers`).
 pub fn offered_law(network: &Network)
     ensures nodes { IsOfNodes (setting_of network.now) }
     ensures offers { AreOffers network.now }
