@@ -11,3 +11,4 @@ mod Sources
 mod Routes
 mod Destinations
 mod Bounded
+mod Shapes

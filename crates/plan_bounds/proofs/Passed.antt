@@ -21,7 +21,7 @@ use Rattle.network_bounds.specs.Passing.{first_port_of, input_of, passing_at, pa
 
 -- ---- a virtual link is found by its number
 
-with-cons : (first : VlPlan) (vls : List VlPlan) (id : ℕ) → vl_with (first ∷ vls) id ≡ cond (first.link.id.0 == id) (Some first) (vl_with vls id)
+pub with-cons : (first : VlPlan) (vls : List VlPlan) (id : ℕ) → vl_with (first ∷ vls) id ≡ cond (first.link.id.0 == id) (Some first) (vl_with vls id)
 with-cons first vls id = go (first.link.id.0 == id) (place_of_vl vls id)
   where
     go : (b : Bool) (o : Option ℕ) → option_and_then (slice_get (first ∷ vls)) (cond b (Some 0) (option_map (λ n. n + 1) o)) ≡ cond b (Some first) (option_and_then (slice_get vls) o)

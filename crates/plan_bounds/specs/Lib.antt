@@ -1,2 +1,3 @@
 pub mod Latencies
 pub mod Rooms
+pub mod Shapes

@@ -3,6 +3,7 @@
 
 ghost use Rattle.plan_bounds.specs.Latencies.{AreLatencyBounds};
 ghost use Rattle.plan_bounds.specs.Rooms.{AreRoomsEnough};
+ghost use Rattle.plan_bounds.specs.Shapes.{AreShapeBounds, AreShapeRooms};
 
 use frame_ages::{latencies_law, rooms_law};
 use network::Network;
@@ -22,4 +23,13 @@ pub fn bounds_law(network: &Network)
     latencies_law();
     rooms_law();
     waits_law(network);
+}
+
+/// The bounds of a network hold in the one-thread run of each network of its shape: whatever its seed, end time and outages are, and whatever the
+/// offsets, periods and jitters of its virtual links. The wait in the regulator is that of the other network's period and jitter.
+pub fn shapes_law(shape: &Network, network: &Network)
+    ensures latencies { AreShapeBounds shape.now network.now }
+    ensures rooms { AreShapeRooms shape.now network.now }
+{
+    bounds_law(network);
 }

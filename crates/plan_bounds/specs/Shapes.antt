@@ -1,0 +1,33 @@
+-- Networks of one shape: they differ in the end and the seed of runs, in outages, and in when applications offer frames.
+use Rattle.std.specs.Prelude.{◌≡◌, ℕ, ◌+◌, ◌<◌, [], Contains, List, Ok, Some, length, map, slice_get}
+use Rattle.network_rows.specs.declared.rows.VirtualLink.{VirtualLink}
+use Rattle.network.specs.declared.wiring.LinePlan.{LinePlan}
+use Rattle.network.specs.Words.{Plan, VlPlan, destinations_of, lines_of}
+use Rattle.network_bounds.specs.declared.delays.PortBound.{PortBound}
+use Rattle.network_bounds.specs.Ages.{network_ns_of, wait_of}
+use Rattle.network_bounds.specs.Delays.{AreBounds}
+use Rattle.plan_bounds.specs.Latencies.{IsLatencyBound}
+use Rattle.plan_bounds.specs.Rooms.{DropsNoneFull, Holds}
+
+-- what is agreed of a virtual link, but for when its frames are offered
+abbrev pub shape_of_link : VirtualLink → VirtualLink
+shape_of_link link = record link { offset_ns = 0; period_ns = 0; jitter_ns = 0 }
+
+abbrev pub shape_of_vl : VlPlan → VlPlan
+shape_of_vl vl = record vl { link = shape_of_link vl.link }
+
+-- the shape of a network
+abbrev pub shape_of : Plan → Plan
+shape_of plan = record plan { until = 0; seed = 0; outages = []; vls = map shape_of_vl plan.vls }
+
+-- where two networks have one shape, the number of the one is a bound of the other's runs, with the longest wait in the other's regulator
+abbrev pub AreShapeBounds : Plan → Plan → Type 0
+AreShapeBounds shape plan =
+    shape_of plan ≡ shape_of shape → (bounds : List PortBound) → AreBounds shape (lines_of shape) bounds → (vl : VlPlan) → Contains plan.vls vl → vl.link.sub ≡ 1 → (n : ℕ) → Contains (destinations_of vl) n →
+    (network_ns : ℕ) → network_ns_of shape bounds vl.link n ≡ Ok network_ns → IsLatencyBound plan vl n (network_ns + wait_of vl.link)
+
+-- and where the bounds hold at each port of a node, the other drops no frame there because a port is full
+abbrev pub AreShapeRooms : Plan → Plan → Type 0
+AreShapeRooms shape plan =
+    shape_of plan ≡ shape_of shape → (bounds : List PortBound) → AreBounds shape (lines_of shape) bounds → (p : ℕ) → p < length shape.nodes →
+    ((k : ℕ) (line : LinePlan) → slice_get (lines_of shape) k ≡ Some line → line.from ≡ p → Holds shape bounds p k) → DropsNoneFull plan p
