@@ -79,9 +79,11 @@ module _ (x : Setting NodeState) (size : ℕ → ℕ) (O : OpensEmpty x size) (p
   none-yet l h = let z : ⊥ = cc in z
 
   pub lists-held : Laws (simulation_of (rules_of node) x) → IsOfNodes x → IsHeldWithin x p v ((depth * sub) * bag)
-  lists-held L N = record { holds = λ q outlet there n.
-      (held x N p q v depth sub bag inside opens quiet 0 0 ((depth * sub) * bag) (λ e t. t) (λ l len e. l ≤ e) (full-lists depth sub bag) outlet.ahead.byte_ns L 0 n (λ l h. absurd (none-yet l h))
-      (any-offered v 0 (events (simulation_of (rules_of node) x) n p) (events-from x p L n)) outlet.port).low }
+  lists-held L N = record {
+    holds = λ q outlet there n.
+        (held x N p q v depth sub bag inside opens quiet 0 0 ((depth * sub) * bag) (λ e t. t) (λ l len e. l ≤ e) (full-lists depth sub bag) outlet.ahead.byte_ns L 0 n (λ l h. absurd (none-yet l h))
+        (any-offered v 0 (events (simulation_of (rules_of node) x) n p) (events-from x p L n)) outlet.port).low;
+  }
 
 module _ (x : Setting NodeState) (L : Laws (simulation_of (rules_of node) x)) (N : IsOfNodes x) (size : ℕ → ℕ) (O : OpensEmpty x size) (p v bag depth : ℕ) (inside : p < x.processes)
     (is : regulator_in (x.opening p).equipment (record { 0 = v }) ≡ Some (opening bag depth 1)) where

@@ -150,28 +150,51 @@ module _ (v room sub bag : ℕ) where
           releases v (handled n m e).reply.wishes ≡ (asked n vl (regulator.out r.regulator a).release_at).wishes → Stepped room sub bag r.regulator a (outcome r.regulator a) → Turns n m e
       by a said now vl ws (Drops t q frame is state ask none) =
           let at = now ∙ ap (λ z. Some z) state in
-          record { vl = vl; wish = None; turn = asks-by None r.regulator at (Same refl refl (said-offer m.time m.body a t q frame said is)); wishes = ws ∙ ap (λ z. (asked n vl z).wishes) ask;
-              next = record { regulator = r.regulator; is = at; right = r.right; own = own } }
+          record {
+            vl = vl;
+            wish = None;
+            turn = asks-by None r.regulator at (Same refl refl (said-offer m.time m.body a t q frame said is));
+            wishes = ws ∙ ap (λ z. (asked n vl z).wishes) ask;
+            next = record { regulator = r.regulator; is = at; right = r.right; own = own };
+          }
       by a said now vl ws (Passes t q frame is empty inside state ask released) =
           let at = now ∙ ap (λ z. Some z) state in
-          record { vl = vl; wish = None; turn = asks-by None (let_go r.regulator t q r.regulator.lists) at (Sets (ask-none room sub bag r.regulator r.right empty) (sym (passed-ask room sub bag r.regulator r.right t q empty)) (said-offer m.time m.body a t q frame said is));
-              wishes = ws ∙ ap (λ z. (asked n vl z).wishes) ask; next = record { regulator = let_go r.regulator t q r.regulator.lists; is = at; right = passed-right room sub bag r.regulator r.right t q inside; own = own } }
+          record {
+            vl = vl;
+            wish = None;
+            turn = asks-by None (let_go r.regulator t q r.regulator.lists) at (Sets (ask-none room sub bag r.regulator r.right empty) (sym (passed-ask room sub bag r.regulator r.right t q empty)) (said-offer m.time m.body a t q frame said is));
+            wishes = ws ∙ ap (λ z. (asked n vl z).wishes) ask;
+            next = record { regulator = let_go r.regulator t q r.regulator.lists; is = at; right = passed-right room sub bag r.regulator r.right t q inside; own = own };
+          }
       by a said now vl ws (Keeps t q frame is inside few state ask last none) =
           let at = now ∙ ap (λ z. Some z) state in
-          record { vl = vl; wish = kept_ask r.regulator; turn = asks-by (kept_ask r.regulator) (record r.regulator { lists = with_frames r.regulator.lists q (frames_at r.regulator q ++ frame ∷ []) }) at (keeps q frame inside last (said-offer m.time m.body a t q frame said is));
-              wishes = ws ∙ ap (λ z. (asked n vl z).wishes) ask;
-              next = record { regulator = record r.regulator { lists = with_frames r.regulator.lists q (frames_at r.regulator q ++ frame ∷ []) }; is = at; right = kept-right room sub bag r.regulator r.right q (frames_at r.regulator q ++ frame ∷ []) inside last; own = own } }
+          record {
+            vl = vl;
+            wish = kept_ask r.regulator;
+            turn = asks-by (kept_ask r.regulator) (record r.regulator { lists = with_frames r.regulator.lists q (frames_at r.regulator q ++ frame ∷ []) }) at (keeps q frame inside last (said-offer m.time m.body a t q frame said is));
+            wishes = ws ∙ ap (λ z. (asked n vl z).wishes) ask;
+            next = record { regulator = record r.regulator { lists = with_frames r.regulator.lists q (frames_at r.regulator q ++ frame ∷ []) }; is = at; right = kept-right room sub bag r.regulator r.right q (frames_at r.regulator q ++ frame ∷ []) inside last; own = own };
+          }
       by a said now vl ws (Rests t is why state ask none) =
           let at = now ∙ ap (λ z. Some z) state in
           let rel = said-release m.time m.body a t said is in
-          record { vl = vl; wish = None; turn = asks-by None r.regulator at (Early (early r.regulator t m.time r.right rel.1 why) rel.0); wishes = ws ∙ ap (λ z. (asked n vl z).wishes) ask;
-              next = record { regulator = r.regulator; is = at; right = r.right; own = own } }
+          record {
+            vl = vl;
+            wish = None;
+            turn = asks-by None r.regulator at (Early (early r.regulator t m.time r.right rel.1 why) rel.0);
+            wishes = ws ∙ ap (λ z. (asked n vl z).wishes) ask;
+            next = record { regulator = r.regulator; is = at; right = r.right; own = own };
+          }
       by a said now vl ws (Pops t is q f rest next inside are state asks released) =
           let at = now ∙ ap (λ z. Some z) state in
           let rel = said-release m.time m.body a t said is in
-          record { vl = vl; wish = ask (let_go r.regulator t q (with_frames r.regulator.lists q rest)); turn = asks-by (ask (let_go r.regulator t q (with_frames r.regulator.lists q rest))) (let_go r.regulator t q (with_frames r.regulator.lists q rest)) at (Again refl rel.0);
-              wishes = ws ∙ ap (λ z. (asked n vl z).wishes) (asks ∙ ap ask state);
-              next = record { regulator = let_go r.regulator t q (with_frames r.regulator.lists q rest); is = at; right = popped-right room sub bag r.regulator r.right t q rest inside; own = own } }
+          record {
+            vl = vl;
+            wish = ask (let_go r.regulator t q (with_frames r.regulator.lists q rest));
+            turn = asks-by (ask (let_go r.regulator t q (with_frames r.regulator.lists q rest))) (let_go r.regulator t q (with_frames r.regulator.lists q rest)) at (Again refl rel.0);
+            wishes = ws ∙ ap (λ z. (asked n vl z).wishes) (asks ∙ ap ask state);
+            next = record { regulator = let_go r.regulator t q (with_frames r.regulator.lists q rest); is = at; right = popped-right room sub bag r.regulator r.right t q rest inside; own = own };
+          }
 
       go : Turned v n m.time m.body r.regulator (regulator_in (handled n m e).equipment (record { 0 = v })) (releases v (handled n m e).reply.wishes) (asks 0 m e) → Turns n m e
       go (Quiet now none rel off put) =

@@ -1,5 +1,5 @@
 -- How far the round robin stands before a sub-virtual link, and that it comes nearer with each release of another one.
-use Rattle.std.proofs.Common.{◌≡◌, ℕ, zero, suc, ◌+◌, ◌-◌, ◌%◌, ◌<◌, ◌≤◌, ◌⊎◌, inl, inr, Bool, true, false, cond, nat_lt, Option, Some, None, refl, sym, ap, ◌∙◌, subst, arith, mod-eq_of_lt, lt-ltb, ltb-true, ltb-false}
+use Rattle.std.proofs.Common.{◌≡◌, ℕ, zero, suc, ◌+◌, ◌-◌, ◌%◌, ◌<◌, ◌≤◌, ◌⊎◌, inl, inr, Bool, true, false, cond, nat_lt, Option, Some, None, refl, ap, ◌∙◌, arith, mod-eq_of_lt, lt-ltb, ltb-true}
 use Rattle.std.specs.Option.{option_or}
 use Rattle.std.proofs.lemmas.Bool.{both_ways, cases_eq, cases_lt}
 use Rattle.std.proofs.Math.Nat.{mod_self}
@@ -64,19 +64,20 @@ module _ (p : ℕ → Bool) where
           let from = r.from in
           let below = r.below in (
             omega arith,
-            λ q inside passes other. by q inside passes other (distance-cases n pointer k) (distance-cases n pointer q) r.from r.below r.none)
+            λ q inside passes other. by q inside passes other (distance-cases n pointer k) (distance-cases n pointer q) r.from r.below r.none,
+          )
         where
           by : (q : ℕ) → q < n → p q ≡ true → (q ≡ k → ⊥) → ((k < pointer) × (distance n pointer k ≡ (k + n) - pointer)) ⊎ ((pointer ≤ k) × (distance n pointer k ≡ k - pointer)) →
               ((q < pointer) × (distance n pointer q ≡ (q + n) - pointer)) ⊎ ((pointer ≤ q) × (distance n pointer q ≡ q - pointer)) → pointer ≤ k → k < pointer + (n - pointer) → ((j : ℕ) → pointer ≤ j → j < k → p j ≡ false) → distance n pointer k < distance n pointer q
           by q inside passes other (inl a) b from below none = let c = a.0 in absurd (omega arith)
           by q inside passes other (inr a) (inl b) from below none = let c = a.1 in let d = b.1 in let g = b.0 in omega arith
           by q inside passes other (inr a) (inr b) from below none = elim (cases_lt q k) [ inl low ↦ absurd (both_ways _ (none q b.0 low) passes) | inr high ↦ (let c = a.1 in let d = b.1 in let g = b.0 in let apart : k < q = different k q high other in omega arith) ]
-
       go None e f =
           let r = first-some 0 pointer k f in
           let below = r.below in (
             omega arith,
-            λ q inside passes other. by q inside passes other (distance-cases n pointer k) (distance-cases n pointer q) r.below r.none)
+            λ q inside passes other. by q inside passes other (distance-cases n pointer k) (distance-cases n pointer q) r.below r.none,
+          )
         where
           by : (q : ℕ) → q < n → p q ≡ true → (q ≡ k → ⊥) → ((k < pointer) × (distance n pointer k ≡ (k + n) - pointer)) ⊎ ((pointer ≤ k) × (distance n pointer k ≡ k - pointer)) →
               ((q < pointer) × (distance n pointer q ≡ (q + n) - pointer)) ⊎ ((pointer ≤ q) × (distance n pointer q ≡ q - pointer)) → k < 0 + pointer → ((j : ℕ) → 0 ≤ j → j < k → p j ≡ false) → distance n pointer k < distance n pointer q

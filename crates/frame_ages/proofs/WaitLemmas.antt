@@ -1,5 +1,5 @@
 -- How long a regulator holds a frame in the run.
-use Rattle.std.proofs.Common.{◌≡◌, ℕ, suc, ◌+◌, ◌*◌, ◌%◌, ◌<◌, ◌≤◌, ◌⊎◌, inl, inr, true, false, List, [], ◌∷◌, ◌++◌, length, Option, Some, None, refl, sym, ap, ◌∙◌, subst, arith, eq-eqb}
+use Rattle.std.proofs.Common.{◌≡◌, ℕ, suc, ◌+◌, ◌*◌, ◌%◌, ◌<◌, ◌≤◌, inl, inr, true, false, List, [], ◌∷◌, ◌++◌, length, Option, Some, None, refl, sym, ap, ◌∙◌, subst, arith, eq-eqb}
 use Rattle.std.specs.Prelude.{⊤}
 use Rattle.std.proofs.lemmas.Bool.{cases_eq}
 use Rattle.std.proofs.lemmas.List.{length_push}
@@ -250,37 +250,60 @@ module _ (x : Setting NodeState) (N : IsOfNodes x) (p q v room sub bag : ℕ) (i
           OfPutBy v (LikeReleased v (regulator.out r.regulator a).answer) (asks q m s.equipment) → Stepped room sub bag r.regulator a (outcome r.regulator a) → Goes s m ms
       by a said now put (Drops t k frame is state ask none) =
           let o = offered.0 (offer a t k frame said is).0 in
-          record { held = held-none _ (asks q m s.equipment) none put; next = record { regulator = r.regulator; is = now ∙ ap (λ z. Some z) state; right = r.right; own = own };
-              e = o.0 + period; offered = o.4; reckoned = dropped r.regulator r.right e reckoned o.0 o.1 }
+          record {
+            held = held-none _ (asks q m s.equipment) none put;
+            next = record { regulator = r.regulator; is = now ∙ ap (λ z. Some z) state; right = r.right; own = own };
+            e = o.0 + period;
+            offered = o.4;
+            reckoned = dropped r.regulator r.right e reckoned o.0 o.1;
+          }
       by a said now put (Passes t k frame is empty inside' state ask released) =
           let w = offer a t k frame said is in
           let o = offered.0 w.0 in
           let at = w.1 in
           let since = w.2 in
-          record { held = held-one frame t _ (asks q m s.equipment) (omega arith) released put;
-              next = record { regulator = let_go r.regulator t k r.regulator.lists; is = now ∙ ap (λ z. Some z) state; right = passed-right room sub bag r.regulator r.right t k inside'; own = own };
-              e = o.0 + period; offered = o.4; reckoned = passed r.regulator r.right e reckoned t k o.0 empty (let l = o.2 in omega arith) (let l = o.3 in omega arith) }
+          record {
+            held = held-one frame t _ (asks q m s.equipment) (omega arith) released put;
+            next = record { regulator = let_go r.regulator t k r.regulator.lists; is = now ∙ ap (λ z. Some z) state; right = passed-right room sub bag r.regulator r.right t k inside'; own = own };
+            e = o.0 + period;
+            offered = o.4;
+            reckoned = passed r.regulator r.right e reckoned t k o.0 empty (let l = o.2 in omega arith) (let l = o.3 in omega arith);
+          }
       by a said now put (Keeps t k frame is inside' few state ask last none) =
           let w = offer a t k frame said is in
           let o = offered.0 w.0 in
           let since = w.2 in
-          record { held = held-none _ (asks q m s.equipment) none put;
-              next = record { regulator = record r.regulator { lists = with_frames r.regulator.lists k (frames_at r.regulator k ++ frame ∷ []) }; is = now ∙ ap (λ z. Some z) state;
-                  right = kept-right room sub bag r.regulator r.right k (frames_at r.regulator k ++ frame ∷ []) inside' last; own = own };
-              e = o.0 + period; offered = o.4; reckoned = kept r.regulator r.right e reckoned k frame o.0 inside' few o.1 (let l = o.2 in omega arith) }
+          record {
+            held = held-none _ (asks q m s.equipment) none put;
+            next = record {
+              regulator = record r.regulator { lists = with_frames r.regulator.lists k (frames_at r.regulator k ++ frame ∷ []) };
+              is = now ∙ ap (λ z. Some z) state;
+              right = kept-right room sub bag r.regulator r.right k (frames_at r.regulator k ++ frame ∷ []) inside' last;
+              own = own;
+            };
+            e = o.0 + period;
+            offered = o.4;
+            reckoned = kept r.regulator r.right e reckoned k frame o.0 inside' few o.1 (let l = o.2 in omega arith);
+          }
       by a said now put (Rests t is why state ask none) = let w = release a t said is in absurd (early v room sub bag r.regulator t m.time r.right w.1 why (due w.0))
       by a said now put (Pops t is j first rest next inside' are state asks' released) =
           let w = release a t said is in
           let k = popped r.regulator r.right e reckoned t j first rest next inside' are (due w.0 ∙ ap Some (sym w.1)) in
-          record { held = held-one first t _ (asks q m s.equipment) k.in_time released put;
-              next = record { regulator = let_go r.regulator t j (with_frames r.regulator.lists j rest); is = now ∙ ap (λ z. Some z) state; right = popped-right room sub bag r.regulator r.right t j rest inside'; own = own };
-              e = onward e t; offered = subst (λ z. AreOffered v period jitter onward (onward e z) ms) (sym w.1) (offered.1 w.0); reckoned = k.reckoned_then }
+          record {
+            held = held-one first t _ (asks q m s.equipment) k.in_time released put;
+            next = record { regulator = let_go r.regulator t j (with_frames r.regulator.lists j rest); is = now ∙ ap (λ z. Some z) state; right = popped-right room sub bag r.regulator r.right t j rest inside'; own = own };
+            e = onward e t;
+            offered = subst (λ z. AreOffered v period jitter onward (onward e z) ms) (sym w.1) (offered.1 w.0);
+            reckoned = k.reckoned_then;
+          }
 
       go : Turned v s.sender.number m.time m.body r.regulator (regulator_in (after s m).equipment (record { 0 = v })) (releases v (handled s.sender.number m s.equipment).reply.wishes) (asks q m s.equipment) → Goes s m ms
       go (Quiet now none rel off put) = record {
         held = put-weaker (λ f. ⊥) (λ frame. frame.released ≤ frame.offered + wait) (λ frame k. absurd k) (asks q m s.equipment) put;
         next = record { regulator = r.regulator; is = now; right = r.right; own = own };
-        e = e; offered = offered.2 off rel; reckoned = reckoned;
+        e = e;
+        offered = offered.2 off rel;
+        reckoned = reckoned;
       }
       go (Does a said now vl k ws put) = by a said now put (step room sub bag r.regulator r.right a)
 
