@@ -14,7 +14,7 @@ use Rattle.network_faults.proofs.MemberLemmas.{has-from_contains, contains-from_
 use Rattle.nodes.specs.declared.equipment.Equipment.{Equipment}
 use Rattle.nodes.specs.declared.equipment.Equipment.TheVariants as equipment
 use Rattle.nodes.specs.declared.ports.Outlet.{Outlet}
-use Rattle.nodes.specs.rules.Opening.{bag_ns, opening}
+use Rattle.nodes.specs.rules.Opening.{opening}
 use Rattle.nodes.specs.rules.Ports.{PortsState}
 use Rattle.nodes.specs.undoing.Node.{node}
 use Rattle.port_turns.specs.Nodes.{IsOfNodes, is_offer}
