@@ -1,5 +1,5 @@
 -- Each bound of a network holds in its one-thread run, where its regulators hold frames no longer than they may.
-use Rattle.std.proofs.Common.{◌≡◌, ℕ, ◌+◌, ◌-◌, ◌*◌, ◌<◌, ◌==◌, ◌&&◌, Bool, true, false, cond, min, nat_le, get_or, Option, Some, None, All, IfSome, inl, inr, refl, ap, sym, ◌∙◌, subst, arith, slice_get, option_and_then, eqb-true, leb-true}
+use Rattle.std.proofs.Common.{List, ◌≤◌, ◌≡◌, ℕ, ◌+◌, ◌-◌, ◌*◌, ◌<◌, ◌==◌, ◌&&◌, Bool, true, false, cond, min, nat_le, get_or, Option, Some, None, All, IfSome, inl, inr, refl, ap, sym, ◌∙◌, subst, arith, slice_get, option_and_then, eqb-true, leb-true}
 use Rattle.std.proofs.lemmas.Bool.{cases_lt, false≢true}
 use Rattle.std.proofs.lemmas.Option.{slice_get-get_or}
 use Rattle.std.proofs.lemmas.List.Elements.{All-contains}
@@ -8,7 +8,7 @@ use Rattle.reverse.specs.Rules.{rules_of}
 use Rattle.reverse.specs.Setting.{simulation_of}
 use Rattle.port_bounds.specs.Port.{idle}
 use Rattle.element_bounds.specs.PortTrace.{IsSamePort}
-use Rattle.network.specs.Words.{IsAccepted, Plan, VlPlan, destinations_of, process_count}
+use Rattle.network.specs.Words.{IsAccepted, lines_of, Plan, VlPlan, destinations_of, process_count}
 use Rattle.network.proofs.SourceLemmas.{HasSource, all-have, end-system-below}
 use Rattle.network_faults.proofs.MemberLemmas.{has-from_contains, contains-from_has}
 use Rattle.nodes.specs.declared.equipment.Equipment.{Equipment}
@@ -29,6 +29,15 @@ use Rattle.network_bounds.specs.Curves.{bag_of}
 use Rattle.frame_ages.specs.Latencies.{AreLatenciesBounded, IsHeldWithin}
 use Rattle.frame_ages.specs.Sizes.{HaveEmptyRegulators, HaveIdlePorts, IsSized, OpensEmpty}
 use Rattle.plan_waits.specs.Held.{AreListsHeld, ArePeriodsHeld, IsSent}
+use Rattle.network_bounds.specs.declared.delays.PortBound.{PortBound}
+use Rattle.network_bounds.specs.Delays.{AreBounds}
+use Rattle.frame_ages.specs.Ports.{IsWaitingBound}
+use Rattle.frame_ages.specs.Rooms.{AreFramesKept, HasRoomAt}
+use Rattle.nodes.specs.declared.ports.LineAhead.{LineAhead}
+use Rattle.plan_ports.specs.Outlets.{LeadsInto}
+use Rattle.plan_bounds.specs.Rooms.{AreRoomsEnough, Holds}
+use Rattle.plan_bounds.proofs.Routes.{bound-at}
+use Rattle.plan_bounds.proofs.Waiting.{waiting-bound}
 use Rattle.plan_bounds.specs.Latencies.{AreLatencyBounds}
 use Rattle.plan_bounds.proofs.Destinations.{arriving, comes-within, sent}
 use Rattle.plan_bounds.proofs.Sources.{destination-end}
@@ -112,3 +121,24 @@ module _ (plan : Plan) (accepted : IsAccepted plan) where
         (let le = latencies (setting_of plan) laws of-nodes (size_of plan) opens-empty vl.link.id.0 has.node n (wait_of vl.link) network_ns below (held has.node vl simple)
         (comes-within plan accepted vl is_vl bounds are has.node has.is n network_ns end arrival) events row found place vl.link.id latency refl note in
         omega (arith, le))
+
+  -- ---- ports that have room
+
+  module _ (laws : Laws (simulation_of (rules_of node) (setting_of plan))) (kept : AreFramesKept) where
+    room-at : (bounds : List PortBound) → AreBounds plan (lines_of plan) bounds → (p q : ℕ) (outlet : Outlet) (leads : LeadsInto plan p q outlet) → Holds plan bounds p leads.k → HasRoomAt (setting_of plan) (size_of plan) p q outlet
+    room-at bounds are p q outlet leads holds =
+        let (w, is) = bound-at plan (lines_of plan) bounds are leads.k leads.line holds.bound leads.read holds.read in
+        let byte : outlet.ahead.byte_ns ≡ leads.line.byte_ns = ap (λ (a : LineAhead). a.byte_ns) leads.ahead in
+        let bound = waiting-bound plan accepted leads.k leads.line leads.read w outlet byte holds.bytes (ap (λ (b : PortBound). b.waiting) (sym is) ∙ holds.waiting) in
+        record {
+          bytes = holds.bytes;
+          bound = subst (λ n. IsWaitingBound (setting_of plan) (size_of plan) n q outlet holds.bytes) leads.from (subst (λ j. IsWaitingBound (setting_of plan) (size_of plan) leads.line.from j outlet holds.bytes) leads.from_port bound);
+          room = subst (λ n. holds.bytes ≤ n) (sym leads.room) holds.room;
+        }
+
+    pub are-rooms : AreRoomsEnough plan
+    are-rooms bounds are p lt each =
+        let inside : p < process_count plan = omega (arith, lt) in
+        λ events row found place vl bytes note.
+        kept (setting_of plan) laws of-nodes (size_of plan) opens-empty p inside
+        (λ q outlet there. (let leads = all-lead plan p q outlet there in room-at bounds are p q outlet leads (each leads.k leads.line leads.read leads.from))) events row found place vl bytes note

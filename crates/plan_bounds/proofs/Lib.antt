@@ -5,6 +5,7 @@ mod Lines
 mod Certified
 mod InTime
 mod LowTimes
+mod Waiting
 mod Over
 mod Sources
 mod Routes

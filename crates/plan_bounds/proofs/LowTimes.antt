@@ -93,7 +93,7 @@ low-delay byte_ns link later delay e = go (nat_lt 0 later.left) refl e
 rates-fit : (high low : ℕ) → capped high < UNITS → capped (capped high + capped low) ≤ UNITS → (high < UNITS) × (high + low ≤ UNITS) × (capped high ≡ high)
 rates-fit high low lt le = (omega (arith, lt), omega (arith, lt, le), omega (arith, lt))
 
-bursts-fit : (high low : ℕ) → capped (capped high + capped low) < 2 ^ 128 - 1 → capped (capped high + capped low) ≡ high + low
+pub bursts-fit : (high low : ℕ) → capped (capped high + capped low) < 2 ^ 128 - 1 → capped (capped high + capped low) ≡ high + low
 bursts-fit high low lt = omega (arith, lt)
 
 low-within : (burst left cost : ℕ) → 0 < left → burst < left * ((burst - UNITS * cost) / left + 1) + UNITS * cost

@@ -41,7 +41,8 @@ use Rattle.plan_bounds.proofs.Over.{IsOver, IsOverIn, comes-over, over-leaves}
 use Rattle.plan_bounds.proofs.Passed.{input-is}
 use Rattle.plan_bounds.proofs.Sources.{leaves-source}
 
-bound-at : (plan : Plan) (lines : List LinePlan) (bounds : List PortBound) → AreBounds plan lines bounds → (k : ℕ) (line : LinePlan) (bound : PortBound) → slice_get lines k ≡ Some line → slice_get bounds k ≡ Some bound → IsBound (port_before plan line) bound
+-- a bound is that of its port
+pub bound-at : (plan : Plan) (lines : List LinePlan) (bounds : List PortBound) → AreBounds plan lines bounds → (k : ℕ) (line : LinePlan) (bound : PortBound) → slice_get lines k ≡ Some line → slice_get bounds k ≡ Some bound → IsBound (port_before plan line) bound
 bound-at plan [] bounds are k line bound at by = absurd (none-some line at)
 bound-at plan (first ∷ lines) [] are k line bound at by = absurd are
 bound-at plan (first ∷ lines) (one ∷ bounds) are zero line bound at by =

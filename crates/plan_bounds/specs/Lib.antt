@@ -1,1 +1,2 @@
 pub mod Latencies
+pub mod Rooms

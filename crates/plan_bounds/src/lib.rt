@@ -2,19 +2,24 @@
 #![tactic(auto)]
 
 ghost use Rattle.plan_bounds.specs.Latencies.{AreLatencyBounds};
+ghost use Rattle.plan_bounds.specs.Rooms.{AreRoomsEnough};
 
-use frame_ages::latencies_law;
+use frame_ages::{latencies_law, rooms_law};
 use network::Network;
 use plan_waits::waits_law;
 use seqsim::network_law;
 
-/// In the one-thread run of a network no frame of a virtual link is delivered at a destination later after its offer than its bound there says: the
-/// bound of the network and the longest wait in the regulator, as `network_bounds` writes them.
+/// In the one-thread run of a network no frame of a virtual link is delivered at a destination later after its offer
+/// than its bound there says: the bound of the network and the longest wait in the regulator, as `network_bounds` writes them
+/// (`latencies`). A node drops no frame because a port is full, if at each of its ports the bound of what waits is no more than may wait there
+/// (`rooms`).
 pub fn bounds_law(network: &Network)
-    ensures { AreLatencyBounds network.now }
+    ensures latencies { AreLatencyBounds network.now }
+    ensures rooms { AreRoomsEnough network.now }
 {
     network.accepted_law();
     network_law(network);
     latencies_law();
+    rooms_law();
     waits_law(network);
 }

@@ -1,6 +1,7 @@
 -- Each port of a network's nodes leads into a line, and each line is the way from its port to the port to which it leads.
 use Rattle.std.proofs.Common.{◌≡◌, ℕ, ◌-◌, ◌<◌, ◌≤◌, Bool, true, false, cond, List, [], ◌∷◌, ◌++◌, length, Option, Some, None, refl, ap, sym, ◌∙◌, subst, arith, slice_get}
 use Rattle.std.specs.List.{AllByRecursion}
+use Rattle.std.specs.Option.{option_map_or}
 use Rattle.std.proofs.lemmas.List.Elements.{All-from_recursion}
 use Rattle.std.proofs.lemmas.Option.{none-some, same_Some, slice_get_past, slice_get_within}
 use Rattle.vlink.specs.declared.frame.Net.TheVariants.{A}
@@ -21,7 +22,7 @@ use Rattle.nodes.specs.rules.Line.{LineState}
 use Rattle.nodes.specs.rules.Opening.{equipment_opening, line_ahead_among, line_opening, node_opening, opening, outlet_of, ports_of}
 use Rattle.nodes.specs.rules.Ports.{outlet_at}
 use Rattle.port_turns.specs.PortEvents.{outlet_in}
-use Rattle.plan_ports.specs.Outlets.{AllLead, HaveOwnPorts, IsLineWay, LeadsInto, line_process}
+use Rattle.plan_ports.specs.Outlets.{AllLead, HaveOwnPorts, IsLineWay, LeadsInto, line_process, port_bytes_at}
 use Rattle.plan_ports.proofs.Ahead.{ahead-is, ahead-outlet, has-ahead, none-past, outlet-ahead}
 
 -- ---- an end system has two ports
@@ -44,8 +45,8 @@ few-ports nodes earlier (link ∷ links) = (few-at nodes earlier link.a link.b, 
 -- ---- each port leads into a line
 
 module _ (plan : Plan) where
-  made : (p q bytes : ℕ) (outlet : Outlet) → (ahead : LineAhead) × (line_ahead_among p q (length plan.nodes) (lines_of plan) ≡ Some ahead) × (outlet ≡ outlet_of bytes ahead) → LeadsInto plan p q outlet
-  made p q bytes outlet (ahead, found, is) =
+  made : (p q bytes : ℕ) (outlet : Outlet) → port_bytes_at plan p ≡ bytes → (ahead : LineAhead) × (line_ahead_among p q (length plan.nodes) (lines_of plan) ≡ Some ahead) × (outlet ≡ outlet_of bytes ahead) → LeadsInto plan p q outlet
+  made p q bytes outlet room (ahead, found, is) =
       let h = ahead-is p q (length plan.nodes) (lines_of plan) ahead found in
       record {
         k = h.k;
@@ -55,18 +56,19 @@ module _ (plan : Plan) where
         from_port = h.from_port;
         ahead = ap (λ (o : Outlet). o.ahead) is ∙ h.is;
         empty = subst (λ (o : Outlet). IsSamePort o.port idle) (sym is) (record { busy = refl; high = refl; low = refl });
+        room = ap (λ (o : Outlet). o.port.bytes) is ∙ sym room;
       }
 
-  at-kind : (p q bytes : ℕ) (outlet : Outlet) (k : NodeKind) → outlet_in (node_opening plan p bytes k) q ≡ Some outlet → LeadsInto plan p q outlet
-  at-kind p q bytes outlet kind.EndSystem e = made p q bytes outlet (outlet-ahead plan p 2 bytes q outlet e)
-  at-kind p q bytes outlet (kind.Switch net latency_ns) e = made p q bytes outlet (outlet-ahead plan p GREATEST_PORTS bytes q outlet e)
+  at-kind : (p q bytes : ℕ) (outlet : Outlet) → port_bytes_at plan p ≡ bytes → (k : NodeKind) → outlet_in (node_opening plan p bytes k) q ≡ Some outlet → LeadsInto plan p q outlet
+  at-kind p q bytes outlet room kind.EndSystem e = made p q bytes outlet room (outlet-ahead plan p 2 bytes q outlet e)
+  at-kind p q bytes outlet room (kind.Switch net latency_ns) e = made p q bytes outlet room (outlet-ahead plan p GREATEST_PORTS bytes q outlet e)
 
-  at-node : (p q : ℕ) (outlet : Outlet) (o : Option NodePlan) → outlet_in (equipment_opening plan p o) q ≡ Some outlet → LeadsInto plan p q outlet
-  at-node p q outlet None e = absurd (none-some outlet e)
-  at-node p q outlet (Some node) e = at-kind p q node.port_bytes outlet node.kind e
+  at-node : (p q : ℕ) (outlet : Outlet) (o : Option NodePlan) → slice_get plan.nodes p ≡ o → outlet_in (equipment_opening plan p o) q ≡ Some outlet → LeadsInto plan p q outlet
+  at-node p q outlet None there e = absurd (none-some outlet e)
+  at-node p q outlet (Some node) there e = at-kind p q node.port_bytes outlet (ap (λ o. option_map_or (λ (node : NodePlan). node.port_bytes) o 0) there) node.kind e
 
   pub all-lead : AllLead plan
-  all-lead p q outlet e = at-node p q outlet (slice_get plan.nodes p) e
+  all-lead p q outlet e = at-node p q outlet (slice_get plan.nodes p) refl e
 
 -- ---- each line is a way
 

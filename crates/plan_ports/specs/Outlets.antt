@@ -1,5 +1,6 @@
 -- The ports of a network's nodes as its processes open, and the lines that they lead into.
 use Rattle.std.specs.Prelude.{◌≡◌, ℕ, ◌+◌, ◌<◌, length, slice_get, Some}
+use Rattle.std.specs.Option.{option_map_or}
 use Rattle.port_bounds.specs.Port.{idle}
 use Rattle.element_bounds.specs.PortTrace.{IsSamePort}
 use Rattle.network.specs.declared.wiring.LinePlan.{LinePlan}
@@ -19,6 +20,10 @@ pub record HaveOwnPorts (plan : Plan) : Type 0 where
   pub out : (i j : ℕ) (a b : LinePlan) → slice_get (lines_of plan) i ≡ Some a → slice_get (lines_of plan) j ≡ Some b → a.from ≡ b.from → a.from_port ≡ b.from_port → i ≡ j
   pub into : (i j : ℕ) (a b : LinePlan) → slice_get (lines_of plan) i ≡ Some a → slice_get (lines_of plan) j ≡ Some b → a.to ≡ b.to → a.to_port ≡ b.to_port → i ≡ j
 
+-- how many bytes may wait at each port of node p
+abbrev pub port_bytes_at : Plan → ℕ → ℕ
+port_bytes_at plan p = option_map_or (λ node. node.port_bytes) (slice_get plan.nodes p) 0
+
 -- port q of node p leads into line k, and nothing waits there
 pub record LeadsInto (plan : Plan) (p q : ℕ) (outlet : Outlet) : Type 0 where
   pub k : ℕ
@@ -28,6 +33,7 @@ pub record LeadsInto (plan : Plan) (p q : ℕ) (outlet : Outlet) : Type 0 where
   pub from_port : line.from_port ≡ q
   pub ahead : outlet.ahead ≡ record { line = line_process plan k; byte_ns = line.byte_ns }
   pub empty : IsSamePort outlet.port idle
+  pub room : outlet.port.bytes ≡ port_bytes_at plan p
 
 -- so does each port that there is
 abbrev pub AllLead : Plan → Type 0
