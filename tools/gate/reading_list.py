@@ -1,8 +1,8 @@
 #!/usr/bin/env python3
 """Lists the files that say what is promised of `replay` and of `run`: what someone reads who doubts the promises.
 
-    python3 tools/gate/reading_list.py            prints the lists, with what each file of specs/ says of itself
-    python3 tools/gate/reading_list.py --write    puts them into docs/PROOFS.md, by their names, between the two marks there
+    python3 -m gate.reading_list            prints the lists, with what each file of specs/ says of itself
+    python3 -m gate.reading_list --write    puts them into docs/PROOFS.md, by their names, between the two marks there
 
 It begins with the names in the contracts of a few functions (BEGINNINGS), and goes on with the names in what defines these,
 by the `use` lines of each file, until none is new. So a file is in a list because a name of it is needed there, and what

@@ -1,7 +1,7 @@
 #!/usr/bin/env python3
 """Refuses programs each of their requests for memory in turn, and looks what comes of it.
 
-    python3 tools/gate/refuse_memory.py
+    python3 -m gate.refuse_memory
 
 The whole commands `check`, `seq`, `replay` and `run` of the proved program are run on examples/n1.toml, and `check` and `seq`
 on texts with a fault, once for each request for memory, which is refused, until a run makes fewer. Each run has to end with

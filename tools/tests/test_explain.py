@@ -1,7 +1,7 @@
 """Tests of afdx explain and of toml_lines.py. Those of the class WithTheProgram need the built program, at
 crates/afdxsim/out/afdxsim, where `rt ci` leaves it. Called by itself with a number,
 
-    python3 tools/tests/test_explain.py 2000
+    python3 -m tests.test_explain 2000
 
 it holds afdx explain against the program on so many mutated texts, and says how many there were of each answer."""
 import atexit
