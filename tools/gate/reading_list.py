@@ -252,8 +252,8 @@ class Tree:
         return "\n".join(rows)
 
     def lists(self, table=None):
-        """What the document has: the two tables, each with a line that counts. In `table` files are told by their names, unless
-        it is told otherwise."""
+        """What the document has: the two tables, each with a line that counts. `table` prints files by their names, unless
+        the caller gives another one."""
         table = table or self.named
         replay, of_replay = self.rests_on(BEGINNINGS["replay"])
         run, of_run = self.rests_on(BEGINNINGS["run"])

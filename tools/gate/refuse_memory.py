@@ -16,10 +16,10 @@ their text, and the channel to the writer's thread.
 
 Tests that are made for it are run so too, and have to pass: the scripts of processes (crate `sample_actor`) and those of the
 calls of an exchange (crate `element_rows`). There a call that is refused is made again, and then has to answer as ever; so has what
-comes behind it. `work` goes on with what its first try left. The tests tell which calls were refused, and each of those that are
+comes behind it. `work` goes on with what its first try left. The tests print which calls were refused, and each of those that are
 named below has to be.
 
-A line for each command and each test tells how many requests were refused. The status is 0 where each run was as it has to
+A line for each command and each test prints how many requests were refused. The status is 0 where each run was as it has to
 be, 1 where not, and 2 where nothing could be run. It needs the programs that `rt ci` leaves in out/, and a C compiler, `cc`
 or that of the kit, for the few lines of C that refuse.
 """
@@ -142,7 +142,7 @@ COMMANDS = (
 Test = namedtuple("Test", "crate name calls")
 
 TESTS = (
-    # Each of the six lines with an arrival `arrive?`, of which a refusal is told, is refused at least once.
+    # Each of the six lines with an arrival `arrive?`, whose refusal is printed, is refused at least once.
     Test(
         "sample_actor",
         "tests::scripts_tell_what_their_lines_say",
@@ -159,10 +159,10 @@ TESTS = (
 # killed).
 Ended = namedtuple("Ended", "status output errors files requests")
 
-# After so many runs one after another that made fewer requests, all were refused. With two workers not all make as many.
+# After this many runs in a row that made fewer requests, all were refused. With two workers not all make as many.
 MISSES = 3
 
-# After so many faults no more is tried.
+# After this many faults no more is tried.
 MOST_FAULTS = 100
 
 
@@ -241,14 +241,14 @@ def fault_of_test(found):
 
 
 def calls_in(errors):
-    """How often each call was refused, as a test tells. Letters to be delivered stand for the call."""
+    """How often each call was refused, as a test prints it. Letters to be delivered stand for the call."""
     words = re.findall(r"^(\S+) was refused memory$", errors, re.MULTILINE)
     return Counter("deliver" if word[0] in "+-" else word for word in words)
 
 
 def refuse_each(run, fault_of, status=0):
     """Runs with each request refused in turn, until runs make fewer, which end with this status. How many requests were
-    refused, how the runs ended by their statuses, what calls they told, and the faults, a line each."""
+    refused, how the runs ended by their statuses, what calls they printed, and the faults, a line each."""
     refused, statuses, calls, faults, misses = 0, Counter(), Counter(), [], 0
     for place in itertools.count(1):
         found = run(place)

@@ -171,7 +171,7 @@ class Drawn:
         return ["--workers", str(self.workers), *groups, "--turn", str(self.turn), "--window", str(self.window)]
 
     def has_several_members(self, groups):
-        """Whether so many groups are several with several members each. Lines go with the node to which they lead; where groups are
+        """Whether this number of groups are several with several members each. Lines go with the node to which they lead; where groups are
         more than nodes, processes go to them in turn."""
         return groups > 1 and (groups <= self.nodes or self.processes > groups + 1)
 
@@ -278,7 +278,7 @@ def hold_by_second_opinion(program, drawn, folder, seconds):
 
 
 def one_run(words, number, tell):
-    """Makes one run, tells what it did where it must not, and answers what came out, each in a few words."""
+    """Makes one run, prints what it did and must not do, and returns what came out, each in a few words."""
     drawn = Drawn(number)
     folder = tempfile.mkdtemp(prefix=f"threaded-run-{number}-")
     try:

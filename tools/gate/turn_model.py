@@ -411,7 +411,7 @@ Found = collections.namedtuple("Found", "states lost is_whole trail")
 
 
 def tried(model, most):
-    """Lists all states, breadth first, up to so many, and looks from which of them the end can be reached."""
+    """Lists all states, breadth first, up to a number, and finds out from which of them the end can be reached."""
     beginning = model.beginning()
     numbers, states, before, parents, ends = {beginning.key(): 0}, [beginning], [[]], [None], []
     for at, state in enumerate(states):

@@ -91,7 +91,7 @@ status:
   130, 143  interrupted, or ended by SIGTERM: what was made before is merged and kept
 """
 
-# Of so many outages a line tells what they do.
+# What an outage does is printed for this many outages at most.
 MOST_TOLD = 10
 
 
@@ -179,7 +179,7 @@ class Progress:
         self.lock, self.done, self.worst, self.far = threading.Lock(), 0, None, None
 
     def listen(self, maker):
-        """Has the maker tell how far single runs are, where that is shown."""
+        """Has the maker report the progress of single runs, if that is shown."""
         maker.hear = self.hear if self.shown else None
 
     def hear(self, name, far):
@@ -240,8 +240,8 @@ class Campaign:
             return seed
 
     def run(self, maker, keep, jobs):
-        """Has the runs made and takes what they say, seed by seed. The first one in this order that fails ends it. `keep` is
-        told the beginning of the name of each one's files, and its texts."""
+        """Has the runs made and takes what they say, seed by seed. The first one in this order that fails ends it. `keep` gets
+        the beginning of the name of each one's files, and its texts."""
         progress = Progress(len(self.seeds))
         progress.listen(maker)
         reader, jobs = run_results.Reader([self.net]), min(jobs, len(self.seeds))
@@ -384,7 +384,7 @@ def foresee(net, is_traced):
 
 
 def judge_outages(words, net):
-    """Refuses outages in turn that begin after the end of the run, and tells those of the description that do."""
+    """Refuses outages in turn that begin after the end of the run, and warns of those of the description that do."""
     end = f"the run ends before that, at {net.until_ns} ns"
     if words.each_outage is not None and words.each_outage > net.until_ns:
         raise Fault(words.net, net.description.line("top", None, "until_ns"), f"--each-outage {words.each_outage}: {end}")

@@ -42,12 +42,12 @@ status: 0 where the description is accepted, with or without warnings; 1 where i
 the file cannot be read.
 """
 
-# Of more warnings of one kind so many are told, and how many more there are.
+# Of more warnings of one kind than the first number, the second number are printed, and how many more there are.
 MOST_OF_A_KIND, TOLD_OF_A_KIND = 10, 3
 
 
 def told_of(path, warnings, tells_all):
-    """The lines of warnings, and what there is to say of how many they are. Of many of one kind the first ones are told."""
+    """The lines of warnings, and lines that count them. Of many of one kind the first ones are printed."""
     kinds = Counter(it.kind for it in warnings)
     many = {} if tells_all else {kind: count for kind, count in kinds.items() if count > MOST_OF_A_KIND}
     lines, seen = [], Counter()
@@ -61,7 +61,7 @@ def told_of(path, warnings, tells_all):
 
 
 def explain(path, bounds=None, tells_all=False):
-    """What is told of a file, faults or warnings, and the status. `bounds` names a file of bounds; `tells_all`: each warning."""
+    """The faults or warnings of a file, as text, and the status. `bounds` names a file of bounds; `tells_all`: each warning."""
     try:
         text = model.text_of(path)
     except Fault as fault:

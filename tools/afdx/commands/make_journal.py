@@ -22,7 +22,7 @@ from afdx.runs.second_opinion import BODIES, Simulation
 
 
 class Journal(Simulation):
-    """A simulation that tells its steps."""
+    """A simulation that lists its steps."""
 
     def __init__(self, net):
         # For each process how many letters its mail has.
