@@ -4,10 +4,10 @@
     python3 -m gate.cited_lemmas            prints the list
     python3 -m gate.cited_lemmas --write    puts it into docs/ARCHITECTURE.md, between the two marks there
 
-Who changes a file of this list has to check the crates that stand beside it. What the compiler derives of a type, that it
+After a change in a file of this list, check the crates that stand beside it. What the compiler derives of a type, that it
 may go to a thread (`TheSendSync`), stands in no file and is not listed.
 
-tools/tests/test_crates.py holds the document against the list.
+tools/tests/test_crates.py compares the document with the list.
 """
 import argparse
 import collections

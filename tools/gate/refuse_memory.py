@@ -1,27 +1,27 @@
 #!/usr/bin/env python3
-"""Refuses programs each of their requests for memory in turn, and looks what comes of it.
+"""Refuses each request of a program for memory in turn, and checks what the program then does.
 
     python3 -m gate.refuse_memory
 
-The whole commands `check`, `seq`, `replay` and `run` of the proved program are run on examples/n1.toml, and `check` and `seq`
-on texts with a fault, once for each request for memory, which is refused, until a run makes fewer. Each run has to end with
-the status and what it prints and writes where none is refused, or with status 5 and the line `afdxsim: out of memory`; `run`
-also with status 4 and `afdxsim: cannot start a worker`. Standard output is then empty or whole, and a file is not there or
-has a beginning of its text. With two workers the same request comes at another place each time, and so it is with its
-journal: that is judged by its form and, where the run ended well, by `replay`.
+It runs the commands `check`, `seq`, `replay` and `run` of the proved program on examples/n1.toml, and `check` and `seq` on
+texts with a fault, once for each request for memory. That request is refused, until a run makes fewer requests. Each run must
+end as if none were refused, with the same status and the same texts, or with status 5 and the line `afdxsim: out of memory`;
+`run` also with status 4 and `afdxsim: cannot start a worker`. Standard output is then empty or whole, and a file is missing or
+has a beginning of its text. With two workers the same request comes at another place each time, and the journal differs each
+time: the tool checks its form and, if the run succeeded, `replay` checks it.
 
-A run has two minutes. So those of two workers show too that the fault of one ends the other, which else would look for work
-for ever. Where a trace is written some 80 requests more are refused: for the segments at the desk, their rows, the batches and
+A run has two minutes. So runs of two workers also show that the fault of one ends the other, which would else look for work
+for ever. If a trace is written, some 80 more requests are refused: for the segments at the desk, their rows, the batches and
 their text, and the channel to the writer's thread.
 
-Tests that are made for it are run so too, and have to pass: the scripts of processes (crate `sample_actor`) and those of the
-calls of an exchange (crate `element_rows`). There a call that is refused is made again, and then has to answer as ever; so has what
-comes behind it. `work` goes on with what its first try left. The tests print which calls were refused, and each of those that are
-named below has to be.
+Tests that are made for it run in the same way, and must pass: the scripts of processes (crate `sample_actor`) and those of the
+calls of an exchange (crate `element_rows`). There a refused call is made again, and must then succeed, as must all later ones.
+`work` goes on with what its first try left. The tests print which calls were refused; each of those that are named below must
+be among them.
 
-A line for each command and each test prints how many requests were refused. The status is 0 where each run was as it has to
-be, 1 where not, and 2 where nothing could be run. It needs the programs that `rt ci` leaves in out/, and a C compiler, `cc`
-or that of the kit, for the few lines of C that refuse.
+It prints for each command and each test how many requests were refused. The status is 0 if each run was right, 1 if not, and
+2 if nothing could be run. It needs the programs that `rt ci` leaves in out/, and a C compiler, `cc` or that of the kit, for
+the few lines of C that refuse.
 """
 import argparse
 import itertools

@@ -56,10 +56,10 @@ examples:
   afdx report net.toml campaign -o report.html
         the page of them
   afdx campaign net.toml --seeds 1000 --jobs 4 --offsets --limits limits.csv -o campaign
-        a thousand runs, four at a time, with drawn offsets, each held against limits.csv
+        a thousand runs, four at a time, with drawn offsets, each compared with limits.csv
   afdx campaign net.toml --seeds 1 --first 42 --offsets --keep -o worst
-        the run of the seed 42 once more, and its description: worst/seed-42.toml, which afdxsim and afdx report can be
-        given to look at what happened in it
+        the run of the seed 42 once more, and its description worst/seed-42.toml, for afdxsim and afdx report, which show
+        what happened in it
   afdx campaign net.toml --set vl.157.bag_ms=4,8,16 --set link.3.mbit=10,100 --seeds 20 -o sweep
         six combinations, each with twenty seeds: of the virtual link 157, and of the third link of the description.
         Nodes have names, as node.SWA.latency_ns=8000,16000. sweep/sweep.html shows effects beside the spread of seeds
@@ -70,15 +70,15 @@ examples:
   afdx campaign net.toml --each-outage -o outages
         what is lost and what becomes late without each link and each switch: outages/outages.html
   afdx campaign net.toml --each-outage 50000000 --seeds 5 --keep -o outages
-        the same with five seeds, and out from 50 ms on. The description and the tables of each run are kept: afdx report
-        compares one with those of outage-0, which is none, by --against
+        the same with five seeds, and out from 50 ms on. The description and the tables of each run are kept. By --against
+        afdx report compares one with those of outage-0, the run without an outage
   dask scheduler --host 10.0.0.1; dask worker tcp://10.0.0.1:8786 --nworkers 4 --nthreads 1
   afdx campaign net.toml --seeds 1000 --dask tcp://10.0.0.1:8786 -o campaign
-        on several machines: the first on one of them, the second on each, with four runs side by side. Each needs
-        python3-distributed, and afdxsim on its PATH, or where AFDXSIM says, or where this machine has it
+        on several machines: the scheduler on one of them, a worker on each, with four runs side by side. Each machine
+        needs python3-distributed, and afdxsim on its PATH, at the path in AFDXSIM, or where this machine has it
 
 limits.csv, a line for each destination that has a limit: number of the virtual link, name of the destination, and the
-greatest latency in ns that it may have. Lines that are empty or begin with # are passed over.
+greatest latency in ns that it may have. Lines that are empty or begin with # are ignored.
   101,DU_R,500000
   101,FWC,500000
 
@@ -316,7 +316,7 @@ def words_of(arguments=None):
     )
     add(
         "--aim", type=aimed_at, action="append", metavar="VL",
-        help="runs each seed (1 unless told) with offsets that let other frames meet those of this virtual link at each port; "
+        help="runs each seed (default: 1 seed) with offsets that let other frames meet those of this virtual link at each port; "
         "`all`: of each destination that has a limit, or without --limits of all virtual links",
     )
     add("--until", type=whole(1, model.LATEST_NS), metavar="NS", help="the end of the runs (default: that of NET)")

@@ -21,25 +21,25 @@ examples:
   afdx bounds net.toml -o bounds.csv && afdx explain net.toml --bounds bounds.csv
         further warnings, of what may go wrong in the worst case
 
-what is told, in this order:
+what it prints, in this order:
   faults    by the number that `afdxsim` gives them, then by section, row and key; docs/FORMATS.md, section 4, has them.
-            Where the text is no TOML, what is in the lines that could be read is judged all the same
+            If the text is no TOML, the lines that can be read are judged all the same
   warnings  size above smax: every frame is dropped at the first switch
-            a destination that is reached by one network alone, where there are two
+            a destination that one network alone reaches, although there are two
             a period below the BAG: frames wait in the regulator, and are dropped once its depth is full
             a jitter of offers by which more frames may wait in the regulator than it holds, or longer than a BAG; then
-            most of a latency is the regulator's and not the network's (afdx second-opinion --hops tells them apart)
-            a line that gets more than 75 percent of what it carries, or more than 100
+            most of a latency is the regulator's and not the network's (afdx second-opinion --hops measures both)
+            a line whose load is above 75 percent, or above 100
             an end system whose transmit jitter by the rule of ARINC 664 Part 7 is above 500 us
             an outage that begins after the end; a virtual link that offers nothing before the end
             a BAG longer than the run
             with --bounds, of the worst case: accounts that may refuse frames, destinations to which neither network
             brings each frame, copies that may be further apart than SkewMax, ports that are too small
 
-Of more than ten warnings of one kind the first three are told, and how many more there are; --all tells each.
+Of more than ten warnings of one kind it prints the first three, and how many more there are; --all prints each.
 
-status: 0 where the description is accepted, with or without warnings; 1 where it has a fault; 2 where a word is wrong or
-the file cannot be read.
+status: 0 if the description is accepted, with or without warnings; 1 if it has a fault; 2 if a word is wrong or the
+file cannot be read.
 """
 
 # Of more warnings of one kind than the first number, the second number are printed, and how many more there are.

@@ -35,22 +35,22 @@ examples:
   afdx table --back net.toml -o tables.csv
         the tables of a description
 
-a table begins with a line that names its columns, and ends with an empty line or with the file. Its columns tell what
-it has. Columns marked * must be there; lines that begin with # are passed over:
+a table begins with a line that names its columns, and ends with an empty line or with the file. Its columns show what
+it has. Columns marked * are required. Lines that begin with # are ignored:
   virtual links   id*, source*, destinations* (names with blanks between), bag_ms, smax or payload (bytes), priority,
                   sub, policing, policing_jitter_ns, skew_max_ns, depth, size, offset_ns, period_ns, jitter_ns; bag_ms
-                  or period_ns must be there, and so must smax, size or payload. `via` names switches that come first
-                  where two ways are equally short, else the name decides; `a` and `b` state the paths of a network
-                  themselves, as `ADC SWA DU | ADC SWA FWC`, and - for none. Lines that differ in the destination alone
-                  are one virtual link. limit_us, udp_port, udp_source_port, udp_destination_port and remarks become
-                  comments
+                  or period_ns is required, and one of smax, size and payload. Of two ways that are equally short the
+                  one over a switch that `via` names is taken, else the name decides. `a` and `b` state the paths of a
+                  network themselves, as `ADC SWA DU | ADC SWA FWC`, and - for none. Lines that differ in the
+                  destination alone are one virtual link. limit_us, udp_port, udp_source_port, udp_destination_port and
+                  remarks become comments
   nodes           name*, kind (es or switch; a node with a net is a switch), net, port_bytes, latency_ns
   links           a*, b*, mbit, propagation_ns or length_m
   outages         from*, to*, from_ns*, to_ns*
   the run         until_ns, seed
-A node that has no line of its own is an end system. A time may be given in another unit: period_ms,
-jitter_us, until_s, and a period as a rate: rate_hz. Capital letters, blanks and brackets in the name of a column do not
-matter: `BAG (ms)` is bag_ms. docs/TOOLS.md, section 2, lists the other headings that are known; section 13 has more.
+A node that has no line of its own is an end system. A time may have another unit: period_ms, jitter_us, until_s; and a
+period may be a rate: rate_hz. Capital letters, blanks and brackets in the name of a column do not matter: `BAG (ms)` is
+bag_ms. docs/TOOLS.md, section 2, lists the other headings that are known; section 13 has more.
 
 status:
   0  the description is written. Error output has a note for each column, title or sheet that is ignored, and for what is

@@ -251,10 +251,10 @@ def with_program(words):
 def page_words(arguments):
     parser = argparse.ArgumentParser(
         prog="afdx page", usage="afdx page NET [TABLES] -o FILE [--by WHAT] [--program PATH] [--no-bounds] ..",
-        description="Explains a description, has it simulated, bounds its latencies and draws all of it: one page. With tables\n"
-        "that are there, behind NET, as those of a campaign, nothing is simulated.",
+        description="Explains a description, simulates it, bounds its latencies and draws all of it on one page. With TABLES,\n"
+        "such as those of a campaign, it simulates nothing.",
         epilog="All other options are those of afdx report (afdx page NET -o FILE --limits FILE, say): afdx report --help.\n"
-        "status: 0; 1 where the description has a fault; else that of the step that fails, which says why",
+        "status: 0; 1 if the description has a fault; else that of the step that fails, which prints why",
         formatter_class=argparse.RawDescriptionHelpFormatter,
     )
     add = parser.add_argument
@@ -395,7 +395,7 @@ def simulate_by_try(net, out, trace):
 def build(arguments):
     parser = argparse.ArgumentParser(
         prog="afdx build", description="Proves the program and all that it is made of, and builds it: crates/afdxsim/out/afdxsim.",
-        epilog="What is proved is kept on this machine, for ./test too. What `rt` said in full is in crates/afdxsim/out/build.log.",
+        epilog="The machine keeps what is proved, for ./test too. crates/afdxsim/out/build.log has all that `rt` printed.",
     )
     parser.add_argument("--jobs", type=model.whole(1, 1024), metavar="N", help="on at most N processors (default: all)")
     record = by_rt.build(parser.parse_args(arguments).jobs)
