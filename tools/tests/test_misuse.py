@@ -110,7 +110,7 @@ ROWS = [
     ("report net.toml copy.csv --seeds 1000 --first 9223372036854775000 -o page.html", 2, "net.toml: the seeds from 9223372036854775000 on would pass 9223372036854775807"),
     ("report net.toml copy.csv --seeds 2 -o page.html", 2, "copy.csv line 2: 2 frames of virtual link 1 would be sent to ES2, and the tables have 3 delivered, 0 copies and 0 lost; so they are tables of another run than that of net.toml"),
     ("report same.toml RUNS -o page.html", 2, "RUNS/merged.csv: these are tables of a campaign with another description: its checksum is '{net}', and that of same.toml is {same}"),
-    ("report same.toml tables.csv --bounds bounds.csv -o page.html", 2, "bounds.csv line 2: these are bounds of another description: its checksum is '{net}', and that of same.toml is {same}. afdx bounds makes them anew"),
+    ("report same.toml tables.csv --bounds bounds.csv -o page.html", 2, "bounds.csv line 2: these are bounds of another description: its checksum is '{net}', and that of same.toml is {same}. `afdx bounds` computes them anew"),
     ("report net.toml BAD -o page.html", 2, "BAD/campaign.json line 1: is no JSON: Expecting value"),
     ("report net.toml DEEP -o page.html", 2, "DEEP/campaign.json: is no JSON: a number is too long, or it is nested too deep"),
     ("report net.toml LACKS -o page.html", 2, "LACKS/campaign.json: is no record of a campaign: it has no description"),

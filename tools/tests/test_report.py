@@ -1122,7 +1122,7 @@ class WithoutABrowser(unittest.TestCase):
             (
                 "--bounds", of({"description": "0123456789abcdef"}),
                 "line 2: these are bounds of another description: its checksum is '0123456789abcdef', and that of "
-                f"{path} is {own}. afdx bounds makes them anew",
+                f"{path} is {own}. `afdx bounds` computes them anew",
             ),
         ):
             with self.subTest(said):

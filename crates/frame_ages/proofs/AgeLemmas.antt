@@ -88,10 +88,10 @@ module _ (x : Setting NodeState) (L : Laws (simulation_of (rules_of node) x)) (N
     no-starts r ss d k = every-weaker (λ s. Fit r s.put) Leaves (λ s fit e. absurd (d (prio s.put.line r (subst (λ z. IsThrough (x.opening h.from).equipment h.from_port z s.put.line r) e fit.through)))) ss k
 
     high-fit : Every (λ s. Fit High s.put) (high_starts idle (trace_at x h.from h.from_port h.outlet n))
-    high-fit = high-put (Fit High) (trace_at x h.from h.from_port h.outlet n) None [] [] tt (fits x L N size O h.from h.from_port h.outlet H.from_inside H.way.port n High)
+    high-fit = high-put (Fit High) (trace_at x h.from h.from_port h.outlet n) None [] [] tt (fits x L N size O h.from h.from_port h.outlet H.from_inside n High)
 
     low-fit : Every (λ s. Fit Low s.put) (low_starts idle (trace_at x h.from h.from_port h.outlet n))
-    low-fit = low-put (Fit Low) (trace_at x h.from h.from_port h.outlet n) None [] [] tt (fits x L N size O h.from h.from_port h.outlet H.from_inside H.way.port n Low)
+    low-fit = low-put (Fit Low) (trace_at x h.from h.from_port h.outlet n) None [] [] tt (fits x L N size O h.from h.from_port h.outlet H.from_inside n Low)
 
     cost-at : (r : Priority) (put : PutFrame) → Fit r put → put.cost ≡ busy_for put.frame.size byte_ns
     cost-at r put fit = fit.cost
@@ -139,11 +139,11 @@ module _ (x : Setting NodeState) (L : Laws (simulation_of (rules_of node) x)) (N
   first-puts : (h : Hop) → IsHop x size v h → IsFirstHop x h → IsHeld h.from → AllPutsAged h.from h.from_port h.outlet 0
   first-puts h H F held = record {
     high = every-weaker (PutFits h H High) (λ put. IsAged 0 put.at put.frame) (λ put fit e. absurd (not-high put.line (link_of put) (subst (λ z. IsThrough z h.from_port (link_of put) put.line High) F.is fit.through)))
-        (puts_with High (trace_at x h.from h.from_port h.outlet n)) (fits x L N size O h.from h.from_port h.outlet H.from_inside H.way.port n High);
+        (puts_with High (trace_at x h.from h.from_port h.outlet n)) (fits x L N size O h.from h.from_port h.outlet H.from_inside n High);
     low = every-weaker (λ put. PutFits h H Low put × (link_of put ≡ v → K put.frame)) (λ put. IsAged 0 put.at put.frame)
         (λ put k e. (let fresh : put.frame.released ≡ put.at = subst (λ z. IsFresh x L N size O h.from h.from_port H.from_inside h.outlet.ahead.byte_ns z put) F.is k.0.fresh in omega arith, k.1 e))
         (puts_with Low (trace_at x h.from h.from_port h.outlet n))
-        (every-both (PutFits h H Low) (λ put. link_of put ≡ v → K put.frame) (puts_with Low (trace_at x h.from h.from_port h.outlet n)) (fits x L N size O h.from h.from_port h.outlet H.from_inside H.way.port n Low) (held h.from_port h.outlet H.way.port));
+        (every-both (PutFits h H Low) (λ put. link_of put ≡ v → K put.frame) (puts_with Low (trace_at x h.from h.from_port h.outlet n)) (fits x L N size O h.from h.from_port h.outlet H.from_inside n Low) (held h.from_port h.outlet H.way.port));
   }
     where
       not-high : (line w : ℕ) → IsSentBy F.end_system h.from_port w line High → ⊥
@@ -171,7 +171,7 @@ module _ (x : Setting NodeState) (L : Laws (simulation_of (rules_of node) x)) (N
           (λ put k e. k.1 (line-is put.line r (subst (λ z. IsThroughSwitch X.switch h.from_port z put.line r) e (subst (λ z. IsThrough z h.from_port (link_of put) put.line r) X.is k.0.through))) e)
           (puts_with r (trace_at x h.from h.from_port h.outlet n))
           (every-both (λ put. IsPutFit x L N size O h.from h.from_port H.from_inside h.outlet.ahead.byte_ns r put) (λ put. put.line ≡ earlier.port → IsAged (age + h.before) put.at put.frame) (puts_with r (trace_at x h.from h.from_port h.outlet n))
-          (fits x L N size O h.from h.from_port h.outlet H.from_inside H.way.port n r)
+          (fits x L N size O h.from h.from_port h.outlet H.from_inside n r)
           (subst (λ z. Every (λ put. put.line ≡ earlier.port → IsAged (age + h.before) put.at put.frame) (puts_with r (trace_at x z h.from_port h.outlet n))) (sym X.from_there)
           (puts-have x L earlier.from earlier.from_port earlier.by earlier.to earlier.port E.from_inside E.by_inside E.to_inside N earlier.outlet earlier.line E.way X.switch at-switch h.from_port
           (IsAged (age + h.before)) h.outlet.ahead.byte_ns h.outlet.port r n came)))

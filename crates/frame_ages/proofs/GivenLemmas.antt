@@ -86,7 +86,7 @@ every-both P Q (x ∷ xs) h k = ((h.0, k.0), every-both P Q xs h.1 k.1)
 
 -- ---- numbers: what is below so many units and one more ns is no more ns
 
-below : (u a b : ℕ) → u * a < u * (b + 1) → a ≤ b
+pub below : (u a b : ℕ) → u * a < u * (b + 1) → a ≤ b
 below u a b h = elim (cases_lt b a) [ inl more ↦ absurd (let k : u * (b + 1) ≤ u * a = mul-le u (b + 1) u a (omega arith) (omega arith) in omega arith) | inr less ↦ less ]
 
 sent-by : (u burst delay sent at : ℕ) → u * sent ≤ u * at + burst → burst < u * (delay + 1) → sent ≤ at + delay
@@ -112,17 +112,17 @@ low-bounded scale bh rh bl rl es slow h high_within low_within = (low.are_bounde
 
 -- ---- a port
 
-module _ (x : Setting NodeState) (L : Laws (simulation_of (rules_of node) x)) (N : IsOfNodes x) (size : ℕ → ℕ) (O : OpensEmpty x size) (p q : ℕ) (outlet : Outlet) (inside : p < x.processes) (is : outlet_in (x.opening p).equipment q ≡ Some outlet) (n : ℕ) where
+module _ (x : Setting NodeState) (L : Laws (simulation_of (rules_of node) x)) (N : IsOfNodes x) (size : ℕ → ℕ) (O : OpensEmpty x size) (p q : ℕ) (outlet : Outlet) (inside : p < x.processes) (n : ℕ) where
   abbrev f : Simulation Message NodeState NodeRecord Note
   f = simulation_of (rules_of node) x
 
   abbrev byte_ns : ℕ
   byte_ns = outlet.ahead.byte_ns
 
-  abbrev puts : Priority → List PutFrame
+  abbrev pub puts : Priority → List PutFrame
   puts r = puts_with r (trace_at x p q outlet n)
 
-  abbrev Fit : Priority → PutFrame → Type 0
+  abbrev pub Fit : Priority → PutFrame → Type 0
   Fit r put = IsPutFit x L N size O p q inside byte_ns r put
 
   pub all-puts : AllPuts (IsPutFit x L N size O p q inside byte_ns) byte_ns (trace_at x p q outlet n)
@@ -228,6 +228,7 @@ module _ (x : Setting NodeState) (L : Laws (simulation_of (rules_of node) x)) (N
           (keyed (λ put. true) (λ put. put.line) (lines_of groups) (puts r) (every-weaker (Fit r) (λ put. true ≡ true → IsAmong put.line (lines_of groups))
           (λ put k e. (h.listed (link_of put) put.line k.through).line_in) (puts r) (fits r)))
 
+module _ (x : Setting NodeState) (L : Laws (simulation_of (rules_of node) x)) (N : IsOfNodes x) (size : ℕ → ℕ) (O : OpensEmpty x size) (p q : ℕ) (outlet : Outlet) (inside : p < x.processes) (is : outlet_in (x.opening p).equipment q ≡ Some outlet) (n : ℕ) where
   served : IsServed idle 0 (trace_at x p q outlet n)
   served = are_ports_served x p q L inside N outlet is (idle-at (x.opening p).equipment q outlet (O.ports p inside) is) n
 
@@ -236,17 +237,17 @@ module _ (x : Setting NodeState) (L : Laws (simulation_of (rules_of node) x)) (N
       every-weaker (IsHighInTime (h.whole * h.scale) (groups_burst h.whole h.high + (h.whole * h.scale) * h.most)) (λ s. s.at + s.put.cost ≤ s.put.at + delay)
       (λ s k. sent-by (h.whole * h.scale) (groups_burst h.whole h.high + (h.whole * h.scale) * h.most) delay (s.at + s.put.cost) s.put.at k h.within)
       (high_starts idle (trace_at x p q outlet n))
-      (high-bounded (h.whole * h.scale) (groups_burst h.whole h.high) (groups_rate h.whole h.high) h.most (trace_at x p q outlet n) h.rate served (all-within High h.scale h.whole h.high h.high_are)
-      (every-weaker (Fit Low) (λ put. put.cost ≤ h.most) (λ put k. let low = h.low_costs (link_of put) put.line k.through in let same = cost-is Low put k in omega arith) (puts Low) (fits Low)))
+      (high-bounded (h.whole * h.scale) (groups_burst h.whole h.high) (groups_rate h.whole h.high) h.most (trace_at x p q outlet n) h.rate served (all-within x L N size O p q outlet inside n High h.scale h.whole h.high h.high_are)
+      (every-weaker (Fit x L N size O p q outlet inside n Low) (λ put. put.cost ≤ h.most) (λ put k. let low = h.low_costs (link_of put) put.line k.through in let same = cost-is x L N size O p q outlet inside n Low put k in omega arith) (puts x L N size O p q outlet inside n Low) (fits x L N size O p q outlet inside n Low)))
 
   pub lows-in-time : (v delay : ℕ) → IsLowBound x size p q outlet v delay → Every (λ s. link_of s.put ≡ v → s.at ≤ s.put.at + delay) (low_starts idle (trace_at x p q outlet n))
   lows-in-time v delay h =
-      every-weaker (λ s. Fit Low s.put × IsLowInTime (h.whole * h.scale) (groups_burst h.whole h.high + groups_burst h.whole h.low) (groups_rate h.whole h.high) s) (λ s. link_of s.put ≡ v → s.at ≤ s.put.at + delay)
-      (λ s k e. start-by (h.whole * h.scale) (groups_rate h.whole h.high) (groups_burst h.whole h.high + groups_burst h.whole h.low) delay (busy_for (size v) byte_ns) s.at s.put.at h.some
+      every-weaker (λ s. Fit x L N size O p q outlet inside n Low s.put × IsLowInTime (h.whole * h.scale) (groups_burst h.whole h.high + groups_burst h.whole h.low) (groups_rate h.whole h.high) s) (λ s. link_of s.put ≡ v → s.at ≤ s.put.at + delay)
+      (λ s k e. start-by (h.whole * h.scale) (groups_rate h.whole h.high) (groups_burst h.whole h.high + groups_burst h.whole h.low) delay (busy_for (size v) outlet.ahead.byte_ns) s.at s.put.at h.some
       (subst (λ z. (h.whole * h.scale) * (s.at + z) + groups_rate h.whole h.high * s.put.at ≤ (h.whole * h.scale) * s.put.at + (groups_rate h.whole h.high * s.at + (groups_burst h.whole h.high + groups_burst h.whole h.low)))
-      (cost-is Low s.put k.0 ∙ ap (λ z. busy_for (size z) byte_ns) e) k.1) h.within)
+      (cost-is x L N size O p q outlet inside n Low s.put k.0 ∙ ap (λ z. busy_for (size z) outlet.ahead.byte_ns) e) k.1) h.within)
       (low_starts idle (trace_at x p q outlet n))
-      (every-both (λ s. Fit Low s.put) (IsLowInTime (h.whole * h.scale) (groups_burst h.whole h.high + groups_burst h.whole h.low) (groups_rate h.whole h.high)) (low_starts idle (trace_at x p q outlet n))
-      (low-put (Fit Low) (trace_at x p q outlet n) None [] [] tt (fits Low))
+      (every-both (λ s. Fit x L N size O p q outlet inside n Low s.put) (IsLowInTime (h.whole * h.scale) (groups_burst h.whole h.high + groups_burst h.whole h.low) (groups_rate h.whole h.high)) (low_starts idle (trace_at x p q outlet n))
+      (low-put (Fit x L N size O p q outlet inside n Low) (trace_at x p q outlet n) None [] [] tt (fits x L N size O p q outlet inside n Low))
       (low-bounded (h.whole * h.scale) (groups_burst h.whole h.high) (groups_rate h.whole h.high) (groups_burst h.whole h.low) (groups_rate h.whole h.low) (trace_at x p q outlet n) h.rates served
-      (all-within High h.scale h.whole h.high h.high_are) (all-within Low h.scale h.whole h.low h.low_are)))
+      (all-within x L N size O p q outlet inside n High h.scale h.whole h.high h.high_are) (all-within x L N size O p q outlet inside n Low h.scale h.whole h.low h.low_are)))

@@ -39,7 +39,7 @@ use Rattle.frame_ages.proofs.GivenLemmas.{every-weaker, fits}
 use Rattle.frame_ages.proofs.NoteLemmas.{IsDelivery, delivered-come}
 use Rattle.frame_ages.proofs.PutLemmas.{IsPutFit}
 
-kept-in : {X : Type 0} (P : X → Type 0) (test : X → Bool) (xs : List X) → All P (filter test xs) → All (λ x. test x ≡ true → P x) xs
+pub kept-in : {X : Type 0} (P : X → Type 0) (test : X → Bool) (xs : List X) → All P (filter test xs) → All (λ x. test x ≡ true → P x) xs
 kept-in P test [] h = All-nil (λ x. test x ≡ true → P x)
 kept-in P test (x ∷ xs) h = go (test x) refl h (λ k. kept-in P test xs k)
   where
@@ -47,7 +47,7 @@ kept-in P test (x ∷ xs) h = go (test x) refl h (λ k. kept-in P test xs k)
     go true e k rest = All-cons (λ x. test x ≡ true → P x) x xs (λ t. All-head P x (filter test xs) k) (rest (All-tail P x (filter test xs) k))
     go false e k rest = All-cons (λ x. test x ≡ true → P x) x xs (λ t. absurd (let z : ⊥ = cc in z)) (rest k)
 
-some-before : (a : Option PortEvent) (o : Option Outlet) (outlet : Outlet) → option_map (done_at a) o ≡ Some outlet → (before : Outlet) × (o ≡ Some before)
+pub some-before : (a : Option PortEvent) (o : Option Outlet) (outlet : Outlet) → option_map (done_at a) o ≡ Some outlet → (before : Outlet) × (o ≡ Some before)
 some-before a None outlet h = absurd (let z : ⊥ = cc in z)
 some-before a (Some before) outlet h = (before, refl)
 
@@ -102,7 +102,7 @@ module _ (x : Setting NodeState) (L : Laws (simulation_of (rules_of node) x)) (N
       none : (r : Priority) → Every (λ put. link_of put ≡ v → ⊥) (puts_with r (trace_at x C.from C.from_port C.outlet n))
       none r = every-weaker (λ put. IsPutFit x L N size O C.from C.from_port C.from_inside C.outlet.ahead.byte_ns r put) (λ put. link_of put ≡ v → ⊥)
           (λ put k e. C.barred put.line r (subst (λ z. IsThrough (x.opening C.from).equipment C.from_port z put.line r) e k.through))
-          (puts_with r (trace_at x C.from C.from_port C.outlet n)) (fits x L N size O C.from C.from_port C.outlet C.from_inside C.way.port n r)
+          (puts_with r (trace_at x C.from C.from_port C.outlet n)) (fits x L N size O C.from C.from_port C.outlet C.from_inside n r)
 
   module _ (source to wait most : ℕ) (held : IsHeldWithin x source v wait) (C : ComesWithin x size v source to most) where
     all-come : AllComeTimely v (wait + most) (x.opening to).equipment (events f n to)

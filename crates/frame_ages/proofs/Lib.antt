@@ -13,3 +13,6 @@ pub mod RegulatorTurns
 pub mod ReleaseTimer
 pub mod WaitLemmas
 pub mod HeldLemmas
+pub mod RoomLemmas
+pub mod FullNotes
+pub mod KeptLemmas

@@ -3,3 +3,4 @@ pub mod Ways
 pub mod Sizes
 pub mod Latencies
 pub mod Waits
+pub mod Rooms

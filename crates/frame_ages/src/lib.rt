@@ -3,6 +3,7 @@
 
 ghost use Rattle.frame_ages.specs.Latencies.{AreLatenciesBounded};
 ghost use Rattle.frame_ages.specs.Ports.{AreHighsInTime, AreLowsInTime};
+ghost use Rattle.frame_ages.specs.Rooms.{AreFramesKept};
 ghost use Rattle.frame_ages.specs.Sizes.{AreAllSized};
 ghost use Rattle.frame_ages.specs.Waits.{AreListsHeld, ArePeriodsHeld};
 
@@ -32,4 +33,10 @@ pub fn latencies_law()
 pub fn waits_law()
     ensures lists { AreListsHeld }
     ensures periods { ArePeriodsHeld }
+{}
+
+/// In the one-thread run a node whose ports have room drops no frame because a port is full: at each of its ports the bound of the bytes that wait,
+/// with the frame that is put, is no more than the port's bytes.
+pub fn rooms_law()
+    ensures kept { AreFramesKept }
 {}

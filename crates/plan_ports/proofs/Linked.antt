@@ -48,7 +48,7 @@ use Rattle.plan_ports.proofs.Entries.{all-entry, entry-made, entry_of, made-entr
 -- ---- the ports of a virtual link
 
 -- one that passes a test
-has-passed : {X : Type 0} (test : X → Bool) (xs : List X) → list_any test xs ≡ true → (x : X) × Has xs x × (test x ≡ true)
+pub has-passed : {X : Type 0} (test : X → Bool) (xs : List X) → list_any test xs ≡ true → (x : X) × Has xs x × (test x ≡ true)
 has-passed test [] h = absurd (false≢true h)
 has-passed {X} test (x ∷ xs) h = go (test x) refl h (has-passed test xs)
   where
@@ -70,7 +70,7 @@ output-is : (ways : List Way) (q : ℕ) → IsAmong q (marked_from 0 (ports_by w
 unfolding ports_by
 output-is ways q there = marked-is (is_by ways) GREATEST_PORTS 0 q there
 
-own-all : (id : ℕ) (ways : List Way) (way : Way) → AreOf id ways → Has ways way → way.vl.0 ≡ id
+pub own-all : (id : ℕ) (ways : List Way) (way : Way) → AreOf id ways → Has ways way → way.vl.0 ≡ id
 own-all id [] way all there = absurd there
 own-all id (w ∷ ways) way all (inl same) = ap (λ (x : Way). x.vl.0) (sym same) ∙ all.0
 own-all id (w ∷ ways) way all (inr there) = own-all id ways way all.1 there
@@ -181,7 +181,7 @@ module _ (plan : Plan) (accepted : IsAccepted plan) where
       same_Some other vl (sym (all-entry id_of plan.vls other rising there') ∙ ap (entry_of id_of plan.vls) same ∙ all-entry id_of plan.vls vl rising there)
 
   -- the way by which it leaves is its own
-  own-way : (p q : ℕ) (vl : VlPlan) → LeavesBy plan p q vl → Has (ways_at plan p Out vl) (record { vl = vl.link.id; port = q })
+  pub own-way : (p q : ℕ) (vl : VlPlan) → LeavesBy plan p q vl → Has (ways_at plan p Out vl) (record { vl = vl.link.id; port = q })
   own-way p q vl l =
       let is_vl = has-from_contains plan.vls vl l.is_vl in
       let (other, there, by) = flat_map-has (leaves p (lines_of plan) plan.links) plan.vls (record { vl = vl.link.id; port = q }) (has-from_contains (departures_of plan p) _ l.way) in
@@ -218,7 +218,7 @@ module _ (plan : Plan) (accepted : IsAccepted plan) where
   are-offers = all-offered plan (IsOfferOf plan) (λ vl source k there from. record { vl = vl; is_vl = contains-from_has plan.vls vl there; sub = k % vl.link.sub; to_source = from; is = refl })
 
   -- it comes in at each switch that it leaves
-  comes-in : (p q : ℕ) (vl : VlPlan) → LeavesBy plan p q vl → is_end_system plan.nodes p ≡ false → not (is_none (ways_at plan p In vl)) ≡ true
+  pub comes-in : (p q : ℕ) (vl : VlPlan) → LeavesBy plan p q vl → is_end_system plan.nodes p ≡ false → not (is_none (ways_at plan p In vl)) ≡ true
   comes-in p q vl l switch =
       let out : IsOutput plan vl p q = contains-from_has (leaves p (lines_of plan) plan.links vl) _ (own-way p q vl l) in
       let faces = output-faces plan vl p q out in

@@ -94,7 +94,7 @@ module _ (plan : Plan) (accepted : IsAccepted plan) (own : HaveOwnPorts plan) (k
   within-ports : line.from_port < GREATEST_PORTS
   within-ports = (line-within plan k line accepted read).from_port
 
-  within-two : is_end_system plan.nodes line.from ≡ true → line.from_port < 2
+  pub within-two : is_end_system plan.nodes line.from ≡ true → line.from_port < 2
   unfolding HasFewPorts
   within-two = read-item (HasFewPorts plan.nodes) (lines_of plan) k line (All-from_recursion (HasFewPorts plan.nodes) (lines_of plan) (few-ports plan.nodes [] plan.links)) read
 

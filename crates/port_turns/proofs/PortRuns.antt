@@ -1,5 +1,6 @@
 -- Why a port in the one-thread run is, for its bounds, a port that is served.
 use Rattle.std.proofs.Common.{◌≡◌, ℕ, ◌<◌, ◌≤◌, Bool, true, false, List, [], ◌∷◌, ◌++◌, Option, Some, None, is_some, refl, sym, ap, ◌∙◌, subst, arith, eq-eqb, append-nil}
+use Rattle.std.specs.Prelude.{⊤}
 use Rattle.vlink.specs.declared.message.Message.{Message}
 use Rattle.vlink.specs.declared.note.Note.{Note}
 use Rattle.output_port.specs.Port.{PortState, port}
@@ -13,7 +14,7 @@ use Rattle.timers.specs.Timer.{AreOnTime, IsOnTime}
 use Rattle.port_bounds.specs.Pacing.{AreBetween}
 use Rattle.port_bounds.specs.Port.{IsBy, IsServed, Port, idle}
 use Rattle.port_bounds.specs.Port as bounded
-use Rattle.element_bounds.specs.PortTrace.{IsSamePort, seen_as, trace_of}
+use Rattle.element_bounds.specs.PortTrace.{IsSamePort, PortEventAt, seen_as, trace_of}
 use Rattle.element_bounds.proofs.TraceLemmas as trace
 use Rattle.nodes.specs.declared.equipment.Equipment.{Equipment}
 use Rattle.nodes.specs.declared.node.NodeRecord.{NodeRecord}
@@ -35,6 +36,20 @@ stays true g (Some u) e s = s
 stays true g None e s = absurd (let z : ⊥ = cc in z)
 stays false g None e s = refl
 stays false g (Some u) e s = absurd (let z : ⊥ = cc in z)
+
+-- what is asked of the port comes at moments that do not fall, and no later than the line is free
+abbrev pub AreAskedBy : ℕ → PortState → Port → ℕ → List PortEventAt → Type 0
+AreAskedBy byte_ns p a now [] = ⊤
+AreAskedBy byte_ns p a now (e ∷ es) = (now ≤ e.at) × IsBy e.at a.until × AreAskedBy byte_ns (port.after p e.event) (bounded.after a (seen_as byte_ns e.at e.line e.event (port.out p e.event))) e.at es
+
+asked-sooner : (byte_ns : ℕ) (p : PortState) (a : Port) (now t : ℕ) (es : List PortEventAt) → now ≤ t → AreAskedBy byte_ns p a t es → AreAskedBy byte_ns p a now es
+asked-sooner byte_ns p a now t [] l h = tt
+asked-sooner byte_ns p a now t (e ∷ es) l h = (omega (arith, h.0), h.1, h.2)
+
+-- both of the port of which bounds are known
+pub record RunsWell (byte_ns : ℕ) (p : PortState) (a : Port) (now : ℕ) (es : List PortEventAt) : Type 0 where
+  pub served : IsServed a now (trace_of byte_ns p es)
+  pub asked : AreAskedBy byte_ns p a now es
 
 module _ (x : Setting NodeState) (p q : ℕ) where
   abbrev f : Simulation Message NodeState NodeRecord Note
@@ -67,8 +82,8 @@ module _ (x : Setting NodeState) (p q : ℕ) where
       subst (λ es. IsSamePort (port.after port' e) (bounded.after a es)) (append-nil (seen_as byte_ns t line e (port.out port' e))) (trace.same byte_ns port' a (record { at = t; line = line; event = e } ∷ []) s).0
 
   run-served : (s : NodeState) (g : Option ℕ) (a : Port) (outlet : Outlet) (ms : List Message) (now u : ℕ) → s.sender.number ≡ p →
-      AreTimely s g ms → AreBetween now u (times_of ms) → AreTo p ms → Fits s.equipment g a outlet → IsServed a now (trace_of outlet.ahead.byte_ns outlet.port (port_events q s ms))
-  run-served s g a outlet [] now u n h b mine fit = tt
+      AreTimely s g ms → AreBetween now u (times_of ms) → AreTo p ms → Fits s.equipment g a outlet → RunsWell outlet.ahead.byte_ns outlet.port a now (port_events q s ms)
+  run-served s g a outlet [] now u n h b mine fit = record { served = tt; asked = tt }
   run-served s g a outlet (m ∷ ms) now u n h b mine fit =
       go (asks q m s.equipment) refl (λ a' outlet' fit'. run-served (after s m) (alarm s m g) a' outlet' ms m.time u n h.1 b.1 mine.1 fit')
     where
@@ -86,29 +101,35 @@ module _ (x : Setting NodeState) (p q : ℕ) where
           sym fit.set ∙ h.0.at_moment (rw (eq-eqb m.receiver p mine.0) is)
 
       go : (o : Option PortEvent) → asks q m s.equipment ≡ o →
-          ((a' : Port) (outlet' : Outlet) → Fits (after s m).equipment (alarm s m g) a' outlet' → IsServed a' m.time (trace_of outlet'.ahead.byte_ns outlet'.port (port_events q (after s m) ms))) →
-          IsServed a now (trace_of outlet.ahead.byte_ns outlet.port (asked_at m.time (input_of m.body s.equipment) o ++ port_events q (after s m) ms))
+          ((a' : Port) (outlet' : Outlet) → Fits (after s m).equipment (alarm s m g) a' outlet' → RunsWell outlet'.ahead.byte_ns outlet'.port a' m.time (port_events q (after s m) ms)) →
+          RunsWell outlet.ahead.byte_ns outlet.port a now (asked_at m.time (input_of m.body s.equipment) o ++ port_events q (after s m) ms)
       go None e rest =
-          served-sooner a now m.time _ b.0 (rest a outlet (record {
+          let r = rest a outlet (record {
             is = outlet-is None e;
             same = fit.same;
             set = alarm-is None e ∙ stays outlet.port.busy g a.until fit.same.busy fit.set;
             high = fit.high;
             low = fit.low;
-          }))
+          }) in
+          record { served = served-sooner a now m.time _ b.0 r.served; asked = asked-sooner outlet.ahead.byte_ns outlet.port a now m.time _ b.0 r.asked }
       go (Some event) e rest =
           let line = input_of m.body s.equipment in
           let now_goes = goes p m.time q (input_of m.body s.equipment) outlet.ahead g outlet.port a event fit.same fit.set (by m.time g a.until fit.set h.0.not_later) (free-is event e) fit.high fit.low in
-          now_goes.served now _ b.0 (rest (bounded.after a (seen_as outlet.ahead.byte_ns m.time (input_of m.body s.equipment) event (port.out outlet.port event))) (done_at (Some event) outlet) (record {
+          let r = rest (bounded.after a (seen_as outlet.ahead.byte_ns m.time (input_of m.body s.equipment) event (port.out outlet.port event))) (done_at (Some event) outlet) (record {
             is = outlet-is (Some event) e;
             same = one_trace outlet.ahead.byte_ns m.time (input_of m.body s.equipment) outlet.port event a fit.same;
             set = alarm-is (Some event) e ∙ now_goes.set;
             high = now_goes.high;
             low = now_goes.low;
-          }))
+          }) in
+          record { served = now_goes.served now _ b.0 r.served; asked = (b.0, by m.time g a.until fit.set h.0.not_later, r.asked) }
+
+  pub ports-run-well : (L : Laws f) → p < x.processes → IsOfNodes x → (outlet : Outlet) → outlet_in (x.opening p).equipment q ≡ Some outlet → IsSamePort outlet.port idle → (n : ℕ) →
+      RunsWell outlet.ahead.byte_ns outlet.port idle 0 (port_events q (x.opening p) (events f n p))
+  ports-run-well L inside N outlet is same n =
+      run-served (x.opening p) None idle outlet (events f n p) 0 x.until (N.number p inside) (are_ports_on_time x p q inside N (busy-is q (x.opening p).equipment (Some outlet) is ∙ same.busy) L n) (events-between x p L n) (events-to p (one f n).handled)
+      (record { is = is; same = same; set = refl; high = tt; low = tt })
 
   pub are_ports_served : (L : Laws f) → p < x.processes → IsOfNodes x → (outlet : Outlet) → outlet_in (x.opening p).equipment q ≡ Some outlet → IsSamePort outlet.port idle → (n : ℕ) →
       IsServed idle 0 (trace_of outlet.ahead.byte_ns outlet.port (port_events q (x.opening p) (events f n p)))
-  are_ports_served L inside N outlet is same n =
-      run-served (x.opening p) None idle outlet (events f n p) 0 x.until (N.number p inside) (are_ports_on_time x p q inside N (busy-is q (x.opening p).equipment (Some outlet) is ∙ same.busy) L n) (events-between x p L n) (events-to p (one f n).handled)
-      (record { is = is; same = same; set = refl; high = tt; low = tt })
+  are_ports_served L inside N outlet is same n = (ports-run-well L inside N outlet is same n).served

@@ -14,7 +14,7 @@ HALF = 2 ** (DIGITS - 1)
 # How many bins are kept together, those of an octave, with how many bytes for each until more are needed; and of a trace how
 # many bytes are read at once.
 TOGETHER = HALF
-SIZES = ["H", "I", "Q"]
+SIZES = ["B", "H", "I", "Q"]
 BLOCK = 2**22
 DELIVERED = re.compile(rb"^[0-9]+,([^,\n]+,[0-9]+),delivered,([0-9]{1,19})$", re.MULTILINE)
 
@@ -41,21 +41,21 @@ class Counts:
         self.parts = {}
 
     def add(self, found):
-        """Adds how many there were in bins, by their numbers."""
+        """Adds how many there were in bins, given as numbers of bins with counts."""
         parts = self.parts
-        for number, count in found.items():
+        for number, count in found:
             place = number % TOGETHER
             try:
                 parts[number // TOGETHER][place] += count
             except KeyError:
-                self.widen(number // TOGETHER, array(SIZES[0], bytes(2 * TOGETHER)), place, count)
+                self.widen(number // TOGETHER, array(SIZES[0], bytes(TOGETHER)), place, count)
             except OverflowError:
                 self.widen(number // TOGETHER, parts[number // TOGETHER], place, count)
 
     def widen(self, which, part, place, count):
         """Puts a part into its place, with room for such a count."""
         more = part[place] + count
-        size = max(SIZES.index(part.typecode), sum(more >= 2**bits for bits in (16, 32)))
+        size = max(SIZES.index(part.typecode), sum(more >= 2**bits for bits in (8, 16, 32)))
         self.parts[which] = array(SIZES[size], part)
         self.parts[which][place] = more
 
@@ -82,7 +82,7 @@ class Counts:
 
 
 def of_trace(path, tables):
-    """For each virtual link and destination, in the order of the tables, how many frames came in each bin. A trace that has not
+    """For each virtual link and destination, in the order of the tables, how many frames came in each bin, as `bins_of` has it. A trace that has not
     what the tables have is refused."""
     found = {f"{where},{vl}".encode(): array("Q") for vl, where in tables.latencies}
     with open(path, "rb") as file:
@@ -100,10 +100,12 @@ def of_trace(path, tables):
 
 
 def bins_of(path, latencies, row):
-    """How many of these latencies are in each bin; they must be those of a row of the tables."""
+    """How many of these latencies are in each bin, as the numbers of the bins and the counts, which another process is soon given;
+    they must be those of a row of the tables."""
     count = len(latencies)
     if (count, min(latencies, default=0), max(latencies, default=0), sum(latencies)) != row[2:6]:
         raise Fault(path, None, f"is of another run than the tables: {count} frames of virtual link {row.vl} came to {row.where}")
     # As bin_of does, without a call for each.
     numbers = [ns if (shift := ns.bit_length() - DIGITS) <= 0 else shift * HALF + (ns >> shift) for ns in latencies]
-    return dict(Counter(numbers))
+    found = Counter(numbers)
+    return array("H", found), array("I", found.values())

@@ -56,7 +56,7 @@ class Merged:
             mine[0] += count
             mine[3] += total
         for over, times in zip(self.over_seeds.values(), told.times or ()):
-            over.counts.add(times)
+            over.counts.add(zip(*times))
         for key, count in told.losses.items():
             mine = self.losses.setdefault(key, [0, 0, None])
             mine[0] += count
