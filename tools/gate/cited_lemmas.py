@@ -1,13 +1,13 @@
 #!/usr/bin/env python3
 """Lists the files of lemmas that proofs of other crates cite: `use Rattle.CRATE.proofs.FILE` in a crate that is not CRATE.
 
-    python3 tools/gate/cited_lemmas.py            prints the list
-    python3 tools/gate/cited_lemmas.py --write    puts it into docs/ARCHITECTURE.md, between the two marks there
+    python3 -m gate.cited_lemmas            prints the list
+    python3 -m gate.cited_lemmas --write    puts it into docs/ARCHITECTURE.md, between the two marks there
 
-Who changes a file of this list has to check the crates that stand beside it. What the compiler derives of a type, that it
+After a change in a file of this list, check the crates that stand beside it. What the compiler derives of a type, that it
 may go to a thread (`TheSendSync`), stands in no file and is not listed.
 
-tools/tests/test_crates.py holds the document against the list.
+tools/tests/test_crates.py compares the document with the list.
 """
 import argparse
 import collections

@@ -4,7 +4,7 @@
     python3 -m gate.qualification --write    puts the tables into docs/QUALIFICATION.md, between the marks there
 
 RULES has the data. `check` compares them with the sources: each rule of TRAFFIC has a line, and each file, definition,
-function, clause, edit and row that a line names exists. tools/tests/test_qualification.py holds both, and the document.
+function, clause, edit and row that a line names exists. tools/tests/test_qualification.py checks both, and the document.
 """
 import argparse
 import os

@@ -1,7 +1,7 @@
 """Files as the tools read and write them, and how a tool ends.
 
-What a tool has read it does not write over, and no two of the files that it writes are one: files are told apart by what
-they are, and not by how they are called. A name that is written stays what it is: a link, a mode, a device. A plain file
+A tool does not write over what it has read, and no two of the files that it writes are one: files are compared by what
+they are, and not by their names. A name that is written stays what it is: a link, a mode, a device. A plain file
 is replaced whole or not at all.
 
     @files.tool("afdx bounds")               # one line and a status for whatever ends the tool
@@ -103,7 +103,7 @@ class Known:
         self.read, self.written = {}, {}
 
     def note(self, where, path, found):
-        """Notes a file of which the system tells this, where it keeps what is written to it."""
+        """Notes a file of which the system reports this, if it keeps what is written to it."""
         if keeps_bytes(found.st_mode):
             where.setdefault((found.st_dev, found.st_ino), path)
 
@@ -381,7 +381,7 @@ def output():
 
 
 def is_same_file(one, other):
-    """Whether two names are those of one file, as far as the host can tell."""
+    """Whether two names are those of one file, as far as the host can see."""
     return os.path.exists(one) and os.path.exists(other) and os.path.samefile(one, other)
 
 
@@ -481,7 +481,7 @@ def why(ended):
 
 
 def status_of(main, arguments):
-    """The status of a tool, and why it ended where that is to be told."""
+    """The status of a tool, and why it ended if that is to be printed."""
     try:
         settle_streams()
         status = main(arguments)

@@ -1,6 +1,6 @@
-"""A reader of TOML 1.1 that tells the line of each key, of each table and of each item of a list.
+"""A reader of TOML 1.1 that gives the line of each key, of each table and of each item of a list.
 
-Python's own reader (tomllib) reads TOML 1.0 and tells no lines. This one takes just the texts that `afdxsim` takes: an
+Python's own reader (tomllib) reads TOML 1.0 and gives no lines. This one takes just the texts that `afdxsim` takes: an
 integer has 64 signed bits, a float is finite, arrays and inline tables are at most 80 deep in one another, and so are
 the parts of a key.
 
@@ -55,7 +55,7 @@ class BadToml(Exception):
 
 
 class Table(dict):
-    """A table, and the lines of its keys. What made it, a header, a dotted key or a value, tells what may be added. The lines are
+    """A table, and the lines of its keys. What may be added depends on what made it: a header, a dotted key or a value. The lines are
     numbers in the order of the keys, of which none is ever taken out: a network of 65,536 virtual links has a million of them."""
 
     __slots__ = ("line", "origin", "numbers")

@@ -12,7 +12,7 @@ CLEARED = b"\r\x1b[K"
 
 
 class Watch:
-    """Tells what a tool does, as long as its block lasts."""
+    """Prints what a tool does, as long as its block lasts."""
 
     def __init__(self, name):
         self.name, self.text, self.begin = name, "works", time.monotonic()

@@ -18,7 +18,7 @@ BEGIN = b"PK\x03\x04"
 
 
 def is_workbook(path):
-    """Whether a file begins as a workbook does. One that cannot be read is none; who reads it tells that."""
+    """Whether a file begins as a workbook does. One that cannot be read is none; its reader reports that."""
     try:
         with open(path, "rb") as file:
             return file.read(len(BEGIN)) == BEGIN

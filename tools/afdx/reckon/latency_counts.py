@@ -1,7 +1,7 @@
 """How often there was each latency, in bins of less than 0.1 percent, so that it takes little memory however many frames there are.
 
 Up to 2047 ns a bin is one ns. Above, each octave has 1,024 bins of one length: a bin goes from ns with 11 binary digits, and zeros
-behind them, to the next such number. So whole numbers tell the bin, and bins of all runs are the same ones.
+behind them, to the next such number. So whole numbers give the bin, and all runs have the same bins.
 """
 import re
 from array import array
@@ -37,7 +37,7 @@ class Counts:
     __slots__ = ("parts",)
 
     def __init__(self):
-        # The counts of so many bins together, by the number of the first of them divided by that.
+        # The counts of some bins together, by the number of the first of them divided by how many they are.
         self.parts = {}
 
     def add(self, found):
@@ -70,7 +70,7 @@ class Counts:
                     yield first * TOGETHER + place, count
 
     def percentiles(self, percents, greatest):
-        """For each percentage the end of the bin in which the frame is that so many percent do not exceed (the nearest rank), or
+        """For each percentage the end of the bin of the frame that this percentage does not exceed (the nearest rank), or
         the greatest latency of all, where that is less. None where no frame came."""
         total = self.total()
         ranks, found, passed = [-(-total * percent // 100) for percent in percents], [], 0
