@@ -1,6 +1,7 @@
 //! `bounds NET`: writes how long frames take at most, and how many bytes wait at most, in any run of a network.
 ghost use Rattle.std.specs.Prelude.{◌≡◌, ◌≢◌, ℕ, true, List, IfErr, OnOk};
 ghost use Rattle.network_bounds.specs.Text.{IsBoundsText};
+ghost use Rattle.plan_bounds.specs.Latencies.{AreLatencyBounds};
 ghost use Rattle.commands.specs.declared.fault.Fault.TheVariants.{CannotWrite};
 ghost use Rattle.commands.specs.Bounding.{ShowsBounds};
 ghost use Rattle.commands.specs.Ending.{Took, IsFaultOfOutput};
@@ -11,6 +12,7 @@ use crate::fault::Fault;
 use crate::host::Host;
 use network::Network;
 use network_bounds::write_bounds;
+use plan_bounds::bounds_law;
 use std::alloc::Global;
 use trace_tables::{OutFault, Sink};
 
@@ -33,12 +35,16 @@ fn show_bounds<O: Sink>(
 }
 
 /// Writes bounds of the network to standard output. It runs nothing, and makes no offers.
+///
+/// - `holds`: in the one-thread run of the network no frame is delivered later after its offer than these bounds say.
 pub fn bounds<H: Host>(alloc: Global, network: &Network, host: &mut H) -> Result<(), Fault<'static>>
+    ensures holds { AreLatencyBounds network.now }
     ensures text { OnOk result (ShowsBounds H.outside host.old host.new network.now) }
     ensures left { OnOk result (ShowsAlone H.outside host.old host.new) }
     ensures fault { IfErr result (LacksOutput H.outside true host.old host.new) }
     ensures kept { IfErr result (λ fault. fault ≢ CannotWrite → H.outside.output host.new ≡ H.outside.output host.old) }
     ensures quiet { IsQuiet H.outside host.old host.new }
 {
+    bounds_law(network);
     show_bounds(alloc, network, host.output())
 }
