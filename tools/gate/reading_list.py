@@ -251,10 +251,10 @@ class Tree:
             rows += [f"| {'' if at else f'`{crate}`'} | {file} | {says} |" for at, (file, says) in enumerate(lines)]
         return "\n".join(rows)
 
-    def lists(self, table=None):
-        """What the document has: the two tables, each with a line that counts. `table` prints files by their names, unless
-        the caller gives another one."""
-        table = table or self.named
+    def lists(self, whole=False):
+        """What the document has: the two tables, each with a line that counts. With `whole` it is what the tool prints: what
+        each file says of itself, and the names of the files that `run` does not need."""
+        table = self.told if whole else self.named
         replay, of_replay = self.rests_on(BEGINNINGS["replay"])
         run, of_run = self.rests_on(BEGINNINGS["run"])
         types = {name: sum(path.startswith("src/") for _, path in files) for name, files in (("replay", replay), ("run", run))}
@@ -266,7 +266,7 @@ class Tree:
             f"**`run`** rests on {len(run)} files, {len(run) - types['run']} and {types['run']}. "
             f"{len(run & replay)} of them stand above, and {len(run - replay)} are these:",
             table(run - replay),
-            f"Of those above `run` does not need {len(left_out)}: " + ", ".join(left_out) + ".",
+            f"Of those above `run` does not need {len(left_out)}" + (": " + ", ".join(left_out) if whole else "") + ".",
             "Both name definitions of these libraries of the kit, which are not followed here: "
             + ", ".join(f"`{it}`" for it in sorted(of_replay | of_run)) + ".",
         ])
@@ -278,7 +278,7 @@ def main(arguments=None):
     parser.add_argument("--write", action="store_true", help="puts the lists into docs/PROOFS.md")
     tree = Tree()
     if not parser.parse_args(arguments).write:
-        files.say(tree.lists(tree.told))
+        files.say(tree.lists(whole=True))
         return 0
     lists = tree.lists()
     with open(DOCUMENT, encoding="utf-8") as file:
