@@ -358,8 +358,7 @@ def write_out(text):
     if sys.stdout is None:
         raise Fault(STANDARD_OUTPUT, None, "cannot be written: it is closed")
     judge([], prints=True)
-    watch.clear()
-    with output():
+    with watch.quiet(), output():
         sys.stdout.write(text)
         sys.stdout.flush()
 
@@ -506,7 +505,6 @@ def settle_streams():
 
 def tell(name, said):
     """Says something on error output, if there is one."""
-    watch.clear()
     if sys.stderr is not None:
-        with contextlib.suppress(OSError):
+        with contextlib.suppress(OSError), watch.quiet():
             print(f"{name}: {said}", file=sys.stderr, flush=True)
