@@ -213,7 +213,7 @@ def defines(text: str, name: str) -> bool:
 def header_of(text: str, name: str) -> str | None:
     """The head of a function with its contract: up to the line that opens its body, or ends it."""
     found = re.search(rf"^( *)(?:pub(?:\(crate\))? )?fn {re.escape(name)}\b.*?(?:^\1\{{|;$|\{{$)", text, re.MULTILINE | re.DOTALL)
-    return found and found[0]
+    return found[0] if found else None
 
 
 def parts_of(call: str) -> tuple[str, str, list[str]]:
