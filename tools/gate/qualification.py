@@ -173,7 +173,7 @@ REQUIREMENTS = (
     Requirement("TOR-7", "`bounds` prints the bounds of the formula in [BOUNDS.md](BOUNDS.md), for some choice of weights; no frame of the simulation "
                 "is delivered later after its offer than they say",
                 ("network_bounds/src/write.rt: write_bounds (text, device, kept)", "commands/src/bounding.rt: bounds (holds)",
-                 "plan_bounds/src/lib.rt: bounds_law (whole)")),
+                 "plan_bounds/src/lib.rt: bounds_law")),
     Requirement("TOR-8", "Evidence names its program: version, commit, SHA-256, logic of the prover, and whether it is proved",
                 ("tools/afdx/files/program.py",)),
 )
