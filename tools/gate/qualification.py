@@ -171,9 +171,9 @@ REQUIREMENTS = (
     Requirement("TOR-6", "A fault has its line and status, and what was written is whole or a beginning ([FORMATS.md](FORMATS.md), section 9)",
                 ("afdxsim/src/perform.rt: perform (status, words, beside, ordered)",)),
     Requirement("TOR-7", "`bounds` prints the bounds of the formula in [BOUNDS.md](BOUNDS.md), for some choice of weights; no frame of the simulation "
-                "is delivered later after its offer than they say",
-                ("network_bounds/src/write.rt: write_bounds (text, device, kept)", "commands/src/bounding.rt: bounds (holds)",
-                 "plan_bounds/src/lib.rt: bounds_law")),
+                "is delivered later after its offer than they say, and no port drops one as full if its node's bounds hold",
+                ("network_bounds/src/write.rt: write_bounds (text, device, kept)", "commands/src/bounding.rt: bounds (latencies, rooms)",
+                 "plan_bounds/src/lib.rt: bounds_law (latencies, rooms)")),
     Requirement("TOR-8", "Evidence names its program: version, commit, SHA-256, logic of the prover, and whether it is proved",
                 ("tools/afdx/files/program.py",)),
 )

@@ -2,6 +2,7 @@
 ghost use Rattle.std.specs.Prelude.{◌≡◌, ◌≢◌, ℕ, true, List, IfErr, OnOk};
 ghost use Rattle.network_bounds.specs.Text.{IsBoundsText};
 ghost use Rattle.plan_bounds.specs.Latencies.{AreLatencyBounds};
+ghost use Rattle.plan_bounds.specs.Rooms.{AreRoomsEnough};
 ghost use Rattle.commands.specs.declared.fault.Fault.TheVariants.{CannotWrite};
 ghost use Rattle.commands.specs.Bounding.{ShowsBounds};
 ghost use Rattle.commands.specs.Ending.{Took, IsFaultOfOutput};
@@ -36,9 +37,11 @@ fn show_bounds<O: Sink>(
 
 /// Writes bounds of the network to standard output. It runs nothing, and makes no offers.
 ///
-/// - `holds`: in the one-thread run of the network no frame is delivered later after its offer than these bounds say.
+/// - `latencies`: in the one-thread run of the network no frame is delivered later after its offer than these bounds say.
+/// - `rooms`: a node drops no frame because a port is full, if these bounds fit the bytes of each of its ports.
 pub fn bounds<H: Host>(alloc: Global, network: &Network, host: &mut H) -> Result<(), Fault<'static>>
-    ensures holds { AreLatencyBounds network.now }
+    ensures latencies { AreLatencyBounds network.now }
+    ensures rooms { AreRoomsEnough network.now }
     ensures text { OnOk result (ShowsBounds H.outside host.old host.new network.now) }
     ensures left { OnOk result (ShowsAlone H.outside host.old host.new) }
     ensures fault { IfErr result (LacksOutput H.outside true host.old host.new) }
