@@ -27,7 +27,7 @@ MODULES = {
     "openpyxl": "python3-openpyxl",
 }
 # What a few of them need besides; where it is not there these are skipped.
-FEW_PROGRAMS = {"mmdebstrap": "mmdebstrap", "man": "man-db"}
+FEW_PROGRAMS = {"mmdebstrap": "mmdebstrap", "man": "man-db", "mypy": "mypy"}
 FEW_MODULES = {"numpy": "python3-numpy", "pandas": "python3-pandas"}
 # Debian's packages are for this interpreter.
 DEBIAN = "/usr/bin/python3"

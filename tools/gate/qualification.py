@@ -170,8 +170,10 @@ REQUIREMENTS = (
                 ("timewarp/src/journal.rt: replay (safe, whole)",)),
     Requirement("TOR-6", "A fault has its line and status, and what was written is whole or a beginning ([FORMATS.md](FORMATS.md), section 9)",
                 ("afdxsim/src/perform.rt: perform (status, words, beside, ordered)",)),
-    Requirement("TOR-7", "`bounds` prints the bounds of the formula in [BOUNDS.md](BOUNDS.md), for some choice of weights",
-                ("network_bounds/src/write.rt: write_bounds (text, device, kept)",)),
+    Requirement("TOR-7", "`bounds` prints the bounds of the formula in [BOUNDS.md](BOUNDS.md), for some choice of weights; no frame of the simulation "
+                "is delivered later after its offer than they say",
+                ("network_bounds/src/write.rt: write_bounds (text, device, kept)", "commands/src/bounding.rt: bounds (holds)",
+                 "plan_bounds/src/lib.rt: bounds_law")),
     Requirement("TOR-8", "Evidence names its program: version, commit, SHA-256, logic of the prover, and whether it is proved",
                 ("tools/afdx/files/program.py",)),
 )
@@ -213,7 +215,7 @@ def defines(text: str, name: str) -> bool:
 def header_of(text: str, name: str) -> str | None:
     """The head of a function with its contract: up to the line that opens its body, or ends it."""
     found = re.search(rf"^( *)(?:pub(?:\(crate\))? )?fn {re.escape(name)}\b.*?(?:^\1\{{|;$|\{{$)", text, re.MULTILINE | re.DOTALL)
-    return found and found[0]
+    return found[0] if found else None
 
 
 def parts_of(call: str) -> tuple[str, str, list[str]]:

@@ -318,4 +318,4 @@ class AimedRuns:
             yield f"virtual link {vl} at {where}: {latency} ns, {of}; from the release on {way}; as described {plain} ns"
 
 
-Line = namedtuple("Line", HEAD.split(","))
+Line = namedtuple("Line", HEAD.split(","))  # type: ignore[misc]

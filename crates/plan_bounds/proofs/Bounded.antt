@@ -1,0 +1,114 @@
+-- Each bound of a network holds in its one-thread run, where its regulators hold frames no longer than they may.
+use Rattle.std.proofs.Common.{◌≡◌, ℕ, ◌+◌, ◌-◌, ◌*◌, ◌<◌, ◌==◌, ◌&&◌, Bool, true, false, cond, min, nat_le, get_or, Option, Some, None, All, IfSome, inl, inr, refl, ap, sym, ◌∙◌, subst, arith, slice_get, option_and_then, eqb-true, leb-true}
+use Rattle.std.proofs.lemmas.Bool.{cases_lt, false≢true}
+use Rattle.std.proofs.lemmas.Option.{slice_get-get_or}
+use Rattle.std.proofs.lemmas.List.Elements.{All-contains}
+use Rattle.virtual_time.specs.Law.{Laws}
+use Rattle.reverse.specs.Rules.{rules_of}
+use Rattle.reverse.specs.Setting.{simulation_of}
+use Rattle.port_bounds.specs.Port.{idle}
+use Rattle.element_bounds.specs.PortTrace.{IsSamePort}
+use Rattle.network.specs.Words.{IsAccepted, Plan, VlPlan, destinations_of, process_count}
+use Rattle.network.proofs.SourceLemmas.{HasSource, all-have, end-system-below}
+use Rattle.network_faults.proofs.MemberLemmas.{has-from_contains, contains-from_has}
+use Rattle.nodes.specs.declared.equipment.Equipment.{Equipment}
+use Rattle.nodes.specs.declared.equipment.Equipment.TheVariants as equipment
+use Rattle.nodes.specs.declared.ports.Outlet.{Outlet}
+use Rattle.nodes.specs.rules.Opening.{bag_ns, opening}
+use Rattle.nodes.specs.rules.Ports.{PortsState}
+use Rattle.nodes.specs.undoing.Node.{node}
+use Rattle.port_turns.specs.Nodes.{IsOfNodes, is_offer}
+use Rattle.port_turns.specs.PortEvents.{outlet_in}
+use Rattle.seqsim.specs.Networks.{setting_of}
+use Rattle.plan_ports.specs.Links.{size_of}
+use Rattle.plan_ports.proofs.Linked.{all-empty, are-sizes}
+use Rattle.plan_ports.proofs.Offered.{all-offered}
+use Rattle.plan_ports.proofs.Ways.{all-lead}
+use Rattle.network_bounds.specs.Ages.{wait_of}
+use Rattle.network_bounds.specs.Curves.{bag_of}
+use Rattle.frame_ages.specs.Latencies.{AreLatenciesBounded, IsHeldWithin}
+use Rattle.frame_ages.specs.Sizes.{HaveEmptyRegulators, HaveIdlePorts, IsSized, OpensEmpty}
+use Rattle.plan_waits.specs.Held.{AreListsHeld, ArePeriodsHeld, IsSent}
+use Rattle.plan_bounds.specs.Latencies.{AreLatencyBounds}
+use Rattle.plan_bounds.proofs.Destinations.{arriving, comes-within, sent}
+use Rattle.plan_bounds.proofs.Sources.{destination-end}
+
+both-true : (a b : Bool) → (a && b) ≡ true → (a ≡ true) × (b ≡ true)
+both-true true b h = (refl, h)
+both-true false b h = absurd (false≢true h)
+
+-- ---- how a run begins
+
+module _ (plan : Plan) (accepted : IsAccepted plan) where
+  empty-at : (p : ℕ) (e : Equipment) → (opening plan p).equipment ≡ e → HaveEmptyRegulators e
+  empty-at p (equipment.EndSystem s) is = all-empty plan accepted p s is
+  empty-at p (equipment.Switch s) is = tt
+  empty-at p (equipment.Line s) is = tt
+
+  all-idle : (p : ℕ) (ports : PortsState) → ((q : ℕ) (outlet : Outlet) → slice_get ports q ≡ Some (Some outlet) → IsSamePort outlet.port idle) → All (λ slot. IfSome slot (λ outlet. IsSamePort outlet.port idle)) ports
+  all-idle p ports each i d lt = go (get_or ports i d) (slice_get-get_or ports i d lt)
+    where
+      go : (o : Option Outlet) → slice_get ports i ≡ Some o → IfSome o (λ outlet. IsSamePort outlet.port idle)
+      go None at = tt
+      go (Some outlet) at = each i outlet at
+
+  idle-at : (p : ℕ) (e : Equipment) → (opening plan p).equipment ≡ e → HaveIdlePorts e
+  idle-at p (equipment.EndSystem s) is = all-idle p s.ports (λ q outlet at. (all-lead plan p q outlet (ap (λ e. outlet_in e q) is ∙ ap (λ o. option_and_then (λ outlet. outlet) o) at)).empty)
+  idle-at p (equipment.Switch s) is = all-idle p s.ports (λ q outlet at. (all-lead plan p q outlet (ap (λ e. outlet_in e q) is ∙ ap (λ o. option_and_then (λ outlet. outlet) o) at)).empty)
+  idle-at p (equipment.Line s) is = tt
+
+  opens-empty : OpensEmpty (setting_of plan) (size_of plan)
+  opens-empty = record {
+    regulators = λ p lt. empty-at p (opening plan p).equipment refl;
+    ports = λ p lt. idle-at p (opening plan p).equipment refl;
+    offers = all-offered plan (λ m. IsSized (size_of plan) m.body) (λ vl source k there from. sym (are-sizes plan accepted vl (contains-from_has plan.vls vl there)));
+  }
+
+  of-nodes : IsOfNodes (setting_of plan)
+  of-nodes = record { number = λ p lt. refl; until = λ p lt. refl; offered = all-offered plan (λ m. is_offer m.body ≡ true) (λ vl source k there from. refl) }
+
+  -- ---- how long a regulator holds frames
+
+  module _ (laws : Laws (simulation_of (rules_of node) (setting_of plan))) (latencies : AreLatenciesBounded) (lists : AreListsHeld plan) (periods : ArePeriodsHeld plan) where
+    held : (p : ℕ) (vl : VlPlan) → IsSent plan p vl → IsHeldWithin (setting_of plan) p vl.link.id.0 (wait_of vl.link)
+    held p vl simple = go ((vl.link.sub == 1) && (nat_le (bag_of vl.link) vl.link.period_ns && nat_le vl.link.jitter_ns vl.link.period_ns)) refl
+      where
+        by_list : IsHeldWithin (setting_of plan) p vl.link.id.0 (vl.link.depth * vl.link.sub * bag_of vl.link)
+        by_list = lists laws of-nodes (size_of plan) opens-empty p vl simple
+
+        lesser : (a b : ℕ) → IsHeldWithin (setting_of plan) p vl.link.id.0 a → IsHeldWithin (setting_of plan) p vl.link.id.0 b → IsHeldWithin (setting_of plan) p vl.link.id.0 (min a b)
+        lesser a b h k = elim (cases_lt a b) [
+          | inl lt ↦ (let same : a ≡ min a b = omega (arith, lt) in subst (IsHeldWithin (setting_of plan) p vl.link.id.0) same h)
+          | inr ge ↦ (let same : b ≡ min a b = omega (arith, ge) in subst (IsHeldWithin (setting_of plan) p vl.link.id.0) same k)
+        ]
+
+        go : (b : Bool) → ((vl.link.sub == 1) && (nat_le (bag_of vl.link) vl.link.period_ns && nat_le vl.link.jitter_ns vl.link.period_ns)) ≡ b
+            → IsHeldWithin (setting_of plan) p vl.link.id.0
+            (cond b (min (vl.link.depth * vl.link.sub * bag_of vl.link) (vl.link.jitter_ns + bag_of vl.link - vl.link.period_ns)) (vl.link.depth * vl.link.sub * bag_of vl.link))
+        go false e = by_list
+        go true e =
+            let all = both-true (vl.link.sub == 1) (nat_le (bag_of vl.link) vl.link.period_ns && nat_le vl.link.jitter_ns vl.link.period_ns) e in
+            let two = both-true (nat_le (bag_of vl.link) vl.link.period_ns) (nat_le vl.link.jitter_ns vl.link.period_ns) all.1 in
+            lesser (vl.link.depth * vl.link.sub * bag_of vl.link) (vl.link.jitter_ns + bag_of vl.link - vl.link.period_ns) by_list
+            (periods laws of-nodes (size_of plan) opens-empty p vl simple (eqb-true vl.link.sub 1 all.0) (leb-true _ _ two.0) (leb-true _ _ two.1))
+
+    pub are-bounds : AreLatencyBounds plan
+    are-bounds bounds are vl is_vl n there network_ns e =
+        let has = All-contains (HasSource plan.nodes) plan.vls vl (all-have plan accepted) is_vl in
+        let arrival = arriving plan accepted vl is_vl bounds are has.node has.is n network_ns e in
+        let end = destination-end plan accepted vl is_vl n (has-from_contains (destinations_of vl) n there) in
+        let (line, age, c) = sent plan accepted vl is_vl bounds are has.node has.is n network_ns arrival in
+        let source_below : has.node < process_count plan = (let lt = end-system-below plan.nodes has.node has.end_system in omega (arith, lt)) in
+        let below : n < process_count plan = (let lt = end-system-below plan.nodes n end in omega (arith, lt)) in
+        let simple : IsSent plan has.node vl = record {
+          inside = source_below;
+          is_vl = is_vl;
+          port = c.source_port;
+          leaves = c.leaves;
+          end_system = c.end_system.state;
+          is = c.end_system.is;
+        } in
+        λ events row found place latency note.
+        (let le = latencies (setting_of plan) laws of-nodes (size_of plan) opens-empty vl.link.id.0 has.node n (wait_of vl.link) network_ns below (held has.node vl simple)
+        (comes-within plan accepted vl is_vl bounds are has.node has.is n network_ns end arrival) events row found place vl.link.id latency refl note in
+        omega (arith, le))

@@ -1,0 +1,173 @@
+-- What can be put to a port, by lines and virtual links, is what the bounds of the network count there.
+use Rattle.std.proofs.Common.{◌≡◌, ℕ, ◌+◌, ◌*◌, ◌<◌, ◌≤◌, ◌&&◌, ◌||◌, ◌⊎◌, Bool, true, false, cond, max, nat_lt, List, [], ◌∷◌, length, inl, inr, refl, ap, sym, ◌∙◌, subst, arith}
+use Rattle.std.proofs.lemmas.Bool.{false≢true}
+use Rattle.vlink.specs.Wire.{busy_for}
+use Rattle.network_rows.specs.declared.rows.Policing.{Policing}
+use Rattle.network_rows.specs.declared.rows.Policing.TheVariants as policing
+use Rattle.network_rows.specs.declared.rows.Priority as row
+use Rattle.network_rows.specs.declared.rows.Priority.TheVariants as rows
+use Rattle.network_rows.specs.declared.rows.VirtualLink.{VirtualLink}
+use Rattle.output_port.specs.declared.event.Priority.{Priority}
+use Rattle.output_port.specs.declared.event.Priority.TheVariants.{High, Low}
+use Rattle.network.specs.Words.{IsAccepted, Plan, VlPlan, is_end_system}
+use Rattle.network_faults.proofs.MemberLemmas.{Has, has-from_contains}
+use Rattle.nodes.specs.declared.transit.Transit.{Transit}
+use Rattle.nodes.specs.rules.Opening as opened
+use Rattle.nodes.specs.rules.Opening.{opening, port_priority, regulator_of}
+use Rattle.port_turns.specs.SwitchPuts.{transit_of}
+use Rattle.plan_ports.specs.Links.{LeavesBy, size_of}
+use Rattle.plan_ports.proofs.Linked.{are-bags, are-positive, are-sizes, are-sources, are-transits, have-sources, have-transits}
+use Rattle.network_bounds.specs.declared.passing.Passing.{Passing}
+use Rattle.network_bounds.specs.Curves.{bag_of, cost_of, counts_bytes, flow_of, is_first, is_high, is_loose, parts_of, slack_of}
+use Rattle.policer.specs.declared.account.Measure.TheVariants as measure
+use Rattle.nodes.specs.rules.Node.{regulator_in}
+use Rattle.std.proofs.lemmas.Bool.Decides.{nat_tests}
+use Rattle.network_bounds.specs.Mixing.{flows_by, any_by, greatest_by}
+use Rattle.network_bounds.specs.Numbers.{SCALE}
+use Rattle.network_bounds.specs.Passing.{input_of, passings}
+use Rattle.port_bounds.specs.Mixtures.{IsAmong, links_of}
+use Rattle.port_bounds.specs.Sublists.{Every}
+use Rattle.frame_ages.specs.Ports.{AreApartBy, IsFlow, IsSentBy, IsThrough, IsThroughSwitch}
+use Rattle.plan_bounds.proofs.NodeKinds.{IsEndAt, IsSwitchAt, node-kind}
+use Rattle.plan_bounds.proofs.Passed.{input-is, passed-leaves}
+
+abbrev pub is_high_put : Priority → Bool
+is_high_put High = true
+is_high_put Low = false
+
+same-priority : (priority : row.Priority) → is_high priority ≡ is_high_put (port_priority priority)
+same-priority rows.High = refl
+same-priority rows.Low = refl
+
+pub or-left : (a b : Bool) → (a || b) ≡ false → a ≡ false
+or-left true b h = absurd (false≢true (sym h))
+or-left false b h = refl
+
+pub or-right : (a b : Bool) → (a || b) ≡ false → b ≡ false
+or-right true b h = absurd (false≢true (sym h))
+or-right false b h = h
+
+-- what can be put to port q of node p is counted among what passes there
+pub record IsCounted (plan : Plan) (p q v input : ℕ) (priority : Priority) : Type 0 where
+  pub vl : VlPlan
+  pub leaves : LeavesBy plan p q vl
+  pub id : vl.link.id.0 ≡ v
+  pub comes_in : input ≡ input_of plan p vl.link.id.0
+  pub first : is_first (is_end_system plan.nodes p) vl.link ≡ is_high_put priority
+
+module _ (plan : Plan) (accepted : IsAccepted plan) where
+  sent-counted : (p q v input : ℕ) (priority : Priority) (node : IsEndAt plan p) → IsSentBy node.state q v input priority → IsCounted plan p q v input priority
+  sent-counted p q v input priority node sent =
+      let source = are-sources plan accepted p v node.state node.is sent.found sent.is in
+      let leaves : LeavesBy plan p q source.vl = elim sent.on [
+        | inl a ↦ subst (λ n. LeavesBy plan p n source.vl) (sym a.0) (source.on_a a.1)
+        | inr b ↦ subst (λ n. LeavesBy plan p n source.vl) (sym b.0) (source.on_b b.1)
+      ] in
+      record {
+        vl = source.vl;
+        leaves = leaves;
+        id = source.id;
+        comes_in = sent.line_is ∙ rw node.end refl;
+        first = rw (node.end, sent.low) refl;
+      }
+
+  through-counted : (p q v input : ℕ) (priority : Priority) (node : IsSwitchAt plan p) → IsThroughSwitch node.state q v input priority → IsCounted plan p q v input priority
+  through-counted p q v input priority node through =
+      let transit = are-transits plan accepted p v through.transit (ap (λ e. transit_of e v) node.is ∙ through.is) in
+      record {
+        vl = transit.vl;
+        leaves = transit.leaves q through.out;
+        id = transit.id;
+        comes_in = through.line_is ∙ ap (λ (t : Transit). t.input) transit.is ∙ sym (input-is plan accepted p transit.vl (has-from_contains plan.vls transit.vl transit.is_vl) node.no_end);
+        first = rw node.no_end (same-priority transit.vl.link.priority ∙ ap is_high_put (sym (through.priority_is ∙ ap (λ (t : Transit). t.priority) transit.is)));
+      }
+
+  pub counted : (p q v input : ℕ) (priority : Priority) → p < length plan.nodes → IsThrough (opening plan p).equipment q v input priority → IsCounted plan p q v input priority
+  counted p q v input priority lt through = elim (node-kind plan p lt) [
+    | inl node ↦ sent-counted p q v input priority node (subst (λ e. IsThrough e q v input priority) node.is through)
+    | inr node ↦ through-counted p q v input priority node (subst (λ e. IsThrough e q v input priority) node.is through)
+  ]
+
+  -- ---- the curve of a virtual link
+
+  counts : (link : VirtualLink) → is_loose false link ≡ false → (opened.measure_of link.policing ≡ measure.Frames) ⊎ (link.smax ≤ link.size)
+  counts link tight = go link.policing refl tight
+    where
+      go : (p : Policing) → link.policing ≡ p → (counts_bytes p && nat_lt link.size link.smax) ≡ false → (opened.measure_of p ≡ measure.Frames) ⊎ (link.smax ≤ link.size)
+      go policing.Frames e h = inl refl
+      go policing.Bytes e h = inr (grind (arith, nat_tests))
+
+  apart : (p q : ℕ) (vl : VlPlan) → p < length plan.nodes → LeavesBy plan p q vl → is_loose (is_end_system plan.nodes p) vl.link ≡ false
+      → AreApartBy (opening plan p).equipment vl.link.id.0 vl.link.size (bag_of vl.link) (slack_of (is_end_system plan.nodes p) vl.link)
+  apart p q vl lt leaves tight = elim (node-kind plan p lt) [
+    | inl node ↦ subst (λ e. AreApartBy e vl.link.id.0 vl.link.size (bag_of vl.link) (slack_of (is_end_system plan.nodes p) vl.link)) (sym node.is)
+        (regulator_of vl.link, ap (λ e. regulator_in e vl.link.id) (sym node.is) ∙ have-sources plan accepted p q vl leaves node.state node.is, refl, rw node.end refl)
+    | inr node ↦ subst (λ e. AreApartBy e vl.link.id.0 vl.link.size (bag_of vl.link) (slack_of (is_end_system plan.nodes p) vl.link)) (sym node.is) (
+      opened.transit_of plan p vl,
+      ap (λ e. transit_of e vl.link.id.0) (sym node.is) ∙ have-transits plan accepted p q vl leaves node.state node.is,
+      record { positive = (are-positive plan accepted vl leaves.is_vl).0; counts = counts vl.link (ap (λ b. is_loose b vl.link) (sym node.no_end) ∙ tight) },
+      refl,
+      rw node.no_end refl,
+    )
+  ]
+
+  flow-is : (p q byte_ns : ℕ) (vl : VlPlan) → p < length plan.nodes → LeavesBy plan p q vl → is_loose (is_end_system plan.nodes p) vl.link ≡ false
+      → IsFlow (opening plan p).equipment (size_of plan) byte_ns SCALE (flow_of (is_end_system plan.nodes p) byte_ns vl.link)
+  flow-is p q byte_ns vl lt leaves tight =
+      let sized : size_of plan vl.link.id.0 ≡ vl.link.size = are-sizes plan accepted vl leaves.is_vl in
+      let is_end = is_end_system plan.nodes p in
+      record {
+        parts = parts_of vl.link;
+        bag = bag_of vl.link;
+        slack = slack_of is_end vl.link;
+        apart = subst (λ n. AreApartBy (opening plan p).equipment vl.link.id.0 n (bag_of vl.link) (slack_of is_end vl.link)) (sym sized) (apart p q vl lt leaves tight);
+        units = are-bags plan accepted vl leaves.is_vl;
+        burst = ap (λ n. (parts_of vl.link * busy_for n byte_ns) * (bag_of vl.link + slack_of is_end vl.link)) (sym sized);
+        rate = ap (λ n. parts_of vl.link * busy_for n byte_ns) (sym sized);
+      }
+
+  -- ---- all that comes by a port with one priority
+
+  pub flows-are : (p q byte_ns : ℕ) (test : Passing → Bool) → p < length plan.nodes → (ps : List Passing) → ((passing : Passing) → Has ps passing → Has (passings plan p q) passing)
+      → any_by test (is_loose (is_end_system plan.nodes p)) ps ≡ false
+      → Every (IsFlow (opening plan p).equipment (size_of plan) byte_ns SCALE) (flows_by test (flow_of (is_end_system plan.nodes p) byte_ns) ps)
+  flows-are p q byte_ns test lt [] there tight = tt
+  flows-are p q byte_ns test lt (passing ∷ ps) there tight = go (test passing) tight (flows-are p q byte_ns test lt ps (λ x h. there x (inr h)))
+    where
+      go : (b : Bool) → cond b (is_loose (is_end_system plan.nodes p) passing.link || any_by test (is_loose (is_end_system plan.nodes p)) ps) (any_by test (is_loose (is_end_system plan.nodes p)) ps) ≡ false
+          → (any_by test (is_loose (is_end_system plan.nodes p)) ps ≡ false → Every (IsFlow (opening plan p).equipment (size_of plan) byte_ns SCALE) (flows_by test (flow_of (is_end_system plan.nodes p) byte_ns) ps))
+          → Every (IsFlow (opening plan p).equipment (size_of plan) byte_ns SCALE) (cond b (flow_of (is_end_system plan.nodes p) byte_ns passing.link ∷ flows_by test (flow_of (is_end_system plan.nodes p) byte_ns) ps) (flows_by test (flow_of (is_end_system plan.nodes p) byte_ns) ps))
+      go true h later =
+          let is = passed-leaves plan accepted p q passing (there passing (inl refl)) in (
+            subst (λ (l : VirtualLink). IsFlow (opening plan p).equipment (size_of plan) byte_ns SCALE (flow_of (is_end_system plan.nodes p) byte_ns l)) (sym is.link)
+                (flow-is p q byte_ns is.vl lt is.leaves (ap (is_loose (is_end_system plan.nodes p)) (sym is.link) ∙ or-left _ _ h)),
+            later (or-right (is_loose (is_end_system plan.nodes p) passing.link) _ h),
+          )
+      go false h later = later h
+
+  -- their costs are no more than the greatest
+  pub costs-are : (byte_ns p q : ℕ) (test : Passing → Bool) (end : Bool) → (ps : List Passing) → ((passing : Passing) → Has ps passing → Has (passings plan p q) passing) → (most : ℕ) → greatest_by test (cost_of byte_ns) ps ≤ most
+      → Every (λ flow. busy_for (size_of plan flow.link) byte_ns ≤ most) (flows_by test (flow_of end byte_ns) ps)
+  costs-are byte_ns p q test end [] there most below = tt
+  costs-are byte_ns p q test end (passing ∷ ps) there most below = go (test passing) below (costs-are byte_ns p q test end ps (λ x h. there x (inr h)) most)
+    where
+      go : (b : Bool) → cond b (max (cost_of byte_ns passing.link) (greatest_by test (cost_of byte_ns) ps)) (greatest_by test (cost_of byte_ns) ps) ≤ most
+          → (greatest_by test (cost_of byte_ns) ps ≤ most → Every (λ flow. busy_for (size_of plan flow.link) byte_ns ≤ most) (flows_by test (flow_of end byte_ns) ps))
+          → Every (λ flow. busy_for (size_of plan flow.link) byte_ns ≤ most) (cond b (flow_of end byte_ns passing.link ∷ flows_by test (flow_of end byte_ns) ps) (flows_by test (flow_of end byte_ns) ps))
+      go true h later =
+          let is = passed-leaves plan accepted p q passing (there passing (inl refl)) in
+          let sized : size_of plan passing.link.id.0 ≡ passing.link.size =
+          ap (λ (l : VirtualLink). size_of plan l.id.0) is.link ∙ are-sizes plan accepted is.vl is.leaves.is_vl ∙ ap (λ (l : VirtualLink). l.size) (sym is.link) in
+          (subst (λ n. busy_for n byte_ns ≤ most) (sym sized) (omega arith), later (omega arith))
+      go false h later = later h
+
+  -- each that passes the test is among them
+  pub flow-among : (byte_ns : ℕ) (test : Passing → Bool) (end : Bool) (ps : List Passing) (passing : Passing) → Has ps passing → test passing ≡ true → IsAmong passing.link.id.0 (links_of (flows_by test (flow_of end byte_ns) ps))
+  flow-among byte_ns test end [] passing there passes = absurd there
+  flow-among byte_ns test end (first ∷ ps) passing (inl same) passes =
+      rw (ap test same ∙ passes) (inl (ap (λ (x : Passing). x.link.id.0) (sym same)))
+  flow-among byte_ns test end (first ∷ ps) passing (inr there) passes = go (test first) (flow-among byte_ns test end ps passing there passes)
+    where
+      go : (b : Bool) → IsAmong passing.link.id.0 (links_of (flows_by test (flow_of end byte_ns) ps)) → IsAmong passing.link.id.0 (links_of (cond b (flow_of end byte_ns first.link ∷ flows_by test (flow_of end byte_ns) ps) (flows_by test (flow_of end byte_ns) ps)))
+      go true later = inr later
+      go false later = later

@@ -1,0 +1,12 @@
+mod Passed
+mod NodeKinds
+mod Groups
+mod Lines
+mod Certified
+mod InTime
+mod LowTimes
+mod Over
+mod Sources
+mod Routes
+mod Destinations
+mod Bounded
