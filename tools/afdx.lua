@@ -20,7 +20,7 @@ afdx.fields = { vl, net, seq }
 
 afdx.prefs.fcs = Pref.bool("Frames end with their check sequence", false, "The sequence number is then before its four bytes")
 
--- The three bits of the source address that tell the network.
+-- The three bits of the source address that give the network.
 local NETWORKS = { [1] = "A", [2] = "B" }
 
 function afdx.dissector(buffer, packet, tree)

@@ -1,13 +1,13 @@
 #!/usr/bin/env python3
 """Lists the files of lemmas that proofs of other crates cite: `use Rattle.CRATE.proofs.FILE` in a crate that is not CRATE.
 
-    python3 tools/gate/cited_lemmas.py            prints the list
-    python3 tools/gate/cited_lemmas.py --write    puts it into docs/ARCHITECTURE.md, between the two marks there
+    python3 -m gate.cited_lemmas            prints the list
+    python3 -m gate.cited_lemmas --write    puts its count into docs/ARCHITECTURE.md, between the two marks there
 
-Who changes a file of this list has to check the crates that stand beside it. What the compiler derives of a type, that it
-may go to a thread (`TheSendSync`), stands in no file and is not listed.
+After a change in a file of this list, check the crates that stand beside it. The compiler derives that a type may go to a
+thread (`TheSendSync`); this stands in no file and is not listed.
 
-tools/tests/test_crates.py holds the document against the list.
+tools/tests/test_crates.py compares the document with the count.
 """
 import argparse
 import collections
@@ -57,29 +57,33 @@ def cited(top=TOP):
     return {name: both for name, both in found.items() if both[0]}
 
 
-def listed(found):
-    """The list as the document has it: a line that counts, and a table."""
+def counted(found):
+    """The line that counts, as the document has it."""
     pairs = sum(len(by) for _, by in found.values())
     lines = sum(sum(by.values()) for _, by in found.values())
+    return f"{lines} lines cite lemmas of another crate, in {pairs} pairs of crates."
+
+
+def listed(found):
+    """The list as it is printed: the line that counts, and a table."""
     rows = ["| Crate | Files in its `proofs/` | Cited by (lines) |", "|---|---|---|"]
     for name, (paths, by) in found.items():
         shown = ", ".join(f"`{path}`" for path in sorted(paths))
         rows.append(f"| `{name}` | {shown} | " + ", ".join(f"`{other}` {count}" for other, count in by.items()) + " |")
-    head = f"{lines} lines cite lemmas of another crate, in {pairs} pairs of crates:"
-    return head + "\n\n" + "\n".join(rows)
+    return counted(found) + "\n\n" + "\n".join(rows)
 
 
 @files.tool("cited_lemmas")
 def main(arguments=None):
     parser = argparse.ArgumentParser(prog="cited_lemmas", description=__doc__, formatter_class=argparse.RawDescriptionHelpFormatter)
-    parser.add_argument("--write", action="store_true", help="puts the list into docs/ARCHITECTURE.md")
-    text = listed(cited())
+    parser.add_argument("--write", action="store_true", help="puts the count into docs/ARCHITECTURE.md")
+    found = cited()
     if not parser.parse_args(arguments).write:
-        files.say(text)
+        files.say(listed(found))
         return 0
     with open(DOCUMENT, encoding="utf-8") as file:
         before, _, rest = file.read().partition(MARKS[0])
-    files.write_whole(DOCUMENT, before + MARKS[0] + text + MARKS[1] + rest.partition(MARKS[1])[2])
+    files.write_whole(DOCUMENT, before + MARKS[0] + counted(found) + MARKS[1] + rest.partition(MARKS[1])[2])
     return 0
 
 

@@ -1,4 +1,4 @@
-"""Runs the tests of one file of the tools, as `python3 -m unittest` does, and tells behind them each that was skipped, and why.
+"""Runs the tests of one file of the tools, as `python3 -m unittest` does, and then prints each that was skipped, and why.
 
     python3 tools/gate/one_test_file.py test_files.py
 """

@@ -3,7 +3,7 @@
     N passed, M failed
 
 and the status is 0 where nothing failed, else 1. It sets itself up: as root on Debian it installs what is missing of what the
-tests of the tools need; else it says before the first proof what is missing, and ends. It tells how far it is, how long the
+tests of the tools need; else it prints before the first proof what is missing, and ends. It prints how far it is, how long the
 last run on this machine took, and at the end what each crate took and which tests were skipped, and why. The program that it
 leaves has a record of what it was built of, by which `afdx` knows it.
 """
@@ -27,11 +27,11 @@ MODULES = {
     "openpyxl": "python3-openpyxl",
 }
 # What a few of them need besides; where it is not there these are skipped.
-FEW_PROGRAMS = {"mmdebstrap": "mmdebstrap", "man": "man-db"}
+FEW_PROGRAMS = {"mmdebstrap": "mmdebstrap", "man": "man-db", "mypy": "mypy"}
 FEW_MODULES = {"numpy": "python3-numpy", "pandas": "python3-pandas"}
 # Debian's packages are for this interpreter.
 DEBIAN = "/usr/bin/python3"
-# How often it tells what is proved, in s.
+# How often it prints what is proved, in s.
 EACH = 60
 INSTALL = ["apt-get", "install", "-y", "--no-install-recommends"]
 
@@ -89,8 +89,8 @@ def as_root(packages):
 
 
 def set_up():
-    """Sees that all is there that the tests need, and answers the interpreter for those of the tools; None where something
-    is missing, which is told."""
+    """Checks that all is there that the tests need, and returns the interpreter for those of the tools; None if something
+    is missing, which it prints."""
     (packages, python), few = missing(), missing_for_few()
     if (packages or few) and os.geteuid() == 0 and shutil.which("apt-get"):
         install(packages, few)
@@ -141,7 +141,7 @@ class Progress:
         return f" of some {minutes(self.last.seconds)} by the last run" if self.last.seconds else ""
 
     def take(self, line):
-        """Takes a line of `rt ci`, and tells how far it is where that changes."""
+        """Takes a line of `rt ci`, and prints how far it is if that changes."""
         found = re.match(r"rt: (\w+)(?: is kept:| proved$| NOT PROVED| *: trying its must-fail edits)", line)
         if not found or found[1] not in self.crates:
             return
@@ -165,7 +165,7 @@ def crates_of():
 
 
 def said_by(command, progress=None, times=None):
-    """What a command says, which is shown as it comes, and its status. Of `rt ci` it tells besides how far it is, and takes
+    """What a command says, which is shown as it comes, and its status. Of `rt ci` it prints besides how far it is, and takes
     down what each crate takes."""
     said = []
     try:

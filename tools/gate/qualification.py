@@ -4,7 +4,7 @@
     python3 -m gate.qualification --write    puts the tables into docs/QUALIFICATION.md, between the marks there
 
 RULES has the data. `check` compares them with the sources: each rule of TRAFFIC has a line, and each file, definition,
-function, clause, edit and row that a line names exists. tools/tests/test_qualification.py holds both, and the document.
+function, clause, edit and row that a line names exists. tools/tests/test_qualification.py checks both, and the document.
 """
 import argparse
 import os
@@ -170,8 +170,10 @@ REQUIREMENTS = (
                 ("timewarp/src/journal.rt: replay (safe, whole)",)),
     Requirement("TOR-6", "A fault has its line and status, and what was written is whole or a beginning ([FORMATS.md](FORMATS.md), section 9)",
                 ("afdxsim/src/perform.rt: perform (status, words, beside, ordered)",)),
-    Requirement("TOR-7", "`bounds` prints the bounds of the formula in [BOUNDS.md](BOUNDS.md), for some choice of weights",
-                ("network_bounds/src/write.rt: write_bounds (text, device, kept)",)),
+    Requirement("TOR-7", "`bounds` prints the bounds of the formula in [BOUNDS.md](BOUNDS.md), for some choice of weights; no frame of the simulation "
+                "is delivered later after its offer than they say, and no port drops one as full if its node's bounds hold",
+                ("network_bounds/src/write.rt: write_bounds (text, device, kept)", "commands/src/bounding.rt: bounds (latencies, rooms)",
+                 "plan_bounds/src/lib.rt: bounds_law (latencies, rooms)")),
     Requirement("TOR-8", "Evidence names its program: version, commit, SHA-256, logic of the prover, and whether it is proved",
                 ("tools/afdx/files/program.py",)),
 )
@@ -213,7 +215,7 @@ def defines(text: str, name: str) -> bool:
 def header_of(text: str, name: str) -> str | None:
     """The head of a function with its contract: up to the line that opens its body, or ends it."""
     found = re.search(rf"^( *)(?:pub(?:\(crate\))? )?fn {re.escape(name)}\b.*?(?:^\1\{{|;$|\{{$)", text, re.MULTILINE | re.DOTALL)
-    return found and found[0]
+    return found[0] if found else None
 
 
 def parts_of(call: str) -> tuple[str, str, list[str]]:

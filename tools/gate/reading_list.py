@@ -1,18 +1,18 @@
 #!/usr/bin/env python3
-"""Lists the files that say what is promised of `replay` and of `run`: what someone reads who doubts the promises.
+"""Lists the files that define what is promised of `replay` and of `run`: read them if you doubt the promises.
 
-    python3 tools/gate/reading_list.py            prints the lists, with what each file of specs/ says of itself
-    python3 tools/gate/reading_list.py --write    puts them into docs/PROOFS.md, by their names, between the two marks there
+    python3 -m gate.reading_list            prints the lists, with what each file of specs/ says of itself
+    python3 -m gate.reading_list --write    puts them into docs/PROOFS.md, by their names, between the two marks there
 
-It begins with the names in the contracts of a few functions (BEGINNINGS), and goes on with the names in what defines these,
-by the `use` lines of each file, until none is new. So a file is in a list because a name of it is needed there, and what
-serves proofs alone is in none. A type of the code counts as its file in src/; of one that clauses see by a model, the value
-of the model is followed, and not the fields.
+It begins with the names in the contracts of a few functions (BEGINNINGS), and goes on with the names in their definitions,
+by the `use` lines of each file, until none is new. So a file is in a list because a name of it is needed, and no list has
+what serves proofs alone. A type of the code counts as its file in src/; if clauses see a type by a model, the value of the
+model is followed, and not the fields.
 
-A name that is bound in a definition and defined elsewhere too is followed: a list may have a file too many, and none too
-few. What the libraries of the kit define is named at the end, and not followed.
+A name that is bound in a definition and also defined elsewhere is followed: a list may have a file too many, and none too
+few. The end names the libraries of the kit whose definitions are used, and does not follow them.
 
-tools/tests/test_reading_list.py holds the document against the lists.
+tools/tests/test_reading_list.py compares the document with the lists.
 """
 import argparse
 import functools
@@ -251,10 +251,10 @@ class Tree:
             rows += [f"| {'' if at else f'`{crate}`'} | {file} | {says} |" for at, (file, says) in enumerate(lines)]
         return "\n".join(rows)
 
-    def lists(self, table=None):
-        """What the document has: the two tables, each with a line that counts. In `table` files are told by their names, unless
-        it is told otherwise."""
-        table = table or self.named
+    def lists(self, whole=False):
+        """What the document has: the two tables, each with a line that counts. With `whole` it is what the tool prints: what
+        each file says of itself, and the names of the files that `run` does not need."""
+        table = self.told if whole else self.named
         replay, of_replay = self.rests_on(BEGINNINGS["replay"])
         run, of_run = self.rests_on(BEGINNINGS["run"])
         types = {name: sum(path.startswith("src/") for _, path in files) for name, files in (("replay", replay), ("run", run))}
@@ -266,7 +266,7 @@ class Tree:
             f"**`run`** rests on {len(run)} files, {len(run) - types['run']} and {types['run']}. "
             f"{len(run & replay)} of them stand above, and {len(run - replay)} are these:",
             table(run - replay),
-            f"Of those above `run` does not need {len(left_out)}: " + ", ".join(left_out) + ".",
+            f"Of those above `run` does not need {len(left_out)}" + (": " + ", ".join(left_out) if whole else "") + ".",
             "Both name definitions of these libraries of the kit, which are not followed here: "
             + ", ".join(f"`{it}`" for it in sorted(of_replay | of_run)) + ".",
         ])
@@ -278,7 +278,7 @@ def main(arguments=None):
     parser.add_argument("--write", action="store_true", help="puts the lists into docs/PROOFS.md")
     tree = Tree()
     if not parser.parse_args(arguments).write:
-        files.say(tree.lists(tree.told))
+        files.say(tree.lists(whole=True))
         return 0
     lists = tree.lists()
     with open(DOCUMENT, encoding="utf-8") as file:

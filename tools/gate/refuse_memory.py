@@ -1,27 +1,27 @@
 #!/usr/bin/env python3
-"""Refuses programs each of their requests for memory in turn, and looks what comes of it.
+"""Refuses each request of a program for memory in turn, and checks what the program then does.
 
-    python3 tools/gate/refuse_memory.py
+    python3 -m gate.refuse_memory
 
-The whole commands `check`, `seq`, `replay` and `run` of the proved program are run on examples/n1.toml, and `check` and `seq`
-on texts with a fault, once for each request for memory, which is refused, until a run makes fewer. Each run has to end with
-the status and what it prints and writes where none is refused, or with status 5 and the line `afdxsim: out of memory`; `run`
-also with status 4 and `afdxsim: cannot start a worker`. Standard output is then empty or whole, and a file is not there or
-has a beginning of its text. With two workers the same request comes at another place each time, and so it is with its
-journal: that is judged by its form and, where the run ended well, by `replay`.
+It runs the commands `check`, `seq`, `replay` and `run` of the proved program on examples/n1.toml, and `check` and `seq` on
+texts with a fault, once for each request for memory. That request is refused, until a run makes fewer requests. Each run must
+end as if none were refused, with the same status and the same texts, or with status 5 and the line `afdxsim: out of memory`;
+`run` also with status 4 and `afdxsim: cannot start a worker`. Standard output is then empty or whole, and a file is missing or
+has a beginning of its text. With two workers the same request comes at another place each time, and the journal differs each
+time: the tool checks its form and, if the run succeeded, `replay` checks it.
 
-A run has two minutes. So those of two workers show too that the fault of one ends the other, which else would look for work
-for ever. Where a trace is written some 80 requests more are refused: for the segments at the desk, their rows, the batches and
+A run has two minutes. So runs of two workers also show that the fault of one ends the other, which would else look for work
+for ever. If a trace is written, some 80 more requests are refused: for the segments at the desk, their rows, the batches and
 their text, and the channel to the writer's thread.
 
-Tests that are made for it are run so too, and have to pass: the scripts of processes (crate `sample_actor`) and those of the
-calls of an exchange (crate `element_rows`). There a call that is refused is made again, and then has to answer as ever; so has what
-comes behind it. `work` goes on with what its first try left. The tests tell which calls were refused, and each of those that are
-named below has to be.
+Tests that are made for it run in the same way, and must pass: the scripts of processes (crate `sample_actor`) and those of the
+calls of an exchange (crate `element_rows`). There a refused call is made again, and must then succeed, as must all later ones.
+`work` goes on with what its first try left. The tests print which calls were refused; each of those that are named below must
+be among them.
 
-A line for each command and each test tells how many requests were refused. The status is 0 where each run was as it has to
-be, 1 where not, and 2 where nothing could be run. It needs the programs that `rt ci` leaves in out/, and a C compiler, `cc`
-or that of the kit, for the few lines of C that refuse.
+It prints for each command and each test how many requests were refused. The status is 0 if each run was right, 1 if not, and
+2 if nothing could be run. It needs the programs that `rt ci` leaves in out/, and a C compiler, `cc` or that of the kit, for
+the few lines of C that refuse.
 """
 import argparse
 import itertools
@@ -142,7 +142,7 @@ COMMANDS = (
 Test = namedtuple("Test", "crate name calls")
 
 TESTS = (
-    # Each of the six lines with an arrival `arrive?`, of which a refusal is told, is refused at least once.
+    # Each of the six lines with an arrival `arrive?`, whose refusal is printed, is refused at least once.
     Test(
         "sample_actor",
         "tests::scripts_tell_what_their_lines_say",
@@ -159,10 +159,10 @@ TESTS = (
 # killed).
 Ended = namedtuple("Ended", "status output errors files requests")
 
-# After so many runs one after another that made fewer requests, all were refused. With two workers not all make as many.
+# After this many runs in a row that made fewer requests, all were refused. With two workers not all make as many.
 MISSES = 3
 
-# After so many faults no more is tried.
+# After this many faults no more is tried.
 MOST_FAULTS = 100
 
 
@@ -241,14 +241,14 @@ def fault_of_test(found):
 
 
 def calls_in(errors):
-    """How often each call was refused, as a test tells. Letters to be delivered stand for the call."""
+    """How often each call was refused, as a test prints it. Letters to be delivered stand for the call."""
     words = re.findall(r"^(\S+) was refused memory$", errors, re.MULTILINE)
     return Counter("deliver" if word[0] in "+-" else word for word in words)
 
 
 def refuse_each(run, fault_of, status=0):
     """Runs with each request refused in turn, until runs make fewer, which end with this status. How many requests were
-    refused, how the runs ended by their statuses, what calls they told, and the faults, a line each."""
+    refused, how the runs ended by their statuses, what calls they printed, and the faults, a line each."""
     refused, statuses, calls, faults, misses = 0, Counter(), Counter(), [], 0
     for place in itertools.count(1):
         found = run(place)

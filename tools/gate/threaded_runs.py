@@ -1,10 +1,10 @@
 #!/usr/bin/env python3
-"""Runs drawn small networks by workers, and holds each run against the one-thread run; or holds the one-thread run
-against the second opinion.
+"""Runs drawn small networks by workers, and compares each run with the one-thread run; or compares the one-thread run
+with the second opinion.
 
 Each run has a network of its own, drawn by afdx large-network: 2 to 6 end systems, 1 to 3 switches on each of the two
 networks, 1 to 12 virtual links with 1 to 4 sub-virtual links and both sorts of policing, 1 to 20 ms of simulated time.
-Half of the networks are bent, so that frames wait and are lost: short BAGs and periods from a tenth of them on, long
+Half of the networks are extreme, so that frames wait and are lost: short BAGs and periods from a tenth of them on, long
 frames, depths of 1 to 3, jitters up to the BAG, frames above Smax, little jitter for policing, lines of 10 Mbit/s,
 outages; and half of these lie at the latest end of a run, 10^15 ns.
 
@@ -15,17 +15,17 @@ gives them, and half 1 to 64. `afdxsim run` must then end with status 0, and its
 the run is finished, that nothing was refused and that nothing was not enabled.
 
 Each run with an odd number is over several groups of several members: its network is larger (4 to 12 end systems, 2 to 4
-switches on each network, 8 to 40 virtual links, so 28 processes and more), it has at least two workers, and from two groups
-to half as many as there are end systems and switches. Each group has one of these at least, and the lines that lead to it.
+switches on each network, 8 to 40 virtual links, so 28 processes and more). It has at least two workers, and from two groups
+to half as many as there are end systems and switches. Each group has at least one of these, and the lines that lead to it.
 All of these runs write their journals. One that handles more events than it commits has rolled back. In one of five of them
-the last worker stands still from its birth (by `ptrace`) until all others have ended: then these have given its groups their
+the last worker stands still from its start (by `ptrace`) until all others have ended: then these have given its groups their
 turns.
 
 With --second-opinion no worker runs: the tables and the trace of `afdxsim seq` must have the bytes of those that
 afdx second-opinion makes.
 
-What is drawn follows from --first and the number of the run alone, so a run that differs can be made again. How the
-threads take turns is for the system, so it may come out well then.
+--first and the number of the run alone determine what is drawn, so a run that differs can be made again. The system
+decides how the threads take turns, so the run may not differ again.
 """
 import argparse
 import collections
@@ -55,23 +55,23 @@ ENOUGH_RUNS = 50
 SECONDS_TO_SERVE = 8
 
 EXAMPLES = """
-examples:
-  threaded_runs.py
+examples, in tools/:
+  python3 -m gate.threaded_runs
         a thousand runs
-  threaded_runs.py --runs 1 --first 417 --keep
+  python3 -m gate.threaded_runs --runs 1 --first 417 --keep
         the run 417 once more; its description, tables, trace and journal stay in the folder that is named
-  threaded_runs.py --second-opinion
+  python3 -m gate.threaded_runs --second-opinion
         the one-thread run of a thousand networks, against the second opinion
 
-It prints how many runs there were, how many of them came out as they must, and what the others did, a line each; then how
-many were over several groups of several members, how many rolled back, and in how many the groups of a worker that stood
-still were served by others.
+It prints how many runs there were, how many of them had the right results, and what the others did, a line each; then how
+many were over several groups of several members, how many rolled back, and in how many other workers served the groups of
+one that stood still.
 
 status:
-  0  each run came out as it must
-  1  a run did not: it differs, ended with another status, or took longer than --seconds; or of 50 runs and more none did one
-     of what is counted, though the system lets a program be stopped
-  2  a word is wrong, or the program is not there
+  0  each run had the right results
+  1  a run had not: it differs, ended with another status, or took longer than --seconds; or of 50 runs or more none did one
+     of the things that are counted, although the system lets a program be stopped
+  2  a word is wrong, or the program is missing
 """
 
 
@@ -171,7 +171,7 @@ class Drawn:
         return ["--workers", str(self.workers), *groups, "--turn", str(self.turn), "--window", str(self.window)]
 
     def has_several_members(self, groups):
-        """Whether so many groups are several with several members each. Lines go with the node to which they lead; where groups are
+        """Whether this number of groups are several with several members each. Lines go with the node to which they lead; where groups are
         more than nodes, processes go to them in turn."""
         return groups > 1 and (groups <= self.nodes or self.processes > groups + 1)
 
@@ -278,7 +278,7 @@ def hold_by_second_opinion(program, drawn, folder, seconds):
 
 
 def one_run(words, number, tell):
-    """Makes one run, tells what it did where it must not, and answers what came out, each in a few words."""
+    """Makes one run, prints what it did and must not do, and returns what came out, each in a few words."""
     drawn = Drawn(number)
     folder = tempfile.mkdtemp(prefix=f"threaded-run-{number}-")
     try:

@@ -28,7 +28,7 @@ class Network:
 
 
 def drawn(groups, events, seed):
-    """A network of so many events."""
+    """A network of a number of events."""
     draw = random.Random(seed)
     rows = []
     for event in range(events):
@@ -134,7 +134,7 @@ class Groups:
                     self.roll_back(s, group, e)
 
     def work(self, s, group, most, limit):
-        """`group_exchange::work`: letters arrive, messages before the limit are handled, so many at most, events are committed.
+        """`group_exchange::work`: letters arrive, messages before the limit are handled, up to a number, events are committed.
         The answer is how many were handled."""
         network = self.network
         self.arrive(s, group)

@@ -1,12 +1,12 @@
 #!/usr/bin/env python3
-"""Tries every order in which the workers of a small run can take their steps, and looks whether each run can come to its end.
+"""Tries every order in which the workers of a small run can take their steps, and checks whether each run can reach its end.
 
-It is a model of the crate `turns`, whose turns are no part of a proof. Each step of a worker stands for a piece of code in
-which others see or change at most one thing; it bears the name of the function that it stands for. A network is drawn: a few
-events, each at a moment in a group, sent where another one is handled, or sent only where a third one was handled before, so
-that a rollback sends other messages. All states that can be reached are listed, breadth first.
+It is a model of the crate `turns`, whose turns are no part of a proof. Each step of a worker models a piece of code in
+which others see or change at most one thing, and has the name of the function that it models. A network is drawn: a few
+events, each at a moment in a group. An event is sent when another one is handled, or only if a third one was handled before,
+so that a rollback sends other messages. All states that can be reached are listed, breadth first.
 
-What a step stands for, in `crates/turns/src` and, of a group, in `tasks.rt` of `crates/worker_pool/src`:
+What a step models, in `crates/turns/src` and, of a group, in `tasks.rt` of `crates/worker_pool/src`:
 
   turns_until_over    worker.rt: `is_over`, and the beginning of `own_turns`
   turn_of             worker.rt: `try_take` of a seat; `turn`: the limit, `is_to_meet`, `is_due` (report.rt)
@@ -24,13 +24,13 @@ What a step stands for, in `crates/turns/src` and, of a group, in `tasks.rt` of 
   end                 worker.rt, `give_turns`: `Signals::end` wakes each worker
   give_up             workers.rt, `show_gvt`: where a run stands still, `stop` and `Signals::end`
 
-A rest ends by a wake-up alone, since its limit of time would hide one that is lost; --timeouts lets it end at any moment.
-A step here reads the moments of all groups, or tries all seats of a worker, where the code does so one after another. The hints
-of agenda.rt change the order of turns alone, and are left out; so are faults. That the end can be reached from a state does not
-say that a scheduler which is unfair for ever lets the run come there.
+Only a wake-up ends a rest, since its time limit would hide a lost one; --timeouts lets it end at any moment. A step here
+reads the moments of all groups, or tries all seats of a worker, at one go; the code does so one after another. The hints of
+agenda.rt change only the order of turns, and are left out; so are faults. If the end can be reached from a state, a scheduler
+that is unfair for ever may still keep the run from it.
 
-With --without-wake-up the worker that helped does not call `wake_due` behind the seat that it gave back. Then a worker that
-went to rest while another held the seat of its group may sleep for ever; with --gives-up as well, the run comes to its end.
+With --without-wake-up the worker that helped does not call `wake_due` after it gave back the seat. Then a worker that went
+to rest while another held the seat of its group may sleep for ever; with --gives-up as well, the run reaches its end.
 """
 import argparse
 import collections
@@ -42,17 +42,17 @@ from afdx.model import whole
 from gate.turn_groups import Groups, NEVER, drawn
 
 EXAMPLES = """
-examples:
-  turn_model.py
+examples, in tools/:
+  python3 -m gate.turn_model
         eight networks of two events, two groups and two workers: some 150,000 states, 20 s
-  turn_model.py --without-wake-up --events 1 --networks 1 --trail
+  python3 -m gate.turn_model --without-wake-up --events 1 --networks 1 --trail
         the lost wake-up, and the steps to it
 
-It prints a line for each network: how many states there are, and how many of them cannot come to the end.
+It prints a line for each network: how many states there are, and from how many of them the end cannot be reached.
 
 status:
   0  the end can be reached from each state
-  1  it cannot from some, or there are more states than --most
+  1  from some it cannot, or there are more states than --most
   2  a word is wrong
 """
 
@@ -411,7 +411,7 @@ Found = collections.namedtuple("Found", "states lost is_whole trail")
 
 
 def tried(model, most):
-    """Lists all states, breadth first, up to so many, and looks from which of them the end can be reached."""
+    """Lists all states, breadth first, up to a number, and finds out from which of them the end can be reached."""
     beginning = model.beginning()
     numbers, states, before, parents, ends = {beginning.key(): 0}, [beginning], [[]], [None], []
     for at, state in enumerate(states):

@@ -4,7 +4,7 @@ A row has pieces with ` => ` between them. The first names a network: `n1`, `n2`
 lines of n1, `endless` for n2 with more offers than any memory holds, `sixty` for one of 60 end systems with 1,500 virtual links
 and 4 ms, or `empty` for no text. Then come its changes: `OLD -> NEW` puts NEW in the place of the first OLD, and `+ TEXT` puts
 TEXT at the end. `+ 3 x TEXT` puts it there three times, with 0, 1 and 2 for each `#` in it and 1, 2 and 3 for each `@`. A `;`
-stands for the end of a line. The last piece is what the row tells."""
+is the end of a line. The last piece is what the row expects."""
 import functools
 import os
 

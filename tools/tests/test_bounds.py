@@ -528,6 +528,15 @@ class Proved(unittest.TestCase):
         self.assertEqual((rows[0]["bound_ns"], rows[0]["proved_ns"], rows[0]["proved_bytes"]), ("27720", "27720", ""))
         self.assertEqual({row["where"]: row["proved_bytes"] for row in rows if row["waiting_bytes"]}, {"ES1>SW1": "84", "SW1>ES2": "84"})
 
+    def test_a_page_shows_both(self):
+        both, page = os.path.join(self.folder, "bounds.csv"), os.path.join(self.folder, "page.html")
+        self.assertEqual(self.call(self.LINES, "-o", both)[0], 0)
+        tables = self.net.replace(".toml", ".tables.csv")
+        run = subprocess.run([*tool_words("report"), self.net, tables, "--bounds", both, "-o", page], capture_output=True, text=True)
+        self.assertEqual((run.returncode, run.stderr), (0, ""))
+        with open(page, encoding="utf-8") as file:
+            self.assertIn("bound by the program", file.read())
+
     def test_limits_go_by_them(self):
         limits = os.path.join(self.folder, "limits.csv")
         with open(limits, "w", encoding="utf-8") as file:

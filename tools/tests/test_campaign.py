@@ -1,5 +1,5 @@
 """Tests of afdx campaign. Those of the class WithTheProgram need the built program, at crates/afdxsim/out/afdxsim, where
-`rt ci` leaves it; the others have a stand-in of a few lines, which can be told to fail."""
+`rt ci` leaves it; the others have a stand-in of a few lines, which fails if the test asks for it."""
 import contextlib
 import csv
 import hashlib

@@ -1,4 +1,4 @@
-"""Tests of the lists of crates in the documents, which crates.txt decides, and of the list of lemmas that other crates cite."""
+"""Tests of the lists of crates in the documents, which crates.txt decides, and of the count of lemmas that other crates cite."""
 import os
 import re
 import tempfile
@@ -89,14 +89,15 @@ class Lemmas(unittest.TestCase):
             self.assertEqual(cited_lemmas.crates_by_heading(top), {"Below": ["low"], "Above": ["high"]})
             found = cited_lemmas.cited(top)
         self.assertEqual(found, {"low": ({"Growth", "growth/grow/Loop"}, {"high": 3})})
-        self.assertIn("3 lines cite lemmas of another crate, in 1 pairs of crates:", cited_lemmas.listed(found))
+        self.assertEqual(cited_lemmas.counted(found), "3 lines cite lemmas of another crate, in 1 pairs of crates.")
+        self.assertIn("| `low` | `Growth`, `growth/grow/Loop` | `high` 3 |", cited_lemmas.listed(found))
 
-    def test_the_map_has_the_list(self):
+    def test_the_map_has_the_count(self):
         text = document("docs/ARCHITECTURE.md")
         begin, end = cited_lemmas.MARKS
         self.assertEqual((text.count(begin), text.count(end)), (1, 1))
         there = text.partition(begin)[2].partition(end)[0]
-        self.assertEqual(there, cited_lemmas.listed(cited_lemmas.cited()), "tools/gate/cited_lemmas.py --write puts it right")
+        self.assertEqual(there, cited_lemmas.counted(cited_lemmas.cited()), "tools/gate/cited_lemmas.py --write puts it right")
 
 
 if __name__ == "__main__":

@@ -1,4 +1,4 @@
-"""Tests of what the program tells and leaves where files and streams of the system fail. They need the built program, at
+"""Tests of what the program prints and leaves if files and streams of the system fail. They need the built program, at
 crates/afdxsim/out/afdxsim, where `rt ci` leaves it, and a C compiler for the few lines of C that cut each write."""
 import os
 import re

@@ -1,4 +1,4 @@
-"""Tests of afdx campaign --each-outage: what it tells is held against the notes of the plain simulator."""
+"""Tests of afdx campaign --each-outage: its results are compared with the notes of the plain simulator."""
 import html.parser
 import os
 import tomllib

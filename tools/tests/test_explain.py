@@ -1,9 +1,9 @@
 """Tests of afdx explain and of toml_lines.py. Those of the class WithTheProgram need the built program, at
 crates/afdxsim/out/afdxsim, where `rt ci` leaves it. Called by itself with a number,
 
-    python3 tools/tests/test_explain.py 2000
+    python3 -m tests.test_explain 2000
 
-it holds afdx explain against the program on so many mutated texts, and says how many there were of each answer."""
+it compares afdx explain with the program on that many mutated texts, and prints how many there were of each answer."""
 import atexit
 import collections
 import contextlib

@@ -1,5 +1,5 @@
-"""Tests of groups of processes (crate `group_hand`): single processes that do, one by one, the steps that the block of a group tells have to
-come to the same, in written scripts and in drawn ones. Of both are compared which message is next, the floor, the letters for others, the
+"""Tests of groups of processes (crate `group_hand`). Single processes that do, one by one, the steps in the block of a group must come to
+the same, in written scripts and in drawn ones. The tests compare of both which message is next, the floor, the letters for others, the
 rows of committed events and the states. They need the built tests of crate `sample_actor`, where `rt ci` leaves them: one of these plays the
 scripts of standard input. src/tests/hands.rt there says what their words are."""
 import os

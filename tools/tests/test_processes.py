@@ -1,4 +1,4 @@
-"""Tests of a process of `process_queues`, its mail, floors and commits: a second process has to tell alike of scripts, written
+"""Tests of a process of `process_queues`, its mail, floors and commits: a second process must give the same answers to scripts, written
 ones and drawn ones. It keeps its letters as processes did before their counts stood in a map: in a list, in the order of their
 messages, without opposite pairs. They need the built tests of crate `sample_actor`, where `rt ci` leaves them: one of these plays
 the scripts of standard input. src/tests.rt there has the written ones, and src/tests/player.rt says what their words are."""

@@ -1,4 +1,4 @@
-"""Tests of the processes that read the runs of a campaign beside it: who reads, and what is told where something ends."""
+"""Tests of the processes that read the runs of a campaign beside it: who reads, and what is printed if something ends."""
 import functools
 import multiprocessing
 import os

@@ -1,4 +1,4 @@
-"""Tests of threaded_runs.py, with a stand-in for the program that can be told to differ."""
+"""Tests of threaded_runs.py, with a stand-in for the program that differs if the test asks for it."""
 import contextlib
 import io
 import os

@@ -1,13 +1,17 @@
 -- Which offers come to an end system, in which order, and how long its regulator then holds them.
-use Rattle.std.proofs.Common.{◌≡◌, ℕ, ◌+◌, ◌-◌, ◌*◌, ◌<◌, ◌≤◌, ◌==◌, inl, inr, true, false, List, [], ◌∷◌, Some, None, sym, ap, ◌∙◌, subst, arith}
+use Rattle.std.proofs.Common.{◌≡◌, ℕ, ◌+◌, ◌-◌, ◌*◌, ◌<◌, ◌≤◌, ◌==◌, inl, inr, refl, true, false, List, [], ◌∷◌, Some, None, sym, ap, ◌∙◌, subst, arith}
 use Rattle.std.specs.Prelude.{⊤}
 use Rattle.std.proofs.lemmas.Bool.{cases_eq, cases_lt, both_ways}
 use Rattle.std.proofs.lemmas.Nat.{mul-le}
+use Rattle.std.proofs.lemmas.List.{get_or-replicate, length-replicate}
 use Rattle.std.proofs.lemmas.List.Elements.{All-weaker}
 use Rattle.vlink.specs.declared.message.Message.{Message}
 use Rattle.vlink.specs.declared.note.Note.{Note}
 use Rattle.vlink.specs.Order.{message_order}
-use Rattle.bag_regulator.specs.Regulator.{opening}
+use Rattle.frame_ring.specs.Queue.{Queue}
+use Rattle.bag_regulator.specs.Regulator.{ask_of, next_served, opening}
+use Rattle.bag_regulator.proofs.RoundRobinLemmas.{next-all}
+use Rattle.bag_regulator.proofs.SpacingLemmas.{opening-empty}
 use Rattle.reverse.specs.Sending.{Wish}
 use Rattle.reverse.specs.Rules.{rules_of}
 use Rattle.reverse.specs.Setting.{Setting, simulation_of}
@@ -28,9 +32,10 @@ use Rattle.frame_ages.specs.Sizes.{OpensEmpty}
 use Rattle.frame_ages.specs.Waits.{IsOfferedBy, is_offer_of}
 use Rattle.frame_ages.proofs.GivenLemmas.{every-from-all, own-frames}
 use Rattle.frame_ages.proofs.Invariants.{IsInvariant, all-events}
+use Rattle.frame_ages.proofs.RegulatorSteps.{IsRight}
 use Rattle.frame_ages.proofs.RegulatorTurns.{OfAllSent, all-sent}
 use Rattle.frame_ages.proofs.ReleaseTimer.{HasRegulator, ask_by, ask_in}
-use Rattle.frame_ages.proofs.WaitLemmas.{AreOffered, by-period, full-list, held}
+use Rattle.frame_ages.proofs.WaitLemmas.{AreOffered, by-period, full-lists, held}
 
 no : {X : Type 0} → false ≡ true → X
 no h = absurd (let z : ⊥ = cc in z)
@@ -47,23 +52,43 @@ any-offered v e (m ∷ ms) h = (
   λ k l. any-offered v e ms (from-sooner e m.time (times_of ms) h.0 h.1),
 )
 
+module _ (x : Setting NodeState) (size : ℕ → ℕ) (O : OpensEmpty x size) (p v bag depth sub : ℕ) (inside : p < x.processes)
+    (is : regulator_in (x.opening p).equipment (record { 0 = v }) ≡ Some (opening bag depth sub)) where
+  -- at first no frame waits
+  none-next : next_served (opening bag depth sub) ≡ None
+  none-next = next-all (opening bag depth sub) (opening-empty depth sub)
+
+  opening-right : IsRight depth sub bag (opening bag depth sub)
+  opening-right = record {
+    count = length-replicate sub (record { frames = []; room = depth });
+    pointer = omega arith;
+    rooms = λ q h. ap (λ (l : Queue). l.room) (get_or-replicate sub q (record { frames = []; room = depth }) (record { frames = []; room = 0 }) h);
+    bag_is = refl;
+    sound = λ q e. absurd (let none = none-next in let z : ⊥ = cc in z);
+  }
+
+  pub opens : HasRegulator v depth sub bag (x.opening p).equipment
+  opens = record { regulator = opening bag depth sub; is = is; right = opening-right; own = own-frames (x.opening p).equipment (O.regulators p inside) }
+
+  pub quiet : ask_in v depth sub bag (x.opening p).equipment ≡ None
+  quiet = ap ask_by is ∙ ap (λ o. ask_of o None) none-next
+
+  -- no release was yet
+  none-yet : (l : ℕ) → opens.regulator.last ≡ Some l → ⊥
+  unfolding opens
+  none-yet l h = let z : ⊥ = cc in z
+
+  pub lists-held : Laws (simulation_of (rules_of node) x) → IsOfNodes x → IsHeldWithin x p v ((depth * sub) * bag)
+  lists-held L N = record {
+    holds = λ q outlet there n.
+        (held x N p q v depth sub bag inside opens quiet 0 0 ((depth * sub) * bag) (λ e t. t) (λ l len e. l ≤ e) (full-lists depth sub bag) outlet.ahead.byte_ns L 0 n (λ l h. absurd (none-yet l h))
+        (any-offered v 0 (events (simulation_of (rules_of node) x) n p) (events-from x p L n)) outlet.port).low;
+  }
+
 module _ (x : Setting NodeState) (L : Laws (simulation_of (rules_of node) x)) (N : IsOfNodes x) (size : ℕ → ℕ) (O : OpensEmpty x size) (p v bag depth : ℕ) (inside : p < x.processes)
     (is : regulator_in (x.opening p).equipment (record { 0 = v }) ≡ Some (opening bag depth 1)) where
   abbrev f : Simulation Message NodeState NodeRecord Note
   f = simulation_of (rules_of node) x
-
-  opens : HasRegulator v depth bag (x.opening p).equipment
-  opens = record { sn = 0; last = None; frames = []; is = is; sound = tt; own = own-frames (x.opening p).equipment (O.regulators p inside) }
-
-  quiet : ask_in v depth bag (x.opening p).equipment ≡ None
-  quiet = ap ask_by is
-
-  pub lists-held : IsHeldWithin x p v (depth * bag)
-  unfolding opens
-  lists-held = record {
-    holds = λ q outlet there n.
-        (held x N p q v depth bag inside opens quiet 0 0 (depth * bag) (λ e t. t) (λ l len e. l ≤ e) (full-list depth bag) outlet.ahead.byte_ns L 0 n tt (any-offered v 0 (events f n p) (events-from x p L n)) outlet.port).low;
-  }
 
   module _ (first period jitter : ℕ) (I : IsOfferedBy x v first period jitter) (long : bag ≤ period) (short : jitter ≤ period) where
     -- each offer that is handled was offered
@@ -140,10 +165,9 @@ module _ (x : Setting NodeState) (L : Laws (simulation_of (rules_of node) x)) (N
     all-due (m ∷ ms) = (λ k. omega arith, all-due ms)
 
     pub periods-held : IsHeldWithin x p v ((jitter + bag) - period)
-    unfolding opens
     periods-held = record {
       holds = λ q outlet there n.
-          (held x N p q v depth bag inside opens quiet period jitter ((jitter + bag) - period) (λ e t. e) (λ l len e. ((l + bag) + len * bag) + period ≤ (e + jitter) + bag)
-          (by-period depth bag period jitter ((jitter + bag) - period) long (omega arith)) outlet.ahead.byte_ns L first n tt
+          (held x N p q v depth 1 bag inside (opens x size O p v bag depth 1 inside is) (quiet x size O p v bag depth 1 inside is) period jitter ((jitter + bag) - period) (λ e t. e) (λ l len e. ((l + bag) + len * bag) + period ≤ (e + jitter) + bag)
+          (by-period depth bag period jitter ((jitter + bag) - period) long (omega arith)) outlet.ahead.byte_ns L first n (λ l h. absurd (none-yet x size O p v bag depth 1 inside is l h))
           (offered first (events f n p) (events-to p (one f n).handled) (all-fit n) (ascending-filter message_order L.order (λ m. m.receiver == p) (one f n).handled (right f L n).ascending) (all-due (events f n p))) outlet.port).low;
     }

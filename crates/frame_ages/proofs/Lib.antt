@@ -16,3 +16,4 @@ pub mod HeldLemmas
 pub mod RoomLemmas
 pub mod FullNotes
 pub mod KeptLemmas
+pub mod RoundRobin

@@ -1,4 +1,4 @@
--- A Release comes at just the moment for which the regulator asks, where a virtual link has no sub-virtual links.
+-- A Release comes at just the moment for which the regulator asks.
 use Rattle.std.proofs.Common.{◌≡◌, ℕ, ◌+◌, ◌<◌, ◌==◌, ◌⊎◌, inl, inr, Bool, true, false, cond, List, [], ◌∷◌, ◌++◌, filter, Option, Some, None, refl, sym, ap, ◌∙◌, subst, arith, eq-eqb, eqb-true}
 use Rattle.std.proofs.lemmas.Bool.{cases_lt, both_ways}
 use Rattle.vlink.specs.declared.frame.Frame.{Frame}
@@ -7,7 +7,7 @@ use Rattle.vlink.specs.declared.message.Message.{Message}
 use Rattle.vlink.specs.declared.message.Body.{Body}
 use Rattle.vlink.specs.declared.message.Body.TheVariants as body
 use Rattle.vlink.specs.declared.note.Note.{Note}
-use Rattle.bag_regulator.specs.Regulator.{Regulator, ask, outcome, regulator}
+use Rattle.bag_regulator.specs.Regulator.{Regulator, ask, ask_of, is_some_frame, let_go, next_release, next_served, outcome, regulator, with_frames}
 use Rattle.bag_regulator.specs.declared.event.RegEvent.{RegEvent}
 use Rattle.bag_regulator.specs.declared.event.RegEvent.TheVariants.{Offer, Release}
 use Rattle.reverse.specs.Sending.{Wish}
@@ -30,7 +30,7 @@ use Rattle.port_turns.proofs.Senders.{number-stays, until-stays}
 use Rattle.port_turns.proofs.SentKinds.{IsElsewhere, is_to, mine, mine-kind, none-elsewhere, offers-none, receiver-is, sent-late, sent-none, sent-one}
 use Rattle.port_turns.proofs.Sources.{IsOfferFit, source-keeps}
 use Rattle.frame_ages.specs.Waits.{is_offer_of}
-use Rattle.frame_ages.proofs.RegulatorSteps.{IsSound, Stepped, ask-single, ask_at, kept_ask, single, step}
+use Rattle.frame_ages.proofs.RegulatorSteps.{IsRight, Stepped, ask-next, ask-none, frames_at, kept-asks, kept-right, kept_ask, kept_by, passed-ask, passed-right, popped-right, step}
 use Rattle.frame_ages.proofs.RegulatorSteps.Stepped.{Drops, Keeps, Passes, Pops, Rests}
 use Rattle.frame_ages.proofs.RegulatorTurns.{IsSaid, OfPutAt, Turned, all-sent, is_release, node-turn, releases}
 use Rattle.frame_ages.proofs.RegulatorTurns.Turned.{Does, Quiet}
@@ -64,21 +64,19 @@ abbrev pub ask_by : Option Regulator → Option ℕ
 ask_by None = None
 ask_by (Some g) = ask g
 
-module _ (v room bag : ℕ) where
-  -- the regulator of the virtual link, and what waits there
+module _ (v room sub bag : ℕ) where
+  -- the regulator of the virtual link
   pub record HasRegulator (e : Equipment) : Type 0 where
-    pub sn : ℕ
-    pub last : Option ℕ
-    pub frames : List Frame
-    pub is : regulator_in e (record { 0 = v }) ≡ Some (single room bag sn last frames)
-    pub sound : IsSound last frames
+    pub regulator : Regulator
+    pub is : regulator_in e (record { 0 = v }) ≡ Some regulator
+    pub right : IsRight room sub bag regulator
     pub own : AreOwnFrames e
 
   abbrev pub ask_in : Equipment → Option ℕ
   ask_in e = ask_by (regulator_in e (record { 0 = v }))
 
-  pub ask-is : (e : Equipment) (r : HasRegulator e) → ask_in e ≡ ask_at room bag r.last r.frames
-  ask-is e r = ap ask_by r.is ∙ ask-single room bag r.sn r.last r.frames
+  pub ask-is : (e : Equipment) (r : HasRegulator e) → ask_in e ≡ ask r.regulator
+  ask-is e r = ap ask_by r.is
 
   -- an event leaves the moment, or sets it where there was none, or is the Release itself
   pub data AskTurn (release : Bool) (t : ℕ) (before now wish : Option ℕ) : Type 0 where
@@ -108,94 +106,100 @@ module _ (v room bag : ℕ) where
   said-release : (t : ℕ) (b : Body) (e : RegEvent) (at : ℕ) → IsSaid v t b e → e ≡ Release at → (is_release v b ≡ true) × (at ≡ t)
   said-release t b e at h is = subst (IsSaid v t b) is h
 
+  -- a Release that is not due does not come
+  pub early : (g : Regulator) (t now : ℕ) → IsRight room sub bag g → t ≡ now → (next_served g ≡ None) ⊎ ((l : ℕ) × (g.last ≡ Some l) × (t < l + bag)) → ask g ≡ Some now → ⊥
+  early g t now R e (inl none) h = let before = ask-none room sub bag g R none in let z : ⊥ = cc in z
+  early g t now R e (inr k) h = go (next_served g) refl
+    where
+      go : (o : Option ℕ) → next_served g ≡ o → ⊥
+      go None none = let before = ask-none room sub bag g R none in let z : ⊥ = cc in z
+      go (Some q) next =
+          let before = ask-next room sub bag g R q k.0 next k.1 in
+          let same : k.0 + bag ≡ now = cc in
+          absurd (omega (arith, k.2))
+
   pub turns : (n : ℕ) (m : Message) (e : Equipment) → HasRegulator e → Turns n m e
-  turns n m e r = go (node-turn v n 0 m e (single room bag r.sn r.last r.frames) (put-own v 0 m e r.own) r.is)
+  turns n m e r = go (node-turn v n 0 m e r.regulator (put-own v 0 m e r.own) r.is)
     where
       own : AreOwnFrames (handled n m e).equipment
       own = own-stays n m e r.own
 
-      asks-by : (wish : Option ℕ) (sn : ℕ) (last : Option ℕ) (frames : List Frame) → regulator_in (handled n m e).equipment (record { 0 = v }) ≡ Some (single room bag sn last frames) →
-          AskTurn (is_release v m.body) m.time (ask_at room bag r.last r.frames) (ask_at room bag last frames) wish → AskTurn (is_release v m.body) m.time (ask_in e) (ask_in (handled n m e).equipment) wish
-      asks-by wish sn last frames now t =
+      asks-by : (wish : Option ℕ) (now : Regulator) → regulator_in (handled n m e).equipment (record { 0 = v }) ≡ Some now →
+          AskTurn (is_release v m.body) m.time (ask r.regulator) (ask now) wish → AskTurn (is_release v m.body) m.time (ask_in e) (ask_in (handled n m e).equipment) wish
+      asks-by wish now is t =
           subst (λ z. AskTurn (is_release v m.body) m.time z (ask_in (handled n m e).equipment) wish) (sym (ask-is e r))
-          (subst (λ z. AskTurn (is_release v m.body) m.time (ask_at room bag r.last r.frames) z wish) (sym (ap ask_by now ∙ ask-single room bag sn last frames)) t)
+          (subst (λ z. AskTurn (is_release v m.body) m.time (ask r.regulator) z wish) (sym (ap ask_by is)) t)
 
-      first : (last : Option ℕ) (frames : List Frame) (frame : Frame) → IsSound last (frames ++ frame ∷ []) → is_release v m.body ≡ false → AskTurn (is_release v m.body) m.time (ask_at room bag last frames) (ask_at room bag last (frames ++ frame ∷ [])) (kept_ask room bag last frames)
-      first None [] frame sound k = absurd sound
-      first (Some l) [] frame sound k = Sets refl refl k
-      first None (f ∷ fs) frame sound k = absurd sound
-      first (Some l) (f ∷ fs) frame sound k = Same refl refl k
-
-      early : (t : ℕ) (last : Option ℕ) (frames : List Frame) → t ≡ m.time → (frames ≡ []) ⊎ ((l : ℕ) × (last ≡ Some l) × (t < l + bag)) → ask_at room bag last frames ≡ Some m.time → ⊥
-      early t last [] e why h = let z : ⊥ = cc in z
-      early t None (f ∷ fs) e why h = let z : ⊥ = cc in z
-      early t (Some l) (f ∷ fs) e (inl k) h = let z : ⊥ = cc in z
-      early t (Some l) (f ∷ fs) e (inr k) h = let same : l + bag ≡ m.time = cc in let of : l ≡ k.0 = let y = k.1 in cc in absurd (omega (arith, k.2))
-
-      by : (a : RegEvent) → IsSaid v m.time m.body a → regulator_in (handled n m e).equipment (record { 0 = v }) ≡ Some (regulator.after (single room bag r.sn r.last r.frames) a) → (vl : VlId) →
-          releases v (handled n m e).reply.wishes ≡ (asked n vl (regulator.out (single room bag r.sn r.last r.frames) a).release_at).wishes → Stepped room bag r.last r.frames a (outcome (single room bag r.sn r.last r.frames) a) → Turns n m e
-      by a said now vl ws (Drops t q frame is sn state ask none) =
-          let at = now ∙ ap (λ z. Some z) state in
-          record {
-            vl = vl;
-            wish = None;
-            turn = asks-by None sn r.last r.frames at (Same refl refl (said-offer m.time m.body a t q frame said is));
-            wishes = ws ∙ ap (λ z. (asked n vl z).wishes) ask;
-            next = record { sn = sn; last = r.last; frames = r.frames; is = at; sound = r.sound; own = own };
-          }
-      by a said now vl ws (Passes t q frame is empty sn state ask released) =
-          let at = now ∙ ap (λ z. Some z) state in
-          record {
-            vl = vl;
-            wish = None;
-            turn = asks-by None sn (Some t) [] at (Sets (ap (ask_at room bag r.last) empty) refl (said-offer m.time m.body a t q frame said is));
-            wishes = ws ∙ ap (λ z. (asked n vl z).wishes) ask;
-            next = record { sn = sn; last = Some t; frames = []; is = at; sound = tt; own = own };
-          }
-      by a said now vl ws (Keeps t q frame is sn state fits sound ask none) =
-          let at = now ∙ ap (λ z. Some z) state in
-          record {
-            vl = vl;
-            wish = kept_ask room bag r.last r.frames;
-            turn = asks-by (kept_ask room bag r.last r.frames) sn r.last (r.frames ++ frame ∷ []) at (first r.last r.frames frame sound (said-offer m.time m.body a t q frame said is));
-            wishes = ws ∙ ap (λ z. (asked n vl z).wishes) ask;
-            next = record { sn = sn; last = r.last; frames = r.frames ++ frame ∷ []; is = at; sound = sound; own = own };
-          }
-      by a said now vl ws (Rests t is why sn state ask none) =
-          let at = now ∙ ap (λ z. Some z) state in
-          let rel = said-release m.time m.body a t said is in
-          record {
-            vl = vl;
-            wish = None;
-            turn = asks-by None sn r.last r.frames at (Early (early t r.last r.frames rel.1 why) rel.0);
-            wishes = ws ∙ ap (λ z. (asked n vl z).wishes) ask;
-            next = record { sn = sn; last = r.last; frames = r.frames; is = at; sound = r.sound; own = own };
-          }
-      by a said now vl ws (Pops t is f rest are sn state ask released) =
-          let at = now ∙ ap (λ z. Some z) state in
-          let rel = said-release m.time m.body a t said is in
-          record {
-            vl = vl;
-            wish = ask_at room bag (Some t) rest;
-            turn = asks-by (ask_at room bag (Some t) rest) sn (Some t) rest at (Again refl rel.0);
-            wishes = ws ∙ ap (λ z. (asked n vl z).wishes) ask;
-            next = record { sn = sn; last = Some t; frames = rest; is = at; sound = some t rest; own = own };
-          }
+      -- a frame that waits first sets it
+      keeps : (q : ℕ) (frame : Frame) → q < sub → ((l : ℕ) × (r.regulator.last ≡ Some l)) → is_release v m.body ≡ false →
+          AskTurn (is_release v m.body) m.time (ask r.regulator) (ask (record r.regulator { lists = with_frames r.regulator.lists q (frames_at r.regulator q ++ frame ∷ []) })) (kept_ask r.regulator)
+      keeps q frame h last k = by (next_served r.regulator) refl
         where
-          some : (t : ℕ) (rest : List Frame) → IsSound (Some t) rest
-          some t [] = tt
-          some t (f ∷ fs) = tt
+          some : (xs : List Frame) → is_some_frame (xs ++ frame ∷ []) ≡ true
+          some [] = refl
+          some (x ∷ xs) = refl
 
-      go : Turned v n m.time m.body (single room bag r.sn r.last r.frames) (regulator_in (handled n m e).equipment (record { 0 = v })) (releases v (handled n m e).reply.wishes) (asks 0 m e) → Turns n m e
-      go (Quiet now none rel off put) =
+          now : ask (record r.regulator { lists = with_frames r.regulator.lists q (frames_at r.regulator q ++ frame ∷ []) }) ≡ next_release r.regulator r.regulator.last
+          now = kept-asks room sub bag r.regulator r.right q (frames_at r.regulator q ++ frame ∷ []) h (some (frames_at r.regulator q))
+
+          by : (o : Option ℕ) → next_served r.regulator ≡ o → AskTurn (is_release v m.body) m.time (ask r.regulator) (ask (record r.regulator { lists = with_frames r.regulator.lists q (frames_at r.regulator q ++ frame ∷ []) })) (kept_ask r.regulator)
+          by None none = Sets (ask-none room sub bag r.regulator r.right none) (ap (λ o. kept_by o (next_release r.regulator r.regulator.last)) none ∙ sym now) k
+          by (Some j) next = Same (now ∙ sym (ap (λ o. ask_of o (next_release r.regulator r.regulator.last)) next)) (ap (λ o. kept_by o (next_release r.regulator r.regulator.last)) next) k
+
+      by : (a : RegEvent) → IsSaid v m.time m.body a → regulator_in (handled n m e).equipment (record { 0 = v }) ≡ Some (regulator.after r.regulator a) → (vl : VlId) →
+          releases v (handled n m e).reply.wishes ≡ (asked n vl (regulator.out r.regulator a).release_at).wishes → Stepped room sub bag r.regulator a (outcome r.regulator a) → Turns n m e
+      by a said now vl ws (Drops t q frame is state ask none) =
+          let at = now ∙ ap (λ z. Some z) state in
           record {
-            vl = record { 0 = v };
+            vl = vl;
             wish = None;
-            turn = asks-by None r.sn r.last r.frames now (Same refl refl rel);
-            wishes = none;
-            next = record { sn = r.sn; last = r.last; frames = r.frames; is = now; sound = r.sound; own = own };
+            turn = asks-by None r.regulator at (Same refl refl (said-offer m.time m.body a t q frame said is));
+            wishes = ws ∙ ap (λ z. (asked n vl z).wishes) ask;
+            next = record { regulator = r.regulator; is = at; right = r.right; own = own };
           }
-      go (Does a said now vl k ws put) = by a said now vl ws (step room bag r.sn r.last r.frames a r.sound)
+      by a said now vl ws (Passes t q frame is empty inside state ask released) =
+          let at = now ∙ ap (λ z. Some z) state in
+          record {
+            vl = vl;
+            wish = None;
+            turn = asks-by None (let_go r.regulator t q r.regulator.lists) at (Sets (ask-none room sub bag r.regulator r.right empty) (sym (passed-ask room sub bag r.regulator r.right t q empty)) (said-offer m.time m.body a t q frame said is));
+            wishes = ws ∙ ap (λ z. (asked n vl z).wishes) ask;
+            next = record { regulator = let_go r.regulator t q r.regulator.lists; is = at; right = passed-right room sub bag r.regulator r.right t q inside; own = own };
+          }
+      by a said now vl ws (Keeps t q frame is inside few state ask last none) =
+          let at = now ∙ ap (λ z. Some z) state in
+          record {
+            vl = vl;
+            wish = kept_ask r.regulator;
+            turn = asks-by (kept_ask r.regulator) (record r.regulator { lists = with_frames r.regulator.lists q (frames_at r.regulator q ++ frame ∷ []) }) at (keeps q frame inside last (said-offer m.time m.body a t q frame said is));
+            wishes = ws ∙ ap (λ z. (asked n vl z).wishes) ask;
+            next = record { regulator = record r.regulator { lists = with_frames r.regulator.lists q (frames_at r.regulator q ++ frame ∷ []) }; is = at; right = kept-right room sub bag r.regulator r.right q (frames_at r.regulator q ++ frame ∷ []) inside last; own = own };
+          }
+      by a said now vl ws (Rests t is why state ask none) =
+          let at = now ∙ ap (λ z. Some z) state in
+          let rel = said-release m.time m.body a t said is in
+          record {
+            vl = vl;
+            wish = None;
+            turn = asks-by None r.regulator at (Early (early r.regulator t m.time r.right rel.1 why) rel.0);
+            wishes = ws ∙ ap (λ z. (asked n vl z).wishes) ask;
+            next = record { regulator = r.regulator; is = at; right = r.right; own = own };
+          }
+      by a said now vl ws (Pops t is q f rest next inside are state asks released) =
+          let at = now ∙ ap (λ z. Some z) state in
+          let rel = said-release m.time m.body a t said is in
+          record {
+            vl = vl;
+            wish = ask (let_go r.regulator t q (with_frames r.regulator.lists q rest));
+            turn = asks-by (ask (let_go r.regulator t q (with_frames r.regulator.lists q rest))) (let_go r.regulator t q (with_frames r.regulator.lists q rest)) at (Again refl rel.0);
+            wishes = ws ∙ ap (λ z. (asked n vl z).wishes) (asks ∙ ap ask state);
+            next = record { regulator = let_go r.regulator t q (with_frames r.regulator.lists q rest); is = at; right = popped-right room sub bag r.regulator r.right t q rest inside; own = own };
+          }
+
+      go : Turned v n m.time m.body r.regulator (regulator_in (handled n m e).equipment (record { 0 = v })) (releases v (handled n m e).reply.wishes) (asks 0 m e) → Turns n m e
+      go (Quiet now none rel off put) =
+          record { vl = record { 0 = v }; wish = None; turn = asks-by None r.regulator now (Same refl refl rel); wishes = none; next = record { regulator = r.regulator; is = now; right = r.right; own = own } }
+      go (Does a said now vl k ws put) = by a said now vl ws (step room sub bag r.regulator r.right a)
 
 -- ---- the timer
 
@@ -217,7 +221,7 @@ same-is (Some a) (Some b) h = ap Some (eqb-true a b h)
 same-is None (Some b) h = no h
 same-is (Some a) None h = no h
 
-module _ (x : Setting NodeState) (N : IsOfNodes x) (p v room bag : ℕ) (inside : p < x.processes) (opens : HasRegulator v room bag (x.opening p).equipment) (quiet : ask_in v room bag (x.opening p).equipment ≡ None) where
+module _ (x : Setting NodeState) (N : IsOfNodes x) (p v room sub bag : ℕ) (inside : p < x.processes) (opens : HasRegulator v room sub bag (x.opening p).equipment) (quiet : ask_in v room sub bag (x.opening p).equipment ≡ None) where
   abbrev f : Simulation Message NodeState NodeRecord Note
   f = simulation_of (rules_of node) x
 
@@ -225,17 +229,17 @@ module _ (x : Setting NodeState) (N : IsOfNodes x) (p v room bag : ℕ) (inside 
   is_due m = is_to (is_release v) p m
 
   abbrev pub alarm : Alarm Message NodeState (Option ℕ)
-  alarm = record { opening = None; after = λ s g m. ask_in v room bag (after s m).equipment; moment = λ g. g }
+  alarm = record { opening = None; after = λ s g m. ask_in v room sub bag (after s m).equipment; moment = λ g. g }
 
   abbrev fits : NodeState → Option ℕ → Bool
-  fits s g = same_moment g (ask_in v room bag s.equipment)
+  fits s g = same_moment g (ask_in v room sub bag s.equipment)
 
-  has-stays : (s : NodeState) (ms : List Message) → HasRegulator v room bag s.equipment → HasRegulator v room bag (reached (rules_of node) s ms).equipment
+  has-stays : (s : NodeState) (ms : List Message) → HasRegulator v room sub bag s.equipment → HasRegulator v room sub bag (reached (rules_of node) s ms).equipment
   has-stays s [] h = h
-  has-stays s (m ∷ ms) h = has-stays (after s m) ms (turns v room bag s.sender.number m s.equipment h).next
+  has-stays s (m ∷ ms) h = has-stays (after s m) ms (turns v room sub bag s.sender.number m s.equipment h).next
 
-  has : (s : NodeState) → IsReached f p s → HasRegulator v room bag s.equipment
-  has s h = subst (λ (z : NodeState). HasRegulator v room bag z.equipment) (sym h.1) (has-stays (x.opening p) h.0 opens)
+  has : (s : NodeState) → IsReached f p s → HasRegulator v room sub bag s.equipment
+  has s h = subst (λ (z : NodeState). HasRegulator v room sub bag z.equipment) (sym h.1) (has-stays (x.opening p) h.0 opens)
 
   number-is : (r : ℕ) → r < x.processes → (s : NodeState) → IsReached f r s → s.sender.number ≡ r
   number-is r i s h = ap (λ (z : NodeState). z.sender.number) h.1 ∙ (number-stays (x.opening r) h.0 ∙ N.number r i)
@@ -261,31 +265,31 @@ module _ (x : Setting NodeState) (N : IsOfNodes x) (p v room bag : ℕ) (inside 
       one : filter (mine (is_release v) p) (handled s.sender.number m s.equipment).reply.wishes ≡ record { time = at; receiver = s.sender.number; body = body.Release vl } ∷ []
       one = mine-kind (is_release v) p (handled s.sender.number m s.equipment).reply.wishes ∙ (ap (filter (λ (w : Wish). w.receiver == p)) h ∙ rw (eq-eqb s.sender.number p n) refl)
 
-  goes-on : (s : NodeState) (m : Message) (u : ℕ) → Turns v room bag s.sender.number m s.equipment → is_release v m.body ≡ false → ask_in v room bag s.equipment ≡ Some u →
-      (ask_in v room bag (after s m).equipment ≡ Some u) × (filter is_due (sends s m) ≡ [])
+  goes-on : (s : NodeState) (m : Message) (u : ℕ) → Turns v room sub bag s.sender.number m s.equipment → is_release v m.body ≡ false → ask_in v room sub bag s.equipment ≡ Some u →
+      (ask_in v room sub bag (after s m).equipment ≡ Some u) × (filter is_due (sends s m) ≡ [])
   goes-on s m u t free is = go t.turn
     where
-      go : AskTurn v room bag (is_release v m.body) m.time (ask_in v room bag s.equipment) (ask_in v room bag (after s m).equipment) t.wish → (ask_in v room bag (after s m).equipment ≡ Some u) × (filter is_due (sends s m) ≡ [])
+      go : AskTurn v room sub bag (is_release v m.body) m.time (ask_in v room sub bag s.equipment) (ask_in v room sub bag (after s m).equipment) t.wish → (ask_in v room sub bag (after s m).equipment ≡ Some u) × (filter is_due (sends s m) ≡ [])
       go (Same now wish k) = (now ∙ is, none-sent s m t.vl (t.wishes ∙ ap (λ z. (asked s.sender.number t.vl z).wishes) wish))
       go (Sets none wish k) = absurd (let z : ⊥ = cc in z)
       go (Again wish k) = absurd (both_ways _ free k)
       go (Early late k) = absurd (both_ways _ free k)
 
-  begins : (s : NodeState) (m : Message) → Turns v room bag s.sender.number m s.equipment → s.sender.number ≡ p → s.sender.until ≡ x.until → is_release v m.body ≡ false → ask_in v room bag s.equipment ≡ None →
-      IsSet f p is_due alarm (sends s m) (ask_in v room bag (after s m).equipment)
+  begins : (s : NodeState) (m : Message) → Turns v room sub bag s.sender.number m s.equipment → s.sender.number ≡ p → s.sender.until ≡ x.until → is_release v m.body ≡ false → ask_in v room sub bag s.equipment ≡ None →
+      IsSet f p is_due alarm (sends s m) (ask_in v room sub bag (after s m).equipment)
   begins s m t n end free is = go t.turn
     where
-      go : AskTurn v room bag (is_release v m.body) m.time (ask_in v room bag s.equipment) (ask_in v room bag (after s m).equipment) t.wish → IsSet f p is_due alarm (sends s m) (ask_in v room bag (after s m).equipment)
+      go : AskTurn v room sub bag (is_release v m.body) m.time (ask_in v room sub bag s.equipment) (ask_in v room sub bag (after s m).equipment) t.wish → IsSet f p is_due alarm (sends s m) (ask_in v room sub bag (after s m).equipment)
       go (Same now wish k) = Off (now ∙ is) (none-sent s m t.vl (t.wishes ∙ ap (λ z. (asked s.sender.number t.vl z).wishes) wish))
       go (Sets none wish k) = subst (IsSet f p is_due alarm (sends s m)) wish (set-by s m t.vl t.wish n end t.wishes)
       go (Again wish k) = absurd (both_ways _ free k)
       go (Early late k) = absurd (both_ways _ free k)
 
-  again : (s : NodeState) (m : Message) → Turns v room bag s.sender.number m s.equipment → s.sender.number ≡ p → s.sender.until ≡ x.until → is_release v m.body ≡ true → ask_in v room bag s.equipment ≡ Some m.time →
-      IsSet f p is_due alarm (sends s m) (ask_in v room bag (after s m).equipment)
+  again : (s : NodeState) (m : Message) → Turns v room sub bag s.sender.number m s.equipment → s.sender.number ≡ p → s.sender.until ≡ x.until → is_release v m.body ≡ true → ask_in v room sub bag s.equipment ≡ Some m.time →
+      IsSet f p is_due alarm (sends s m) (ask_in v room sub bag (after s m).equipment)
   again s m t n end mine is = go t.turn
     where
-      go : AskTurn v room bag (is_release v m.body) m.time (ask_in v room bag s.equipment) (ask_in v room bag (after s m).equipment) t.wish → IsSet f p is_due alarm (sends s m) (ask_in v room bag (after s m).equipment)
+      go : AskTurn v room sub bag (is_release v m.body) m.time (ask_in v room sub bag s.equipment) (ask_in v room sub bag (after s m).equipment) t.wish → IsSet f p is_due alarm (sends s m) (ask_in v room sub bag (after s m).equipment)
       go (Same now wish k) = absurd (both_ways _ k mine)
       go (Sets none wish k) = absurd (both_ways _ k mine)
       go (Again wish k) = subst (IsSet f p is_due alarm (sends s m)) wish (set-by s m t.vl t.wish n end t.wishes)
@@ -304,10 +308,10 @@ module _ (x : Setting NodeState) (N : IsOfNodes x) (p v room bag : ℕ) (inside 
   timer = record {
     opens = ap (λ z. same_moment None z) quiet ∙ same-refl None;
     off = refl;
-    keeps = λ s g m h i r on_time. same-refl (ask_in v room bag (after s m).equipment);
-    goes_on = λ s g m u h i r free a. goes-on s m u (turns v room bag s.sender.number m s.equipment (has s h)) (due-is m false r free) (sym (same-is g (ask_in v room bag s.equipment) i) ∙ a);
-    begins = λ s g m h i r free a. begins s m (turns v room bag s.sender.number m s.equipment (has s h)) (number-is p inside s h) (until-is s h) (due-is m false r free) (sym (same-is g (ask_in v room bag s.equipment) i) ∙ a);
-    again = λ s g m h i r mine on_time. again s m (turns v room bag s.sender.number m s.equipment (has s h)) (number-is p inside s h) (until-is s h) (due-is m true r mine) (sym (same-is g (ask_in v room bag s.equipment) i) ∙ on_time.at_moment mine);
+    keeps = λ s g m h i r on_time. same-refl (ask_in v room sub bag (after s m).equipment);
+    goes_on = λ s g m u h i r free a. goes-on s m u (turns v room sub bag s.sender.number m s.equipment (has s h)) (due-is m false r free) (sym (same-is g (ask_in v room sub bag s.equipment) i) ∙ a);
+    begins = λ s g m h i r free a. begins s m (turns v room sub bag s.sender.number m s.equipment (has s h)) (number-is p inside s h) (until-is s h) (due-is m false r free) (sym (same-is g (ask_in v room sub bag s.equipment) i) ∙ a);
+    again = λ s g m h i r mine on_time. again s m (turns v room sub bag s.sender.number m s.equipment (has s h)) (number-is p inside s h) (until-is s h) (due-is m true r mine) (sym (same-is g (ask_in v room sub bag s.equipment) i) ∙ on_time.at_moment mine);
     to_itself = receiver-is (is_release v) p;
     by_none = λ r i d s h m. none-by r d s m (number-is r i s h);
     not_offered = offers-none (is_release v) p (λ vl size sub. refl) x.offers N.offered;

@@ -1,4 +1,4 @@
--- How long a regulator holds frames in the one-thread run, where its virtual link has no sub-virtual links.
+-- How long a regulator holds frames in the one-thread run.
 use Rattle.std.specs.Prelude.{◌≡◌, ℕ, ◌+◌, ◌-◌, ◌*◌, ◌<◌, ◌≤◌, ◌==◌, Bool, true, false, All, Some}
 use Rattle.vlink.specs.declared.message.Message.{Message}
 use Rattle.vlink.specs.declared.message.Body.{Body}
@@ -22,11 +22,11 @@ is_offer_of v (Arrive q frame) = false
 is_offer_of v (Enqueue q frame) = false
 is_offer_of v (Carry frame) = false
 
--- where the regulator has one list, for `depth` frames, it holds none for more BAGs than that, whatever is offered
+-- a regulator with `sub` lists, each for `depth` frames, holds none for more BAGs than these are frames, whatever is offered
 abbrev pub AreListsHeld : Type 0
 AreListsHeld =
-    (x : Setting NodeState) → Laws (simulation_of (rules_of node) x) → IsOfNodes x → (size : ℕ → ℕ) → OpensEmpty x size → (p v bag depth : ℕ) → p < x.processes →
-    regulator_in (x.opening p).equipment (record { 0 = v }) ≡ Some (opening bag depth 1) → IsHeldWithin x p v (depth * bag)
+    (x : Setting NodeState) → Laws (simulation_of (rules_of node) x) → IsOfNodes x → (size : ℕ → ℕ) → OpensEmpty x size → (p v bag depth sub : ℕ) → p < x.processes →
+    regulator_in (x.opening p).equipment (record { 0 = v }) ≡ Some (opening bag depth sub) → IsHeldWithin x p v ((depth * sub) * bag)
 
 -- virtual link v is offered by a period: its k-th frame, of which there is one at most, within `jitter` ns after first + k * period
 pub record IsOfferedBy (x : Setting NodeState) (v first period jitter : ℕ) : Type 0 where
@@ -37,7 +37,7 @@ pub record IsOfferedBy (x : Setting NodeState) (v first period jitter : ℕ) : T
   pub not_before : (k : ℕ) → first + k * period ≤ (offer k).time
   pub not_after : (k : ℕ) → (offer k).time ≤ (first + k * period) + jitter
 
--- then it holds none for longer than jitter and BAG beyond the period, if neither is longer than the period
+-- then a regulator with one list holds none for longer than jitter and BAG beyond the period, if neither is longer than the period
 abbrev pub ArePeriodsHeld : Type 0
 ArePeriodsHeld =
     (x : Setting NodeState) → Laws (simulation_of (rules_of node) x) → IsOfNodes x → (size : ℕ → ℕ) → OpensEmpty x size → (p v bag depth : ℕ) → p < x.processes →

@@ -27,9 +27,9 @@ pub fn latencies_law()
     ensures bounded { AreLatenciesBounded }
 {}
 
-/// In the one-thread run the regulator of a virtual link without sub-virtual links holds a frame no longer than a full list takes, one BAG
-/// for each frame (`lists`). If frames are offered by a period, each with a jitter, and neither the BAG nor the jitter is longer than the
-/// period, it holds none longer than jitter + BAG - period (`periods`), also if it drops others.
+/// In the one-thread run a regulator holds a frame no longer than full lists take, one BAG for each frame in the lists of all sub-virtual links
+/// (`lists`). Without sub-virtual links, if frames are offered by a period, each with a jitter, and neither the BAG nor the jitter is longer than the
+/// period, it holds none longer than jitter + BAG - period (`periods`), also where it drops others.
 pub fn waits_law()
     ensures lists { AreListsHeld }
     ensures periods { ArePeriodsHeld }

@@ -1,5 +1,5 @@
 -- Each bound of a network holds in its one-thread run, where its regulators hold frames no longer than they may.
-use Rattle.std.proofs.Common.{List, ◌≤◌, ◌≡◌, ℕ, ◌+◌, ◌-◌, ◌*◌, ◌<◌, ◌==◌, ◌&&◌, Bool, true, false, cond, min, nat_le, get_or, Option, Some, None, All, IfSome, inl, inr, refl, ap, sym, ◌∙◌, subst, arith, slice_get, option_and_then, leb-true}
+use Rattle.std.proofs.Common.{List, ◌≤◌, ◌≡◌, ℕ, ◌+◌, ◌-◌, ◌*◌, ◌<◌, ◌==◌, ◌&&◌, Bool, true, false, cond, min, nat_le, get_or, Option, Some, None, All, IfSome, inl, inr, refl, ap, sym, ◌∙◌, subst, arith, slice_get, option_and_then, eqb-true, leb-true}
 use Rattle.std.proofs.lemmas.Bool.{cases_lt, false≢true}
 use Rattle.std.proofs.lemmas.Option.{slice_get-get_or}
 use Rattle.std.proofs.lemmas.List.Elements.{All-contains}
@@ -14,7 +14,7 @@ use Rattle.network_faults.proofs.MemberLemmas.{has-from_contains, contains-from_
 use Rattle.nodes.specs.declared.equipment.Equipment.{Equipment}
 use Rattle.nodes.specs.declared.equipment.Equipment.TheVariants as equipment
 use Rattle.nodes.specs.declared.ports.Outlet.{Outlet}
-use Rattle.nodes.specs.rules.Opening.{bag_ns, opening}
+use Rattle.nodes.specs.rules.Opening.{opening}
 use Rattle.nodes.specs.rules.Ports.{PortsState}
 use Rattle.nodes.specs.undoing.Node.{node}
 use Rattle.port_turns.specs.Nodes.{IsOfNodes, is_offer}
@@ -28,7 +28,7 @@ use Rattle.network_bounds.specs.Ages.{wait_of}
 use Rattle.network_bounds.specs.Curves.{bag_of}
 use Rattle.frame_ages.specs.Latencies.{AreLatenciesBounded, IsHeldWithin}
 use Rattle.frame_ages.specs.Sizes.{HaveEmptyRegulators, HaveIdlePorts, IsSized, OpensEmpty}
-use Rattle.plan_waits.specs.Held.{AreListsHeld, ArePeriodsHeld, IsSimplySent}
+use Rattle.plan_waits.specs.Held.{AreListsHeld, ArePeriodsHeld, IsSent}
 use Rattle.network_bounds.specs.declared.delays.PortBound.{PortBound}
 use Rattle.network_bounds.specs.Delays.{AreBounds}
 use Rattle.frame_ages.specs.Ports.{IsWaitingBound}
@@ -79,14 +79,11 @@ module _ (plan : Plan) (accepted : IsAccepted plan) where
   -- ---- how long a regulator holds frames
 
   module _ (laws : Laws (simulation_of (rules_of node) (setting_of plan))) (latencies : AreLatenciesBounded) (lists : AreListsHeld plan) (periods : ArePeriodsHeld plan) where
-    held : (p : ℕ) (vl : VlPlan) → IsSimplySent plan p vl → IsHeldWithin (setting_of plan) p vl.link.id.0 (wait_of vl.link)
+    held : (p : ℕ) (vl : VlPlan) → IsSent plan p vl → IsHeldWithin (setting_of plan) p vl.link.id.0 (wait_of vl.link)
     held p vl simple = go ((vl.link.sub == 1) && (nat_le (bag_of vl.link) vl.link.period_ns && nat_le vl.link.jitter_ns vl.link.period_ns)) refl
       where
         by_list : IsHeldWithin (setting_of plan) p vl.link.id.0 (vl.link.depth * vl.link.sub * bag_of vl.link)
-        by_list =
-            let one : vl.link.depth * 1 ≡ vl.link.depth = omega arith in
-            let full : vl.link.depth * vl.link.sub * bag_of vl.link ≡ vl.link.depth * bag_ns vl.link = ap (λ s. vl.link.depth * s * bag_of vl.link) simple.one ∙ ap (λ n. n * bag_of vl.link) one in
-            subst (IsHeldWithin (setting_of plan) p vl.link.id.0) (sym full) (lists laws of-nodes (size_of plan) opens-empty p vl simple)
+        by_list = lists laws of-nodes (size_of plan) opens-empty p vl simple
 
         lesser : (a b : ℕ) → IsHeldWithin (setting_of plan) p vl.link.id.0 a → IsHeldWithin (setting_of plan) p vl.link.id.0 b → IsHeldWithin (setting_of plan) p vl.link.id.0 (min a b)
         lesser a b h k = elim (cases_lt a b) [
@@ -99,22 +96,22 @@ module _ (plan : Plan) (accepted : IsAccepted plan) where
             (cond b (min (vl.link.depth * vl.link.sub * bag_of vl.link) (vl.link.jitter_ns + bag_of vl.link - vl.link.period_ns)) (vl.link.depth * vl.link.sub * bag_of vl.link))
         go false e = by_list
         go true e =
-            let two = both-true (nat_le (bag_of vl.link) vl.link.period_ns) (nat_le vl.link.jitter_ns vl.link.period_ns) (both-true (vl.link.sub == 1) (nat_le (bag_of vl.link) vl.link.period_ns && nat_le vl.link.jitter_ns vl.link.period_ns) e).1 in
+            let all = both-true (vl.link.sub == 1) (nat_le (bag_of vl.link) vl.link.period_ns && nat_le vl.link.jitter_ns vl.link.period_ns) e in
+            let two = both-true (nat_le (bag_of vl.link) vl.link.period_ns) (nat_le vl.link.jitter_ns vl.link.period_ns) all.1 in
             lesser (vl.link.depth * vl.link.sub * bag_of vl.link) (vl.link.jitter_ns + bag_of vl.link - vl.link.period_ns) by_list
-            (periods laws of-nodes (size_of plan) opens-empty p vl simple (leb-true _ _ two.0) (leb-true _ _ two.1))
+            (periods laws of-nodes (size_of plan) opens-empty p vl simple (eqb-true vl.link.sub 1 all.0) (leb-true _ _ two.0) (leb-true _ _ two.1))
 
     pub are-bounds : AreLatencyBounds plan
-    are-bounds bounds are vl is_vl one n there network_ns e =
+    are-bounds bounds are vl is_vl n there network_ns e =
         let has = All-contains (HasSource plan.nodes) plan.vls vl (all-have plan accepted) is_vl in
         let arrival = arriving plan accepted vl is_vl bounds are has.node has.is n network_ns e in
         let end = destination-end plan accepted vl is_vl n (has-from_contains (destinations_of vl) n there) in
         let (line, age, c) = sent plan accepted vl is_vl bounds are has.node has.is n network_ns arrival in
         let source_below : has.node < process_count plan = (let lt = end-system-below plan.nodes has.node has.end_system in omega (arith, lt)) in
         let below : n < process_count plan = (let lt = end-system-below plan.nodes n end in omega (arith, lt)) in
-        let simple : IsSimplySent plan has.node vl = record {
+        let simple : IsSent plan has.node vl = record {
           inside = source_below;
           is_vl = is_vl;
-          one = one;
           port = c.source_port;
           leaves = c.leaves;
           end_system = c.end_system.state;

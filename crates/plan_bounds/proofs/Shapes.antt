@@ -196,10 +196,10 @@ theirs : (shape plan : Plan) → shape_of plan ≡ shape_of shape → (bounds : 
 theirs shape plan same bounds are = from-shape plan (lines_of plan) bounds (subst (λ (s : Plan). AreBounds s (lines_of s) bounds) (sym same) (to-shape shape (lines_of shape) bounds are))
 
 pub shape-bounds : (shape plan : Plan) → AreLatencyBounds plan → AreShapeBounds shape plan
-shape-bounds shape plan holds same bounds are vl is_vl one n there network_ns e =
+shape-bounds shape plan holds same bounds are vl is_vl n there network_ns e =
     let number : network_ns_of plan bounds vl.link n ≡ Ok network_ns =
     sym (network-same plan bounds vl.link n) ∙ ap (λ (s : Plan). network_ns_of s bounds (shape_of_link vl.link) n) same ∙ network-same shape bounds vl.link n ∙ e in
-    holds bounds (theirs shape plan same bounds are) vl is_vl one n there network_ns number
+    holds bounds (theirs shape plan same bounds are) vl is_vl n there network_ns number
 
 pub shape-rooms : (shape plan : Plan) → AreRoomsEnough plan → AreShapeRooms shape plan
 shape-rooms shape plan holds same bounds are p lt each =

@@ -14,8 +14,8 @@ abbrev pub IsLatencyBound : Plan → VlPlan → ℕ → ℕ → Type 0
 IsLatencyBound plan vl n most =
     (events : ℕ) (row : Row) → Contains (one (simulation_of plan) events).rows row → row.place ≡ n → (latency : ℕ) → row.note ≡ Delivered vl.link.id latency → latency ≤ most
 
--- the number of each virtual link without sub-virtual links at each of its destinations is such a bound
+-- the number of each virtual link at each of its destinations is such a bound
 abbrev pub AreLatencyBounds : Plan → Type 0
 AreLatencyBounds plan =
-    (bounds : List PortBound) → AreBounds plan (lines_of plan) bounds → (vl : VlPlan) → Contains plan.vls vl → vl.link.sub ≡ 1 → (n : ℕ) → Contains (destinations_of vl) n →
+    (bounds : List PortBound) → AreBounds plan (lines_of plan) bounds → (vl : VlPlan) → Contains plan.vls vl → (n : ℕ) → Contains (destinations_of vl) n →
     (network_ns : ℕ) → network_ns_of plan bounds vl.link n ≡ Ok network_ns → IsLatencyBound plan vl n (network_ns + wait_of vl.link)

@@ -23,7 +23,7 @@ shape_of plan = record plan { until = 0; seed = 0; outages = []; vls = map shape
 -- where two networks have one shape, the number of the one is a bound of the other's runs, with the longest wait in the other's regulator
 abbrev pub AreShapeBounds : Plan → Plan → Type 0
 AreShapeBounds shape plan =
-    shape_of plan ≡ shape_of shape → (bounds : List PortBound) → AreBounds shape (lines_of shape) bounds → (vl : VlPlan) → Contains plan.vls vl → vl.link.sub ≡ 1 → (n : ℕ) → Contains (destinations_of vl) n →
+    shape_of plan ≡ shape_of shape → (bounds : List PortBound) → AreBounds shape (lines_of shape) bounds → (vl : VlPlan) → Contains plan.vls vl → (n : ℕ) → Contains (destinations_of vl) n →
     (network_ns : ℕ) → network_ns_of shape bounds vl.link n ≡ Ok network_ns → IsLatencyBound plan vl n (network_ns + wait_of vl.link)
 
 -- and where the bounds hold at each port of a node, the other drops no frame there because a port is full

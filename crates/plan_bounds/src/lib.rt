@@ -10,7 +10,7 @@ use network::Network;
 use plan_waits::waits_law;
 use seqsim::network_law;
 
-/// In the one-thread run of a network no frame of a virtual link without sub-virtual links is delivered at a destination later after its offer
+/// In the one-thread run of a network no frame of a virtual link is delivered at a destination later after its offer
 /// than its bound there says: the bound of the network and the longest wait in the regulator, as `network_bounds` writes them
 /// (`latencies`). A node drops no frame because a port is full, if at each of its ports the bound of what waits is no more than may wait there
 /// (`rooms`).

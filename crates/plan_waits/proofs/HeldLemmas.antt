@@ -19,12 +19,12 @@ use Rattle.frame_ages.specs.Waits.{IsOfferedBy, is_offer_of}
 use Rattle.frame_ages.proofs.HeldLemmas.{lists-held, periods-held}
 use Rattle.plan_ports.proofs.Linked.{have-sources, one-vl}
 use Rattle.plan_ports.proofs.Offered.{all-offered}
-use Rattle.plan_waits.specs.Held.{IsSimplySent}
+use Rattle.plan_waits.specs.Held.{IsSent}
 use Rattle.network_faults.proofs.MemberLemmas.{Has, has-from_contains}
 
-module _ (plan : Plan) (accepted : IsAccepted plan) (L : Laws (simulation_of (rules_of node) (setting_of plan))) (N : IsOfNodes (setting_of plan)) (size : ℕ → ℕ) (O : OpensEmpty (setting_of plan) size) (p : ℕ) (vl : VlPlan) (S : IsSimplySent plan p vl) where
-  regulator : regulator_in (opening plan p).equipment (record { 0 = vl.link.id.0 }) ≡ Some (bag.opening (bag_ns vl.link) vl.link.depth 1)
-  regulator = have-sources plan accepted p S.port vl S.leaves S.end_system S.is ∙ ap (λ k. Some (bag.opening (bag_ns vl.link) vl.link.depth k)) S.one
+module _ (plan : Plan) (accepted : IsAccepted plan) (L : Laws (simulation_of (rules_of node) (setting_of plan))) (N : IsOfNodes (setting_of plan)) (size : ℕ → ℕ) (O : OpensEmpty (setting_of plan) size) (p : ℕ) (vl : VlPlan) (S : IsSent plan p vl) where
+  regulator : regulator_in (opening plan p).equipment (record { 0 = vl.link.id.0 }) ≡ Some (bag.opening (bag_ns vl.link) vl.link.depth vl.link.sub)
+  regulator = have-sources plan accepted p S.port vl S.leaves S.end_system S.is
 
   abbrev offer : ℕ → Message
   offer k = offer_of plan.seed vl.link (unwrap_or (source_of vl) 0) k
@@ -49,8 +49,9 @@ module _ (plan : Plan) (accepted : IsAccepted plan) (L : Laws (simulation_of (ru
     not_after = λ k. let late = jitter-at-most (word_of plan.seed vl.link.id.0 k) vl.link.jitter_ns in omega arith;
   }
 
-  pub held-lists : IsHeldWithin (setting_of plan) p vl.link.id.0 (vl.link.depth * bag_ns vl.link)
-  held-lists = lists-held (setting_of plan) L N size O p vl.link.id.0 (bag_ns vl.link) vl.link.depth S.inside regulator
+  pub held-lists : IsHeldWithin (setting_of plan) p vl.link.id.0 ((vl.link.depth * vl.link.sub) * bag_ns vl.link)
+  held-lists = lists-held (setting_of plan) size O p vl.link.id.0 (bag_ns vl.link) vl.link.depth vl.link.sub S.inside regulator L N
 
-  pub held-periods : bag_ns vl.link ≤ vl.link.period_ns → vl.link.jitter_ns ≤ vl.link.period_ns → IsHeldWithin (setting_of plan) p vl.link.id.0 ((vl.link.jitter_ns + bag_ns vl.link) - vl.link.period_ns)
-  held-periods long short = periods-held (setting_of plan) L N size O p vl.link.id.0 (bag_ns vl.link) vl.link.depth S.inside regulator vl.link.offset_ns vl.link.period_ns vl.link.jitter_ns offered long short
+  pub held-periods : vl.link.sub ≡ 1 → bag_ns vl.link ≤ vl.link.period_ns → vl.link.jitter_ns ≤ vl.link.period_ns → IsHeldWithin (setting_of plan) p vl.link.id.0 ((vl.link.jitter_ns + bag_ns vl.link) - vl.link.period_ns)
+  held-periods one long short = periods-held (setting_of plan) L N size O p vl.link.id.0 (bag_ns vl.link) vl.link.depth S.inside (regulator ∙ ap (λ k. Some (bag.opening (bag_ns vl.link) vl.link.depth k)) one)
+      vl.link.offset_ns vl.link.period_ns vl.link.jitter_ns offered long short

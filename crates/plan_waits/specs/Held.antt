@@ -1,4 +1,4 @@
--- How long the regulators of a network hold frames of a virtual link without sub-virtual links.
+-- How long the regulators of a network hold frames.
 use Rattle.std.specs.Prelude.{◌≡◌, ℕ, ◌+◌, ◌-◌, ◌*◌, ◌<◌, ◌≤◌, Contains}
 use Rattle.reverse.specs.Rules.{rules_of}
 use Rattle.reverse.specs.Setting.{simulation_of}
@@ -14,25 +14,24 @@ use Rattle.frame_ages.specs.Latencies.{IsHeldWithin}
 use Rattle.frame_ages.specs.Sizes.{OpensEmpty}
 use Rattle.plan_ports.specs.Links.{LeavesBy}
 
--- end system p sends the virtual link, which has no sub-virtual links
-pub record IsSimplySent (plan : Plan) (p : ℕ) (vl : VlPlan) : Type 0 where
+-- end system p sends the virtual link
+pub record IsSent (plan : Plan) (p : ℕ) (vl : VlPlan) : Type 0 where
   pub inside : p < process_count plan
   pub is_vl : Contains plan.vls vl
-  pub one : vl.link.sub ≡ 1
   pub port : ℕ
   pub leaves : LeavesBy plan p port vl
   pub end_system : EndSystemState
   pub is : (opening plan p).equipment ≡ equipment.EndSystem end_system
 
--- its regulator holds no frame for more BAGs than its list has room for frames
+-- its regulator holds no frame for more BAGs than its lists have room for frames
 abbrev pub AreListsHeld : Plan → Type 0
 AreListsHeld plan =
     Laws (simulation_of (rules_of node) (setting_of plan)) → IsOfNodes (setting_of plan) → (size : ℕ → ℕ) → OpensEmpty (setting_of plan) size →
-    (p : ℕ) (vl : VlPlan) → IsSimplySent plan p vl → IsHeldWithin (setting_of plan) p vl.link.id.0 (vl.link.depth * bag_ns vl.link)
+    (p : ℕ) (vl : VlPlan) → IsSent plan p vl → IsHeldWithin (setting_of plan) p vl.link.id.0 ((vl.link.depth * vl.link.sub) * bag_ns vl.link)
 
--- and for no longer than jitter and BAG beyond the period, if neither is longer than the period
+-- and, without sub-virtual links, for no longer than jitter and BAG beyond the period, if neither is longer than the period
 abbrev pub ArePeriodsHeld : Plan → Type 0
 ArePeriodsHeld plan =
     Laws (simulation_of (rules_of node) (setting_of plan)) → IsOfNodes (setting_of plan) → (size : ℕ → ℕ) → OpensEmpty (setting_of plan) size →
-    (p : ℕ) (vl : VlPlan) → IsSimplySent plan p vl → bag_ns vl.link ≤ vl.link.period_ns → vl.link.jitter_ns ≤ vl.link.period_ns →
+    (p : ℕ) (vl : VlPlan) → IsSent plan p vl → vl.link.sub ≡ 1 → bag_ns vl.link ≤ vl.link.period_ns → vl.link.jitter_ns ≤ vl.link.period_ns →
     IsHeldWithin (setting_of plan) p vl.link.id.0 ((vl.link.jitter_ns + bag_ns vl.link) - vl.link.period_ns)

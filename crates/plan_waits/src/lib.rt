@@ -5,9 +5,8 @@ ghost use Rattle.plan_waits.specs.Held.{AreListsHeld, ArePeriodsHeld};
 
 use network::Network;
 
-/// In the one-thread run of a network the regulator of a virtual link without sub-virtual links holds a frame no longer than one BAG for
-/// each frame for which its list has room (`lists`); and no longer than jitter + BAG - period, if neither BAG nor jitter is longer than the
-/// period (`periods`).
+/// In the one-thread run of a network a regulator holds a frame no longer than one BAG for each frame that its lists have room for (`lists`). Without
+/// sub-virtual links it holds none longer than jitter + BAG - period, if neither BAG nor jitter is longer than the period (`periods`).
 pub fn waits_law(network: &Network)
     ensures lists { AreListsHeld network.now }
     ensures periods { ArePeriodsHeld network.now }

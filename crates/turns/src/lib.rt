@@ -34,8 +34,8 @@ pub use tasks::Tasks;
 pub use turn_words::{Refusal, TurnRun};
 pub use workers::work_all;
 
-/// A group works on events that are less than this after the least moment of all groups, in ns. A rollback costs more than a section of the
-/// exchange: of 1,000 events 2 to 4 are undone and 38 sections taken, and with twice the lead 35 and 27.
+/// A group works on events that are less than this later than the least moment of all groups, in ns. A rollback costs more than a section of
+/// the exchange. As measured, less than 1 of 1,000 events is undone, as a group also stops at a letter that waits for it.
 pub const LEAD_NS: u64 = 8_000;
 
 /// The most messages that a group handles before it announces how far it is.

@@ -38,7 +38,7 @@ use Rattle.group_exchange.specs.contracts.mark.Standing as Standing
 use Rattle.group_exchange.specs.contracts.steps.Steps as Steps
 use Rattle.group_exchange.specs.contracts.steps.Steps.TheInside as StepsIn
 use Rattle.group_boxes.proofs.boxes.Boxes.TheSendSync as boxes
-use Rattle.group_exchange.proofs.steps.Kept.TheSendSync as kept
+use Rattle.virtual_time.proofs.step.Step.TheSendSync as step
 use Rattle.halves.proofs.LeftHalf.TheSendSync as left
 use Rattle.halves.proofs.RightHalf.TheSendSync as right
 use Rattle.network.proofs.network.Network.TheSendSync as network
@@ -71,7 +71,7 @@ hand-send R K g h s t = view_send _ _ _ _ _ (declared_send (HandIn.the_type R K 
 
 -- ---- a group in hand, and what the groups share
 steps-send : IsSend Steps.the_row
-steps-send = view_send _ _ _ _ _ (declared_send StepsIn.the_type (search (kept.the_send, option.the_send, sendable, crosses) depth 20))
+steps-send = view_send _ _ _ _ _ (declared_send StepsIn.the_type (search (step.the_send, option.the_send, sendable, crosses) depth 20))
 
 standing-send : IsSend Standing.the_row
 standing-send = declared_send Standing.the_type (search (time.the_send, sendable, crosses) depth 20)

@@ -30,11 +30,11 @@ examples:
   afdx bounded-runs
         500 networks, ten runs of each
   afdx bounded-runs --networks 1 --first 417 --keep runs
-        those of the network 417 once more; the folder runs has the description of each, for afdx bounds, afdx second-opinion
-        and afdxsim
+        the runs of network 417 once more; the folder runs has the description of each, for afdx bounds, afdx
+        second-opinion and afdxsim
 
-It prints a line for each latency, port, hop, .. that is above its bound, and at the end how many there were of each, and
-how near the greatest latencies came.
+It prints a line for each latency, port, hop, .. that is above its bound. At the end it prints how many there were of each,
+and how near the greatest latencies came to their bounds.
 
 status:
   0  nothing was above its bound

@@ -29,21 +29,21 @@ examples:
 
   afdxsim bounds net.toml > proved.csv
   afdx bounds net.toml --proved proved.csv --limits limits.csv --strict
-        holds the limits against the bounds that the program prints
+        compares the limits with the bounds that the program prints
 
   afdx bounds net.toml --fit fitted.toml
         net.toml with policing jitters and port bytes that are just enough for the worst case; the rest of it, comments
         too, stays. Standard output has each of these values before and after
 
-columns (further ones may stand beside them; who reads the file goes by their names):
+columns (later versions may add others, so read them by their names):
   vl,where     a virtual link and a destination; or a virtual link and a switch, for its account there; or a virtual
-               link and a line, for its hop there; or no virtual link, and the line before which an output port is
+               link and a line, for its hop there; or no virtual link, and the line that an output port feeds
   bound_ns     the greatest latency that a frame may have at the destination, in ns, or none
   wait_ns      how much of it is the wait in the regulator, in ns
   waiting_bytes  the greatest sum of the sizes of the frames that wait at the output port, in bytes, or none
-  port_bytes   how many may wait there, in bytes. Where this is less, frames may be lost
+  port_bytes   how many may wait there, in bytes. If this is less, frames may be lost
   why          why there is no bound
-  sure         the networks by which each frame comes to the destination in the worst case: A, B, AB, or none of them
+  sure         the networks by which each frame reaches the destination in the worst case: A, B, AB, or none of them
   skew_ns      the longest time between the two copies of a frame at the destination, in ns, or none
   skew_max_ns  how much later the second copy is still known as a copy, in ns
   jitter_ns    by how much frames may come to the switch closer than a BAG, in ns, or none
@@ -52,7 +52,7 @@ columns (further ones may stand beside them; who reads the file goes by their na
                destination neither network is sure (not_sure); the second copy of a frame may come so late that it is
                delivered_twice; the port is too_small; the transmit_jitter is longer than allowed, or the sum of the rule
                above 500 us
-  network_ns   how much of bound_ns is the network's own: bound_ns less wait_ns, or none
+  network_ns   how much of bound_ns the network takes: bound_ns less wait_ns, or none
   network_a_ns, network_b_ns  the longest time from the release of a frame to its arrival at the destination by this
                network alone, in ns, or none
   delay_ns     the longest time from the arrival of a frame at the output port before the line to its last bit on the
@@ -65,19 +65,19 @@ columns (further ones may stand beside them; who reads the file goes by their na
   transmit_rule_ns  what ARINC 664 Part 7 sets beside it: 40 us + the sum over the virtual links of the line of
                (20 + Smax) * 8 bits by its speed, in ns. A jitter is allowed up to this, and up to 500 us
   description  checksum of the description: the first 16 digits of its SHA-256
-  program      who computed the bounds: this tool, its version and its commit, with + where files differed from it
+  program      who computed the bounds: this tool, its version and its commit, with + if files differed from it
 
 There is no bound (none)
-  where a line of the way may be given more than it can send: the frames that come to it are allowed more by their BAGs.
-    A line that is only given too much at low priority has bounds for high priority;
-  where bursts grow round a circle of lines, each of which delays what the next one is given;
-  where a virtual link has no frame that arrives: its frames are longer than its smax.
+  if a line of the way may receive more than it can send, by the BAGs of the virtual links. If only its frames of low
+    priority are too many, it has bounds for those of high priority;
+  if bursts grow round a circle of lines, each of which delays what the next one receives;
+  if no frame of a virtual link arrives: its frames are longer than its smax.
 
-A virtual link with both networks has the lesser of the two bounds only where no copy can be lost on that network and no
-copy of the other can come so late that it is taken for a new frame (skew_max_ns); else the greater.
+A virtual link on both networks has the lesser of the two bounds only if no copy can be lost on that network and no copy
+of the other can come so late that it counts as a new frame (skew_max_ns); else it has the greater.
 
 status:
-  0  the bounds are written, also where there are none, and whatever they warn of
+  0  the bounds are written, also if there are none, and whatever they warn of
   1  with --strict a limit is below its bound, or has none; with --fit a value stays, since it cannot be worked out: error
      output has its line and why, and FILE is written
   2  a word is wrong, a file cannot be read or written, or `afdxsim` would refuse NET: one line on error output says why

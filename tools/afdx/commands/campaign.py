@@ -56,10 +56,10 @@ examples:
   afdx report net.toml campaign -o report.html
         the page of them
   afdx campaign net.toml --seeds 1000 --jobs 4 --offsets --limits limits.csv -o campaign
-        a thousand runs, four at a time, with drawn offsets, each held against limits.csv
+        a thousand runs, four at a time, with drawn offsets, each compared with limits.csv
   afdx campaign net.toml --seeds 1 --first 42 --offsets --keep -o worst
-        the run of the seed 42 once more, and its description: worst/seed-42.toml, which afdxsim and afdx report can be
-        given to look at what happened in it
+        the run of the seed 42 once more, and its description worst/seed-42.toml, for afdxsim and afdx report, which show
+        what happened in it
   afdx campaign net.toml --set vl.157.bag_ms=4,8,16 --set link.3.mbit=10,100 --seeds 20 -o sweep
         six combinations, each with twenty seeds: of the virtual link 157, and of the third link of the description.
         Nodes have names, as node.SWA.latency_ns=8000,16000. sweep/sweep.html shows effects beside the spread of seeds
@@ -70,15 +70,15 @@ examples:
   afdx campaign net.toml --each-outage -o outages
         what is lost and what becomes late without each link and each switch: outages/outages.html
   afdx campaign net.toml --each-outage 50000000 --seeds 5 --keep -o outages
-        the same with five seeds, and out from 50 ms on. The description and the tables of each run are kept: afdx report
-        compares one with those of outage-0, which is none, by --against
+        the same with five seeds, and out from 50 ms on. The description and the tables of each run are kept. By --against
+        afdx report compares one with those of outage-0, the run without an outage
   dask scheduler --host 10.0.0.1; dask worker tcp://10.0.0.1:8786 --nworkers 4 --nthreads 1
   afdx campaign net.toml --seeds 1000 --dask tcp://10.0.0.1:8786 -o campaign
-        on several machines: the first on one of them, the second on each, with four runs side by side. Each needs
-        python3-distributed, and afdxsim on its PATH, or where AFDXSIM says, or where this machine has it
+        on several machines: the scheduler on one of them, a worker on each, with four runs side by side. Each machine
+        needs python3-distributed, and afdxsim on its PATH, at the path in AFDXSIM, or where this machine has it
 
 limits.csv, a line for each destination that has a limit: number of the virtual link, name of the destination, and the
-greatest latency in ns that it may have. Lines that are empty or begin with # are passed over.
+greatest latency in ns that it may have. Lines that are empty or begin with # are ignored.
   101,DU_R,500000
   101,FWC,500000
 
@@ -91,7 +91,7 @@ status:
   130, 143  interrupted, or ended by SIGTERM: what was made before is merged and kept
 """
 
-# Of so many outages a line tells what they do.
+# What an outage does is printed for this many outages at most.
 MOST_TOLD = 10
 
 
@@ -179,7 +179,7 @@ class Progress:
         self.lock, self.done, self.worst, self.far = threading.Lock(), 0, None, None
 
     def listen(self, maker):
-        """Has the maker tell how far single runs are, where that is shown."""
+        """Has the maker report the progress of single runs, if that is shown."""
         maker.hear = self.hear if self.shown else None
 
     def hear(self, name, far):
@@ -240,8 +240,8 @@ class Campaign:
             return seed
 
     def run(self, maker, keep, jobs):
-        """Has the runs made and takes what they say, seed by seed. The first one in this order that fails ends it. `keep` is
-        told the beginning of the name of each one's files, and its texts."""
+        """Has the runs made and takes what they say, seed by seed. The first one in this order that fails ends it. `keep` gets
+        the beginning of the name of each one's files, and its texts."""
         progress = Progress(len(self.seeds))
         progress.listen(maker)
         reader, jobs = run_results.Reader([self.net]), min(jobs, len(self.seeds))
@@ -316,7 +316,7 @@ def words_of(arguments=None):
     )
     add(
         "--aim", type=aimed_at, action="append", metavar="VL",
-        help="runs each seed (1 unless told) with offsets that let other frames meet those of this virtual link at each port; "
+        help="runs each seed (default: 1 seed) with offsets that let other frames meet those of this virtual link at each port; "
         "`all`: of each destination that has a limit, or without --limits of all virtual links",
     )
     add("--until", type=whole(1, model.LATEST_NS), metavar="NS", help="the end of the runs (default: that of NET)")
@@ -384,7 +384,7 @@ def foresee(net, is_traced):
 
 
 def judge_outages(words, net):
-    """Refuses outages in turn that begin after the end of the run, and tells those of the description that do."""
+    """Refuses outages in turn that begin after the end of the run, and warns of those of the description that do."""
     end = f"the run ends before that, at {net.until_ns} ns"
     if words.each_outage is not None and words.each_outage > net.until_ns:
         raise Fault(words.net, net.description.line("top", None, "until_ns"), f"--each-outage {words.each_outage}: {end}")

@@ -220,7 +220,7 @@ def fill(tree, path, record, begin, root=ROOT):
 
 
 def close(tree, path, record, root=ROOT):
-    """Puts into the tree what tells of the package."""
+    """Puts the files that describe the package into the tree."""
     names = tree.names()
     size = sum(os.path.getsize(os.path.join(tree.folder, name)) for name in names)
     sums = []

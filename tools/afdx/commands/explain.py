@@ -21,33 +21,33 @@ examples:
   afdx bounds net.toml -o bounds.csv && afdx explain net.toml --bounds bounds.csv
         further warnings, of what may go wrong in the worst case
 
-what is told, in this order:
+what it prints, in this order:
   faults    by the number that `afdxsim` gives them, then by section, row and key; docs/FORMATS.md, section 4, has them.
-            Where the text is no TOML, what is in the lines that could be read is judged all the same
+            If the text is no TOML, the lines that can be read are judged all the same
   warnings  size above smax: every frame is dropped at the first switch
-            a destination that is reached by one network alone, where there are two
+            a destination that one network alone reaches, although there are two
             a period below the BAG: frames wait in the regulator, and are dropped once its depth is full
             a jitter of offers by which more frames may wait in the regulator than it holds, or longer than a BAG; then
-            most of a latency is the regulator's and not the network's (afdx second-opinion --hops tells them apart)
-            a line that gets more than 75 percent of what it carries, or more than 100
+            most of a latency is the regulator's and not the network's (afdx second-opinion --hops measures both)
+            a line whose load is above 75 percent, or above 100
             an end system whose transmit jitter by the rule of ARINC 664 Part 7 is above 500 us
             an outage that begins after the end; a virtual link that offers nothing before the end
             a BAG longer than the run
             with --bounds, of the worst case: accounts that may refuse frames, destinations to which neither network
             brings each frame, copies that may be further apart than SkewMax, ports that are too small
 
-Of more than ten warnings of one kind the first three are told, and how many more there are; --all tells each.
+Of more than ten warnings of one kind it prints the first three, and how many more there are; --all prints each.
 
-status: 0 where the description is accepted, with or without warnings; 1 where it has a fault; 2 where a word is wrong or
-the file cannot be read.
+status: 0 if the description is accepted, with or without warnings; 1 if it has a fault; 2 if a word is wrong or the
+file cannot be read.
 """
 
-# Of more warnings of one kind so many are told, and how many more there are.
+# Of more warnings of one kind than the first number, the second number are printed, and how many more there are.
 MOST_OF_A_KIND, TOLD_OF_A_KIND = 10, 3
 
 
 def told_of(path, warnings, tells_all):
-    """The lines of warnings, and what there is to say of how many they are. Of many of one kind the first ones are told."""
+    """The lines of warnings, and lines that count them. Of many of one kind the first ones are printed."""
     kinds = Counter(it.kind for it in warnings)
     many = {} if tells_all else {kind: count for kind, count in kinds.items() if count > MOST_OF_A_KIND}
     lines, seen = [], Counter()
@@ -61,7 +61,7 @@ def told_of(path, warnings, tells_all):
 
 
 def explain(path, bounds=None, tells_all=False):
-    """What is told of a file, faults or warnings, and the status. `bounds` names a file of bounds; `tells_all`: each warning."""
+    """The faults or warnings of a file, as text, and the status. `bounds` names a file of bounds; `tells_all`: each warning."""
     try:
         text = model.text_of(path)
     except Fault as fault:

@@ -35,22 +35,22 @@ examples:
   afdx table --back net.toml -o tables.csv
         the tables of a description
 
-a table begins with a line that names its columns, and ends with an empty line or with the file. Its columns tell what
-it has. Columns marked * must be there; lines that begin with # are passed over:
+a table begins with a line that names its columns, and ends with an empty line or with the file. Its columns show what
+it has. Columns marked * are required. Lines that begin with # are ignored:
   virtual links   id*, source*, destinations* (names with blanks between), bag_ms, smax or payload (bytes), priority,
                   sub, policing, policing_jitter_ns, skew_max_ns, depth, size, offset_ns, period_ns, jitter_ns; bag_ms
-                  or period_ns must be there, and so must smax, size or payload. `via` names switches that come first
-                  where two ways are equally short, else the name decides; `a` and `b` state the paths of a network
-                  themselves, as `ADC SWA DU | ADC SWA FWC`, and - for none. Lines that differ in the destination alone
-                  are one virtual link. limit_us, udp_port, udp_source_port, udp_destination_port and remarks become
-                  comments
+                  or period_ns is required, and one of smax, size and payload. Of two ways that are equally short the
+                  one over a switch that `via` names is taken, else the name decides. `a` and `b` state the paths of a
+                  network themselves, as `ADC SWA DU | ADC SWA FWC`, and - for none. Lines that differ in the
+                  destination alone are one virtual link. limit_us, udp_port, udp_source_port, udp_destination_port and
+                  remarks become comments
   nodes           name*, kind (es or switch; a node with a net is a switch), net, port_bytes, latency_ns
   links           a*, b*, mbit, propagation_ns or length_m
   outages         from*, to*, from_ns*, to_ns*
   the run         until_ns, seed
-A node that has no line of its own is an end system. A time may be given in another unit: period_ms,
-jitter_us, until_s, and a period as a rate: rate_hz. Capital letters, blanks and brackets in the name of a column do not
-matter: `BAG (ms)` is bag_ms. docs/TOOLS.md, section 2, lists the other headings that are known; section 13 has more.
+A node that has no line of its own is an end system. A time may have another unit: period_ms, jitter_us, until_s; and a
+period may be a rate: rate_hz. Capital letters, blanks and brackets in the name of a column do not matter: `BAG (ms)` is
+bag_ms. docs/TOOLS.md, section 2, lists the other headings that are known; section 13 has more.
 
 status:
   0  the description is written. Error output has a note for each column, title or sheet that is ignored, and for what is
@@ -74,7 +74,7 @@ USUAL = {
 }
 
 COMMENTED = {"vl": [*headings.LIMITS, "udp_port", "udp_source_port", "udp_destination_port"]}
-# Which columns tell what a table has. Of several that fit it is what most of its columns are known of, else the first.
+# Which columns show what a table has. If several fit, it is the one that knows most of the columns, else the first.
 SORTS = [
     ("link", {"a", "b"}),
     ("vl", {"id", "source"}),
@@ -88,11 +88,11 @@ SORTS = [
 ]
 NEEDED = {"vl": ["id"], "node": ["name"], "link": ["a", "b"], "outage": ["from", "to", "from_ns", "to_ns"], "top": []}
 WORDS = {"end system": "es", "end_system": "es", "sw": "switch"}
-# So many digits has no number of a table.
+# No number of a table has more digits than this.
 MOST_DIGITS = 30
 # Stands for a column that is to be passed over.
 PASSED = "-"
-# Of the lines that have a fault so many are named.
+# A fault names this many of its lines at most.
 FEW_LINES = 3
 # What of a fault is not the same in other lines that have it: what is quoted, numbers, and where a virtual link is from.
 VALUES = re.compile(r"'[^']*'(\.\. of [0-9,]+ characters)?|\"[^\"]*\"|\b[0-9][0-9.,_]*|(?<=is reached from )\S+")
@@ -147,7 +147,7 @@ class Tables:
             self.add(Line(path, rows.line_num, {}), f"is no line of a table: {fault}")
 
     def read_workbook(self, path):
-        """Reads the sheets. One without a table may tell of something else, and is passed over."""
+        """Reads the sheets. One without a table may have other contents, and is passed over."""
         before = sum(map(len, self.lines.values()))
         for sheet in workbook.sheets_of(path):
             place = f"{path}, sheet {sheet['name']},"
@@ -164,7 +164,7 @@ class Tables:
         self.notes.append(Fault(line.path, line.number, text + ", and is passed over"))
 
     def read(self, path, rows, tell_no_table, mark=None):
-        """Reads tables. Who is to be told of a line in place of the names of columns is given, and what parts the cells."""
+        """Reads tables. The caller gives what parts the cells, and who hears of a line that stands in place of the names of columns."""
         section, columns = None, None
         for number, cells in rows:
             cells = [cell.strip() for cell in cells]
@@ -249,7 +249,7 @@ class Tables:
         return found
 
     def unknown(self, line, section, cell, name, present):
-        """Tells of a column that is not known. One that looks like another, which the table has not, may be misspelt."""
+        """Reports a column that is not known. One that looks like another, which the table has not, may be misspelt."""
         near = headings.nearest(name, section)
         if near and key_of(near, section) not in present and near not in headings.ASIDE:
             text = f"the column {cell!r} is not known, and {near} may be meant: write it so, or say what it is by --column"
@@ -327,8 +327,8 @@ def mapped(text):
 
 
 def together(faults):
-    """The faults of tables, where those of several lines that differ in values alone are told once, with how many lines
-    have them and the first few of these."""
+    """The faults of tables. Those of several lines that differ in values alone are printed once, with the number of lines
+    that have them and the first few of these."""
     found, said = {}, []
     for fault in faults:
         kind = fault.path, VALUES.sub("#", fault.text)
@@ -633,7 +633,7 @@ def lines_said(line):
 
 
 def comments_of(section, line):
-    """What a table has of a row that no key has. Where the lines that it is made of differ, each is told with its
+    """What a table has of a row that no key has. If the lines that it is made of differ, each is named with its
     destinations."""
     parts, said = line.parts or [line], []
     # An end system without a line of its own is made of another row's.

@@ -55,9 +55,9 @@ examples:
   afdx large-network --end-systems 60 --switches 30 --columns 1 --reach 95 --virtual-links 200 > row.toml
         a row of 30 switches, with paths of up to 32 nodes
 
-What the network has is told on error output: processes, paths, the longest path, and the load of the busiest line, that
-is the share of time in which it carries frames if no frame is lost. A load above 100 percent means that frames will be
-lost or late there.
+Error output has a summary of the network: processes, paths, the longest path, and the load of the busiest line. The load
+is the share of time in which the line carries frames if no frame is lost. Above 100 percent, frames will be lost or late
+there.
 """
 
 

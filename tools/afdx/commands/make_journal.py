@@ -1,7 +1,7 @@
 #!/usr/bin/env python3
 """Writes a journal of a network: the steps of a parallel run, one a line, as `afdxsim replay NET STEPS` reads them.
 
-    python3 afdx make-journal NET.toml [--turn N] [--window NS] > steps.txt
+    afdx make-journal NET.toml [--turn N] [--window NS] > steps.txt
 
 The processes take turns. In a turn a process commits its done events that are earlier than GVT, takes all letters of its mail, lets them
 arrive, handles messages, the first of them first, and posts what it sends. It handles at most N messages, and only those that are
@@ -22,7 +22,7 @@ from afdx.runs.second_opinion import BODIES, Simulation
 
 
 class Journal(Simulation):
-    """A simulation that tells its steps."""
+    """A simulation that lists its steps."""
 
     def __init__(self, net):
         # For each process how many letters its mail has.

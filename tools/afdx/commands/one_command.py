@@ -189,7 +189,7 @@ def check_by_opinion(words, read):
 
 
 def help_of_program(name, words, path):
-    """Tells the words of a command of the program, by the program where one is here, and answers the status."""
+    """Prints the usage of a command of the program, by the program if there is one here, and returns the status."""
     it, status = help_texts.OF_PROGRAM[name], 0
     try:
         found = program.given(path) if path else program.proved()
@@ -230,8 +230,8 @@ def by_tool(name, words):
 
 
 def with_program(words):
-    """The words of a tool that has the program run, with those that tell which one; and the status where there is no use in
-    going on."""
+    """The words of a tool that has the program run, with those that name the program; and the status if it is useless to
+    go on."""
     words, by = taken_out(words, "--by")
     words, path = taken_out(words, "--program")
     it = chosen(by, path)
@@ -251,10 +251,10 @@ def with_program(words):
 def page_words(arguments):
     parser = argparse.ArgumentParser(
         prog="afdx page", usage="afdx page NET [TABLES] -o FILE [--by WHAT] [--program PATH] [--no-bounds] ..",
-        description="Explains a description, has it simulated, bounds its latencies and draws all of it: one page. With tables\n"
-        "that are there, behind NET, as those of a campaign, nothing is simulated.",
+        description="Explains a description, simulates it, bounds its latencies and draws all of it on one page. With TABLES,\n"
+        "such as those of a campaign, it simulates nothing.",
         epilog="All other options are those of afdx report (afdx page NET -o FILE --limits FILE, say): afdx report --help.\n"
-        "status: 0; 1 where the description has a fault; else that of the step that fails, which says why",
+        "status: 0; 1 if the description has a fault; else that of the step that fails, which prints why",
         formatter_class=argparse.RawDescriptionHelpFormatter,
     )
     add = parser.add_argument
@@ -286,7 +286,7 @@ def no_option(path):
 
 
 def explained(net):
-    """Tells on error output what is wrong with a description or hardly meant, and answers the status."""
+    """Prints on error output the faults of a description and what is probably a mistake, and returns the status."""
     with watch.Watch("afdx"):
         watch.stage(f"explains {files.printable(net)}")
         found = subprocess.run(program.command("explain", net), stdin=subprocess.DEVNULL, capture_output=True, text=True)
@@ -395,7 +395,7 @@ def simulate_by_try(net, out, trace):
 def build(arguments):
     parser = argparse.ArgumentParser(
         prog="afdx build", description="Proves the program and all that it is made of, and builds it: crates/afdxsim/out/afdxsim.",
-        epilog="What is proved is kept on this machine, for ./test too. What `rt` said in full is in crates/afdxsim/out/build.log.",
+        epilog="The machine keeps what is proved, for ./test too. crates/afdxsim/out/build.log has all that `rt` printed.",
     )
     parser.add_argument("--jobs", type=model.whole(1, 1024), metavar="N", help="on at most N processors (default: all)")
     record = by_rt.build(parser.parse_args(arguments).jobs)
@@ -444,7 +444,7 @@ def main(words=None):
         with files.signals_taken():
             files.settle_streams()
             status = answer(list(sys.argv[1:] if words is None else words))
-        # As a shell tells what a signal ended.
+        # A shell reports so what a signal ended.
         return status if status >= 0 else files.BEHIND_A_SIGNAL - status
     except (Mistake, NoProgram) as fault:
         tell(str(fault))

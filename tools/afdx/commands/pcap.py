@@ -37,13 +37,13 @@ in Wireshark, with the fields of the dissector beside this tool:
 
 what a packet has:
   Ethernet  to 03:00:00:00 and the number of the virtual link; from 02:00:00, the number of the source's process, and 20
-            for network A, 40 for network B, or 00 where the frame was lost before it came to a network
+            for network A, 40 for network B, or 00 if the frame was lost before it came to a network
   IP, UDP   from 10, the number of the source's process, and 1, to 224.224 and the number of the virtual link; both ports
             are 49152, since descriptions have none
   the last byte  its sequence number
 
-status: 0; 2 where a word is wrong, a file cannot be read or written, the description is not accepted, or TRACE is of
-another run: one line on error output then names the file and the line.
+status: 0; 2 if a word is wrong, a file cannot be read or written, the description is not accepted, or TRACE is of
+another run. One line on error output then names the file and the line.
 """
 
 # The block types and options of pcapng, and the link type of Ethernet.

@@ -69,7 +69,7 @@ whole; so an earlier page stays until then.
 """
 
 
-# Of so many latencies above their bounds a line tells.
+# This many latencies above their bounds have a line each at most.
 MOST_TOLD = 10
 
 
@@ -112,7 +112,7 @@ def words_of(arguments=None):
 
 
 def tell_above(given):
-    """Tells the latencies above their bounds, and answers whether there are any."""
+    """Prints the latencies above their bounds, and returns whether there are any."""
     above = given.bounds.above(given.tables.latencies) if given.bounds else []
     for row in above[:MOST_TOLD]:
         told = f"virtual link {row.vl} at {row.where} took {row.greatest} ns, and its bound is {given.bounds.of[row.vl, row.where].ns} ns"

@@ -1,11 +1,11 @@
 """Files as the tools read and write them, and how a tool ends.
 
-What a tool has read it does not write over, and no two of the files that it writes are one: files are told apart by what
-they are, and not by how they are called. A name that is written stays what it is: a link, a mode, a device. A plain file
+A tool does not write over what it has read, and no two of the files that it writes are one: files are compared by what
+they are, and not by their names. A name that is written stays what it is: a link, a mode, a device. A plain file
 is replaced whole or not at all.
 
     @files.tool("afdx bounds")               # one line and a status for whatever ends the tool
-    def main(arguments=None):
+    def main(arguments: Any = None) -> None:
         text = files.text_of(path)           # Fault where it cannot be read, in one line with the file
         files.write_whole(output, made)      # or several, which are all judged before one is written: write_all
 """
@@ -20,6 +20,8 @@ import stat
 import sys
 import tempfile
 import threading
+from collections.abc import Callable, Iterable, Iterator, Mapping, MutableMapping
+from typing import IO, Any
 
 from afdx.files import watch
 
@@ -29,6 +31,9 @@ BEHIND_A_SIGNAL = 128
 
 STANDARD_OUTPUT = "standard output"
 
+# What a file is: device and number, and of one that is not there yet the folder's with the name.
+Identity = tuple[int, int] | tuple[int, int, str]
+
 
 # A word of a message that is longer is cut.
 LONG = re.compile(r"\S{399,}[^\s,;]")
@@ -37,12 +42,12 @@ LONG = re.compile(r"\S{399,}[^\s,;]")
 class Fault(Exception):
     """What is wrong with a file, in one line that names the file and, where there is one, the line."""
 
-    def __init__(self, path, line, text):
+    def __init__(self, path: str, line: int | None, text: str) -> None:
         path, text = printable(path), LONG.sub(lambda it: f"{it[0][:60]}.. of {len(it[0]):,} characters", text)
         super().__init__(f"{path} line {line}: {text}" if line else f"{path}: {text}")
         self.path, self.line, self.text = path, line, text
 
-    def __reduce__(self):
+    def __reduce__(self) -> tuple[Any, ...]:
         """So it goes from one process to another."""
         return Fault, (self.path, self.line, self.text)
 
@@ -50,23 +55,23 @@ class Fault(Exception):
 class Interrupted(KeyboardInterrupt):
     """A signal that ends the tool: `number` is its number."""
 
-    def __init__(self, number):
+    def __init__(self, number: int) -> None:
         super().__init__(f"ended by {signal.Signals(number).name}" if number != signal.SIGINT else "interrupted")
         self.number = number
 
 
-def printable(name):
+def printable(name: str) -> str:
     """A name in one line, also where it is no UTF-8 or has a line feed."""
     shown = os.fsencode(name).decode("utf-8", "backslashreplace")
     return "".join(sign if sign.isprintable() else repr(sign)[1:-1] for sign in shown)
 
 
-def cut(text, most=40):
+def cut(text: str, most: int = 40) -> str:
     """A text for a message, cut where it is long."""
     return repr(text) if len(text) <= most else repr(text[: most - 10]) + f".. of {len(text):,} characters"
 
 
-def ended_by(number):
+def ended_by(number: int) -> str:
     """What is said of a program that a signal ended."""
     try:
         name = signal.Signals(number).name
@@ -79,7 +84,7 @@ def ended_by(number):
 # ---- what a file is ----
 
 
-def what_is(path):
+def what_is(path: str) -> Identity | str:
     """What a name is the name of: a file, or one that is not there yet in its folder. What keeps nothing, as a device, is
     no other thing by another name."""
     try:
@@ -91,7 +96,7 @@ def what_is(path):
         return found.st_dev, found.st_ino, name
 
 
-def keeps_bytes(mode):
+def keeps_bytes(mode: int) -> bool:
     """Whether a file of this mode keeps what is written to it, so that it can be lost."""
     return stat.S_ISREG(mode) or stat.S_ISBLK(mode)
 
@@ -99,11 +104,12 @@ def keeps_bytes(mode):
 class Known:
     """What the tool that runs has read and written, by what the files are: for each the name by which it was."""
 
-    def __init__(self):
-        self.read, self.written = {}, {}
+    def __init__(self) -> None:
+        self.read: dict[Identity, str] = {}
+        self.written: dict[Identity, str] = {}
 
-    def note(self, where, path, found):
-        """Notes a file of which the system tells this, where it keeps what is written to it."""
+    def note(self, where: dict[Identity, str], path: str, found: os.stat_result) -> None:
+        """Notes a file of which the system reports this, if it keeps what is written to it."""
         if keeps_bytes(found.st_mode):
             where.setdefault((found.st_dev, found.st_ino), path)
 
@@ -111,19 +117,20 @@ class Known:
 KNOWN = Known()
 
 
-def reads(path):
+def reads(path: str) -> None:
     """Notes a file that another program reads, so that it is not written over either."""
     with contextlib.suppress(OSError):
         KNOWN.note(KNOWN.read, path, os.stat(path))
 
 
-def judge(paths, prints=False):
+def judge(paths: Iterable[str], prints: bool = False) -> None:
     """Refuses names that would be written where one is a file that was read, or two are one file, however they are spelled.
     `prints`: standard output is written too, which may be a file."""
-    others, own = collections.ChainMap({}, KNOWN.written), {}
+    others: MutableMapping[Any, str] = collections.ChainMap({}, KNOWN.written)
+    own: dict[Identity | str, str] = {}
     if prints:
-        for found in standard_output():
-            judge_one(STANDARD_OUTPUT, found, others)
+        for identity in standard_output():
+            judge_one(STANDARD_OUTPUT, identity, others)
     for path in paths:
         if path == "-":
             raise Fault(path, None, "is no file: without -o most tools write to standard output, and ./- is a file of this name")
@@ -135,7 +142,7 @@ def judge(paths, prints=False):
             own[found] = path
 
 
-def ready(paths, prints=False):
+def ready(paths: Iterable[str], prints: bool = False) -> None:
     """The same of names that are written once much is done; and sees that they can be written, as far as that can be seen before:
     so nothing is done in vain."""
     judge(paths, prints)
@@ -146,7 +153,7 @@ def ready(paths, prints=False):
             raise Fault(path, None, f"cannot be written: {fault.strerror}") from None
 
 
-def try_to_write(path):
+def try_to_write(path: str) -> None:
     """Fails where a name cannot be written. What stands there stays as it is."""
     try:
         found = os.stat(path)
@@ -162,7 +169,7 @@ def try_to_write(path):
         raise PermissionError(errno.EACCES, os.strerror(errno.EACCES))
 
 
-def try_folder(folder):
+def try_folder(folder: str) -> None:
     """Fails where no file can be made in a folder. None is left there."""
     out, beside = new_file(folder)
     out.close()
@@ -170,7 +177,7 @@ def try_folder(folder):
         os.unlink(beside)
 
 
-def judge_one(path, found, others):
+def judge_one(path: str, found: Identity | str, others: MutableMapping[Any, str]) -> None:
     """Refuses a file that was read, or that is one of the others, to which it is added."""
     for which, known in (("what was read as {}", KNOWN.read), ("{}, which is written too", others)):
         other = known.get(found)
@@ -179,7 +186,7 @@ def judge_one(path, found, others):
     others[found] = path
 
 
-def is_still(path, found):
+def is_still(path: str, found: Identity | str) -> bool:
     """Whether a name is still that of the file: what is gone may leave its number to another one."""
     if path == STANDARD_OUTPUT:
         return True
@@ -188,7 +195,7 @@ def is_still(path, found):
     return False
 
 
-def judge_folder(folder, is_written):
+def judge_folder(folder: str, is_written: Callable[[str], bool]) -> None:
     """The same of a folder, for all names there of which `is_written` answers true."""
     found = []
     with contextlib.suppress(OSError), os.scandir(folder) as entries:
@@ -196,7 +203,7 @@ def judge_folder(folder, is_written):
     judge(found, prints=True)
 
 
-def standard_output():
+def standard_output() -> Iterator[Identity]:
     """Standard output by what it is, where it is a file that keeps what is written."""
     if sys.stdout is not None and sys.stdout is sys.__stdout__:
         with contextlib.suppress(OSError):
@@ -208,7 +215,7 @@ def standard_output():
 # ---- reading ----
 
 
-def text_of(path):
+def text_of(path: str) -> str:
     """The text of a file."""
     watch.stage(f"reads {printable(path)}")
     try:
@@ -223,7 +230,7 @@ def text_of(path):
         raise Fault(path, found.count(b"\n", 0, fault.start) + 1, "is no UTF-8") from None
 
 
-def lines_of(path):
+def lines_of(path: str) -> Iterator[str]:
     """The lines of a file with their line feeds, one by one: no more of it is in memory."""
     number = 0
     try:
@@ -241,17 +248,17 @@ def lines_of(path):
 # ---- writing ----
 
 
-def output_name(text):
+def output_name(text: str) -> str | None:
     """The type of a word of the command line that names a file to write, or standard output by `-`: then None."""
     return None if text == "-" else text
 
 
-def write_whole(path, text):
+def write_whole(path: str, text: str | bytes) -> None:
     """Writes a file of a text or of bytes: whole, or nothing of it."""
     write_all({path: text})
 
 
-def write_all(texts, prints=False):
+def write_all(texts: Mapping[str, str | bytes], prints: bool = False) -> None:
     """Writes several files, by their names. Nothing is written where one of them may not be."""
     judge(texts, prints)
     for path, text in texts.items():
@@ -262,7 +269,7 @@ def write_all(texts, prints=False):
             raise Fault(path, None, f"cannot be written: {fault.strerror}") from None
 
 
-def write_pieces(path, pieces):
+def write_pieces(path: str, pieces: Iterable[bytes]) -> None:
     """Writes a file of pieces, bytes one after another, of which no two need be in memory at once: whole, or nothing of it."""
     judge([path])
     try:
@@ -272,7 +279,7 @@ def write_pieces(path, pieces):
         raise Fault(path, None, f"cannot be written: {fault.strerror}") from None
 
 
-def write_bytes(path, content):
+def write_bytes(path: str, content: bytes | Iterable[bytes]) -> None:
     """Writes a file of bytes, or of pieces of them."""
     watch.stage(f"writes {printable(path)}")
     try:
@@ -294,7 +301,7 @@ def write_bytes(path, content):
         return write_into(out, content, found)
 
 
-def replace(real, content, before):
+def replace(real: str, content: bytes | Iterable[bytes], before: os.stat_result | None) -> None:
     """Puts a new file into the place of what has the name, with the mode and the owner of it."""
     folder = os.path.dirname(real)
     out, beside = new_file(folder)
@@ -320,7 +327,7 @@ def replace(real, content, before):
                 os.unlink(beside)
 
 
-def new_file(folder):
+def new_file(folder: str) -> tuple[IO[bytes], str | None]:
     """A new file in a folder, and its name. Where the system has files without names it is one: nothing is left of it
     whatever ends the tool."""
     if os.path.isdir("/proc/self/fd") and getattr(os, "O_TMPFILE", None):
@@ -335,7 +342,7 @@ def new_file(folder):
     return out, beside
 
 
-def write_into(out, content, before):
+def write_into(out: Any, content: bytes, before: os.stat_result) -> None:
     """Writes into what is there: a device, a pipe, or a file with several names. Of a file the room is taken first, so a
     full disk changes nothing."""
     if not stat.S_ISREG(before.st_mode):
@@ -353,24 +360,23 @@ def write_into(out, content, before):
         os.ftruncate(out.fileno(), len(content))
 
 
-def write_out(text):
+def write_out(text: str) -> None:
     """Writes to standard output."""
     if sys.stdout is None:
         raise Fault(STANDARD_OUTPUT, None, "cannot be written: it is closed")
     judge([], prints=True)
-    watch.clear()
-    with output():
+    with watch.quiet(), output():
         sys.stdout.write(text)
         sys.stdout.flush()
 
 
-def say(line):
+def say(line: str) -> None:
     """Writes a line to standard output."""
     write_out(line + "\n")
 
 
 @contextlib.contextmanager
-def output():
+def output() -> Iterator[None]:
     """Makes what fails at standard output a fault."""
     try:
         yield
@@ -380,8 +386,8 @@ def output():
         raise Fault(STANDARD_OUTPUT, None, f"cannot be written: {fault.strerror}") from None
 
 
-def is_same_file(one, other):
-    """Whether two names are those of one file, as far as the host can tell."""
+def is_same_file(one: str, other: str) -> bool:
+    """Whether two names are those of one file, as far as the host can see."""
     return os.path.exists(one) and os.path.exists(other) and os.path.samefile(one, other)
 
 
@@ -391,7 +397,7 @@ SIGNALS = [signal.SIGINT, signal.SIGTERM, signal.SIGHUP]
 
 
 @contextlib.contextmanager
-def signals_held():
+def signals_held() -> Iterator[None]:
     """Signals that come meanwhile are taken afterwards, the first of them. Blocked here they come by other threads, if there are
     any, so they are noted besides."""
     if threading.current_thread() is not threading.main_thread():
@@ -413,7 +419,7 @@ def signals_held():
 
 
 @contextlib.contextmanager
-def signals_taken():
+def signals_taken() -> Iterator[None]:
     """Signals that end a program raise Interrupted, so that what is done is kept and nothing else is left. Those that come
     behind the first are passed over. Signals that were passed over before, as of a program that goes on without its
     terminal, stay so."""
@@ -423,7 +429,7 @@ def signals_taken():
     before = {number: signal.getsignal(number) for number in SIGNALS}
     taken = [number for number, handler in before.items() if handler not in (signal.SIG_IGN, None)]
 
-    def end(number, _):
+    def end(number: int, _: object) -> None:
         for each in taken:
             signal.signal(each, signal.SIG_IGN)
         raise Interrupted(number)
@@ -437,13 +443,13 @@ def signals_taken():
             signal.signal(number, before[number])
 
 
-def tool(name):
+def tool(name: str) -> Callable[[Callable[[Any], int | None]], Callable[..., int]]:
     """Makes the `main` of a tool of this name end with one line and a status, whatever ends it: a fault 2, a signal 128 and
     its number, as a shell reports it. What the tool has read is known as long as it runs."""
 
-    def with_end(main):
+    def with_end(main: Callable[[Any], int | None]) -> Callable[..., int]:
         @functools.wraps(main)
-        def ended(arguments=None):
+        def ended(arguments: Any = None) -> int:
             global KNOWN
             before, KNOWN = KNOWN, Known()
             try:
@@ -466,7 +472,7 @@ def tool(name):
 ENDS = (Fault, KeyboardInterrupt, MemoryError, RecursionError, OSError)
 
 
-def why(ended):
+def why(ended: BaseException) -> tuple[int, str]:
     """The status of a tool that one of these ended, and what there is to say of it."""
     if isinstance(ended, Fault):
         return BAD, str(ended)
@@ -476,12 +482,12 @@ def why(ended):
         return BAD, "out of memory"
     if isinstance(ended, RecursionError):
         return BAD, "what it was given is nested too deep"
-    said = ended.strerror or str(ended)
-    return BAD, f"{printable(ended.filename)}: {said}" if ended.filename else said
+    said, name = getattr(ended, "strerror", None) or str(ended), getattr(ended, "filename", None)
+    return BAD, f"{printable(name)}: {said}" if name else said
 
 
-def status_of(main, arguments):
-    """The status of a tool, and why it ended where that is to be told."""
+def status_of(main: Callable[[Any], int | None], arguments: Any) -> tuple[int, str | None]:
+    """The status of a tool, and why it ended if that is to be printed."""
     try:
         settle_streams()
         status = main(arguments)
@@ -493,7 +499,7 @@ def status_of(main, arguments):
         return why(ended)
 
 
-def settle_streams():
+def settle_streams() -> None:
     """What is written is UTF-8 whatever the terminal is, and no file that is opened takes the place of a stream that is
     closed."""
     opened = os.open(os.devnull, os.O_RDWR)
@@ -504,9 +510,8 @@ def settle_streams():
         sys.stdout.reconfigure(encoding="utf-8", errors="backslashreplace")
 
 
-def tell(name, said):
+def tell(name: str, said: object) -> None:
     """Says something on error output, if there is one."""
-    watch.clear()
     if sys.stderr is not None:
-        with contextlib.suppress(OSError):
+        with contextlib.suppress(OSError), watch.quiet():
             print(f"{name}: {said}", file=sys.stderr, flush=True)

@@ -2,11 +2,12 @@
 that are Python alone from there."""
 import importlib
 import sys
+from types import ModuleType
 
 FOLDER = "/usr/lib/python3/dist-packages"
 
 
-def found(name):
+def found(name: str) -> ModuleType | None:
     """A module, or None."""
     try:
         return importlib.import_module(name)
@@ -22,7 +23,7 @@ def found(name):
         return None
 
 
-def needed(name, package):
+def needed(name: str, package: str) -> ModuleType:
     """A module, or a word on what to install."""
     module = found(name)
     if module is None:

@@ -12,7 +12,7 @@ import re
 import shutil
 import subprocess
 import sys
-from collections import namedtuple
+from typing import Any, NamedTuple
 
 # The folder of the packages, and that above it: the top of a clone, or /usr/lib/afdxsim.
 TOOLS = os.path.dirname(os.path.dirname(os.path.dirname(os.path.realpath(__file__))))
@@ -24,22 +24,20 @@ RECORD = ".record.json"
 # Where the number of the version stands, once for all.
 VERSION_STANDS = os.path.join("crates", "command_line", "src", "program.rt")
 SECONDS_FOR_GIT = 60
+# What a record has, by name.
+Record = dict[str, Any]
 
-# How a program came to be: `proved` (of these sources), `given` (named by the user), `tried` (these sources, by `rt try`,
-# without a proof) or `second opinion` (afdx second-opinion). `path` is None of the last two. `maker` is how files that it
-# makes name it.
-Program = namedtuple("Program", "how path says maker")
 
 
 # ---- other processes ----
 
 
-def command(name, *words):
+def command(name: str, *words: str) -> list[str]:
     """What runs a command of `afdx` in a process of its own."""
     return [sys.executable, os.path.join(ROOT, "afdx"), name, *words]
 
 
-def environment():
+def environment() -> dict[str, str]:
     """The environment in which another interpreter finds these packages: `PYTHON -m afdx.files.workbook`, say."""
     return os.environ | {"PYTHONPATH": TOOLS}
 
@@ -51,20 +49,28 @@ class NoProgram(Exception):
 # ---- who made a file ----
 
 
-class Maker(namedtuple("Maker", "name version commit sha256 sources kit proved")):
+class Maker(NamedTuple):
     """Who made a file: a program, or a tool. `sha256` is the checksum of the program, `sources` that of what it is made of
     where no program is kept (`rt try`), and `kit` the line of the kit that it was proved or translated with. What is not known
     is None. `proved`: a record on this machine says that this very program was built and proved of its sources."""
 
-    def in_words(self):
+    name: str
+    version: str | None
+    commit: str | None
+    sha256: str | None
+    sources: str | None
+    kit: str | None
+    proved: bool
+
+    def in_words(self) -> str:
         """All that is known, for a page."""
         return ", ".join(self.parts(12, 64))
 
-    def cell(self):
+    def cell(self) -> str:
         """The same for a cell of a table: no commas, and 16 digits of each checksum, as `description` has them."""
         return " ".join(self.parts(12, 16)).replace(",", ";").replace('"', "'")
 
-    def parts(self, of_commit, of_sum):
+    def parts(self, of_commit: int, of_sum: int) -> list[str]:
         found = [" ".join(filter(None, (self.name, self.version))), "proved" if self.proved else "not proved"]
         if self.commit:
             found.append(f"commit {self.commit[:of_commit]}{'+' if self.commit.endswith('+') else ''}")
@@ -73,7 +79,7 @@ class Maker(namedtuple("Maker", "name version commit sha256 sources kit proved")
         return found + ([kit_in_words(self.kit)] if self.kit else [])
 
 
-def maker_of(path):
+def maker_of(path: str) -> Maker:
     """Who the program at a path is. A record is that of this program only where it has the program's checksum, whatever the
     program prints as its version: that beside it, that of this clone or package, or that of the installed package."""
     own = sum_of_file(path)
@@ -86,22 +92,22 @@ def maker_of(path):
     return Maker(name, number or None, None, own, None, None, False)
 
 
-def maker_by_record(record):
+def maker_by_record(record: Record) -> Maker:
     return Maker("afdxsim", record.get("version"), record.get("commit"), record["program"], None, record.get("kit"), True)
 
 
 @functools.cache
-def tool(name):
+def tool(name: str) -> Maker:
     """Who made what a tool works out by itself: the tool, of the commit that it stands in."""
     return Maker(f"afdx {name}", version(), commit() if is_clone() else record_of(os.path.join(ROOT, BUILT)).get("commit"), None, None, None, False)
 
 
-def is_clone(root=ROOT):
+def is_clone(root: str = ROOT) -> bool:
     """Whether the sources are here, and not a package alone."""
     return os.path.isfile(os.path.join(root, "crates.txt"))
 
 
-def version(root=ROOT):
+def version(root: str = ROOT) -> str:
     """The number of the version."""
     if not is_clone(root):
         return record_of(os.path.join(root, BUILT)).get("version", "unknown")
@@ -110,7 +116,7 @@ def version(root=ROOT):
     return found[1] if found else "unknown"
 
 
-def first_line(words, folder):
+def first_line(words: list[str], folder: str | None) -> str | None:
     """What a command says in its first line, or None where it is not there or ends badly."""
     try:
         run = subprocess.run(
@@ -122,23 +128,23 @@ def first_line(words, folder):
     return run.stdout.strip().split("\n")[0] if run.returncode == 0 else None
 
 
-def kit(root=ROOT):
+def kit(root: str = ROOT) -> str | None:
     """The line of the kit that is here, or None."""
     return first_line(["rt", "version"], root) if shutil.which("rt") else None
 
 
-def logic(kit_line):
+def logic(kit_line: str | None) -> str:
     """What judges proofs, by the line of a kit: two kits of one logic judge alike, whatever their names are."""
     return (kit_line or "").rpartition(" logic ")[2]
 
 
-def kit_in_words(kit_line):
+def kit_in_words(kit_line: str | None) -> str:
     """A kit by its logic, and then by its name."""
     name, has_logic, found = (kit_line or "").rpartition(" logic ")
     return f"logic {found} ({name})" if has_logic else kit_line or "kit unknown"
 
 
-def commit(root=ROOT):
+def commit(root: str = ROOT) -> str | None:
     """The commit of this clone, with a + where files differ from it; None where this is no clone of git."""
     if not os.path.exists(os.path.join(root, ".git")):
         return None
@@ -147,7 +153,7 @@ def commit(root=ROOT):
     return found and found + ("+" if changed else "")
 
 
-def source_files(root=ROOT):
+def source_files(root: str = ROOT) -> list[str]:
     """What the program is made of and proved from: paths from the top, in order."""
     found = ["crates.txt", "HANDLES"]
     for folder, folders, names in os.walk(os.path.join(root, "crates")):
@@ -159,12 +165,12 @@ def source_files(root=ROOT):
     return [name for name in found if os.path.isfile(os.path.join(root, name))]
 
 
-def sum_of_file(path):
+def sum_of_file(path: str) -> str:
     with open(path, "rb") as file:
         return hashlib.file_digest(file, "sha256").hexdigest()
 
 
-def judged_files(root=ROOT):
+def judged_files(root: str = ROOT) -> list[str]:
     """What `rt ci` judges: the sources, and the edits and data of tests beside them; paths from the top, in order."""
     found = ["crates.txt", "HANDLES"]
     for folder, folders, names in os.walk(os.path.join(root, "crates")):
@@ -173,7 +179,7 @@ def judged_files(root=ROOT):
     return [name for name in found if os.path.isfile(os.path.join(root, name))]
 
 
-def sum_of(names, first, root):
+def sum_of(names: list[str], first: str | None, root: str) -> str:
     """The checksum of a line and of files with their names."""
     found = hashlib.sha256((first or "").encode() + b"\n")
     for name in names:
@@ -181,12 +187,12 @@ def sum_of(names, first, root):
     return found.hexdigest()
 
 
-def sum_of_sources(kit_line, root=ROOT):
+def sum_of_sources(kit_line: str | None, root: str = ROOT) -> str:
     """The checksum of the sources, and of the logic that they are proved with."""
     return sum_of(source_files(root), logic(kit_line), root)
 
 
-def sum_of_judged(kit_line, root=ROOT):
+def sum_of_judged(kit_line: str | None, root: str = ROOT) -> str:
     """The same of all that `rt ci` judges."""
     return sum_of(judged_files(root), logic(kit_line), root)
 
@@ -194,7 +200,8 @@ def sum_of_judged(kit_line, root=ROOT):
 # ---- records ----
 
 
-def record_of(path):
+
+def record_of(path: str) -> Record:
     """The record beside a program, or an empty one."""
     try:
         with open(path + RECORD, encoding="utf-8") as file:
@@ -204,7 +211,7 @@ def record_of(path):
     return found if isinstance(found, dict) else {}
 
 
-def write_record(kit_line, sources, gate=None, root=ROOT):
+def write_record(kit_line: str | None, sources: str, gate: str | None = None, root: str = ROOT) -> Record:
     """Writes down beside the program of this clone what it was built of. `gate` is the line by which all proofs and tests
     passed, where they did; then `judged` is the checksum of what that line is of."""
     path = os.path.join(root, BUILT)
@@ -218,13 +225,13 @@ def write_record(kit_line, sources, gate=None, root=ROOT):
     return found
 
 
-def is_recorded(path):
+def is_recorded(path: str) -> Record:
     """The record of a program, where it is of this very program; else an empty one."""
     record = record_of(path)
     return record if os.path.isfile(path) and record.get("program") == sum_of_file(path) else {}
 
 
-def installed():
+def installed() -> str | None:
     """The program of a package on this machine, by the name that its record goes by."""
     found = shutil.which("afdxsim")
     if not found:
@@ -232,13 +239,24 @@ def installed():
     return os.path.join(os.path.dirname(os.path.realpath(found)), "..", "lib", "afdxsim", BUILT)
 
 
-def in_words(record):
+class Program(NamedTuple):
+    """How a program came to be: `proved` (of these sources), `given` (named by the user), `tried` (these sources, by `rt try`,
+    without a proof) or `second opinion` (afdx second-opinion). `path` is None of the last two. `maker` is how files that it
+    makes name it."""
+
+    how: str
+    path: str | None
+    says: str
+    maker: Maker
+
+
+def in_words(record: Record) -> str:
     """What a record says, in a few words."""
     at = f"commit {record['commit'][:8]}{'+' if record['commit'].endswith('+') else ''}, " if record.get("commit") else ""
     return f"afdxsim {record.get('version', 'unknown')}, proved, {at}{kit_in_words(record.get('kit'))}"
 
 
-def proved(root=ROOT):
+def proved(root: str = ROOT) -> Program:
     """The proved program of these sources, or why there is none."""
     here = os.path.join(root, BUILT)
     if not is_clone(root):
@@ -263,7 +281,7 @@ def proved(root=ROOT):
     raise NoProgram("no proved program is here")
 
 
-def given(path):
+def given(path: str) -> Program:
     """A program that the user names."""
     if not os.path.isfile(path):
         raise NoProgram(f"{path} is not there")
@@ -276,7 +294,7 @@ def given(path):
     return Program("given", path, said, maker)
 
 
-def tried(root=ROOT):
+def tried(root: str = ROOT) -> Program:
     """These sources by `rt try`, without a proof."""
     kit_line = kit(root)
     if not is_clone(root) or not kit_line:
@@ -286,7 +304,7 @@ def tried(root=ROOT):
     return Program("tried", None, f"afdxsim {number}, not proved: these sources by `rt try`, {kit_in_words(kit_line)}", maker)
 
 
-def second_opinion(root=ROOT):
+def second_opinion(root: str = ROOT) -> Program:
     """The plain simulator in Python."""
     says = f"second opinion {version(root)}, not proved: afdx second-opinion"
     return Program("second opinion", None, says, tool("second-opinion"))

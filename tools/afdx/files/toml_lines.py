@@ -1,6 +1,6 @@
-"""A reader of TOML 1.1 that tells the line of each key, of each table and of each item of a list.
+"""A reader of TOML 1.1 that gives the line of each key, of each table and of each item of a list.
 
-Python's own reader (tomllib) reads TOML 1.0 and tells no lines. This one takes just the texts that `afdxsim` takes: an
+Python's own reader (tomllib) reads TOML 1.0 and gives no lines. This one takes just the texts that `afdxsim` takes: an
 integer has 64 signed bits, a float is finite, arrays and inline tables are at most 80 deep in one another, and so are
 the parts of a key.
 
@@ -15,33 +15,35 @@ import collections.abc
 import re
 import sys
 from array import array
+from collections.abc import Iterable, Iterator
+from typing import Any, NoReturn
 
 DEEPEST = 80
 
-BLANK = re.compile(r"(?:[ \t\n]|\r\n|#[^\x00-\x08\x0a-\x1f\x7f]*)*")
-SPACE = re.compile(r"[ \t]*")
-LINE_BREAKS = re.compile(r"(?:[ \t\n]|\r\n)*")
-BARE = re.compile(r"[A-Za-z0-9_-]+")
-WORD = re.compile(r"[A-Za-z0-9_+.:-]*(?: [0-9][A-Za-z0-9_+.:-]*)?")
-PLAIN = {
+BLANK: Any = re.compile(r"(?:[ \t\n]|\r\n|#[^\x00-\x08\x0a-\x1f\x7f]*)*")
+SPACE: Any = re.compile(r"[ \t]*")
+LINE_BREAKS: Any = re.compile(r"(?:[ \t\n]|\r\n)*")
+BARE: Any = re.compile(r"[A-Za-z0-9_-]+")
+WORD: Any = re.compile(r"[A-Za-z0-9_+.:-]*(?: [0-9][A-Za-z0-9_+.:-]*)?")
+PLAIN: dict[tuple[str, bool], Any] = {
     ('"', False): re.compile(r'[^"\\\x00-\x08\x0a-\x1f\x7f]*'),
     ("'", False): re.compile(r"[^'\x00-\x08\x0a-\x1f\x7f]*"),
     ('"', True): re.compile(r'(?:[^"\\\x00-\x08\x0b-\x1f\x7f]|\r\n)*'),
     ("'", True): re.compile(r"(?:[^'\x00-\x08\x0b-\x1f\x7f]|\r\n)*"),
 }
 ESCAPES = {"b": "\b", "e": "\x1b", "f": "\f", "n": "\n", "r": "\r", "t": "\t", '"': '"', "\\": "\\"}
-HEX_ESCAPES = {sign: re.compile("[0-9A-Fa-f]{%d}" % count) for sign, count in (("x", 2), ("u", 4), ("U", 8))}
+HEX_ESCAPES: dict[str, Any] = {sign: re.compile("[0-9A-Fa-f]{%d}" % count) for sign, count in (("x", 2), ("u", 4), ("U", 8))}
 RADIXES = {"0x": (16, "[0-9A-Fa-f]+"), "0o": (8, "[0-7]+"), "0b": (2, "[01]+")}
-DECIMAL = re.compile(r"([+-]?)(0|[1-9][0-9]*)(\.[0-9]+)?([eE][+-]?[0-9]+)?")
-MOMENT = re.compile(
+DECIMAL: Any = re.compile(r"([+-]?)(0|[1-9][0-9]*)(\.[0-9]+)?([eE][+-]?[0-9]+)?")
+MOMENT: Any = re.compile(
     r"(?:(\d{2})(\d{2})-(\d{2})-(\d{2}))?(?:(?P<delim>[Tt ])?(\d{2}):(\d{2})(?::(\d{2})(?:\.\d+)?)?"
     r"(?P<offset>[Zz]|[+-](\d{2}):(\d{2}))?)?",
     re.ASCII,
 )
 # What most lines and most lists are, so that they are read at one go: a key with a text or a number, and a list of texts.
 _TEXT = r'"[^"\\\x00-\x08\x0a-\x1f\x7f]*"'
-PLAIN_LINE = re.compile(rf"([A-Za-z0-9_-]+)[ \t]*=[ \t]*(?:({_TEXT})|(0|[1-9][0-9]{{0,17}}))[ \t]*(?=[\n#]|\Z)")
-PLAIN_LIST = re.compile(rf"\[[ \t]*{_TEXT}(?:[ \t]*,[ \t]*{_TEXT})*[ \t]*\]")
+PLAIN_LINE: Any = re.compile(rf"([A-Za-z0-9_-]+)[ \t]*=[ \t]*(?:({_TEXT})|(0|[1-9][0-9]{{0,17}}))[ \t]*(?=[\n#]|\Z)")
+PLAIN_LIST: Any = re.compile(rf"\[[ \t]*{_TEXT}(?:[ \t]*,[ \t]*{_TEXT})*[ \t]*\]")
 PLAIN_TEXTS = re.compile('"([^"]*)"')
 DAYS = [31, 28, 31, 30, 31, 30, 31, 31, 30, 31, 30, 31]
 
@@ -49,26 +51,26 @@ DAYS = [31, 28, 31, 30, 31, 30, 31, 31, 30, 31, 30, 31]
 class BadToml(Exception):
     """Why a text is no TOML, and the line, from 1."""
 
-    def __init__(self, line, text):
+    def __init__(self, line: int, text: str) -> None:
         super().__init__(text)
         self.line = line
 
 
 class Table(dict):
-    """A table, and the lines of its keys. What made it, a header, a dotted key or a value, tells what may be added. The lines are
+    """A table, and the lines of its keys. What may be added depends on what made it: a header, a dotted key or a value. The lines are
     numbers in the order of the keys, of which none is ever taken out: a network of 65,536 virtual links has a million of them."""
 
     __slots__ = ("line", "origin", "numbers")
 
-    def __init__(self, line, origin):
+    def __init__(self, line: int, origin: str) -> None:
         super().__init__()
         self.line, self.origin, self.numbers = line, origin, array("I")
 
     @property
-    def lines(self):
+    def lines(self) -> Any:
         return Lines(self)
 
-    def put(self, key, value, line):
+    def put(self, key: str, value: Any, line: int) -> None:
         """Adds a key with its value and its line."""
         self[key] = value
         self.numbers.append(line)
@@ -79,19 +81,19 @@ class Lines(collections.abc.Mapping):
 
     __slots__ = ("table",)
 
-    def __init__(self, table):
+    def __init__(self, table: Table) -> None:
         self.table = table
 
-    def __getitem__(self, key):
+    def __getitem__(self, key: str) -> int:
         for name, number in zip(self.table, self.table.numbers):
             if name == key:
                 return number
         raise KeyError(key)
 
-    def __iter__(self):
+    def __iter__(self) -> Iterator[str]:
         return (name for name, _ in zip(self.table, self.table.numbers))
 
-    def __len__(self):
+    def __len__(self) -> int:
         return len(self.table.numbers)
 
 
@@ -101,15 +103,16 @@ class Array(list):
 
     __slots__ = ("line", "is_open", "own")
 
-    def __init__(self, line, is_open=False):
+    def __init__(self, line: int, is_open: bool = False) -> None:
         super().__init__()
-        self.line, self.is_open, self.own = line, is_open, None
+        self.line, self.is_open = line, is_open
+        self.own: array[int] | None = None
 
     @property
-    def lines(self):
+    def lines(self) -> Any:
         return [self.line] * len(self) if self.own is None else list(self.own)
 
-    def put(self, value, line):
+    def put(self, value: Any, line: int) -> None:
         """Adds an item with its line."""
         if self.own is None and line != self.line:
             self.own = array("I", [self.line]) * len(self)
@@ -122,7 +125,7 @@ class Moment(str):
     """A date, a time, or both, as it is written."""
 
 
-def is_moment(text):
+def is_moment(text: str) -> bool:
     """Whether a text is one of the four date-times of TOML 1.1, with each part in its range."""
     found = MOMENT.fullmatch(text)
     if not found:
@@ -146,13 +149,14 @@ class Reader:
     """Reads a text. Of the keys that are named it notes where in the text their values stand, by the identity of the table
     and the name of the key: from where and up to where."""
 
-    def __init__(self, text, keys=()):
-        self.text, self.keys, self.places = text, keys, {}
+    def __init__(self, text: str, keys: Iterable[str] = ()) -> None:
+        self.text, self.keys = text, keys
+        self.places: dict[tuple[int, str], tuple[int, int]] = {}
         # Each name and number is kept once.
-        self.known = {}
+        self.known: dict[Any, Any] = {}
         self.counted, self.line = 0, 1
 
-    def line_at(self, place):
+    def line_at(self, place: int) -> int:
         """The line of a place in the text."""
         if place < self.counted:
             self.counted, self.line = 0, 1
@@ -160,17 +164,17 @@ class Reader:
         self.counted = place
         return self.line
 
-    def refuse(self, place, text):
+    def refuse(self, place: int, text: str) -> NoReturn:
         raise BadToml(self.line_at(min(place, len(self.text))), text)
 
-    def shown(self, place):
+    def shown(self, place: int) -> str:
         """What stands at a place, for a message."""
         rest = self.text[place : place + 40].split("\n")[0]
         return repr(rest[:24] + (".." if len(rest) > 24 else "")) if rest else "the end of the line"
 
     # ---- the document ----
 
-    def document(self):
+    def document(self) -> Table:
         root = here = Table(1, "header")
         place = 1 if self.text.startswith("\ufeff") else 0
         while True:
@@ -196,7 +200,7 @@ class Reader:
                     self.refuse(place, f"there is {self.shown(place)} after a header")
                 self.refuse(place, f"there is {self.shown(place)} after a value, in the same line")
 
-    def header(self, root, begin):
+    def header(self, root: Table, begin: int) -> tuple[Table, int]:
         double = self.text.startswith("[[", begin)
         parts, place = self.key(SPACE.match(self.text, begin + 1 + double).end())
         end = "]]" if double else "]"
@@ -207,7 +211,7 @@ class Reader:
             table = self.through(table, part, line, begin)
         return self.opened(table, parts[-1], line, double, begin), place + len(end)
 
-    def through(self, table, part, line, begin):
+    def through(self, table: Table, part: str, line: int, begin: int) -> Table:
         """The table that a header passes through."""
         if part not in table:
             table.put(part, Table(line, "implicit"), line)
@@ -218,7 +222,7 @@ class Reader:
             self.refuse(begin, f"the header goes through {part!r}, which line {table.lines[part]} makes a value")
         return found
 
-    def opened(self, table, name, line, double, begin):
+    def opened(self, table: Table, name: str, line: int, double: bool, begin: int) -> Table:
         """The table of a header."""
         found = table.get(name)
         if double:
@@ -238,7 +242,7 @@ class Reader:
             self.refuse(begin, f"[{name}] is there already, in line {table.lines[name]}")
         return found
 
-    def key_value(self, table, begin, depth):
+    def key_value(self, table: Table, begin: int, depth: int) -> int:
         """Reads a key and its value into a table, and answers the place behind."""
         parts, place = self.key(begin)
         if not self.text.startswith("=", place):
@@ -261,7 +265,7 @@ class Reader:
             self.places[id(table), parts[-1]] = value_begin, place
         return place
 
-    def key(self, begin):
+    def key(self, begin: int) -> tuple[list[str], int]:
         """The parts of a key, and the place behind it and behind the spaces after it."""
         parts, place = [], begin
         for _ in range(DEEPEST):
@@ -282,7 +286,7 @@ class Reader:
 
     # ---- values ----
 
-    def value(self, place, depth):
+    def value(self, place: int, depth: int) -> tuple[Any, int]:
         first = self.text[place : place + 1]
         if first in ("[", "{") and first and depth == DEEPEST:
             self.refuse(place, f"lists and tables are more than {DEEPEST} deep in one another")
@@ -303,7 +307,7 @@ class Reader:
             self.refuse(place, f"there is {self.shown(place)} where a value is wanted")
         return self.scalar(found, place), place + len(found)
 
-    def array(self, begin, depth):
+    def array(self, begin: int, depth: int) -> tuple[Array, int]:
         found, place = Array(self.line_at(begin)), begin + 1
         plain = PLAIN_LIST.match(self.text, begin)
         if plain:
@@ -321,7 +325,7 @@ class Reader:
             found.put(value, line)
             place = self.after_element(place, "]", begin, "the list that begins")
 
-    def inline_table(self, begin, depth):
+    def inline_table(self, begin: int, depth: int) -> tuple[Table, int]:
         found, place = Table(self.line_at(begin), "value"), begin + 1
         while True:
             place = BLANK.match(self.text, place).end()
@@ -333,7 +337,7 @@ class Reader:
             place = self.key_value(found, place, depth)
             place = self.after_element(place, "}", begin, "the table that begins")
 
-    def after_element(self, place, end, begin, what):
+    def after_element(self, place: int, end: str, begin: int, what: str) -> int:
         """Behind the comma after an element, or before the closing bracket."""
         place = BLANK.match(self.text, place).end()
         if self.text.startswith(",", place):
@@ -346,7 +350,7 @@ class Reader:
             self.refuse(place, f"there is {self.shown(place)} {wanted}")
         return place
 
-    def string(self, begin, place, delim, multi):
+    def string(self, begin: int, place: int, delim: str, multi: bool) -> tuple[str, int]:
         """A text of one line or of several, and the place behind it. Its body begins at the place."""
         pieces, plain = [], PLAIN[delim, multi]
         while True:
@@ -374,7 +378,7 @@ class Reader:
             else:
                 self.refuse(place, f"a text has the character {here!r}, which must be written \\u{ord(here):04X}")
 
-    def escape(self, place, multi):
+    def escape(self, place: int, multi: bool) -> tuple[str, int]:
         if multi:
             behind = SPACE.match(self.text, place).end()
             if self.text.startswith(("\n", "\r\n"), behind):
@@ -388,7 +392,7 @@ class Reader:
             return chr(code), digits.end()
         self.refuse(place, f"\\{sign} is no escape in a text; a backslash is written \\\\")
 
-    def scalar(self, word, place):
+    def scalar(self, word: str, place: int) -> Any:
         """The value of a word without quotes."""
         if word in ("true", "false"):
             return word == "true"
@@ -422,14 +426,14 @@ class Reader:
         return value
 
     @staticmethod
-    def number_hint(plain):
+    def number_hint(plain: str) -> str:
         if re.fullmatch("[+-]?0[0-9]+", plain):
             return ": it has a zero in front"
         if re.fullmatch("[0-9]+( [0-9]+)+", plain):
             return f": digits are set apart by _, as in {plain.replace(' ', '_')}"
         return ""
 
-    def integer(self, plain, radix, word, place):
+    def integer(self, plain: str, radix: int, word: str, place: int) -> int:
         value = int(plain, radix) if len(plain.lstrip("0+-")) <= 64 else 2**64
         if not -(2**63) <= value < 2**63:
             shown = word if len(word) <= 64 else f"{word[:30]}.. of {len(word):,} characters"
@@ -437,7 +441,7 @@ class Reader:
         return value
 
 
-def close(table):
+def close(table: Table) -> None:
     """Makes the tables that dotted keys made in an inline table values: nothing is added to them."""
     for value in table.values():
         if type(value) is Table and value.origin == "dotted":
@@ -445,6 +449,6 @@ def close(table):
             close(value)
 
 
-def read(text):
+def read(text: str) -> Table:
     """The table that a text is. BadToml where it is none."""
     return Reader(text).document()

@@ -6,6 +6,8 @@ import subprocess
 import sys
 import warnings
 from decimal import Decimal
+from collections.abc import Iterable, Iterator
+from typing import Any
 
 from afdx import files
 from afdx.files import Fault, program
@@ -17,8 +19,8 @@ PACKAGE = "python3-openpyxl"
 BEGIN = b"PK\x03\x04"
 
 
-def is_workbook(path):
-    """Whether a file begins as a workbook does. One that cannot be read is none; who reads it tells that."""
+def is_workbook(path: str) -> bool:
+    """Whether a file begins as a workbook does. One that cannot be read is none; its reader reports that."""
     try:
         with open(path, "rb") as file:
             return file.read(len(BEGIN)) == BEGIN
@@ -26,7 +28,7 @@ def is_workbook(path):
         return False
 
 
-def sheets_of(path):
+def sheets_of(path: str) -> list[dict[str, Any]]:
     """The sheets that have cells, each with its name, its rows that are not empty, with their numbers, as lists of texts, and
     what of it is hidden."""
     files.reads(path)
@@ -39,7 +41,7 @@ def sheets_of(path):
     return found["sheets"]
 
 
-def read_by_another(path):
+def read_by_another(path: str) -> dict[str, Any]:
     """What Debian's interpreter reads, where it has the library."""
     words = [DEBIAN, "-m", "afdx.files.workbook", path]
     try:
@@ -49,7 +51,7 @@ def read_by_another(path):
         return {"fault": f"is a workbook, which needs a library: apt-get install -y {PACKAGE}; or save its sheets as CSV"}
 
 
-def text_of(value):
+def text_of(value: Any) -> str:
     """A cell as text. Whole numbers have no point, and no number has an exponent."""
     if value is None:
         return ""
@@ -59,7 +61,7 @@ def text_of(value):
     return str(value).strip()
 
 
-def numbered(rows):
+def numbered(rows: Iterable[tuple[int, Any]]) -> Iterator[tuple[int, Any]]:
     """The rows of a sheet with their numbers, and an empty one where some are left out between."""
     last = 0
     for number, cells in rows:
@@ -69,30 +71,31 @@ def numbered(rows):
         last = number
 
 
-def texts_of(sheet):
+def texts_of(sheet: Any) -> Any:
     """The texts of the cells that a sheet has, by row and column. Only those that are there are looked at: one cell that
     was left behind in the last row of a sheet has a million empty ones before it."""
-    found = {}
+    found: dict[int, dict[int, str]] = {}
     for (row, column), cell in sheet._cells.items():
         text = text_of(cell.value)
         if text:
             found.setdefault(row, {})[column] = text
     last = max(found, default=0)
     for span in sheet.merged_cells.ranges:
-        text = found.get(span.min_row, {}).get(span.min_col)
-        for row in range(span.min_row + 1, min(span.max_row, last + 1) + 1) if text else ():
-            found.setdefault(row, {})[span.min_col] = text
+        above = found.get(span.min_row, {}).get(span.min_col)
+        for row in range(span.min_row + 1, min(span.max_row, last + 1) + 1):
+            if above:
+                found.setdefault(row, {})[span.min_col] = above
     return found
 
 
-def rows_of(texts):
+def rows_of(texts: dict[int, dict[int, str]]) -> Any:
     """The rows that have a text, each with its number and its cells up to the last one."""
     return [[row, [texts[row].get(column, "") for column in range(1, max(texts[row]) + 1)]] for row in sorted(texts)]
 
 
-def hidden_of(sheet, texts):
+def hidden_of(sheet: Any, texts: dict[int, dict[int, str]]) -> Any:
     """What of a sheet its reader does not see: for each piece the line, or None, and what it is."""
-    found = [[None, "is hidden"]] if sheet.sheet_state != "visible" else []
+    found: list[list[Any]] = [[None, "is hidden"]] if sheet.sheet_state != "visible" else []
     found += [[row, "is hidden"] for row in sorted(texts) if row in sheet.row_dimensions and sheet.row_dimensions[row].hidden]
     used = {column for cells in texts.values() for column in cells}
     for name, column in sheet.column_dimensions.items():
@@ -101,7 +104,7 @@ def hidden_of(sheet, texts):
     return found
 
 
-def formula_without_value(sheet, values):
+def formula_without_value(sheet: Any, values: Any) -> Any:
     """The first cell with a formula of which no value is saved, or None."""
     for (row, column), cell in sorted(sheet._cells.items()):
         if cell.data_type == "f" and ((row, column) not in values._cells or values._cells[row, column].value is None):
@@ -109,7 +112,7 @@ def formula_without_value(sheet, values):
     return None
 
 
-def read(path):
+def read(path: str) -> dict[str, Any]:
     """The sheets of a workbook, or what is wrong with it."""
     import openpyxl
 

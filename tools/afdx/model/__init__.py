@@ -4,7 +4,7 @@ how offers are drawn, and tables. Traces are in tools/afdx/model/traces.py.
     net = model.Network("net.toml")            # Fault where it is none, in one line with the file and the line
     tables = model.Tables("tables.csv", net)  # those that the program prints, or merged ones
 
-None of this judges a description as the program does: `afdxsim check` does, and afdx explain tells all its faults.
+None of this judges a description as the program does: `afdxsim check` does, and afdx explain prints all its faults.
 """
 import argparse
 import collections.abc
@@ -98,7 +98,7 @@ def read_lines(path, head, name):
 
 
 def checksum(text):
-    """What tells one description from another: the first digits of its SHA-256."""
+    """The checksum of a description: the first digits of its SHA-256."""
     return hashlib.sha256(text.encode("utf-8")).hexdigest()[:16]
 
 
@@ -490,7 +490,7 @@ def words(seed, stream, first=0):
     mask, by = 2**64 - 1, 6364136223846793005
     increment = (stream << 1 | 1) & mask
     state = ((seed + increment) * by + increment) & mask
-    # So many steps at once as 1, 2, 4, ..: each is a product and a sum as one step is.
+    # 1, 2, 4, .. steps at once: each is a product and a sum, as one step is.
     product, more = by, increment
     while first:
         if first & 1:
@@ -559,7 +559,7 @@ class Tables:
                     raise Fault(path, len(lines), text)
 
     def takes(self, i, line):
-        """Takes a line of one run as the program writes it, and answers whether it did; `add` tells what is wrong with another."""
+        """Takes a line of one run as the program writes it, and answers whether it did; `add` reports what is wrong with another."""
         found = LATENCY_LINE.fullmatch(line)
         if found:
             vl, where, *numbers = found.groups()

@@ -117,7 +117,7 @@ for columns in COLUMNS.values():
     columns.append(plain(REMARKS, "ICD", "remark", "comment", "comments", "note", "notes", "description"))
 
 # Headings that may mean either of several columns, without their unit.
-OPEN = {
+OPEN: dict[str, dict[str, tuple[str, ...]]] = {
     "vl": {
         **dict.fromkeys(("frame_size", "frame_length", "frame", "packet_size", "ethernet_frame_size"), ("smax", "size")),
         **dict.fromkeys(("length", "bytes"), ("smax", "size", "payload")),

@@ -321,7 +321,7 @@ class Judge:
         return name in self.node and (self.is_end_system(name) or self.net_of(name) is not None)
 
     def is_known(self, section, i, key, name, add):
-        """Tells that no node has the name, and answers whether one has it."""
+        """Reports it if no node has the name, and returns whether one has it."""
         if name in self.node:
             return True
         if self.has_all_names:

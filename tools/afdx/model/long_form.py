@@ -18,7 +18,7 @@ examples:
         the tables that the program printed; or merged ones
   python3 -c 'import pandas; print(pandas.read_json("tables.json"))'
 
-status: 0; 2 where a word is wrong, a file cannot be read or written, or TABLES are not those of NET.
+status: 0; 2 if a word is wrong, a file cannot be read or written, or TABLES are not those of NET.
 """
 
 KEYS = ("kind", "vl", "where", "measure", "value")

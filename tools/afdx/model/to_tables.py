@@ -50,7 +50,7 @@ def lines_of_comments(of):
 
 class Back:
     """The tables of a description. `commented` answers the columns of a section that are comments; `said` is how a comment
-    tells what a heading stands for."""
+    states what a heading means."""
 
     def __init__(self, path, commented, said):
         self.description = judge.accepted(path)

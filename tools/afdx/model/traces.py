@@ -11,7 +11,7 @@ from afdx.model import CAUSES, TRACE_HEAD
 # Time, what happened to whom and where, and value; and the number of a virtual link.
 LINE = re.compile(r"(0|[1-9][0-9]{0,18}),(.*),(0|[1-9][0-9]{0,18})")
 NUMBER = re.compile(r"0|[1-9][0-9]{0,4}")
-# The losses over time are told in so many steps of the run.
+# Losses over time are counted in this many equal parts of the run.
 MOMENTS = 100
 # A frame whose number is so far above those before it is noted by its moment, so that no trace of a few lines takes much memory.
 FAR = 2**16
@@ -19,7 +19,7 @@ FAR = 2**16
 
 class Came:
     """The frames of a virtual link that came to a destination: how long they took, and how often each came, by the moment of its
-    offer. Where offers are a period apart whatever the jitter, a moment tells the number of the frame."""
+    offer. If offers are a period apart whatever the jitter, a moment gives the number of the frame."""
 
     __slots__ = ("latencies", "offset", "period", "has_numbers", "marks", "squares", "others")
 
@@ -27,7 +27,7 @@ class Came:
         self.latencies = array("I")
         self.offset, self.period = vl.offset_ns, vl.period_ns
         self.has_numbers = vl.jitter_ns < vl.period_ns
-        # A byte for each number; and what tells the moments themselves, which are held against it at the end.
+        # A byte for each number; and a checksum of the moments themselves, which are compared with it at the end.
         self.marks, self.squares = bytearray(), 0
         # How often others came, by their moments.
         self.others = None
@@ -54,7 +54,7 @@ class Came:
         marks.append(1)
 
     def frames(self):
-        """What tells which frames came and how often: the same for the same frames."""
+        """Which frames came and how often, as a key: the same for the same frames."""
         return self.marks, self.squares, self.others
 
     def among(self, moments):
@@ -132,7 +132,7 @@ class Trace:
         return i
 
     def of(self, i, text):
-        """What takes the lines that tell of this place and virtual link, and of deliveries or a cause."""
+        """What takes the lines of this place and virtual link, and of deliveries or a cause."""
         fields = text.split(",")
         if len(fields) != 3:
             raise Fault(self.path, i, f"has {len(fields) + 2} fields in place of 5")

@@ -4,23 +4,26 @@
 # How a cell is marked, as the script numbers it.
 WARN, BAD = 1, 2
 
+# A column as the script has it.
+Column = dict[str, str]
 
-def column(key, look, name, unit="", hint="", tone=""):
+
+def column(key: str, look: str, name: str, unit: str = "", hint: str = "", tone: str = "") -> Column:
     """A column of a table of the page: where its values stand, how they look, its name and unit, what more
     there is to know of it, and where it stands how a cell is marked."""
     found = {"key": key, "look": look, "name": name, "unit": unit, "hint": hint, "tone": tone}
     return {name: value for name, value in found.items() if value}
 
 
-def count_column(key, name, hint="", tone="", unit="frames", look="count"):
+def count_column(key: str, name: str, hint: str = "", tone: str = "", unit: str = "frames", look: str = "count") -> Column:
     return column(key, look, name, unit, hint, tone)
 
 
-def time_column(key, name, hint="", tone=""):
+def time_column(key: str, name: str, hint: str = "", tone: str = "") -> Column:
     return column(key, "us", name, "µs", hint, tone)
 
 
-def seed_column(hint):
+def seed_column(hint: str) -> Column:
     return column("seed", "text_number", "seed", "number", hint)
 
 

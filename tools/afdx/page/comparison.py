@@ -60,7 +60,7 @@ def differences(before, now):
 
 
 def named_rows(net, section):
-    """The rows of a section by what they are called. Of outages of one line each is told by its number."""
+    """The rows of a section by what they are called. Outages of one line are named by their numbers."""
     if section == "top":
         return {"the run": net.description.tree}
     found = {}

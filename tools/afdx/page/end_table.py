@@ -10,17 +10,17 @@ from afdx.runs.campaign_record import PERCENTS
 
 # Stands for the margin of a limit without a bound where margins are sorted.
 NO_BOUND = -(2**53)
-# Fewer frames than so many tell little of a destination.
+# Fewer frames than this show little of a destination.
 FEW = 10
-# Of so many frames or more there is a histogram; fewer are drawn one by one.
+# This many frames or more have a histogram; fewer are drawn one by one.
 ENOUGH_FOR_BARS = 30
-# Of more lines of latencies the page has the histograms of the worst so many.
+# If there are more lines of latencies than this, the page has histograms of this many of them: the worst.
 MOST_HISTOGRAMS = 20_000
 BARS = 28
 
 
 def percentile(rising, percent):
-    """The least of the values that so many percent of them do not exceed."""
+    """The least of the values that this percentage of them does not exceed."""
     return rising[-(-len(rising) * percent // 100) - 1]
 
 
@@ -57,7 +57,7 @@ class Numbers(Sequence):
 
 
 class EndTable:
-    """What the page tells of each virtual link at each destination, column by column."""
+    """What the page shows of each virtual link at each destination, column by column."""
 
     def __init__(self, given):
         self.given, self.columns = given, {}

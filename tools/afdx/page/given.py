@@ -72,7 +72,7 @@ def runs_of(words, tables, found):
 
 
 def ends_of(words, tables, found, trace=None):
-    """What became of all frames; None where the seeds of merged tables are not told."""
+    """What became of all frames; None if the seeds of merged tables are not known."""
     runs = runs_of(words, tables, found)
     return Ends(tables, runs.seeds, runs.draws_offsets, trace) if runs else None
 

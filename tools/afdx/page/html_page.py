@@ -17,7 +17,7 @@ from afdx.runs.campaign_record import PERCENTS
 # Of more lines of latencies the data of a page is packed. Browsers have what unpacks it since 2023.
 MOST_PLAIN = 20_000
 
-# What the page tells of a virtual link itself.
+# What the page shows of a virtual link itself.
 FACTS = ["id", "source", "bag_ns", "period_ns", "offset_ns", "jitter_ns", "size", "smax", "priority", "policing"]
 FACTS += ["policing_ns", "skew_ns", "depth", "sub"]
 

@@ -6,9 +6,9 @@ import zlib
 from collections.abc import Iterable, Iterator
 from typing import Any
 
-# So many items of a list are written at once.
+# How many items of a list are written at once.
 AT_ONCE = 4096
-# So many rows of a table stand together where it is packed: columns that are alike are then near enough to each other.
+# How many rows stand together in a packed table: columns that are alike are then near enough to each other.
 ROWS_OF_A_BLOCK = 256
 
 

@@ -92,7 +92,7 @@ def end_to_end(page):
 
 
 def by_trouble(page):
-    """The destinations, those first that lack most: frames, copies, or enough frames to tell anything."""
+    """The destinations, those first that lack most: frames, copies, or enough frames to show anything."""
     found = []
     for i, end in enumerate(page.given.ends.of.values()):
         lost = sum(count.least for count in end.lost.values())

@@ -4,7 +4,7 @@ from afdx.page.panels import panel
 
 
 def worst_case(page):
-    """What the bounds tell of the worst case beside latencies."""
+    """What the bounds show of the worst case beside latencies."""
     bounds = page.given.bounds
     refusing, of_each = set(bounds.refusing()), page.given.way.switches()
     # They are rows of the jitters at switches.

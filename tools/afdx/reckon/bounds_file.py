@@ -1,20 +1,40 @@
 """The worst-case bounds that `afdx bounds` has written, read line by line. A network of 65,536 virtual links has three million of
 them, so numbers are kept in arrays by virtual link, in the order of its destinations, lines or switches."""
 from array import array
-from collections import namedtuple
+from collections.abc import Iterable, Iterator
+from typing import Any, NamedTuple
 
 from afdx import files, model
 from afdx.files import Fault, cut
+from afdx.model import Latency, Network, VirtualLink
 from afdx.reckon.network_calculus import OnDemand
 
 # Of a destination: the greatest latency in ns or None, and why there is none; the networks by which each frame comes; the
 # longest time between the copies of a frame in ns or None, and whether the second one may be delivered too.
-Bound = namedtuple("Bound", "ns why sure skew_ns may_be_twice")
+class Bound(NamedTuple):
+    ns: int | None
+    why: str
+    sure: str
+    skew_ns: int | None
+    may_be_twice: bool
+
+
 # Of an account: by how much frames come closer than a BAG in ns or None, how much of it is allowed, and whether it may
 # refuse a frame.
-Account = namedtuple("Account", "jitter_ns policing_ns may_refuse")
+class Account(NamedTuple):
+    jitter_ns: int | None
+    policing_ns: int
+    may_refuse: bool
+
+
 # Of a port: how many bytes may wait there, or None, and why there is no bound.
-Waiting = namedtuple("Waiting", "most why")
+class Waiting(NamedTuple):
+    most: int | None
+    why: str
+
+
+# A virtual link and a place.
+Key = tuple[int, str]
 
 COLUMNS = [
     "vl", "where", "bound_ns", "waiting_bytes", "why", "sure", "skew_ns", "jitter_ns", "policing_jitter_ns", "warning",
@@ -30,7 +50,7 @@ SURE = ["", "A", "B", "AB"]
 TWICE = 4
 
 
-def switches_of(net, vl):
+def switches_of(net: Network, vl: VirtualLink) -> list[str]:
     """The switches of a virtual link, each once."""
     names = (name for paths in vl.paths.values() for path in paths for name in path[1:-1])
     return [name for name in dict.fromkeys(names) if net.nodes[name].kind == "switch"]
@@ -40,15 +60,18 @@ class Bounds:
     """The bounds of a file, which must be those of this description: `of` has the destinations, `accounts` the virtual links at
     switches, `waiting` the ports by line, and `of_kind` all that `afdx second-opinion --hops` measures."""
 
-    def __init__(self, path, net):
-        self.path, self.net, self.waiting, self.checksum = path, net, {}, model.checksum(net.text)
+    def __init__(self, path: str, net: Network) -> None:
+        self.path, self.net, self.checksum = path, net, model.checksum(net.text)
+        self.waiting: dict[str, Waiting] = {}
         # Who computed them, where the file says so.
-        self.made_by = None
-        self.numbers = {kind: {} for kind in (*OF_DESTINATIONS, *OF_LINES, *OF_SWITCHES)}
-        self.waits, self.whys = {}, {}
+        self.made_by: str | None = None
+        self.numbers: dict[str, dict[int, Any]] = {kind: {} for kind in (*OF_DESTINATIONS, *OF_LINES, *OF_SWITCHES)}
+        self.waits: dict[int, int | None] = {}
+        self.whys: dict[Key, str] = {}
         # The places of the virtual link that was asked for last, by the first kind of those that share them.
-        self.last = None, {}
-        self.columns, last = [], 0
+        self.last: tuple[int | None, dict[str, dict[str, int]]] = (None, {})
+        self.columns: list[str] = []
+        last = 0
         for last, line in enumerate(files.lines_of(path), 1):
             if not line.endswith("\n"):
                 self.judge_end(last, line)
@@ -66,12 +89,12 @@ class Bounds:
 
     # ---- reading ----
 
-    def judge_end(self, i, line):
+    def judge_end(self, i: int, line: str) -> None:
         if i == 1:
             columns_of(self.path, line)
         raise Fault(self.path, i, "the line feed at the end is missing, so the file is not whole")
 
-    def fields(self, i, line):
+    def fields(self, i: int, line: str) -> dict[str, str]:
         """A line by the names of its columns."""
         fields = line.rstrip("\r\n").split(",")
         if len(fields) != len(self.columns):
@@ -83,7 +106,7 @@ class Bounds:
         self.made_by = self.made_by or row.get("program")
         return row
 
-    def row(self, i, row):
+    def row(self, i: int, row: dict[str, str]) -> None:
         where, warnings = row["where"], row["warning"].split(" ")
         number = lambda name: None if row[name] == "none" else model.whole_number(self.path, i, name, row[name])
         if not row["vl"]:
@@ -98,7 +121,7 @@ class Bounds:
         if self.number(first, vl, where, ABSENT) != ABSENT:
             raise Fault(self.path, i, f"says again what line {self.line_of(row['vl'], where)} says")
         if first == "bound":
-            known = {kind: number(kind + "_ns") for kind in ("wait", "proved", "network", "network_a", "network_b", "skew") if row.get(kind + "_ns")}
+            known: dict[str, int | None] = {kind: number(kind + "_ns") for kind in ("wait", "proved", "network", "network_a", "network_b", "skew") if row.get(kind + "_ns")}
             self.waits[vl] = known.pop("wait", None)
             if row["sure"] not in SURE:
                 raise Fault(self.path, i, f"sure is {cut(row['sure'])}, and must be A, B, AB or nothing")
@@ -113,45 +136,48 @@ class Bounds:
         for kind, found in known.items():
             self.put(kind, vl, where, NONE if found is None else found)
 
-    def port(self, i, line, most, why):
+    def port(self, i: int, line: str, most: int | None, why: str) -> None:
         if line not in self.net.mbit:
             raise Fault(self.path, i, f"{cut(line)} is no line in {self.net.path}")
         if line in self.waiting:
             raise Fault(self.path, i, f"says again what line {self.line_of('', line)} says")
         self.waiting[line] = Waiting(most, why)
 
-    def line_of(self, vl, where):
+    def line_of(self, vl: str, where: str) -> int | None:
         """The line of the file that first speaks of a virtual link and a place."""
         at, place = self.columns.index("vl"), self.columns.index("where")
         for i, line in enumerate(files.lines_of(self.path), 1):
             fields = line.rstrip("\r\n").split(",")
             if (fields[at], fields[place]) == (vl, where):
                 return i
+        return None
 
     # ---- numbers by kind, virtual link and place ----
 
-    def places(self, vl):
+    def places(self, vl: int) -> dict[str, dict[str, int]]:
         """For the first of the kinds that share them the places of a virtual link, each with its number in the arrays."""
         if self.last[0] != vl:
             it = self.net.vls[vl]
-            of = {"bound": it.destinations, "delay": it.lines, "jitter": switches_of(self.net, it)}
+            of: dict[str, Iterable[str]] = {"bound": it.destinations, "delay": it.lines, "jitter": switches_of(self.net, it)}
             self.last = vl, {kind: {name: i for i, name in enumerate(names)} for kind, names in of.items()}
         return self.last[1]
 
-    def at(self, kind, vl, where):
+    def at(self, kind: str, vl: int, where: str) -> int | None:
         """The number of a place in the array of a kind, or None."""
         first = "bound" if kind in OF_DESTINATIONS else "delay" if kind in OF_LINES else "jitter"
         return self.places(vl)[first].get(where) if vl in self.net.vls else None
 
-    def put(self, kind, vl, where, value):
+    def put(self, kind: str, vl: int, where: str, value: int) -> None:
         found = self.numbers[kind].get(vl)
         if found is None:
             first = "bound" if kind in OF_DESTINATIONS else "delay" if kind in OF_LINES else "jitter"
             size = 1 if kind in ("flags", "refuses") else 8
             found = self.numbers[kind][vl] = array("b" if size == 1 else "q", [ABSENT]) * len(self.places(vl)[first])
-        found[self.at(kind, vl, where)] = value
+        at = self.at(kind, vl, where)
+        if at is not None:
+            found[at] = value
 
-    def number(self, kind, vl, where, absent=None):
+    def number(self, kind: str, vl: int, where: str, absent: int | None = None) -> int | None:
         """What the file has of a kind; None where it says that there is none, and `absent` where it says nothing."""
         found, at = self.numbers[kind].get(vl), self.at(kind, vl, where)
         value = ABSENT if found is None or at is None else found[at]
@@ -159,61 +185,65 @@ class Bounds:
 
     # ---- answers ----
 
-    def destinations(self):
+    def destinations(self) -> Iterator[Key]:
         return iter(self.net.destinations)
 
-    def destination(self, vl, where):
-        flags = self.number("flags", vl, where)
-        if flags is None:
+    def flags(self, vl: int, where: str) -> int:
+        found = self.number("flags", vl, where)
+        if found is None:
             raise KeyError((vl, where))
+        return found
+
+    def destination(self, vl: int, where: str) -> Bound:
+        flags = self.flags(vl, where)
         ns, why = self.number("bound", vl, where), self.whys.get((vl, where), "")
         return Bound(ns, why, SURE[flags % TWICE], self.number("skew", vl, where), flags >= TWICE)
 
-    def switches(self):
+    def switches(self) -> Iterator[Key]:
         for vl in self.numbers["jitter"]:
             for where in self.places(vl)["jitter"]:
                 if self.number("jitter", vl, where, ABSENT) != ABSENT:
                     yield vl, where
 
-    def account(self, vl, where):
+    def account(self, vl: int, where: str) -> Account:
         refuses = self.number("refuses", vl, where)
         if refuses is None:
             raise KeyError((vl, where))
         return Account(self.number("jitter", vl, where), self.net.vls[vl].policing_ns, bool(refuses))
 
-    def bound(self, vl, where):
+    def bound(self, vl: int, where: str) -> int | None:
         return self.number("bound", vl, where)
 
-    def has_proved(self):
+    def has_proved(self) -> bool:
         """Whether the file has the bounds of the program, too."""
         return "proved_ns" in self.columns
 
-    def proved(self, vl, where):
+    def proved(self, vl: int, where: str) -> int | None:
         return self.number("proved", vl, where)
 
-    def of_kind(self, kind, vl, where):
+    def of_kind(self, kind: str, vl: int, where: str) -> int | None:
         """The bound of what `afdx second-opinion --hops` measures, or None."""
         if kind == "backlog":
             return self.waiting[where].most if where in self.waiting else None
         return self.waits.get(vl) if kind == "wait" else self.number(kind, vl, where)
 
-    def holds(self, line):
+    def holds(self, line: str) -> int:
         """How many bytes may wait at the port before a line."""
         return self.net.nodes[line.split(">")[0]].port_bytes
 
-    def refusing(self):
+    def refusing(self) -> list[Key]:
         return [key for key in self.accounts if self.number("refuses", *key)]
 
-    def not_sure(self):
-        return [key for key in self.of if not self.number("flags", *key) % TWICE]
+    def not_sure(self) -> list[Key]:
+        return [key for key in self.of if not self.flags(*key) % TWICE]
 
-    def twice(self):
-        return [key for key in self.of if self.number("flags", *key) >= TWICE]
+    def twice(self) -> list[Key]:
+        return [key for key in self.of if self.flags(*key) >= TWICE]
 
-    def too_small(self):
+    def too_small(self) -> list[str]:
         return [line for line, port in self.waiting.items() if port.most is None or port.most > self.holds(line)]
 
-    def above(self, latencies):
+    def above(self, latencies: dict[Key, Latency]) -> list[Latency]:
         """The latencies of a run that are above their bounds: of the two one is wrong."""
         found = []
         for key, row in latencies.items():
@@ -223,7 +253,7 @@ class Bounds:
         return found
 
 
-def columns_of(path, line):
+def columns_of(path: str, line: str) -> list[str]:
     """The names of the columns of a file of bounds."""
     columns = line.rstrip("\r\n").split(",")
     lacks = [name for name in COLUMNS if name not in columns]

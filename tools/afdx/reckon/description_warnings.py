@@ -104,7 +104,7 @@ class WorstCase(Warnings):
         self.findings.sort(key=lambda it: it.line)
 
     def of_each(self, keys, tell):
-        """Tells of each virtual link, and the places where it is so."""
+        """Warns of each virtual link, with the places where it is so."""
         places = {}
         for vl, where in keys:
             places.setdefault(vl, []).append(where)

@@ -36,7 +36,7 @@ def relaxed(net):
 
 
 def least_policing(vl, spread):
-    """The least policing jitter in whole us by which an account never refuses frames that come so much closer than a BAG."""
+    """The least policing jitter in whole us by which an account never refuses frames that come closer than a BAG by this much."""
     size = vl.smax if vl.policing == "frames" else vl.size
     needed = max(0, -(-size * (vl.bag_ns + spread) // vl.smax) - vl.bag_ns)
     return -(-needed // STEP_NS) * STEP_NS

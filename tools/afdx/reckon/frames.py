@@ -1,5 +1,5 @@
 """What became of each frame, end to end: which were offered, which a regulator refused, and which of them were delivered,
-are under way at the end, or are missing. What was offered is drawn anew; the rest is told by tables, or by a trace.
+are under way at the end, or are missing. What was offered is drawn anew; tables or a trace give the rest.
 
     ends = frames.Ends(tables, [net.seed], trace=trace)     # Fault where they are of other runs
     ends.of[vl, where].missing                              # a Range: what is known of it
@@ -112,12 +112,12 @@ class Route:
         steps = {step for side in "AB" for path in vl.paths[side] for step in zip(path, path[1:])}
         forks = {here for here, count in Counter(here for here, _ in steps).items() if count > 1}
         sides = sum(bool(paths) for paths in vl.paths.values())
-        # Where a copy goes on by several ports, tables do not tell at which of them it was lost.
+        # If a copy goes on by several ports, tables do not show at which of them it was lost.
         self.forks = forks - ({vl.source} if len(self.ways) == sides else set())
 
 
 class Journey:
-    """A virtual link at one of its destinations: its ways there, and what tables tell of the copies lost on them."""
+    """A virtual link at one of its destinations: its ways there, and what tables show of the copies lost on them."""
 
     def __init__(self, route, losses):
         self.vl, self.where, self.ways, self.forks = route.vl, route.where, route.ways, route.forks
@@ -158,7 +158,7 @@ class Journey:
 
 class Ends:
     """What became of all frames, end to end: what was offered is drawn anew, as the program draws it, and held against
-    the tables of the runs with these seeds. A trace tells further which frames were delivered.
+    the tables of the runs with these seeds. A trace also shows which frames were delivered.
 
     A frame is missing at a destination if it was not delivered there, and all its copies are lost or a later frame of
     the virtual link was delivered there: a copy that comes behind it is dropped. If it was not delivered and is not
@@ -223,7 +223,7 @@ class Ends:
         copies = copies.count if copies else 0
         released = len(sent.releases)
         total, lost = journey.copies_lost()
-        # The copies of which nothing is told are under way.
+        # The copies of which nothing is known are under way.
         open_copies = exactly(len(journey.ways) * released - row.count - copies) - total
         if self.trace and sent.one is not None:
             again, under_way, missing = self.by_trace(journey, sent.one, row)
@@ -271,7 +271,7 @@ class Ends:
         return sent.released_after(self.net.until_ns - longest)
 
     def by_counts(self, journey, sent, row):
-        """What tables alone tell of frames that were delivered again, are under way, and are missing."""
+        """What tables alone show of frames that were delivered again, are under way, and are missing."""
         latest = self.net.until_ns - journey.surely_under_way_ns()
         sure = sent.released_after(latest)
         # A second copy is delivered again only where it comes later than SkewMax.
@@ -280,7 +280,7 @@ class Ends:
         return Range(0, row.count // 2 if may_be_again else 0), Range(sure, released), Range(0, released)
 
     def by_trace(self, journey, released, row):
-        """The same by what a trace tells: which frames came, by the moments at which they had been offered, and when copies were
+        """The same by what a trace shows: which frames came, by the moments at which they had been offered, and when copies were
         lost."""
         came = self.trace.came.get((journey.vl.id, journey.where))
         found = came.among([moment for moment, _ in released]) if came else (0, -1)

@@ -1,13 +1,17 @@
 """How often there was each latency, in bins of less than 0.1 percent, so that it takes little memory however many frames there are.
 
 Up to 2047 ns a bin is one ns. Above, each octave has 1,024 bins of one length: a bin goes from ns with 11 binary digits, and zeros
-behind them, to the next such number. So whole numbers tell the bin, and bins of all runs are the same ones.
+behind them, to the next such number. So whole numbers give the bin, and all runs have the same bins.
 """
+from __future__ import annotations
+
 import re
 from array import array
 from collections import Counter
+from collections.abc import Iterable, Iterator
 
 from afdx.files import Fault
+from afdx.model import Latency, Tables
 
 DIGITS = 11
 HALF = 2 ** (DIGITS - 1)
@@ -16,16 +20,18 @@ HALF = 2 ** (DIGITS - 1)
 TOGETHER = HALF
 SIZES = ["B", "H", "I", "Q"]
 BLOCK = 2**22
+# The numbers of bins in which frames came, and how many came in each.
+Bins = tuple["array[int]", "array[int]"]
 DELIVERED = re.compile(rb"^[0-9]+,([^,\n]+,[0-9]+),delivered,([0-9]{1,19})$", re.MULTILINE)
 
 
-def bin_of(ns):
+def bin_of(ns: int) -> int:
     """The number of the bin of a latency; numbers rise with latencies."""
     shift = ns.bit_length() - DIGITS
     return ns if shift <= 0 else shift * HALF + (ns >> shift)
 
 
-def ends_of(number):
+def ends_of(number: int) -> tuple[int, int]:
     """The least and the greatest latency of a bin."""
     shift = max(0, number // HALF - 1)
     return number - shift * HALF << shift, (number - shift * HALF + 1 << shift) - 1
@@ -36,11 +42,11 @@ class Counts:
 
     __slots__ = ("parts",)
 
-    def __init__(self):
-        # The counts of so many bins together, by the number of the first of them divided by that.
-        self.parts = {}
+    def __init__(self) -> None:
+        # The counts of some bins together, by the number of the first of them divided by how many they are.
+        self.parts: dict[int, array[int]] = {}
 
-    def add(self, found):
+    def add(self, found: Iterable[tuple[int, int]]) -> None:
         """Adds how many there were in bins, given as numbers of bins with counts."""
         parts = self.parts
         for number, count in found:
@@ -52,28 +58,29 @@ class Counts:
             except OverflowError:
                 self.widen(number // TOGETHER, parts[number // TOGETHER], place, count)
 
-    def widen(self, which, part, place, count):
+    def widen(self, which: int, part: array[int], place: int, count: int) -> None:
         """Puts a part into its place, with room for such a count."""
         more = part[place] + count
         size = max(SIZES.index(part.typecode), sum(more >= 2**bits for bits in (8, 16, 32)))
         self.parts[which] = array(SIZES[size], part)
         self.parts[which][place] = more
 
-    def total(self):
-        return sum(map(sum, self.parts.values()))
+    def total(self) -> int:
+        return sum(sum(part) for part in self.parts.values())
 
-    def items(self):
+    def items(self) -> Iterator[tuple[int, int]]:
         """The bins in which there were frames, in order, with how many."""
         for first in sorted(self.parts):
             for place, count in enumerate(self.parts[first]):
                 if count:
                     yield first * TOGETHER + place, count
 
-    def percentiles(self, percents, greatest):
-        """For each percentage the end of the bin in which the frame is that so many percent do not exceed (the nearest rank), or
+    def percentiles(self, percents: list[int], greatest: int) -> list[int]:
+        """For each percentage the end of the bin of the frame that this percentage does not exceed (the nearest rank), or
         the greatest latency of all, where that is less. None where no frame came."""
         total = self.total()
-        ranks, found, passed = [-(-total * percent // 100) for percent in percents], [], 0
+        ranks, passed = [-(-total * percent // 100) for percent in percents], 0
+        found: list[int] = []
         for number, count in self.items():
             passed += count
             while len(found) < len(ranks) and ranks[len(found)] <= passed:
@@ -81,7 +88,7 @@ class Counts:
         return found
 
 
-def of_trace(path, tables):
+def of_trace(path: str, tables: Tables) -> list[Bins]:
     """For each virtual link and destination, in the order of the tables, how many frames came in each bin, as `bins_of` has it. A trace that has not
     what the tables have is refused."""
     found = {f"{where},{vl}".encode(): array("Q") for vl, where in tables.latencies}
@@ -99,7 +106,7 @@ def of_trace(path, tables):
     return [bins_of(path, latencies, row) for latencies, row in zip(found.values(), tables.latencies.values())]
 
 
-def bins_of(path, latencies, row):
+def bins_of(path: str, latencies: array[int], row: Latency) -> Bins:
     """How many of these latencies are in each bin, as the numbers of the bins and the counts, which another process is soon given;
     they must be those of a row of the tables."""
     count = len(latencies)

@@ -23,13 +23,13 @@ class SentOfAll(namedtuple("SentOfAll", "offered refused waiting releases one"))
 
 # With fewer seeds it does not pay.
 ENOUGH = 16
-# So many offers are drawn at once.
+# How many offers are drawn at once.
 AT_ONCE = 2**21
 NONE = 2**63 - 1
 
 
 def library(seeds):
-    """The library, where it is there and pays for so many seeds; else None."""
+    """The library, if it is installed and pays for this number of seeds; else None."""
     return debian_modules.found("numpy") if len(seeds) >= ENOUGH else None
 
 
@@ -51,7 +51,7 @@ def sent_of_all(numpy, vl, seeds, offsets, until_ns, sent_of_one):
 
 
 def sent_of_some(numpy, vl, seeds, offsets, until_ns, sent_of_one):
-    """The same of so many seeds as are drawn at once; the releases in any order."""
+    """The same of the seeds that are drawn at once; the releases in any order."""
     offers = offers_of(numpy, vl, seeds, offsets, until_ns)
     releases, is_full = offers.copy(), numpy.zeros(len(seeds), bool)
     for k in range(1, offers.shape[1]):

@@ -26,13 +26,13 @@ LONGEST_BAG_NS = 128 * 10**6
 # How many bytes of a frame's time on the line are behind its last bit.
 GAP_BYTES = 12
 
-# What a receiver can tell apart: a number up to 126 steps behind is one that was delivered before.
+# What a receiver can distinguish: a number up to 126 steps behind is one that was delivered before.
 MOST_STEPS = 126
 
-# So many lines of bounds.csv are written at once.
+# How many lines of bounds.csv are written at once.
 AT_ONCE = 4096
 
-# Low frames behind high ones are counted whole, too, where there are at most so many pairs of a moment and a size. It lowers few
+# Low frames behind high ones are counted whole, too, if there are no more pairs of a moment and a size than this. It lowers few
 # bounds, by some percent at most, and would take hours at ports of thousands of virtual links.
 MOST_WHOLE = 100_000
 
@@ -183,7 +183,7 @@ class WholeBehindHigh:
         return max(self.begins[place], (ahead + self.came[place]) // self.speed)
 
     def longest(self, frame, most):
-        """The longest wait of a frame of so many parts of a byte, in whole ns; `most` where it is not less."""
+        """The longest wait of a frame of this size in parts of a byte, in whole ns; `most` if it is not less."""
         found = 0
         for t, came in self.moments:
             wait = self.start(came - frame) - t
@@ -212,7 +212,7 @@ class BehindHigh:
         ]
 
     def waits(self, frame, t):
-        """x - t in whole ns, for a frame of so many parts of a byte."""
+        """x - t in whole ns, for a frame of this size in parts of a byte."""
         piece = self.low[bisect_left(self.lasts, t)]
         ahead = piece.at + piece.slope * t - frame
         piece = self.high[bisect_left(self.ends, ahead)]

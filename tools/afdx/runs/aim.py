@@ -16,8 +16,8 @@ from afdx.files import Fault
 from afdx.reckon import network_calculus
 from afdx.runs import reading_processes, run_results, second_opinion, side_by_side
 
-# How often an offset is moved to see whether the frame comes later, and how often all are set right again: with so many
-# frames that meet it, and with more of them less often.
+# How often an offset is moved to see whether the frame comes later, and how often all are set right again: with this number
+# of frames that meet it, and with more of them less often.
 MOVES, OF_FRAMES, ROUNDS = 200, 20, 6
 
 
@@ -97,7 +97,7 @@ class Aim:
 
     def set_group(self, came, behind, others):
         """Sets some of those that meet the frame at a port, of each line one behind the other, so that the last ones are
-        there so many ns before it. Answers how many ns before it the first of them is there."""
+        there the given ns before it. Returns how many ns before it the first of them is there."""
         lines, first = {}, behind
         # The longest frame comes last, so that most of it is still to be sent.
         for other in sorted(others, key=lambda it: (-self.net.vls[it].size, it)):
@@ -318,4 +318,4 @@ class AimedRuns:
             yield f"virtual link {vl} at {where}: {latency} ns, {of}; from the release on {way}; as described {plain} ns"
 
 
-Line = namedtuple("Line", HEAD.split(","))
+Line = namedtuple("Line", HEAD.split(","))  # type: ignore[misc]

@@ -16,7 +16,7 @@ WRITTEN = re.compile(
     r"campaign\.json|(merged|greatest|histograms|outages|sweep|aim)\.(csv|json)|(outages|sweep)\.html"
     r"|((outage|set|aimed)-\d+-)?seed-\d+\.(toml|tables\.csv)"
 )
-# Of so many files of an earlier campaign the fault names the first ones.
+# The fault names this many files of an earlier campaign at most.
 MOST_NAMED = 3
 
 

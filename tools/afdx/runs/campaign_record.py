@@ -1,5 +1,5 @@
 """What a campaign says of itself: DIR/campaign.json. afdx campaign writes it, and afdx report reads it, so that the
-seeds of merged tables need not be told again."""
+seeds of merged tables need not be given again."""
 import hashlib
 import json
 import os

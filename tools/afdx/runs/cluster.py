@@ -87,7 +87,7 @@ class Cluster:
     def __init__(self, address, program, sha256, is_traced=False):
         from distributed import Client
 
-        # What they tell of connections that end is no news here.
+        # What they print of connections that end is not wanted here.
         for name in ("distributed", "tornado", "asyncio"):
             logging.getLogger(name).setLevel(logging.CRITICAL + 1)
         self.program, self.sha256, self.is_traced = program, sha256, is_traced

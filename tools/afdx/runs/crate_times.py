@@ -1,4 +1,4 @@
-"""What each crate takes of the processors while `rt ci` runs, which tells no times: seconds of the processes that prove it, by what they do."""
+"""What each crate takes of the processors while `rt ci` runs, which prints no times: seconds of the processes that prove it, by what they do."""
 import os
 import threading
 import time
@@ -56,7 +56,7 @@ def work_of(number, root):
 
 
 class CrateTimes:
-    """Looks at the processes that one has started, until it is told that they ended."""
+    """Looks at the processes that one has started, until its caller says that they ended."""
 
     def __init__(self, first, root):
         self.first, self.root = first, os.path.realpath(root)

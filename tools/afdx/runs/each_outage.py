@@ -1,5 +1,5 @@
 """What if a link or a switch is out: afdx campaign --each-outage. Each is out in turn, and what is lost end to end and
-what becomes late is told beside the same runs without it, as a table and as a page."""
+what becomes late is shown beside the same runs without it, as a table and as a page."""
 import html
 import itertools
 import re
@@ -17,7 +17,7 @@ TABLE_HEAD = (
     "out,vl,where,delivered_before,delivered,lost_before_least,lost_before_most,lost_least,lost_most,"
     "greatest_before_ns,greatest_ns"
 )
-# So many destinations of an outage are on the page; all are in the table.
+# How many destinations of an outage are on the page at most; all are in the table.
 MOST_ON_THE_PAGE = 30
 
 
@@ -84,7 +84,7 @@ def later(change):
 
 
 def growth_that_counts(before, now, least):
-    """By how much a latency grows, in ns; 0 where it is no more than the least that counts: so many ns, or such a part of
+    """By how much a latency grows, in ns; 0 if it is no more than the least that counts: a number of ns, or a part of
     what it was."""
     grown = max(0, now - before)
     return grown if grown > (least if isinstance(least, int) else before * least) else 0
@@ -133,7 +133,7 @@ class EachOutage:
                 yield side_by_side.Run(name, text)
 
     def run(self, maker, keep, progress, jobs):
-        """Has the runs made, and reckons on so many of them side by side what became of their frames. `keep` is told the
+        """Has the runs made, and reckons what became of their frames, of several side by side. `keep` gets the
         beginning of the name of each one's files, and its texts."""
         progress.listen(maker)
         reckoner, jobs = OfOutages(self.net, self.draws_offsets), min(jobs, self.count())

@@ -21,9 +21,9 @@ def told_of(vl, tables, trace):
     return came, {key: (it.count, it.moments) for key, it in trace.lost[vl.id].items()}
 
 
-# ---- which virtual links two runs tell of in other words ----
+# ---- of which virtual links two runs have other lines ----
 
-# Of so many bytes of a trace at once the lines are compared.
+# Lines of a trace are compared in blocks of this many bytes.
 BLOCK = 2**22
 
 
@@ -67,7 +67,7 @@ def vls_of(lines, field):
 
 
 def differing(one, other):
-    """The virtual links, as the bytes of their numbers, of which two runs tell something else: each is the paths of its tables
+    """The virtual links, as the bytes of their numbers, of which two runs have other lines: each is the paths of its tables
     and its trace. None where lines are not as they should be."""
     with open(one.tables, "rb") as before, open(other.tables, "rb") as now:
         tables = lines_of_one(before.readlines(), now.readlines())
@@ -98,7 +98,7 @@ def lines_of_vls(path, vls, field):
 
 
 class First:
-    """The run of a seed without an outage. Of another run with this seed that alone is reckoned anew which tells something else."""
+    """The run of a seed without an outage. Of another run with this seed only what has other lines is reckoned anew."""
 
     def __init__(self, net, seed, draws_offsets, kept):
         drawn = drawn_offsets(net, seed) if draws_offsets else {}
@@ -113,7 +113,7 @@ class First:
         return net
 
     def changed(self, kept):
-        """The virtual links of which a run tells something else, and files of that; None where it has to be read whole."""
+        """The virtual links of which a run has other lines, and files of these; None if it has to be read whole."""
         found = differing(self.kept, kept)
         if found is None or not all(len(it) < 6 and it.isdigit() and int(it) in self.net.vls for it in found):
             return None
@@ -151,7 +151,7 @@ class OfOutages(reading_processes.Reckoner):
         self.kept, self.first = {}, {}
 
     def asked(self, seed, run, kept):
-        """A process that has not read the first run of the seed does so, so it is told of it too."""
+        """A process that has not read the first run of the seed does so, so it gets that, too."""
         first = self.kept.setdefault(seed, (run, kept))
         return seed, first, *(() if first[1] is kept else (run, kept))
 
@@ -176,7 +176,7 @@ class OfOutages(reading_processes.Reckoner):
             try:
                 return run_results.read(first.net_of(vls), run, part)
             except Failure:
-                # Where it is wrong is told by its own lines.
+                # Its own lines show where it is wrong.
                 pass
             finally:
                 reading_processes.drop(part)

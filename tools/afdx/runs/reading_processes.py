@@ -16,7 +16,7 @@ from afdx.runs.side_by_side import Failure, Printed
 
 # Where processes share what they wait by.
 SHARED = "/dev/shm"
-# An interrupt waits so many s at the most for what is being reckoned on the runs that were made before it.
+# An interrupt waits at most this many s for what is being reckoned on the runs that were made before it.
 PATIENCE = 10
 
 
@@ -59,7 +59,7 @@ def answer(path, *asked):
 
 # ---- in the campaign ----
 
-# A run that a process is asked about: what is told again with the answer, the file of that, and what tells that it is there.
+# A run that a process is asked about: what is returned with the answer, the file of that, and what shows that it is there.
 Asked = collections.namedtuple("Asked", "key run printed path future")
 
 
@@ -73,8 +73,8 @@ def beside(reckoner, maker, runs, keys, jobs):
 
 
 def results(reckoner, runs, jobs, folder):
-    """Yields of each run, given as (key, run, printed) in order, that again with what is answered to it; so many processes reckon
-    side by side, by files of a folder. What ends the runs is raised once those before it are told."""
+    """Yields of each run, given as (key, run, printed) in order, that again with the answer to it; a number of processes reckon
+    side by side, by files of a folder. What ends the runs is raised once those before it are yielded."""
     forks, numbered = multiprocessing.get_context("fork"), enumerate(runs)
     waiting, ended = collections.deque(), None
     with pool_of(jobs, forks, reckoner) as pool:
@@ -111,7 +111,7 @@ def pool_of(jobs, forks, reckoner):
 
 
 def answers(reckoner, asked, jobs):
-    """Yields what is answered to each of some calls of a reckoner, in their order: by so many processes side by side, where
+    """Yields what is answered to each of some calls of a reckoner, in their order: by a number of processes side by side, if
     there are several calls."""
     if min(jobs, len(asked)) < 2:
         yield from (reckoner.answer(*words) for words in asked)

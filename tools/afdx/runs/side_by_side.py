@@ -13,7 +13,7 @@ from afdx import files
 # A run that is to be made: what it is called, and its description.
 Run = namedtuple("Run", "name text")
 
-# A line of the program that tells how far a run is.
+# A line of the program that prints how far a run is.
 FAR = re.compile(rb"afdxsim: (\d+ of \d+ ms.*)\n")
 
 # What a run printed: the text of its tables and, where it was asked for, the path of its trace, a file that is there until the
@@ -99,7 +99,7 @@ class Here:
         return Printed(printed.decode("utf-8", "replace"), traced if self.is_traced else None)
 
     def heard(self, run, started):
-        """What a run printed and said; of how far it is, one is told who hears."""
+        """What a run printed and said; whoever hears gets the lines of its progress."""
         said = []
 
         def listen():

@@ -1,4 +1,4 @@
-"""What afdx campaign --set does: runs a description with each combination of values of some of its keys, and tells what they
+"""What afdx campaign --set does: runs a description with each combination of values of some of its keys, and shows what they
 do beside what the seed does.
 
     vl.157.bag_ms=4,8,16      of the virtual link with this number
@@ -23,7 +23,7 @@ from afdx.runs.side_by_side import Failure, Run
 
 # More combinations are hardly meant.
 MOST_COMBINATIONS = 10_000
-# So many destinations the page tells at most; the table tells all.
+# How many destinations the page shows at most; the table has all.
 MOST_ON_THE_PAGE = 200
 HEAD = "vl,where,runs,delivered,least_greatest_ns,mean_greatest_ns,greatest_ns,seed,copies_lost"
 
