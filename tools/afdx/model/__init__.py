@@ -474,7 +474,8 @@ class Network:
     def loads(self) -> tuple[dict[str, Fraction], Counter[str]]:
         """For each line its load in percent, and how many virtual links go over it. Each virtual link sends a frame in
         each BAG, or in each period where that is longer."""
-        load, users = {line: Fraction(0) for line in self.mbit}, Counter[str]()
+        load = {line: Fraction(0) for line in self.mbit}
+        users: Counter[str] = Counter()
         for vl in self.vls.values():
             bits_by_us = Fraction((vl.size + BYTES_BETWEEN_FRAMES) * 8 * 1000, max(vl.bag_ns, vl.period_ns))
             for line in vl.lines:

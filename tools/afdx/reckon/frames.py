@@ -172,7 +172,7 @@ class Ends:
     missing, it is under way at the end."""
 
     def __init__(
-        self, tables: Tables, seeds: list[int], draws_offsets: bool = False, trace: Trace | None = None, known: dict[Any, Any] | None = None
+        self, tables: Tables, seeds: list[int], draws_offsets: bool = False, trace: Trace | None = None, known: dict[int | tuple[int, str], Any] | None = None
     ) -> None:
         self.tables, self.net, self.trace = tables, tables.net, trace
         # What does not depend on the tables, for those who reckon with the same seeds again.
