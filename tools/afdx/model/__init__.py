@@ -6,6 +6,8 @@ how offers are drawn, and tables. Traces are in tools/afdx/model/traces.py.
 
 None of this judges a description as the program does: `afdxsim check` does, and afdx explain prints all its faults.
 """
+from __future__ import annotations
+
 import argparse
 import collections.abc
 import hashlib
@@ -14,7 +16,9 @@ import json
 import os
 import re
 from collections import Counter, namedtuple
+from collections.abc import Callable, Iterable, Iterator, Mapping, Sequence
 from fractions import Fraction
+from typing import Any, NoReturn
 
 from afdx import files
 from afdx.files import Fault, cut, is_same_file, program, text_of, toml_lines, write_out, write_whole  # noqa: F401
@@ -41,7 +45,7 @@ MOST_PROCESSES, MOST_PORTS, MOST_OUTAGES, MOST_DESTINATIONS = 4096, 24, 1024, 64
 MOST_NODES_OF_A_PATH = 32
 
 
-def whole_number(path, line, name, text):
+def whole_number(path: str, line: int, name: str, text: str) -> int:
     """The number that a field of a file is."""
     if not NUMBER.fullmatch(text):
         raise Fault(path, line, f"{name} is {cut(text)}, and no whole number")
@@ -50,10 +54,10 @@ def whole_number(path, line, name, text):
     return int(text)
 
 
-def whole(least, greatest):
+def whole(least: int, greatest: int) -> Callable[[str], int]:
     """The type of a word of the command line: a whole number within these limits."""
 
-    def read(text):
+    def read(text: str) -> int:
         number = int(text)
         if not least <= number <= greatest:
             raise argparse.ArgumentTypeError(f"{number} is not from {least} to {greatest}")
@@ -66,7 +70,7 @@ def whole(least, greatest):
 # ---- files ----
 
 
-def lines_of(path, head, name, text=None):
+def lines_of(path: str, head: list[str], name: str, text: str | None = None) -> list[str]:
     """The lines of a file of tables or of a trace, without line feeds. The first of them must be a head."""
     lines = (text_of(path) if text is None else text).split("\n")
     refuse_carriage_returns(path, lines[0], head)
@@ -77,13 +81,13 @@ def lines_of(path, head, name, text=None):
     return lines
 
 
-def refuse_carriage_returns(path, first, head):
+def refuse_carriage_returns(path: str, first: str, head: list[str]) -> None:
     """Refuses a file whose lines end as those of Windows do: some editor or mail has changed it."""
     if first.endswith("\r") and first[:-1] in head:
         raise Fault(path, 1, "ends with CR LF, as all lines do that Windows writes, and the program writes LF: sed -i 's/\\r$//' mends the file")
 
 
-def read_lines(path, head, name):
+def read_lines(path: str, head: str, name: str) -> Iterator[str]:
     """The lines of a file behind its head, without line feeds, one by one as they are asked for."""
     lines = files.lines_of(path)
     first = next(lines, "")
@@ -97,7 +101,7 @@ def read_lines(path, head, name):
             yield line[:-1]
 
 
-def checksum(text):
+def checksum(text: str) -> str:
     """The checksum of a description: the first digits of its SHA-256."""
     return hashlib.sha256(text.encode("utf-8")).hexdigest()[:16]
 
@@ -109,27 +113,27 @@ class Key(namedtuple("Key", "name value_type least greatest choices needed usual
     """A key of a section: its type (integer, text, name or paths), its limits or the values that it may have, which
     rows must have it (all, switches, or none), what it means where it is absent, and what it says."""
 
-    def python_type(self):
+    def python_type(self) -> type:
         return {"integer": int, "paths": toml_lines.Array}.get(self.value_type, str)
 
-    def is_needed(self, row):
+    def is_needed(self, row: Mapping[str, Any]) -> bool:
         return self.needed == "all" or self.needed == "switches" and row.get("kind") == "switch"
 
 
-def number_key(name, least, greatest, says, needed="all", usual=None):
+def number_key(name: str, least: int, greatest: int, says: str, needed: str = "all", usual: int | None = None) -> Key:
     return Key(name, "integer", least, greatest, None, needed, usual, says)
 
 
-def choice_key(name, choices, says, needed="all", usual=None):
+def choice_key(name: str, choices: tuple[int, ...] | tuple[str, ...], says: str, needed: str = "all", usual: int | str | None = None) -> Key:
     value_type = "integer" if type(choices[0]) is int else "text"
     return Key(name, value_type, None, None, choices, needed, usual, says)
 
 
-def name_key(name, says):
+def name_key(name: str, says: str) -> Key:
     return Key(name, "name", None, None, None, "all", None, says)
 
 
-def paths_key(name, says):
+def paths_key(name: str, says: str) -> Key:
     return Key(name, "paths", 3, MOST_NODES_OF_A_PATH, None, "all", None, says)
 
 
@@ -207,13 +211,14 @@ SECTIONS = ["node", "link", "outage", "vl"]
 Place = namedtuple("Place", "section row key")
 
 
-def place_of(text):
+def place_of(text: str) -> Place:
     """A place as the program names it: a section and a row from 1 and a key, where there are such."""
-    section, row, key = re.fullmatch(r"(\w+)(?: (\d+))?(?: (\w+))?", text).groups()
+    found: Any = re.fullmatch(r"(\w+)(?: (\d+))?(?: (\w+))?", text)
+    section, row, key = found.groups()
     return Place(section, int(row) if row else None, key)
 
 
-def place_text(place):
+def place_text(place: Iterable[object]) -> str:
     return " ".join(str(part) for part in place if part is not None and part != "")
 
 
@@ -221,7 +226,7 @@ class Description:
     """The text of a description, what it says, and where: `tree` is the table that the text is. What was read already
     may be given."""
 
-    def __init__(self, path, text=None, tree=None):
+    def __init__(self, path: str, text: str | None = None, tree: toml_lines.Table | None = None) -> None:
         self.path = path
         self.text = text_of(path) if text is None else text
         try:
@@ -229,16 +234,17 @@ class Description:
         except toml_lines.BadToml as fault:
             raise Fault(path, fault.line, f"is no TOML: {fault}") from None
 
-    def rows(self, section):
+    def rows(self, section: str) -> Any:
         """The rows of a section that is a list."""
         return self.tree.get(section, toml_lines.Array(1))
 
-    def line(self, section, row=None, key=None, item=None):
+    def line(self, section: str, row: int | None = None, key: str | None = None, item: int | None = None) -> int:
         """The line of a key, of a row or of a section, or of an item, from 1, of the list that a key is. Of what is not
         there it is that of what it would stand in."""
         if section == "top":
             return self.tree.lines.get(key, 1)
-        lines, found = self.tree.lines, self.tree
+        lines: Any = self.tree.lines
+        found: Any = self.tree
         if section not in found:
             return 1
         line, found = lines[section], found[section]
@@ -249,19 +255,19 @@ class Description:
             return line
         return found[key].lines[item - 1] if item else found.lines[key]
 
-    def fault(self, section, row, key, text):
+    def fault(self, section: str, row: int | None, key: str | None, text: str) -> Fault:
         """A fault that names the place as the program does."""
         return Fault(self.path, self.line(section, row, key), f"{place_text((section, row, key))} {text}")
 
 
-def written(value):
+def written(value: object) -> str:
     """A value in TOML. Those of an accepted description are whole numbers, texts, and lists of them."""
     if isinstance(value, list):
         return "[" + ", ".join(map(written, value)) + "]"
     return json.dumps(value, ensure_ascii=False)
 
 
-def text_of_tree(tree):
+def text_of_tree(tree: dict[str, Any]) -> str:
     """A description written anew, with a row's keys one a line. Comments are lost."""
     lines = [f"{key} = {written(value)}" for key, value in tree.items() if key not in SECTIONS]
     for section in SECTIONS:
@@ -271,7 +277,7 @@ def text_of_tree(tree):
     return "\n".join(lines) + "\n"
 
 
-def line_of_refusal(text, said):
+def line_of_refusal(text: str, said: str) -> int | None:
     """The line of a description at which the program refuses it, by the line that it says; None where it names none."""
     try:
         description = Description("", text)
@@ -297,7 +303,7 @@ VirtualLink = namedtuple(
 )
 
 
-def lines_of_path(path):
+def lines_of_path(path: Sequence[str]) -> list[str]:
     """The names of the lines between the nodes of a path."""
     return [before + ">" + after for before, after in zip(path, path[1:])]
 
@@ -311,33 +317,33 @@ class Places:
 
     __slots__ = ("paths", "lines")
 
-    def __init__(self, paths, lines):
+    def __init__(self, paths: dict[str, list[list[str]]], lines: list[str]) -> None:
         self.paths, self.lines = paths, lines
 
-    def __contains__(self, place):
+    def __contains__(self, place: object) -> bool:
         return place in self.lines or any(place in path for paths in self.paths.values() for path in paths)
 
-    def __iter__(self):
+    def __iter__(self) -> Iterator[str]:
         return iter({name for paths in self.paths.values() for path in paths for name in path}.union(self.lines))
 
 
 class Destinations(collections.abc.Set):
     """Each virtual link by its number with each of its destinations."""
 
-    def __init__(self, vls):
+    def __init__(self, vls: dict[int, VirtualLink]) -> None:
         self.vls = vls
 
     @classmethod
-    def _from_iterable(cls, found):
+    def _from_iterable(cls, found: Iterable[Any]) -> set[Any]:
         return set(found)
 
-    def __contains__(self, key):
+    def __contains__(self, key: object) -> bool:
         return type(key) is tuple and key[0] in self.vls and key[1] in self.vls[key[0]].destinations
 
-    def __iter__(self):
+    def __iter__(self) -> Iterator[tuple[int, str]]:
         return ((vl.id, where) for vl in self.vls.values() for where in vl.destinations)
 
-    def __len__(self):
+    def __len__(self) -> int:
         return sum(len(vl.destinations) for vl in self.vls.values())
 
 
@@ -345,7 +351,7 @@ class Network:
     """What a description describes. It does not judge the description as the program does: `afdxsim check` does that.
     A description that has not the keys, or names what is not there, is refused."""
 
-    def __init__(self, path, text=None, description=None):
+    def __init__(self, path: str, text: str | None = None, description: Description | None = None) -> None:
         self.path = path
         self.description = description or Description(path, text)
         self.text = self.description.text
@@ -354,18 +360,20 @@ class Network:
         self.until_ns, self.seed = self.description.tree["until_ns"], self.description.tree["seed"]
         if self.until_ns < 1:
             self.refuse("top", None, "until_ns", "is less than 1")
-        self.nodes = {}
+        self.nodes: dict[str, Node] = {}
         for i, row in enumerate(self.rows("node"), 1):
             self.add_node(i, row)
         # For each line its speed in Mbit/s, and its propagation time in ns.
-        self.links, self.mbit, self.propagation_ns = [], {}, {}
+        self.links: list[Link] = []
+        self.mbit: dict[str, int] = {}
+        self.propagation_ns: dict[str, int] = {}
         for i, row in enumerate(self.rows("link"), 1):
             self.add_link(i, row)
         self.process = {name: i for i, name in enumerate([*self.nodes, *self.mbit])}
         self.outages = [self.outage(i, row) for i, row in enumerate(self.rows("outage"), 1)]
         # Each line by its two nodes, so that its name is kept once.
-        self.line_of = {tuple(line.split(">")): line for line in self.mbit}
-        self.vls = {}
+        self.line_of: dict[tuple[str, ...], str] = {tuple(line.split(">")): line for line in self.mbit}
+        self.vls: dict[int, VirtualLink] = {}
         for i, row in enumerate(self.rows("vl"), 1):
             if row["id"] in self.vls:
                 self.refuse("vl", i, "id", f"{row['id']} was there before")
@@ -373,10 +381,10 @@ class Network:
         self.destinations = Destinations(self.vls)
         self.load, self.users = self.loads()
 
-    def refuse(self, section, row, key, text):
+    def refuse(self, section: str, row: int | None, key: str | None, text: str) -> NoReturn:
         raise self.description.fault(section, row, key, text)
 
-    def value(self, table, section, row, key):
+    def value(self, table: dict[str, Any], section: str, row: int | None, key: Key) -> Any:
         """The value of a key of a row, which has to be there where it is needed, and of its type."""
         if key.name not in table:
             if key.is_needed(table):
@@ -386,7 +394,7 @@ class Network:
             self.refuse(section, row, key.name, "has another kind than it must have")
         return table[key.name]
 
-    def rows(self, section):
+    def rows(self, section: str) -> Iterator[dict[str, Any]]:
         """The rows of a section as dictionaries, one by one; what may be absent has its usual value."""
         rows = self.description.rows(section)
         if type(rows) is not toml_lines.Array:
@@ -396,7 +404,7 @@ class Network:
                 self.refuse(section, i, None, "is no table")
             yield {key.name: self.value(row, section, i, key) for key in KEYS[section]}
 
-    def add_node(self, i, row):
+    def add_node(self, i: int, row: dict[str, Any]) -> None:
         if row["name"] in self.nodes:
             self.refuse("node", i, "name", f"{row['name']} was there before")
         if row["kind"] not in ("es", "switch"):
@@ -408,7 +416,7 @@ class Network:
                 self.refuse("node", i, "net", 'is neither "A" nor "B"')
         self.nodes[row["name"]] = Node(row["name"], row["kind"], net, latency, row["port_bytes"])
 
-    def add_link(self, i, row):
+    def add_link(self, i: int, row: dict[str, Any]) -> None:
         for key in "ab":
             if row[key] not in self.nodes:
                 self.refuse("link", i, key, f"names {row[key]}, which is no node")
@@ -424,7 +432,7 @@ class Network:
         for line in (a + ">" + b, b + ">" + a):
             self.mbit[line], self.propagation_ns[line] = row["mbit"], row["propagation_ns"]
 
-    def outage(self, i, row):
+    def outage(self, i: int, row: dict[str, Any]) -> Outage:
         line = row["from"] + ">" + row["to"]
         if line not in self.mbit:
             self.refuse("outage", i, "to", f"names {line}, which is no line")
@@ -432,8 +440,9 @@ class Network:
             self.refuse("outage", i, "to_ns", "is not after from_ns")
         return Outage(line, row["from_ns"], row["to_ns"])
 
-    def virtual_link(self, i, row):
-        destinations, lines = {}, {}
+    def virtual_link(self, i: int, row: dict[str, Any]) -> VirtualLink:
+        destinations: dict[str, frozenset[str]] = {}
+        passed: dict[str, None] = {}
         for key in "ab":
             for way in row[key]:
                 if type(way) is not toml_lines.Array or len(way) < 3 or not all(type(name) is str for name in way):
@@ -442,19 +451,19 @@ class Network:
                     line = self.line_of.get((here, there))
                     if line is None:
                         self.refuse("vl", i, key, f"has a path over {here}>{there}, which is no line")
-                    lines[line] = None
+                    passed[line] = None
                 destinations[way[-1]] = NETWORKS[destinations.get(way[-1], frozenset()) | {key}]
         if not destinations:
             self.refuse("vl", i, "a", "has no path")
         self.check_numbers(i, row)
-        source, paths, lines = (row["a"] or row["b"])[0][0], {"A": row["a"], "B": row["b"]}, list(lines)
+        source, paths, lines = (row["a"] or row["b"])[0][0], {"A": row["a"], "B": row["b"]}, list(passed)
         return VirtualLink(
             row["id"], i, row["bag_ms"] * 10**6, row["smax"], row["priority"], row["policing_jitter_ns"],
             row["policing"], row["skew_max_ns"], row["depth"], row["sub"], row["size"], row["offset_ns"],
             row["period_ns"], row["jitter_ns"], source, paths, destinations, lines, Places(paths, lines),
         )
 
-    def check_numbers(self, i, row):
+    def check_numbers(self, i: int, row: dict[str, Any]) -> None:
         """What would make a number of a page, a bound or a draw meaningless."""
         for key in KEYS["vl"]:
             if key.value_type == "integer":
@@ -462,10 +471,11 @@ class Network:
                 if row[key.name] < least:
                     self.refuse("vl", i, key.name, f"is less than {least}")
 
-    def loads(self):
+    def loads(self) -> tuple[dict[str, Fraction], Counter[str]]:
         """For each line its load in percent, and how many virtual links go over it. Each virtual link sends a frame in
         each BAG, or in each period where that is longer."""
-        load, users = {line: Fraction(0) for line in self.mbit}, Counter()
+        load = {line: Fraction(0) for line in self.mbit}
+        users: Counter[str] = Counter()
         for vl in self.vls.values():
             bits_by_us = Fraction((vl.size + BYTES_BETWEEN_FRAMES) * 8 * 1000, max(vl.bag_ns, vl.period_ns))
             for line in vl.lines:
@@ -473,19 +483,19 @@ class Network:
                 users[line] += 1
         return load, users
 
-    def offers(self, vl, seed=None):
+    def offers(self, vl: VirtualLink, seed: int | None = None) -> list[int]:
         """The moments in which frames of a virtual link are offered, until the end, in the order of their numbers."""
         seed = self.seed if seed is None else seed
         return [it for _, it in offers(seed, vl.id, vl.offset_ns, vl.period_ns, vl.jitter_ns, self.until_ns)]
 
-    def of_kind(self, kind, net=None):
+    def of_kind(self, kind: str, net: str | None = None) -> list[str]:
         return [node.name for node in self.nodes.values() if node.kind == kind and node.net == net]
 
 
 # ---- offers ----
 
 
-def words(seed, stream, first=0):
+def words(seed: int, stream: int, first: int = 0) -> Iterator[int]:
     """The words of PCG XSH RR 64/32, from one of them on."""
     mask, by = 2**64 - 1, 6364136223846793005
     increment = (stream << 1 | 1) & mask
@@ -503,7 +513,7 @@ def words(seed, stream, first=0):
         state = (state * 6364136223846793005 + increment) & mask
 
 
-def offers(seed, vl, offset_ns, period_ns, jitter_ns, until_ns):
+def offers(seed: int, vl: int, offset_ns: int, period_ns: int, jitter_ns: int, until_ns: int) -> Iterator[tuple[int, int]]:
     """The offers of a virtual link: each with its number and its moment. One that is later than the end is left out."""
     drawn, k = words(seed, vl), 0
     while offset_ns + k * period_ns <= until_ns:
@@ -513,7 +523,7 @@ def offers(seed, vl, offset_ns, period_ns, jitter_ns, until_ns):
         k += 1
 
 
-def count_of_offers(seed, vl, offset_ns, period_ns, jitter_ns, until_ns):
+def count_of_offers(seed: int, vl: int, offset_ns: int, period_ns: int, jitter_ns: int, until_ns: int) -> int:
     """How many offers there are; those that are there whatever their jitter is are not drawn."""
     surely = max(0, (until_ns - jitter_ns - offset_ns) // period_ns + 1)
     drawn, count, moment = words(seed, vl, surely), surely, offset_ns + surely * period_ns
@@ -537,11 +547,12 @@ LOSS_LINE = re.compile("dropped,(0|[1-9][0-9]{0,4}),([^,]*),([a-z_]*),([1-9][0-9
 class Tables:
     """The tables of a run or of a campaign, which must be those of the network."""
 
-    def __init__(self, path, net, text=None):
+    def __init__(self, path: str, net: Network, text: str | None = None) -> None:
         self.path, self.net = path, net
         lines = lines_of(path, [TABLES_HEAD, TABLES_HEAD + ",seed"], "tables", text)
         self.merged = lines[0] != TABLES_HEAD
-        self.latencies, self.losses = {}, {}
+        self.latencies: dict[tuple[int, str], Latency] = {}
+        self.losses: dict[tuple[int, str, str], Loss] = {}
         self.names = {name: name for name in net.process}
         for i, line in enumerate(lines[1:], 2):
             if not self.merged and self.takes(i, line):
@@ -558,7 +569,7 @@ class Tables:
                     )
                     raise Fault(path, len(lines), text)
 
-    def takes(self, i, line):
+    def takes(self, i: int, line: str) -> bool:
         """Takes a line of one run as the program writes it, and answers whether it did; `add` reports what is wrong with another."""
         found = LATENCY_LINE.fullmatch(line)
         if found:
@@ -573,30 +584,33 @@ class Tables:
                 self.latencies[key] = Latency(*key, count, least, greatest, total, None, i)
                 return True
         elif found := LOSS_LINE.fullmatch(line):
-            vl, where, cause, count = found.groups()
-            key = int(vl), where, cause
-            if key[0] in self.net.vls and where in self.net.vls[key[0]].places and cause in CAUSES and key not in self.losses:
-                self.losses[key] = Loss(*key, int(count), None, i)
+            vl, where, cause, text = found.groups()
+            lost = int(vl), where, cause
+            if lost[0] in self.net.vls and where in self.net.vls[lost[0]].places and cause in CAUSES and lost not in self.losses:
+                self.losses[lost] = Loss(*lost, int(text), None, i)
                 return True
         return False
 
-    def add(self, i, table, vl, where, cause, *rest):
-        numbers, seed = rest[:4], rest[4]
+    def add(self, i: int, table: str, vl: str, where: str, cause: str, *rest: str) -> None:
+        numbers = rest[:4]
         if table not in ("latency", "dropped"):
             raise Fault(self.path, i, f"begins neither with latency nor with dropped, but with {table!r}")
-        vl = self.virtual_link(i, vl)
-        seed = self.number(i, "seed", seed) if seed else None
+        link = self.virtual_link(i, vl)
+        seed = self.number(i, "seed", rest[4]) if rest[4] else None
+        row: Any
+        rows: dict[Any, Any]
+        key: tuple[Any, ...]
         if table == "latency":
-            row, rows = self.latency(i, vl, where, cause, numbers, seed), self.latencies
-            key = vl.id, where
+            row, rows = self.latency(i, link, where, cause, numbers, seed), self.latencies
+            key = link.id, where
         else:
-            row, rows = self.loss(i, vl, where, cause, numbers, seed), self.losses
-            key = vl.id, where, cause
+            row, rows = self.loss(i, link, where, cause, numbers, seed), self.losses
+            key = link.id, where, cause
         if key in rows:
             raise Fault(self.path, i, f"says again what line {rows[key].line} says")
         rows[key] = row
 
-    def latency(self, i, vl, where, cause, numbers, seed):
+    def latency(self, i: int, vl: VirtualLink, where: str, cause: str, numbers: Sequence[str], seed: int | None) -> Latency:
         if cause:
             raise Fault(self.path, i, f"has the cause {cause!r}, and latencies have none")
         if where not in vl.destinations:
@@ -606,7 +620,7 @@ class Tables:
             raise Fault(self.path, i, f"{count} latencies from {least} to {greatest} ns cannot have the sum {total} ns")
         return Latency(vl.id, where, count, least, greatest, total, seed, i)
 
-    def loss(self, i, vl, where, cause, numbers, seed):
+    def loss(self, i: int, vl: VirtualLink, where: str, cause: str, numbers: Sequence[str], seed: int | None) -> Loss:
         if cause not in CAUSES:
             raise Fault(self.path, i, f"{cause!r} is no cause of loss")
         if where not in vl.places:
@@ -616,10 +630,10 @@ class Tables:
             raise Fault(self.path, i, "a loss has a count above 0 and no other number")
         return Loss(vl.id, where, cause, count, seed, i)
 
-    def number(self, i, column, text):
+    def number(self, i: int, column: str, text: str) -> int:
         return whole_number(self.path, i, column, text)
 
-    def virtual_link(self, i, text):
+    def virtual_link(self, i: int, text: str) -> VirtualLink:
         number = self.number(i, "vl", text)
         if number not in self.net.vls:
             raise Fault(self.path, i, f"virtual link {number} is not in {self.net.path}")

@@ -11,6 +11,7 @@ are from:
 import difflib
 import re
 from collections import namedtuple
+from collections.abc import Callable
 from fractions import Fraction
 
 from afdx.model import KEYS, judge
@@ -38,19 +39,19 @@ HERTZ = {"hz": 1, "khz": 1000}
 Column = namedtuple("Column", "name units usual headings source")
 
 
-def plain(name, source, *headings):
+def plain(name: str, source: str, *headings: str) -> Column:
     return Column(name, {}, "", headings, source)
 
 
-def time(name, source, *headings, usual=None):
+def time(name: str, source: str, *headings: str, usual: str | None = None) -> Column:
     return Column(name, TIMES, usual, headings, source)
 
 
-def size(name, source, *headings):
+def size(name: str, source: str, *headings: str) -> Column:
     return Column(name, BYTES, "", headings, source)
 
 
-def ends(*words):
+def ends(*words: str) -> list[str]:
     """The headings of one end of a virtual link: a word alone, and before each name of a box."""
     boxes = ("lru", "lrus", "es", "end_system", "end_systems", "equipment", "node", "nodes", "unit", "units", "system", "systems", "name")
     return [*words, *(f"{word}_{box}" for word in words for box in boxes)]
@@ -136,20 +137,21 @@ OF_NODES = {"net", "port_bytes", "latency_ns"}
 ASIDE = {REMARKS, "udp_port", "udp_source_port", "udp_destination_port"}
 
 
-def normal(heading):
+def normal(heading: str) -> str:
     """A heading in small letters, with _ between its words."""
     return re.sub("[^a-z0-9]+", "_", heading.strip().lower().replace("µ", "u").replace("μ", "u")).strip("_")
 
 
-def with_unit(column, unit):
+def with_unit(column: Column, unit: str) -> str:
     return f"{column.name}_{unit}" if unit else column.name
 
 
-def forms():
+def forms() -> dict[str, dict[str, list[str]]]:
     """For each section each heading that is known, and the columns that it may be."""
-    found = {}
+    found: dict[str, dict[str, list[str]]] = {}
     for section, columns in COLUMNS.items():
-        mine, stems = found.setdefault(section, {}), {}
+        mine = found.setdefault(section, {})
+        stems: dict[str, list[Column]] = {}
         for column in columns:
             for stem in (column.name, *column.headings):
                 stems.setdefault(stem, []).append(column)
@@ -173,12 +175,12 @@ def forms():
 FORMS = forms()
 
 
-def columns_of(name, section):
+def columns_of(name: str, section: str) -> list[str]:
     """The columns that a heading may be, in normal form: none where it is not known."""
     return FORMS[section].get(name, [])
 
 
-def key_of(column, section):
+def key_of(column: str, section: str) -> str:
     """The key of a section for which a column stands, in whatever unit; other columns stand for themselves."""
     found = re.fullmatch("(.*)_(ns|us|ms|s|hz|khz)", column)
     if not found or section == "vl" and column.startswith("limit_"):
@@ -188,7 +190,7 @@ def key_of(column, section):
     return "bag_ms" if found[1] == "bag" else found[1] + "_ns"
 
 
-def unit_of(column, section):
+def unit_of(column: str, section: str) -> tuple[str, Callable[[Fraction], Fraction]] | None:
     """Of a column of times or rates the key for which it stands, and what makes of a number in its unit one in that of the
     key; None where it is no such column."""
     key = key_of(column, section)
@@ -201,7 +203,7 @@ def unit_of(column, section):
     return key, lambda number: number * Fraction(NS[unit], NS["ms"] if key == "bag_ms" else 1)
 
 
-def nearest(name, section):
+def nearest(name: str, section: str) -> str | None:
     """The column that is most like a heading which is not known, or None: by its own name, by one of its headings of which
     but a letter or two differ, or by the same words in another order."""
     own = {it: it for columns in FORMS[section].values() for it in columns}
@@ -214,6 +216,6 @@ def nearest(name, section):
     return FORMS[section][close[0]][0] if close else None
 
 
-def is_known(text):
+def is_known(text: str) -> bool:
     """Whether some section has a column of this name."""
     return any(len(columns_of(normal(text), section)) == 1 for section in COLUMNS)

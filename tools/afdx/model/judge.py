@@ -7,10 +7,13 @@ what is allowed. The fault that `afdxsim` answers is the first one.
 import difflib
 import re
 from collections import namedtuple
+from collections.abc import Callable, Iterable
+from typing import Any
 
 from afdx import model
 from afdx.files import toml_lines
-from afdx.model import Fault, KEYS, MOST_DESTINATIONS, MOST_OUTAGES, MOST_PORTS, MOST_PROCESSES, SECTIONS
+from afdx.files.toml_lines import Table
+from afdx.model import Fault, KEYS, Key, MOST_DESTINATIONS, MOST_OUTAGES, MOST_PORTS, MOST_PROCESSES, SECTIONS
 
 NAMES = {
     1: "Syntax",
@@ -43,7 +46,7 @@ RULES = {
 Finding = namedtuple("Finding", "number place line who text kind", defaults=[""])
 
 
-def answer(finding):
+def answer(finding: Finding) -> str:
     """What `afdxsim` answers where this is the first fault."""
     place = "" if finding.place is None else " at " + model.place_text(finding.place)
     return f"{finding.number} {NAMES[finding.number]}{place}"
@@ -52,7 +55,7 @@ def answer(finding):
 # ---- words ----
 
 
-def limit(number):
+def limit(number: int) -> str:
     """A limit as the documents write it."""
     if number == model.GREATEST_SEED:
         return "2^63 - 1"
@@ -60,12 +63,12 @@ def limit(number):
     return f"10^{len(digits) - 1}" if len(digits) > 9 and digits.strip("0") == "1" else digits
 
 
-def among(choices):
+def among(choices: Iterable[int | str]) -> str:
     words = [f'"{it}"' if type(it) is str else str(it) for it in choices]
     return words[0] if len(words) == 1 else ", ".join(words[:-1]) + " or " + words[-1]
 
 
-def allowed(key):
+def allowed(key: Key) -> str:
     """What a key may have, in words."""
     if key.choices:
         return among(key.choices)
@@ -78,7 +81,7 @@ def allowed(key):
     return f"a text of {key.least} to {key.greatest} letters, digits, _ and -"
 
 
-def shown(value):
+def shown(value: Any) -> str:
     """A value as it is written, cut where it is long."""
     if isinstance(value, toml_lines.Table):
         return "{..}" if value else "{}"
@@ -90,7 +93,7 @@ def shown(value):
     return text if len(text) <= 44 else text[:40] + '.."'
 
 
-def type_of(value):
+def type_of(value: object) -> str:
     for value_type, words in (
         (bool, "true or false"),
         (int, "a whole number"),
@@ -104,7 +107,7 @@ def type_of(value):
     return "a table"
 
 
-def nearest(name, names):
+def nearest(name: str, names: Iterable[str]) -> str | None:
     """The nearest of some names, or None."""
     plain = lambda text: re.sub("[-_ ]", "", text).lower()
     for other in names:
@@ -114,16 +117,16 @@ def nearest(name, names):
     return found[0] if found else None
 
 
-def meant(name, names):
+def meant(name: str, names: Iterable[str]) -> str:
     found = nearest(name, list(names))
     return f"; {found}?" if found else ""
 
 
-def is_name(value):
+def is_name(value: object) -> bool:
     return type(value) is str
 
 
-def is_path(value):
+def is_path(value: object) -> bool:
     return isinstance(value, list) and all(type(name) is str for name in value)
 
 
@@ -134,9 +137,11 @@ class Judge:
     """All faults of a document, in no order. What cannot be judged, since a value is absent or of another type, is not
     judged: it is a fault already."""
 
-    def __init__(self, description):
+    def __init__(self, description: model.Description) -> None:
         self.description, self.tree = description, description.tree
-        self.findings, self.sizes, self.ids = [], {}, {}
+        self.findings: list[Finding] = []
+        self.sizes: dict[str, int] = {}
+        self.ids: dict[int, int] = {}
         self.tables = {section: self.tables_of(section) for section in SECTIONS}
         for key in KEYS["top"]:
             self.key_of_row("top", None, self.tree, key)
@@ -153,12 +158,12 @@ class Judge:
             self.virtual_link(i, row)
         self.too_many()
 
-    def add(self, number, section, row, key, text, line=None, detail=""):
+    def add(self, number: int, section: str, row: int | None, key: str | None, text: str, line: int | None = None, detail: str = "") -> None:
         place = model.Place(section, row, key)
         line = line or self.description.line(section, row, key)
         self.findings.append(Finding(number, place, line, self.who(section, row, key) + detail, text))
 
-    def who(self, section, row, key):
+    def who(self, section: str, row: int | None, key: str | None) -> str:
         """Which row it is, and which key, in the words of a reader."""
         if section == "top":
             return key or "the description"
@@ -166,7 +171,7 @@ class Judge:
             return section
         rows = self.tree[section]
         table = rows[row - 1] if isinstance(rows, list) and row <= len(rows) else {}
-        get = lambda key: table.get(key) if isinstance(table, dict) else None
+        get: Callable[[str], Any] = lambda key: table.get(key) if isinstance(table, dict) else None
         if section == "node":
             kind = {"es": "end system ", "switch": "switch "}.get(get("kind") if is_name(get("kind")) else "", "node ")
             named = kind + get("name") if is_name(get("name")) else ""
@@ -179,7 +184,7 @@ class Judge:
         found = f"{named} ({section} row {row})" if named else f"{section} row {row}"
         return f"{found}, {key}" if key else found
 
-    def tables_of(self, section):
+    def tables_of(self, section: str) -> list[tuple[int, Table]]:
         """The rows of a section that are tables, each with its number."""
         rows = self.tree.get(section, [])
         self.sizes[section] = len(rows) if isinstance(rows, list) else 0
@@ -198,7 +203,7 @@ class Judge:
 
     # ---- 2 to 4: one key of one row ----
 
-    def key_of_row(self, section, i, row, key):
+    def key_of_row(self, section: str, i: int | None, row: Table, key: Key) -> None:
         if key.name not in row:
             if key.is_needed(row):
                 near = nearest(key.name, [name for name in row if name not in {it.name for it in KEYS[section]}])
@@ -215,13 +220,13 @@ class Judge:
         self.limits(section, i, row, key, value)
 
     @staticmethod
-    def has_type(key, value):
+    def has_type(key: Key, value: object) -> bool:
         if key.value_type == "paths":
             return isinstance(value, list) and all(map(is_path, value))
         return type(value) is key.python_type()
 
     @staticmethod
-    def wanted(key, value):
+    def wanted(key: Key, value: Any) -> str:
         if key.value_type == "integer":
             is_text = type(value) is str and re.fullmatch("[0-9_]+", value)
             hint = ", without quotes" if is_text else ", without a point" if type(value) is float else ""
@@ -230,7 +235,7 @@ class Judge:
             return allowed(key) + (": a pair of brackets more" if is_path(value) and value else "")
         return allowed(key) if not key.choices else f"{allowed(key)}, in quotes"
 
-    def limits(self, section, i, row, key, value):
+    def limits(self, section: str, i: int | None, row: Table, key: Key, value: Any) -> None:
         if key.value_type == "paths":
             for number, path in enumerate(value, 1):
                 if not key.least <= len(path) <= key.greatest:
@@ -252,7 +257,7 @@ class Judge:
             self.add(4, section, i, key.name, f"is {shown(value)}, and must be {allowed(key)}: {why}")
 
     @staticmethod
-    def near_choice(key, value):
+    def near_choice(key: Key, value: Any) -> str:
         if type(value) is str:
             return meant(value, key.choices)
         if key.name != "bag_ms":
@@ -260,13 +265,13 @@ class Judge:
         below = [it for it in key.choices if it < value]
         return f". The next below {value} is {below[-1]}" if below else ""
 
-    def at_path(self, number, i, key, path, text):
+    def at_path(self, number: int, i: int | None, key: str, path: int, text: str) -> None:
         """Adds a fault of one path, from 1, of a virtual link."""
         self.add(number, "vl", i, key, text, self.description.line("vl", i, key, path), f", path {path}")
 
     # ---- 5: unknown keys and names ----
 
-    def unknown_keys(self):
+    def unknown_keys(self) -> None:
         for name in self.tree:
             if name not in [key.name for key in KEYS["top"]] + SECTIONS:
                 known = [key.name for key in KEYS["top"]] + SECTIONS
@@ -276,7 +281,7 @@ class Judge:
                 for name in row:
                     self.maybe_unknown_key(section, i, row, name)
 
-    def maybe_unknown_key(self, section, i, row, name):
+    def maybe_unknown_key(self, section: str, i: int, row: Table, name: str) -> None:
         keys = {key.name: key for key in KEYS[section]}
         if name not in keys:
             known = [it for it in keys if it not in row]
@@ -289,16 +294,16 @@ class Judge:
             else:
                 self.unknown_key(section, i, name, "is a key of switches, and this row has no kind")
 
-    def unknown_key(self, section, i, name, text):
+    def unknown_key(self, section: str, i: int | None, name: str, text: str) -> None:
         line = self.description.line(section, i, name)
         self.add(5, section, i, None, text, line, f", {name}" if section != "top" else f": {name}")
 
-    def nodes(self):
+    def nodes(self) -> None:
         """The nodes by name: the first row of each, and its kind and network where it has them."""
-        self.node = {}
+        self.node: dict[str, tuple[int, Any, Any]] = {}
         self.has_all_names = True
         for i, row in self.tables["node"]:
-            name = row.get("name")
+            name: Any = row.get("name")
             if not is_name(name):
                 self.has_all_names = False
             elif name in self.node:
@@ -309,18 +314,18 @@ class Judge:
         if len(self.tables["node"]) != self.sizes["node"]:
             self.has_all_names = False
 
-    def is_end_system(self, name):
+    def is_end_system(self, name: str) -> bool:
         return name in self.node and self.node[name][1] == "es"
 
-    def net_of(self, name):
+    def net_of(self, name: str) -> str | None:
         """The network of a switch, or None."""
         _, kind, net = self.node.get(name, (0, None, None))
         return net if kind == "switch" and net in ("A", "B") else None
 
-    def is_known_kind(self, name):
+    def is_known_kind(self, name: str) -> bool:
         return name in self.node and (self.is_end_system(name) or self.net_of(name) is not None)
 
-    def is_known(self, section, i, key, name, add):
+    def is_known(self, section: str, i: int, key: str, name: str, add: Callable[[int, str, int, str, str], None]) -> bool:
         """Reports it if no node has the name, and returns whether one has it."""
         if name in self.node:
             return True
@@ -330,11 +335,13 @@ class Judge:
 
     # ---- links and outages ----
 
-    def links(self):
+    def links(self) -> None:
         """Links that are there twice, and links that may not be."""
-        self.linked, self.on_network, self.beside = {}, {}, {}
+        self.linked: dict[frozenset[str], int] = {}
+        self.on_network: dict[tuple[str, str | None], int] = {}
+        self.beside: dict[str, list[str]] = {}
         for i, row in self.tables["link"]:
-            ends = [row.get("a"), row.get("b")]
+            ends: list[Any] = [row.get("a"), row.get("b")]
             known = [is_name(end) and self.is_known("link", i, key, end, self.add) for key, end in zip("ab", ends)]
             if not all(known):
                 continue
@@ -351,7 +358,7 @@ class Judge:
                 if self.is_end_system(here) and self.net_of(there):
                     self.on_network.setdefault((here, self.net_of(there)), i)
 
-    def why_no_link(self, a, b):
+    def why_no_link(self, a: str, b: str) -> str | None:
         """Why a link may not be behind those before it, or None."""
         if a == b:
             return f"a link joins two nodes, and this one joins {a} to itself"
@@ -368,9 +375,9 @@ class Judge:
                 return f"it is the second link of the end system {here} on network {net}; the first is in line {line}"
         return None
 
-    def outages(self):
+    def outages(self) -> None:
         for i, row in self.tables["outage"]:
-            ends = [row.get("from"), row.get("to")]
+            ends: list[Any] = [row.get("from"), row.get("to")]
             known = [
                 is_name(end) and self.is_known("outage", i, key, end, self.add)
                 for key, end in zip(("from", "to"), ends)
@@ -378,16 +385,16 @@ class Judge:
             if all(known) and frozenset(ends) not in self.linked:
                 self.add(7, "outage", i, "to", self.no_link(*ends))
 
-    def no_link(self, here, there):
+    def no_link(self, here: str, there: str) -> str:
         others = ", ".join(self.beside.get(here, [])[:6]) or "no node"
         return f"there is no link from {here} to {there}; {here} is linked with {others}"
 
     # ---- virtual links ----
 
-    def virtual_link(self, i, row):
+    def virtual_link(self, i: int, row: Table) -> None:
         if type(row.get("id")) is int:
             self.double_id(i, row["id"])
-        paths = {key: row.get(key) for key in "ab"}
+        paths: dict[str, Any] = {key: row.get(key) for key in "ab"}
         judged = {}
         for key, net in (("a", "A"), ("b", "B")):
             if self.has_type(KEYS["vl"][-1], paths[key]):
@@ -404,13 +411,13 @@ class Judge:
             text = f"it has {len(ends)} destinations, and may have {MOST_DESTINATIONS}: make two virtual links of it"
             self.add(9, "vl", i, None, text)
 
-    def double_id(self, i, number):
+    def double_id(self, i: int, number: int) -> None:
         if number in self.ids:
             line = self.description.line("vl", self.ids[number], "id")
             self.add(6, "vl", i, "id", f"the number {number} is there already, in line {line}")
         self.ids.setdefault(number, i)
 
-    def path(self, i, key, number, path, net):
+    def path(self, i: int, key: str, number: int, path: list[str], net: str) -> bool:
         """Judges one path alone, and answers whether its names are known."""
         add = lambda fault, _section, i, key, text: self.at_path(fault, i, key, number, text)
         known = [self.is_known("vl", i, key, name, add) for name in dict.fromkeys(path)]
@@ -434,12 +441,14 @@ class Judge:
                 self.broken(i, key, number, 3, f"{name} is in it {path.count(name)} times")
         return True
 
-    def broken(self, i, key, number, rule, text):
+    def broken(self, i: int, key: str, number: int, rule: int, text: str) -> None:
         self.at_path(8, i, key, number, f"{text} (broken: rule {rule} of 6, {RULES[rule]})")
 
-    def tree_of_paths(self, i, key, paths, judged):
+    def tree_of_paths(self, i: int, key: str, paths: list[list[str]], judged: list[bool]) -> None:
         """Judges the paths of one network together: where they are no tree, each later path that shows it."""
-        first, ends, before = None, {}, {}
+        first: tuple[str, int] | None = None
+        ends: dict[str, int] = {}
+        before: dict[str, tuple[str, int]] = {}
         for number, (path, is_judged) in enumerate(zip(paths, judged), 1):
             if not is_judged:
                 continue
@@ -456,7 +465,7 @@ class Judge:
 
     # ---- 9: too many ----
 
-    def too_many(self):
+    def too_many(self) -> None:
         nodes, links, outages = (self.sizes[section] for section in ("node", "link", "outage"))
         if nodes + 2 * links > MOST_PROCESSES:
             text = f"has {nodes} nodes and {links} links, which are {nodes + 2 * links} processes, two for each link; "
@@ -470,7 +479,7 @@ class Judge:
             self.add(9, "outage", MOST_OUTAGES + 1, None, text)
 
 
-def rank(finding):
+def rank(finding: Finding) -> tuple[int, int, int, int]:
     """Where a fault stands in the order of the program."""
     section, row, key = finding.place or ("top", None, None)
     keys = [it.name for it in KEYS[section]]
@@ -484,7 +493,7 @@ def rank(finding):
 ROW = re.compile(r"\s*\{.*\}\s*,?\s*(#.*)?")
 
 
-def marked(line, fault, mark):
+def marked(line: str, fault: toml_lines.BadToml, mark: str) -> str | None:
     """What takes the place of a line that is no TOML, so that what is behind it can be read; None where nothing can."""
     if mark in line:
         return None
@@ -494,10 +503,11 @@ def marked(line, fault, mark):
     return f'"{mark}",' if ROW.fullmatch(line) else None
 
 
-def syntax_faults(text):
+def syntax_faults(text: str) -> tuple[list[Finding], Table | None]:
     """The faults of a text that is no TOML, line by line, and the table that it is, with UNREAD for what could not be
     read; None for the table where what is behind the last fault cannot be read."""
-    found, lines = [], text.split("\n")
+    found: list[Finding] = []
+    lines = text.split("\n")
     mark = "unread"
     while mark in text:
         mark += "_"
@@ -517,7 +527,7 @@ def syntax_faults(text):
     return found, None
 
 
-def forget(value, mark):
+def forget(value: Any, mark: str) -> None:
     """Puts UNREAD in the place of each text that is the mark."""
     places = value.items() if isinstance(value, dict) else enumerate(value) if isinstance(value, list) else ()
     for place, one in list(places):
@@ -527,7 +537,7 @@ def forget(value, mark):
             forget(one, mark)
 
 
-def findings_of(path, text):
+def findings_of(path: str, text: str) -> tuple[list[Finding], model.Description | None]:
     """The faults of a description in the order in which the program tries them, and the description; None for it where
     not all of it could be judged."""
     found, tree = syntax_faults(text)
@@ -537,26 +547,26 @@ def findings_of(path, text):
     return found + judged(description), description
 
 
-def judged(description):
+def judged(description: model.Description) -> list[Finding]:
     """The faults from 2 on of a description that is TOML, in the order in which the program tries them."""
     return sorted(Judge(description).findings, key=rank)
 
 
-def first_fault(path, text):
+def first_fault(path: str, text: str) -> Finding | None:
     """The first fault, or None where the description is accepted."""
     return next(iter(findings_of(path, text)[0]), None)
 
 
-def accepted(path):
+def accepted(path: str) -> model.Description:
     """The description of a file, or a fault that names the first of those that it has."""
     text = model.text_of(path)
     found, description = findings_of(path, text)
-    if found:
+    if found or description is None:
         raise Fault(path, found[0].line, f"is refused: {answer(found[0])}; {found[0].text}")
     return description
 
 
-def line_of(path, finding):
+def line_of(path: str, finding: Finding) -> str:
     """A finding in one line, without what the program answers."""
     begin = "warning: " if finding.number == 0 else "no TOML: " if finding.number == 1 else ""
     who = f"{finding.who}" if finding.who else ""

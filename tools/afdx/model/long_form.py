@@ -8,6 +8,8 @@ afdx bounds, afdx second-opinion and afdx campaign write it themselves with --js
 import argparse
 import json
 import sys
+from collections.abc import Iterable, Iterator, Sequence
+from typing import Any
 
 from afdx import files, model
 
@@ -24,7 +26,7 @@ status: 0; 2 if a word is wrong, a file cannot be read or written, or TABLES are
 KEYS = ("kind", "vl", "where", "measure", "value")
 
 
-def text_of(rows):
+def text_of(rows: Iterable[tuple[Any, ...]]) -> str:
     """The text of rows, each a tuple of these keys, or of them and a dictionary of more."""
     lines = []
     for row in rows:
@@ -35,7 +37,7 @@ def text_of(rows):
     return "[\n" + ",\n".join(lines) + "\n]\n" if lines else "[]\n"
 
 
-def rows_of_tables(latencies, losses):
+def rows_of_tables(latencies: Iterable[model.Latency], losses: Iterable[model.Loss]) -> Iterator[tuple[str, int, str, str, int]]:
     """The rows of tables: of each latency a count, and where it is not 0 the others too."""
     for row in latencies:
         yield "latency", row.vl, row.where, "count", row.count
@@ -44,11 +46,11 @@ def rows_of_tables(latencies, losses):
                 yield "latency", row.vl, row.where, measure, value
         if row.seed is not None:
             yield "latency", row.vl, row.where, "seed", row.seed
-    for row in losses:
-        yield "dropped", row.vl, row.where, row.cause, row.count
+    for loss in losses:
+        yield "dropped", loss.vl, loss.where, loss.cause, loss.count
 
 
-def rows_of_csv(kind, text, measures):
+def rows_of_csv(kind: str, text: str, measures: Iterable[str]) -> Iterator[tuple[str, int | None, str, str, int]]:
     """The rows of a text of CSV with the columns vl and where: of some other columns what is a whole number."""
     head, *lines = text.splitlines()
     columns = head.split(",")
@@ -59,7 +61,7 @@ def rows_of_csv(kind, text, measures):
                 yield kind, int(cells["vl"]) if cells["vl"] else None, cells["where"], measure, int(cells[measure])
 
 
-def words_of(arguments):
+def words_of(arguments: Sequence[str] | None) -> argparse.Namespace:
     parser = argparse.ArgumentParser(
         prog="afdx long-form", description=__doc__, epilog=EXAMPLES, formatter_class=argparse.RawDescriptionHelpFormatter
     )
@@ -70,7 +72,7 @@ def words_of(arguments):
 
 
 @files.tool("afdx long-form")
-def main(arguments=None):
+def main(arguments: Sequence[str] | None = None) -> None:
     words = words_of(arguments)
     tables = model.Tables(words.tables, model.Network(words.net))
     text = text_of(rows_of_tables(tables.latencies.values(), tables.losses.values()))

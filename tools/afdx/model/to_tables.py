@@ -3,20 +3,24 @@ keys, as limits, ports and remarks, stands in comments behind the head of each r
 import csv
 import io
 import re
+from collections.abc import Callable, Collection, Iterable, Iterator
+from typing import Any
 
-from afdx.model import KEYS, SECTIONS, judge
+from afdx.model import KEYS, SECTIONS, Key, judge
 
 # How the text of a comment ends that is of some destinations alone.
 AT = re.compile("(.+) at (.+)")
+# The texts of comments, by destination and column.
+Comments = dict[str, dict[str, list[str]]]
 
 
-def cell_of(key, value):
+def cell_of(key: Key, value: Any) -> str:
     if key.value_type == "paths":
         return " | ".join(" ".join(path) for path in value) or "-"
     return str(value)
 
 
-def comments_behind(lines, head, columns):
+def comments_behind(lines: list[str], head: int, columns: Collection[str]) -> Iterator[tuple[str, str]]:
     """The comments behind the head of a row: each with its column and its text."""
     for text in lines[head:]:
         if not text.startswith("#"):
@@ -26,21 +30,21 @@ def comments_behind(lines, head, columns):
             yield column, rest
 
 
-def of_destinations(found, destinations):
+def of_destinations(found: Iterable[tuple[str, str]], destinations: list[str]) -> Comments:
     """For each destination what the comments of a virtual link say of it, by column: several texts where there are several
     lines of it in the table."""
-    of = {name: {} for name in destinations}
+    of: Comments = {name: {} for name in destinations}
     for column, text in found:
         end = AT.fullmatch(text)
         names = end[2].split(" ") if end and set(end[2].split(" ")) <= set(destinations) else None
         for name in names or destinations:
-            of[name].setdefault(column, []).append(end[1] if names else text)
+            of[name].setdefault(column, []).append(end[1] if end and names else text)
     return of
 
 
-def lines_of_comments(of):
+def lines_of_comments(of: Comments) -> list[tuple[list[str], dict[str, str]]]:
     """The lines of a table that a virtual link takes: each with its destinations and the cells of comments by column."""
-    found = {}
+    found: dict[tuple[tuple[str, str], ...], list[str]] = {}
     for name, columns in of.items():
         for i in range(max(map(len, columns.values()), default=1)):
             cells = {column: texts[i] for column, texts in columns.items() if i < len(texts)}
@@ -52,19 +56,19 @@ class Back:
     """The tables of a description. `commented` answers the columns of a section that are comments; `said` is how a comment
     states what a heading means."""
 
-    def __init__(self, path, commented, said):
+    def __init__(self, path: str, commented: Callable[[str], Collection[str]], said: re.Pattern[str]) -> None:
         self.description = judge.accepted(path)
         self.commented = commented
         self.lines = self.description.text.split("\n")
         self.said = [(line, *found[1].rpartition("=")[::2]) for line in self.lines if (found := said.fullmatch(line.rstrip()))]
 
-    def text(self):
+    def text(self) -> str:
         blocks = [block for section in ("top", *SECTIONS) if (block := self.block(section))]
         used = {name for block in blocks for name in block[0]}
         told = [line for line, name, _ in self.said if name in used]
         return "".join(line + "\n" for line in told) + "\n".join(map(table, blocks))
 
-    def block(self, section):
+    def block(self, section: str) -> list[list[str]]:
         """The lines of a section, the first with the names of the columns; none where it has no row."""
         tree = self.description.tree
         rows = [tree] if section == "top" else tree.get(section, [])
@@ -76,7 +80,7 @@ class Back:
         heads = {column: name for _, name, column in self.said}
         return [[heads.get(name, name) for name in columns]] + [[line.get(name, "") for name in columns] for line in lines] if lines else []
 
-    def row(self, section, i, row, keys):
+    def row(self, section: str, i: int, row: dict[str, Any], keys: list[Key]) -> list[dict[str, str]]:
         """The lines of a row, each as cells by column."""
         cells = {key.name: cell_of(key, row[key.name]) for key in keys if key.name in row}
         head = 0 if section == "top" else self.description.line(section, i)
@@ -88,7 +92,7 @@ class Back:
         return [cells | {"source": paths[0][0], "destinations": " ".join(names)} | more for names, more in lines_of_comments(of)]
 
 
-def table(lines):
+def table(lines: list[list[str]]) -> str:
     """A table as CSV."""
     out = io.StringIO()
     csv.writer(out, lineterminator="\n").writerows(lines)

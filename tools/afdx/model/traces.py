@@ -1,12 +1,15 @@
 """Traces, read line by line: what a trace says is counted as it goes by, so that one of 1 GB takes some 100 MB of memory. Of a
 delivery its latency is kept, in four bytes, and of the frame a byte that says that it came."""
+from __future__ import annotations
+
 import re
 from array import array
 from collections import Counter
+from collections.abc import Callable, Iterable, Sequence
 
 from afdx import model
 from afdx.files import Fault, cut
-from afdx.model import CAUSES, TRACE_HEAD
+from afdx.model import CAUSES, TRACE_HEAD, Tables, VirtualLink
 
 # Time, what happened to whom and where, and value; and the number of a virtual link.
 LINE = re.compile(r"(0|[1-9][0-9]{0,18}),(.*),(0|[1-9][0-9]{0,18})")
@@ -23,16 +26,16 @@ class Came:
 
     __slots__ = ("latencies", "offset", "period", "has_numbers", "marks", "squares", "others")
 
-    def __init__(self, vl):
+    def __init__(self, vl: VirtualLink) -> None:
         self.latencies = array("I")
         self.offset, self.period = vl.offset_ns, vl.period_ns
         self.has_numbers = vl.jitter_ns < vl.period_ns
         # A byte for each number; and a checksum of the moments themselves, which are compared with it at the end.
         self.marks, self.squares = bytearray(), 0
         # How often others came, by their moments.
-        self.others = None
+        self.others: Counter[int] | None = None
 
-    def add(self, _, moment, latency):
+    def add(self, _: int, moment: int, latency: int) -> None:
         try:
             self.latencies.append(latency)
         except OverflowError:
@@ -53,11 +56,11 @@ class Came:
             marks.extend(bytes(number - count))
         marks.append(1)
 
-    def frames(self):
+    def frames(self) -> tuple[bytearray, int, Counter[int] | None]:
         """Which frames came and how often, as a key: the same for the same frames."""
         return self.marks, self.squares, self.others
 
-    def among(self, moments):
+    def among(self, moments: list[int]) -> tuple[int, int] | None:
         """Of frames with these moments, in the order of their release: how many came, and the place of the last of them, or -1.
         None where others came too."""
         came, last, squares, marked = 0, -1, 0, 0
@@ -81,13 +84,13 @@ class Lost:
 
     __slots__ = ("trace", "vl", "count", "moments", "over_time", "end")
 
-    def __init__(self, trace, vl, cause):
+    def __init__(self, trace: Trace, vl: VirtualLink, cause: str) -> None:
         self.trace, self.vl, self.count, self.end = trace, vl, 0, trace.net.until_ns + 1
         # When is needed only of what was lost on the way.
         self.moments = None if cause in ("queue_full", "duplicate") else array("Q")
         self.over_time = trace.over_time[cause]
 
-    def add(self, i, moment, size):
+    def add(self, i: int, moment: int, size: int) -> None:
         if size != self.vl.size:
             text = f"a frame of virtual link {self.vl.id} has {size} bytes, and in {self.trace.net.path} it has {self.vl.size}"
             raise Fault(self.trace.path, i, text)
@@ -101,19 +104,21 @@ class Trace:
     """What a trace says of the run whose tables are given: `came` which frames came, by virtual link and destination; `lost` what
     each virtual link lost, by place and cause; and `over_time` how many were lost in each of MOMENTS steps of the run, by cause."""
 
-    def __init__(self, path, tables):
+    def __init__(self, path: str, tables: Tables) -> None:
         self.path, self.tables, self.net = path, tables, tables.net
-        self.came, self.lost = {}, {vl: {} for vl in self.net.vls}
+        self.came: dict[tuple[int, str], Came] = {}
+        self.lost: dict[int, dict[tuple[str, str], Lost]] = {vl: {} for vl in self.net.vls}
         self.over_time = {cause: [0] * MOMENTS for cause in CAUSES}
         self.compare(self.read(model.read_lines(path, TRACE_HEAD, "a trace")))
 
-    def rising(self, key):
+    def rising(self, key: tuple[int, str]) -> list[int]:
         """The latencies of a virtual link at a destination, rising."""
         return sorted(self.came[key].latencies) if key in self.came else []
 
-    def read(self, lines):
+    def read(self, lines: Iterable[str]) -> int:
         """Takes all lines, and answers how many they are, with the head."""
-        known, until, before, i, fields_of = {}, self.net.until_ns, 0, 1, LINE.fullmatch
+        known: dict[str, Callable[[int, int, int], None]] = {}
+        until, before, i, fields_of = self.net.until_ns, 0, 1, LINE.fullmatch
         for i, line in enumerate(lines, 2):
             fields = fields_of(line)
             if not fields:
@@ -131,7 +136,7 @@ class Trace:
             add(i, moment, int(value))
         return i
 
-    def of(self, i, text):
+    def of(self, i: int, text: str) -> Came | Lost:
         """What takes the lines of this place and virtual link, and of deliveries or a cause."""
         fields = text.split(",")
         if len(fields) != 3:
@@ -140,6 +145,7 @@ class Trace:
         if not NUMBER.fullmatch(vl) or int(vl) not in self.net.vls:
             raise Fault(self.path, i, f"virtual link {vl if len(vl) < 20 else cut(vl)} is not in {self.net.path}")
         key = int(vl), where
+        found: Came | Lost
         if what == "delivered":
             if key not in self.tables.latencies:
                 raise Fault(self.path, i, f"{where!r} is no destination of virtual link {vl} in {self.net.path}")
@@ -152,23 +158,23 @@ class Trace:
         found = self.lost[key[0]][where, what] = Lost(self, self.net.vls[key[0]], what)
         return found
 
-    def lost_on_the_way(self, vl):
+    def lost_on_the_way(self, vl: int) -> dict[tuple[str, str], array[int]]:
         """For each place and cause where copies of a virtual link were lost on the way the moments, in their order."""
         return {key: it.moments for key, it in self.lost[vl].items() if it.moments is not None}
 
-    def compare(self, last):
+    def compare(self, last: int) -> None:
         """Refuses a trace that is of another run than the tables."""
         other = f"so it is the trace of another run than {self.tables.path}"
         for key, row in self.tables.latencies.items():
-            found = self.came[key].latencies if key in self.came else ()
+            found: Sequence[int] = self.came[key].latencies if key in self.came else ()
             told = (len(found), min(found, default=0), max(found, default=0), sum(found))
             if told != row[2:6]:
                 text = f"{told[0]} frames of virtual link {row.vl} came to {row.where} with a sum of {told[3]} ns, "
                 text += f"and line {row.line} of the tables has {row.count} and {row.total}, "
                 raise Fault(self.path, last, text + other)
         losses = {(vl, *key): it.count for vl, found in self.lost.items() for key, it in found.items()}
-        for key in [*self.tables.losses, *losses]:
-            row, count = self.tables.losses.get(key), losses.get(key, 0)
-            if count != (row.count if row else 0):
-                text = f"{count} frames of virtual link {key[0]} were lost at {key[1]} as {key[2]}, "
-                raise Fault(self.path, last, text + f"and the tables have {row.count if row else 0}, " + other)
+        for of in [*self.tables.losses, *losses]:
+            loss, count = self.tables.losses.get(of), losses.get(of, 0)
+            if count != (loss.count if loss else 0):
+                text = f"{count} frames of virtual link {of[0]} were lost at {of[1]} as {of[2]}, "
+                raise Fault(self.path, last, text + f"and the tables have {loss.count if loss else 0}, " + other)

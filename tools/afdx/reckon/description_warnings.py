@@ -1,14 +1,19 @@
 """What an accepted description has that is hardly meant: warnings, each with its line. Beside bounds, what may go wrong in the
 worst case."""
+from collections.abc import Callable, Iterable
+
 from afdx import model
+from afdx.model import Link, Network, VirtualLink
 from afdx.model.judge import Finding
 from afdx.reckon import network_calculus, transmit_jitter
+from afdx.reckon.bounds_file import Bounds
 
 class Warnings:
     """What an accepted description has that is hardly meant."""
 
-    def __init__(self, net):
-        self.net, self.findings = net, []
+    def __init__(self, net: Network) -> None:
+        self.net = net
+        self.findings: list[Finding] = []
         for i, outage in enumerate(net.outages, 1):
             if outage.from_ns > net.until_ns:
                 text = f"is {outage.from_ns}, and the run ends at {net.until_ns}: the line is never out"
@@ -21,7 +26,7 @@ class Warnings:
         self.transmit_jitter()
         self.findings.sort(key=lambda it: it.line)
 
-    def transmit_jitter(self):
+    def transmit_jitter(self) -> None:
         """End systems that may send later than the standard allows."""
         rows = {name: i for i, name in enumerate(self.net.nodes, 1)}
         for line, known in transmit_jitter.allowed(self.net, transmit_jitter.users_of(self.net)).items():
@@ -32,12 +37,12 @@ class Warnings:
                 text += f"allows {transmit_jitter.MOST_NS} ns of transmit jitter"
                 self.add("node", rows[name], None, f"end system {name}", text, "the transmit jitter of an end system may be more than ARINC 664 Part 7 allows")
 
-    def add(self, section, row, key, name, text, kind):
+    def add(self, section: str, row: int, key: str | None, name: str, text: str, kind: str) -> None:
         line = self.net.description.line(section, row, key)
         who = f"{name} ({section} row {row})" + (f", {key}" if key else "")
         self.findings.append(Finding(0, model.Place(section, row, key), line, who, text, kind))
 
-    def load(self, i, link, line):
+    def load(self, i: int, link: Link, line: str) -> None:
         load = self.net.load[line]
         if load > 75:
             tenths = round(load * 10)
@@ -46,8 +51,9 @@ class Warnings:
             kind = f"a line gets more than {100 if load > 100 else 75} percent of what it carries"
             self.add("link", i, None, f"link {link.a}-{link.b}", text + late, kind)
 
-    def virtual_link(self, vl):
-        net, add = self.net, lambda key, text, kind: self.add("vl", vl.row, key, f"virtual link {vl.id}", text, kind)
+    def virtual_link(self, vl: VirtualLink) -> None:
+        net = self.net
+        add: Callable[[str, str, str], None] = lambda key, text, kind: self.add("vl", vl.row, key, f"virtual link {vl.id}", text, kind)
         if vl.size > vl.smax:
             text = f"is {vl.size}, above smax, which is {vl.smax}: every frame is dropped at the first switch (too_long)"
             add("size", text, "size is above smax")
@@ -65,7 +71,7 @@ class Warnings:
         self.networks(vl, add)
 
     @staticmethod
-    def wait(vl, add):
+    def wait(vl: VirtualLink, add: Callable[[str, str, str], None]) -> None:
         """What the jitter of offers alone may keep in the regulator."""
         most, depth = -(-vl.jitter_ns // vl.period_ns), vl.depth * vl.sub
         if most > depth:
@@ -75,7 +81,7 @@ class Warnings:
             text = f"is {vl.jitter_ns}: up to {wait} ns of a latency, which begins at the offer, are the regulator's"
             add("jitter_ns", text, "much of a latency may be the regulator's")
 
-    def networks(self, vl, add):
+    def networks(self, vl: VirtualLink, add: Callable[[str, str, str], None]) -> None:
         """Destinations without a second copy, where the description has two networks."""
         if not (self.net.of_kind("switch", "A") and self.net.of_kind("switch", "B")):
             return
@@ -93,8 +99,9 @@ class Warnings:
 class WorstCase(Warnings):
     """What may go wrong in the worst case, by the bounds that afdx bounds worked out."""
 
-    def __init__(self, net, bounds):
-        self.net, self.bounds, self.findings = net, bounds, []
+    def __init__(self, net: Network, bounds: Bounds) -> None:
+        self.net, self.bounds = net, bounds
+        self.findings = []
         self.rows = {name: i for i, name in enumerate(net.nodes, 1)}
         self.of_each(bounds.refusing(), self.refusing)
         self.of_each(bounds.not_sure(), self.not_sure)
@@ -103,41 +110,41 @@ class WorstCase(Warnings):
             self.too_small(line)
         self.findings.sort(key=lambda it: it.line)
 
-    def of_each(self, keys, tell):
+    def of_each(self, keys: Iterable[tuple[int, str]], tell: Callable[[VirtualLink, list[str]], None]) -> None:
         """Warns of each virtual link, with the places where it is so."""
-        places = {}
+        places: dict[int, list[str]] = {}
         for vl, where in keys:
             places.setdefault(vl, []).append(where)
         for vl, found in places.items():
-            tell(self.net.vls[vl], sorted(found, key=self.net.process.get))
+            tell(self.net.vls[vl], sorted(found, key=self.net.process.__getitem__))
 
-    def tell(self, vl, key, text, kind):
+    def tell(self, vl: VirtualLink, key: str | None, text: str, kind: str) -> None:
         self.add("vl", vl.row, key, f"virtual link {vl.id}", text, f"in the worst case {kind}")
 
-    def refusing(self, vl, places):
+    def refusing(self, vl: VirtualLink, places: list[str]) -> None:
         told = [f"{where} ({ns_or_none(self.bounds.accounts[vl.id, where].jitter_ns)})" for where in places]
         text = f"is {vl.policing_ns}, and in the worst case frames come closer than a BAG by more than that at {few(told)}: "
         self.tell(vl, "policing_jitter_ns", text + "the accounts there may refuse them (policed)", "accounts may refuse frames")
 
-    def not_sure(self, vl, places):
+    def not_sure(self, vl: VirtualLink, places: list[str]) -> None:
         networks = "neither network brings" if all(vl.paths.values()) else "its network does not bring"
         self.tell(vl, None, f"{networks} each frame to {few(places)} in the worst case", "no network brings each frame")
 
-    def twice(self, vl, places):
+    def twice(self, vl: VirtualLink, places: list[str]) -> None:
         told = [f"{where} ({ns_or_none(self.bounds.of[vl.id, where].skew_ns)})" for where in places]
         text = f"is {vl.skew_ns}, and in the worst case the copies of a frame are further apart at {few(told)}: "
         self.tell(vl, "skew_max_ns", text + "the second one would be delivered too", "copies are further apart than SkewMax")
 
-    def too_small(self, line):
+    def too_small(self, line: str) -> None:
         most, name = self.bounds.waiting[line].most, line.split(">")[0]
         waits = "there is no bound on the bytes that may wait" if most is None else f"in the worst case {most} bytes wait"
         text = f"is {self.bounds.holds(line)}, and {waits} before {line}: frames may be lost there (port_full)"
         self.add("node", self.rows[name], "port_bytes", f"node {name}", text, "in the worst case a port is too small")
 
 
-def ns_or_none(number):
+def ns_or_none(number: int | None) -> str:
     return "no bound" if number is None else f"{number} ns"
 
 
-def few(texts, most=4):
+def few(texts: list[str], most: int = 4) -> str:
     return ", ".join(texts[:most]) + (f" and {len(texts) - most} more" if len(texts) > most else "")

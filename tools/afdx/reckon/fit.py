@@ -7,9 +7,12 @@ refused anything: what is cut by a tight account would hide how late frames come
 """
 import copy
 from collections import namedtuple
+from collections.abc import Callable, Iterable, Iterator
+from typing import Any
 
 from afdx import model
 from afdx.files import toml_lines
+from afdx.model import Network, VirtualLink
 from afdx.reckon import network_calculus
 
 # A value that is proposed: the section, the name or number of the row, the key, what it is and what it is to be. Where there
@@ -21,10 +24,10 @@ MOST = {key.name: key.greatest for section in ("vl", "node") for key in model.KE
 STEP_NS = 1000
 
 
-def relaxed(net):
+def relaxed(net: Network) -> tuple[network_calculus.Bounds, dict[int, str]]:
     """The bounds where no account refuses a frame, and the virtual links that keep their policing jitter, since without it
     there is no bound of how they come to a switch: each with that switch."""
-    kept = {}
+    kept: dict[int, str] = {}
     while True:
         free = copy.copy(net)
         free.vls = {number: vl if number in kept else vl._replace(policing_ns=MOST[POLICING]) for number, vl in net.vls.items()}
@@ -35,20 +38,20 @@ def relaxed(net):
         kept |= more
 
 
-def least_policing(vl, spread):
+def least_policing(vl: VirtualLink, spread: int) -> int:
     """The least policing jitter in whole us by which an account never refuses frames that come closer than a BAG by this much."""
     size = vl.smax if vl.policing == "frames" else vl.size
     needed = max(0, -(-size * (vl.bag_ns + spread) // vl.smax) - vl.bag_ns)
     return -(-needed // STEP_NS) * STEP_NS
 
 
-def of_policing(net, found, kept):
+def of_policing(net: Network, found: network_calculus.Bounds, kept: dict[int, str]) -> Iterator[Proposal]:
     """What is proposed for each virtual link that comes to an account."""
-    spreads = {}
-    for vl, switch in found.accounts():
-        spreads.setdefault(vl, []).append(found.jitter(vl, switch))
+    spreads: dict[int, list[Any]] = {}
+    for number, switch in found.accounts():
+        spreads.setdefault(number, []).append(found.jitter(number, switch))
     for vl in net.vls.values():
-        propose = lambda after, why: Proposal("vl", vl.row, vl.id, POLICING, vl.policing_ns, after, why)
+        propose: Callable[[int | None, str], Proposal] = lambda after, why: Proposal("vl", vl.row, vl.id, POLICING, vl.policing_ns, after, why)
         if vl.id in kept:
             yield propose(None, f"without it there is no bound of how frames come to {kept[vl.id]}")
         elif vl.id in spreads:
@@ -56,13 +59,13 @@ def of_policing(net, found, kept):
             yield propose(after, "") if after <= MOST[POLICING] else propose(None, f"it would be {after}, and {MOST[POLICING]} is the most")
 
 
-def of_ports(net, found):
+def of_ports(net: Network, found: network_calculus.Bounds) -> Iterator[Proposal]:
     """What is proposed for each node from which frames are sent."""
-    most = {}
+    most: dict[str, list[tuple[Any, str]]] = {}
     for line, port in found.ports.items():
         most.setdefault(port.node.name, []).append((port.most, line))
     for row, node in enumerate(net.nodes.values(), 1):
-        propose = lambda after, why: Proposal("node", row, node.name, PORT, node.port_bytes, after, why)
+        propose: Callable[[int | None, str], Proposal] = lambda after, why: Proposal("node", row, node.name, PORT, node.port_bytes, after, why)
         endless = [line for bytes_, line in most.get(node.name, ()) if bytes_ is None]
         if endless:
             yield propose(None, f"there is no bound of what waits at {endless[0]}: {found.ports[endless[0]].why}")
@@ -71,20 +74,22 @@ def of_ports(net, found):
             yield propose(after, "") if after <= MOST[PORT] else propose(None, f"it would be {after}, and {MOST[PORT]} is the most")
 
 
-def proposals(net):
+def proposals(net: Network) -> list[Proposal]:
     """What is proposed, in the order of the description."""
     found, kept = relaxed(net)
     return [*of_ports(net, found), *of_policing(net, found, kept)]
 
 
-def replaced(text, proposed):
+def replaced(text: str, proposed: Iterable[Proposal]) -> str:
     """The text of a description with the values that are proposed in place of those that differ."""
     reader = toml_lines.Reader(text, (POLICING, PORT))
-    tree, edits = reader.document(), []
+    tree = reader.document()
+    edits: list[tuple[int, int, int]] = []
     for it in proposed:
         if it.after not in (None, it.before):
             edits.append((*reader.places[id(tree[it.section][it.row - 1]), it.key], it.after))
-    pieces, last = [], 0
+    pieces: list[str] = []
+    last = 0
     for begin, end, value in sorted(edits):
         new = f"{value:_}" if "_" in text[begin:end] else str(value)
         # A comment behind it stays in its column, as far as there is room.
@@ -99,7 +104,7 @@ def replaced(text, proposed):
 HEAD = "section,name,key,before,after,why"
 
 
-def table(proposed):
+def table(proposed: Iterable[Proposal]) -> str:
     """What is proposed as CSV: what stays since it cannot be worked out has `after` empty."""
     lines = [",".join(map(str, (it.section, it.name, it.key, it.before, "" if it.after is None else it.after, it.why.replace(",", ";")))) for it in proposed]
     return "\n".join([HEAD, *lines]) + "\n"

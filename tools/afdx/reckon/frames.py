@@ -4,14 +4,19 @@ are under way at the end, or are missing. What was offered is drawn anew; tables
     ends = frames.Ends(tables, [net.seed], trace=trace)     # Fault where they are of other runs
     ends.of[vl, where].missing                              # a Range: what is known of it
 """
+from __future__ import annotations
+
 import functools
 import random
 from bisect import bisect_left
 from collections import Counter, deque, namedtuple
+from collections.abc import Callable, Iterable, Iterator
+from typing import Any, NoReturn
 
 from afdx import model
 from afdx.files.page_text import counted
-from afdx.model import Fault
+from afdx.model import Fault, Latency, Loss, Network, Tables, VirtualLink
+from afdx.model.traces import Trace
 from afdx.reckon import many_seeds
 
 # How many bytes of its time on a line are before the last bit of a frame, beyond its own.
@@ -21,18 +26,18 @@ BYTES_BEFORE_A_FRAME = 8
 class Range(namedtuple("Range", "least most")):
     """A count of which it may be known only that it is from `least` to `most`."""
 
-    def __add__(self, other):
+    def __add__(self, other: Range) -> Range:  # type: ignore[override]
         return Range(self.least + other.least, self.most + other.most)
 
-    def __sub__(self, other):
+    def __sub__(self, other: Range) -> Range:
         return Range(self.least - other.most, self.most - other.least)
 
-    def within(self, other):
+    def within(self, other: Range) -> Range:
         return Range(max(self.least, other.least), min(self.most, other.most))
 
 
 @functools.lru_cache(4096)
-def exactly(count):
+def exactly(count: int) -> Range:
     """The range of one count. Most are small, and kept once."""
     return Range(count, count)
 
@@ -49,13 +54,15 @@ Sent = namedtuple("Sent", "offered released waiting refused")
 End = namedtuple("End", "offered delivered again under_way missing copies lost too_long why")
 
 
-def through_regulator(vl, offers, until_ns):
+def through_regulator(vl: VirtualLink, offers: Iterable[tuple[int, int]], until_ns: int) -> Sent:
     """What the regulator of a virtual link does with its offers, numbers with moments in ns. At one moment a release
     comes before an offer."""
-    lists, pointer, last = [deque() for _ in range(vl.sub)], 0, None
-    offered, refused, released = 0, 0, []
+    lists: list[deque[int]] = [deque() for _ in range(vl.sub)]
+    released: list[tuple[int, int]] = []
+    last: Any = None
+    pointer, offered, refused = 0, 0, 0
 
-    def release(moment):
+    def release(moment: int) -> None:
         nonlocal pointer, last
         place = next(place % vl.sub for place in range(pointer, pointer + vl.sub) if lists[place % vl.sub])
         released.append((lists[place].popleft(), moment))
@@ -77,7 +84,7 @@ def through_regulator(vl, offers, until_ns):
     return Sent(offered, released, sum(map(len, lists)), refused)
 
 
-def ways_of(vl, where):
+def ways_of(vl: VirtualLink, where: str) -> dict[str, list[str]]:
     """The path of a virtual link to a destination on each network."""
     return {side: path for side in "AB" for path in vl.paths[side] if path[-1] == where}
 
@@ -87,7 +94,7 @@ class Way:
     place, in ns. That is at a port of its source, when its last bit leaves for a line, when it is whole at a switch or
     at the destination."""
 
-    def __init__(self, net, vl, path):
+    def __init__(self, net: Network, vl: VirtualLink, path: list[str]) -> None:
         self.net, after = net, 0
         self.soonest = {path[0]: 0}
         for here, there in zip(path, path[1:]):
@@ -99,14 +106,14 @@ class Way:
             after += net.nodes[there].latency_ns
         self.arrival = self.soonest[path[-1]]
 
-    def soonest_loss(self, where, cause):
+    def soonest_loss(self, where: str, cause: str) -> int:
         return self.soonest[where] + (self.net.nodes[where].latency_ns if cause == "port_full" else 0)
 
 
 class Route:
     """The ways of a virtual link to one of its destinations, whatever happens on them."""
 
-    def __init__(self, net, vl, where):
+    def __init__(self, net: Network, vl: VirtualLink, where: str) -> None:
         self.vl, self.where = vl, where
         self.ways = {side: Way(net, vl, path) for side, path in ways_of(vl, where).items()}
         steps = {step for side in "AB" for path in vl.paths[side] for step in zip(path, path[1:])}
@@ -119,23 +126,23 @@ class Route:
 class Journey:
     """A virtual link at one of its destinations: its ways there, and what tables show of the copies lost on them."""
 
-    def __init__(self, route, losses):
+    def __init__(self, route: Route, losses: Iterable[Loss]) -> None:
         self.vl, self.where, self.ways, self.forks = route.vl, route.where, route.ways, route.forks
         self.losses = [loss for loss in losses if any(loss.where in way.soonest for way in self.ways.values())]
         # A destination refuses frames of the networks alone on which copies were lost before.
         before = [side for side in self.ways for loss in self.losses if loss.where in self.on_the_way(side)]
         self.may_refuse = sorted(set(before)) or list(self.ways)
 
-    def on_the_way(self, side):
+    def on_the_way(self, side: str) -> set[str]:
         return self.ways[side].soonest.keys() - {self.where}
 
-    def sides_of(self, where, cause):
+    def sides_of(self, where: str, cause: str) -> list[str]:
         """The networks on which a copy for this destination may be lost at a place for a cause."""
         if cause == "integrity":
             return self.may_refuse if where == self.where else []
         return [side for side, way in self.ways.items() if where in way.soonest]
 
-    def copies_lost(self):
+    def copies_lost(self) -> tuple[Range, dict[str, Range]]:
         """How many copies were lost on the way or refused at the destination, all together and on each network."""
         total, lost = exactly(0), {side: exactly(0) for side in self.ways}
         for loss in self.losses:
@@ -146,7 +153,7 @@ class Journey:
                 lost[side] += Range(loss.count * (is_sure and len(sides) == 1), loss.count)
         return total, lost
 
-    def surely_under_way_ns(self):
+    def surely_under_way_ns(self) -> int:
         """A frame that was released later than so long before the end, in ns, is under way for sure: it cannot have
         come yet, and on one network it cannot have come to any place where the virtual link loses frames."""
         soonest = {side: way.arrival for side, way in self.ways.items()}
@@ -164,16 +171,19 @@ class Ends:
     the virtual link was delivered there: a copy that comes behind it is dropped. If it was not delivered and is not
     missing, it is under way at the end."""
 
-    def __init__(self, tables, seeds, draws_offsets=False, trace=None, known=None):
+    def __init__(
+        self, tables: Tables, seeds: list[int], draws_offsets: bool = False, trace: Trace | None = None, known: dict[int | tuple[int, str], Any] | None = None
+    ) -> None:
         self.tables, self.net, self.trace = tables, tables.net, trace
         # What does not depend on the tables, for those who reckon with the same seeds again.
         self.known = known
-        self.losses = {}
+        self.losses: dict[int, list[Loss]] = {}
         for loss in tables.losses.values():
             if loss.cause not in ("queue_full", "duplicate"):
                 self.losses.setdefault(loss.vl, []).append(loss)
         # Of frames that came to the same end alike one End is kept.
-        self.of, self.alike = {}, {}
+        self.of: dict[tuple[int, str], End] = {}
+        self.alike: dict[tuple[Any, ...], End] = {}
         for vl, sent in self.all_sent(seeds, draws_offsets):
             self.compare(vl, sent.refused)
             for where in vl.destinations:
@@ -181,7 +191,7 @@ class Ends:
                 journey = Journey(route, self.losses.get(vl.id, ()))
                 self.of[vl.id, where] = self.end(journey, sent)
 
-    def once(self, key, make, *given):
+    def once(self, key: int | tuple[int, str], make: Callable[..., Any], *given: Any) -> Any:
         """What does not depend on the tables: it is made anew where nobody keeps it."""
         if self.known is None:
             return make(*given)
@@ -189,7 +199,7 @@ class Ends:
             self.known[key] = make(*given)
         return self.known[key]
 
-    def all_sent(self, seeds, draws_offsets):
+    def all_sent(self, seeds: list[int], draws_offsets: bool) -> Iterator[tuple[VirtualLink, many_seeds.SentOfAll]]:
         """For each virtual link what its regulator did in the runs of all seeds together."""
         numpy = many_seeds.library(seeds)
         offsets = [drawn_offsets(self.net, seed) if draws_offsets else {} for seed in seeds]
@@ -200,14 +210,14 @@ class Ends:
             else:
                 yield vl, self.once(vl.id, lambda: many_seeds.together([self.sent(vl, *it) for it in zip(seeds, own)]))
 
-    def sent(self, vl, seed, offset):
+    def sent(self, vl: VirtualLink, seed: int, offset: int) -> Sent:
         until = self.net.until_ns
         return through_regulator(vl, model.offers(seed, vl.id, offset, vl.period_ns, vl.jitter_ns, until), until)
 
-    def refuse(self, line, text):
+    def refuse(self, line: int | None, text: str) -> NoReturn:
         raise Fault(self.tables.path, line, f"{text}; so they are tables of another run than that of {self.net.path}")
 
-    def compare(self, vl, refused):
+    def compare(self, vl: VirtualLink, refused: int) -> None:
         """Refuses tables of runs in which other frames were offered."""
         loss = self.tables.losses.get((vl.id, vl.source, "queue_full"))
         if refused != (loss.count if loss else 0):
@@ -215,18 +225,18 @@ class Ends:
             told = f"{refused} frames of virtual link {vl.id} would be lost as queue_full"
             self.refuse(line, f"{told}, and the tables have {loss.count if loss else 0}")
 
-    def end(self, journey, sent):
+    def end(self, journey: Journey, sent: many_seeds.SentOfAll) -> End:
         """What became of the frames of all runs at one destination: what is known of each count is narrowed by what
         they add up to."""
         key = journey.vl.id, journey.where
-        row, copies = self.tables.latencies[key], self.tables.losses.get((*key, "duplicate"))
-        copies = copies.count if copies else 0
+        row, dropped = self.tables.latencies[key], self.tables.losses.get((*key, "duplicate"))
+        copies = dropped.count if dropped else 0
         released = len(sent.releases)
         total, lost = journey.copies_lost()
         # The copies of which nothing is known are under way.
         open_copies = exactly(len(journey.ways) * released - row.count - copies) - total
         if self.trace and sent.one is not None:
-            again, under_way, missing = self.by_trace(journey, sent.one, row)
+            again, under_way, missing = self.by_trace(self.trace, journey, sent.one, row)
         else:
             again, under_way, missing = self.by_counts(journey, sent, row)
         under_way = under_way.within(Range(0, open_copies.most))
@@ -248,12 +258,12 @@ class Ends:
         too_long = 0 if self.trace else max(0, under_way.least - self.may_be_under_way(journey, sent, row))
         why = self.why_open(journey, sent) if missing.least < missing.most else ""
         under_way, missing = under_way + exactly(sent.waiting), missing + exactly(sent.refused)
-        told = (sent.offered, row.count, again, under_way, missing, copies, tuple(lost.items()), too_long, why)
-        if told not in self.alike:
-            self.alike[told] = End(sent.offered, row.count, again, under_way, missing, copies, lost, too_long, why)
-        return self.alike[told]
+        alike = (sent.offered, row.count, again, under_way, missing, copies, tuple(lost.items()), too_long, why)
+        if alike not in self.alike:
+            self.alike[alike] = End(sent.offered, row.count, again, under_way, missing, copies, lost, too_long, why)
+        return self.alike[alike]
 
-    def why_open(self, journey, sent):
+    def why_open(self, journey: Journey, sent: many_seeds.SentOfAll) -> str:
         """Why it is not known how many frames are missing, in words."""
         if sent.one is None:
             return "merged tables do not show of which frames the lost copies were"
@@ -264,13 +274,13 @@ class Ends:
             return f"at {' and '.join(sorted(full))} copies go on by several ports, and no trace shows which of them was full"
         return "copies were lost after the last frame that came, and no trace shows of which frames"
 
-    def may_be_under_way(self, journey, sent, row):
+    def may_be_under_way(self, journey: Journey, sent: many_seeds.SentOfAll, row: Latency) -> int:
         """How many frames were released so late that they may be under way at the end, if none takes longer than twice the
         greatest latency that was seen, or that a frame has alone."""
         longest = 2 * max(row.greatest, *(way.arrival for way in journey.ways.values()))
         return sent.released_after(self.net.until_ns - longest)
 
-    def by_counts(self, journey, sent, row):
+    def by_counts(self, journey: Journey, sent: many_seeds.SentOfAll, row: Latency) -> tuple[Range, Range, Range]:
         """What tables alone show of frames that were delivered again, are under way, and are missing."""
         latest = self.net.until_ns - journey.surely_under_way_ns()
         sure = sent.released_after(latest)
@@ -279,18 +289,18 @@ class Ends:
         released = len(sent.releases)
         return Range(0, row.count // 2 if may_be_again else 0), Range(sure, released), Range(0, released)
 
-    def by_trace(self, journey, released, row):
+    def by_trace(self, trace: Trace, journey: Journey, released: list[tuple[int, int]], row: Latency) -> tuple[Range, Range, Range]:
         """The same by what a trace shows: which frames came, by the moments at which they had been offered, and when copies were
         lost."""
-        came = self.trace.came.get((journey.vl.id, journey.where))
-        found = came.among([moment for moment, _ in released]) if came else (0, -1)
+        frames = trace.came.get((journey.vl.id, journey.where))
+        found = frames.among([moment for moment, _ in released]) if frames else (0, -1)
         if found is None:
             self.refuse(row.line, f"at {row.where} frames of virtual link {row.vl} came that nobody would offer")
         came, last = found
         rest = [moment for _, moment in released[last + 1 :]]
         # On each network how many copies of the rest may have been lost, and when the last of these was released at the latest.
         lost = {side: (0, -1) for side in journey.ways}
-        for (where, cause), moments in self.trace.lost_on_the_way(journey.vl.id).items() if rest else ():
+        for (where, cause), moments in trace.lost_on_the_way(journey.vl.id).items() if rest else ():
             for side in journey.sides_of(where, cause):
                 soonest = journey.ways[side].soonest_loss(where, cause)
                 count = len(moments) - bisect_left(moments, rest[0] + soonest)
@@ -305,7 +315,7 @@ class Ends:
         return exactly(row.count - came), Range(sure, len(rest)), Range(before, before + most)
 
 
-def hold(tables):
+def hold(tables: Tables) -> None:
     """Refuses tables that no run of their network can give, whatever is offered."""
     net, other = tables.net, f"so they are tables of another network than {tables.net.path}"
     for (number, where), row in tables.latencies.items():
@@ -318,15 +328,15 @@ def hold(tables):
             text = f"a frame of virtual link {number} came to {where} in {row.least} ns, and it takes {soonest} ns at least"
             raise Fault(tables.path, row.line, f"{text}; {other}")
     out = {outage.line for outage in net.outages}
-    for (number, where, cause), row in tables.losses.items():
+    for (number, where, cause), loss in tables.losses.items():
         vl = net.vls[number]
         if cause == "outage" and where not in out or cause == "too_long" and vl.size <= vl.smax:
             why = f"{where} has no outage" if cause == "outage" else "its size is not above its smax"
             text = f"frames of virtual link {number} were lost at {where} as {cause}, and {why}"
-            raise Fault(tables.path, row.line, f"{text}; {other}")
+            raise Fault(tables.path, loss.line, f"{text}; {other}")
 
 
-def drawn_offsets(net, seed):
+def drawn_offsets(net: Network, seed: int) -> dict[int, int]:
     """The offsets that afdx campaign draws for the run of a seed."""
     draw = random.Random(seed).random
     return {vl.id: int(draw() * vl.period_ns) for vl in net.vls.values()}

@@ -4,11 +4,13 @@ import csv
 import re
 import xml.etree.ElementTree as xml
 from collections import namedtuple
+from collections.abc import Callable, Mapping
 from fractions import Fraction
+from typing import Any
 
 from afdx import model
 from afdx.files import Fault, cut, sheets
-from afdx.model import headings
+from afdx.model import Latency, Network, VirtualLink, headings
 
 # ---- limits ----
 
@@ -21,7 +23,7 @@ LIMIT_COLUMNS = ["vl", "destination", "limit_ns"]
 COMMENT = re.compile(r"# limit_(ns|us|ms|s) ([0-9_.]+)(?: at (.+))?")
 
 
-def limits_of(path, net):
+def limits_of(path: str, net: Network) -> dict[tuple[int, str], Limit]:
     """The limits of a file, by virtual link and destination. Of the description itself they are those of its comments."""
     found = Limits(path, net)
     if model.is_same_file(path, net.path):
@@ -36,12 +38,13 @@ def limits_of(path, net):
 class Limits:
     """The limits of a file while it is read."""
 
-    def __init__(self, path, net):
-        self.path, self.net, self.of = path, net, {}
+    def __init__(self, path: str, net: Network) -> None:
+        self.path, self.net = path, net
+        self.of: dict[tuple[int, str], Limit] = {}
         # Whether numbers may have a comma in place of the point.
         self.has_commas = False
 
-    def read_table(self):
+    def read_table(self) -> None:
         """Reads a table: `VL,NAME,NS`, or one that names its columns, as an interface control document does."""
         rows, columns = sheets.reader_of(self.path), None
         self.has_commas = rows.dialect.delimiter == ";"
@@ -59,7 +62,7 @@ class Limits:
         except csv.Error as fault:
             raise Fault(self.path, rows.line_num, f"is no line of a table: {fault}") from None
 
-    def columns(self, line, cells):
+    def columns(self, line: int, cells: list[str]) -> list[str] | None:
         """The columns of a first line that names them; None where it has a limit already."""
         if not re.search("[A-Za-z]", cells[0]):
             return None
@@ -76,10 +79,11 @@ class Limits:
             raise Fault(self.path, line, f"names the columns {', '.join(filter(None, found))}, and lacks {lacks[0]}")
         return found
 
-    def row(self, line, cells, count, wanted):
+    def row(self, line: int, cells: dict[str, str], count: int, wanted: int) -> None:
         if wanted == 3 and count != 3:
             raise Fault(self.path, line, f"has {count} fields in place of 3: VL,NAME,NS")
-        (column,) = [name for name in cells if name in headings.LIMITS] or [None]
+        named: list[Any] = [name for name in cells if name in headings.LIMITS] or [None]
+        (column,) = named
         text = cells.get(column, "")
         if not text and wanted > 3:
             return
@@ -88,7 +92,7 @@ class Limits:
         for where in sheets.names_of(cells.get("destination", "")) or [""]:
             self.add(line, number, where, ns)
 
-    def ns(self, line, column, text):
+    def ns(self, line: int, column: str, text: str) -> int:
         if column == "limit_ns":
             return model.whole_number(self.path, line, "the limit", text.replace("_", ""))
         if self.has_commas:
@@ -100,10 +104,11 @@ class Limits:
             raise Fault(self.path, line, f"the limit is {text}, which is no whole number of ns")
         return int(ns)
 
-    def read_comments(self):
+    def read_comments(self) -> None:
         """Reads the comments that stand behind the head of a virtual link."""
         rows = {vl.row: vl for vl in self.net.vls.values()}
-        lines, heads = self.net.text.split("\n"), {}
+        lines = self.net.text.split("\n")
+        heads: dict[int, VirtualLink] = {}
         for row, vl in rows.items():
             heads[self.net.description.line("vl", row)] = vl
         for head, vl in heads.items():
@@ -116,7 +121,7 @@ class Limits:
                     for where in wanted:
                         self.add(i, vl.id, where, self.ns(i, "limit_" + found[1], found[2]))
 
-    def add(self, line, number, where, ns):
+    def add(self, line: int, number: int, where: str, ns: int) -> None:
         key = number, where
         if key not in self.net.destinations:
             text = f"{cut(where)} is no destination of virtual link {number} in {self.net.path}"
@@ -136,52 +141,52 @@ class Margin(namedtuple("Margin", "limit greatest has_bound bound")):
     """How far a limit is from what is known of a destination: the greatest latency of a run, or None, and the bound, or
     None where there is none, if bounds are given (`has_bound`)."""
 
-    def ns(self):
+    def ns(self) -> int | None:
         """The limit less the worst that is known; None where nothing is, or a bound is given as none."""
         known = [it for it in (self.greatest, self.bound) if it is not None]
         return None if not known or self.has_bound and self.bound is None else self.limit.ns - max(known)
 
-    def verdict(self):
+    def verdict(self) -> str:
         if self.greatest is not None and self.greatest > self.limit.ns:
             return BROKEN
         if self.has_bound:
             return BELOW if self.bound is None or self.bound > self.limit.ns else KEPT
         return UNKNOWN if self.greatest is None else KEPT
 
-    def in_words(self):
+    def in_words(self) -> str:
         told = [f"limit {self.limit.ns} ns"]
         told += [f"greatest latency {self.greatest} ns"] if self.greatest is not None else []
         told += [f"bound {'none' if self.bound is None else f'{self.bound} ns'}"] if self.has_bound else []
         return f"{self.verdict()}: {', '.join(told)}"
 
-    def line(self):
+    def line(self) -> str:
         show = lambda number: "" if number is None else number
         bound = ("none" if self.bound is None else self.bound) if self.has_bound else ""
         numbers = self.limit.ns, show(self.greatest), bound, show(self.ns())
         return f"{self.limit.vl},{self.limit.where},{','.join(map(str, numbers))},{self.verdict()}\n"
 
 
-def margins_of(limits, latencies=None, bounds=None):
+def margins_of(limits: dict[tuple[int, str], Limit], latencies: Mapping[tuple[int, str], Latency] | None = None, bounds: Any = None) -> list[Margin]:
     """The margins of limits, the least first; those that nothing is known of before them."""
     found = []
     for key, limit in limits.items():
         row = latencies[key] if latencies else None
         bound = bounds.bound(*key) if bounds else None
         found.append(Margin(limit, row.greatest if row and row.count else None, bool(bounds), bound))
-    rank = lambda it: (it.ns() is not None, it.ns() or 0, it.limit.vl, it.limit.where)
+    rank: Callable[[Margin], tuple[bool, int, int, str]] = lambda it: (it.ns() is not None, it.ns() or 0, it.limit.vl, it.limit.where)
     return sorted(found, key=rank)
 
 
-def margins_text(margins):
+def margins_text(margins: list[Margin]) -> str:
     return MARGINS_HEAD + "\n" + "".join(it.line() for it in margins)
 
 
-def has_failed(margins, is_strict):
+def has_failed(margins: list[Margin], is_strict: bool) -> bool:
     """Whether a limit is broken by a latency, or, where that counts too, below its bound."""
     return any(it.verdict() == BROKEN or is_strict and it.verdict() == BELOW for it in margins)
 
 
-def junit_text(margins, is_strict, name):
+def junit_text(margins: list[Margin], is_strict: bool, name: str) -> str:
     """The margins as JUnit's XML: a case for each limit."""
     suite = xml.Element("testsuite", name=name)
     failed = skipped = 0

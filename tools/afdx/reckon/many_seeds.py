@@ -7,8 +7,11 @@ which is so where fewer wait than one queue holds; a seed in which that may be o
 """
 from bisect import bisect_right
 from collections import namedtuple
+from collections.abc import Callable
+from typing import Any
 
 from afdx.files import debian_modules
+from afdx.model import VirtualLink
 
 
 class SentOfAll(namedtuple("SentOfAll", "offered refused waiting releases one")):
@@ -16,7 +19,7 @@ class SentOfAll(namedtuple("SentOfAll", "offered refused waiting releases one"))
     there at the end; and the moments of all releases, rising. Of one run alone also the frames that were released, each with
     the moments when it was offered and released, in the order of their release."""
 
-    def released_after(self, moment):
+    def released_after(self, moment: int) -> int:
         """How many frames are released later than a moment."""
         return len(self.releases) - bisect_right(self.releases, moment)
 
@@ -28,18 +31,21 @@ AT_ONCE = 2**21
 NONE = 2**63 - 1
 
 
-def library(seeds):
+def library(seeds: list[int]) -> Any:
     """The library, if it is installed and pays for this number of seeds; else None."""
     return debian_modules.found("numpy") if len(seeds) >= ENOUGH else None
 
 
-def together(runs):
+def together(runs: list[Any]) -> SentOfAll:
     """What was sent in runs that were drawn one by one."""
-    sums = (sum(getattr(run, name) for run in runs) for name in ("offered", "refused", "waiting"))
-    return SentOfAll(*sums, sorted(moment for run in runs for _, moment in run.released), runs[0].released if len(runs) == 1 else None)
+    offered, refused, waiting = (sum(getattr(run, name) for run in runs) for name in ("offered", "refused", "waiting"))
+    releases = sorted(moment for run in runs for _, moment in run.released)
+    return SentOfAll(offered, refused, waiting, releases, runs[0].released if len(runs) == 1 else None)
 
 
-def sent_of_all(numpy, vl, seeds, offsets, until_ns, sent_of_one):
+def sent_of_all(
+    numpy: Any, vl: VirtualLink, seeds: list[int], offsets: list[int], until_ns: int, sent_of_one: Callable[[int, int], Any]
+) -> SentOfAll:
     """What the regulator of a virtual link does in the runs of seeds, each with its offset. `sent_of_one` draws a seed by itself,
     with an offset."""
     most = max(1, AT_ONCE // max(1, (until_ns - min(offsets)) // vl.period_ns))
@@ -50,7 +56,9 @@ def sent_of_all(numpy, vl, seeds, offsets, until_ns, sent_of_one):
     return SentOfAll(offered, refused, waiting, numpy.sort(numpy.concatenate([it.releases for it in found])), None)
 
 
-def sent_of_some(numpy, vl, seeds, offsets, until_ns, sent_of_one):
+def sent_of_some(
+    numpy: Any, vl: VirtualLink, seeds: list[int], offsets: list[int], until_ns: int, sent_of_one: Callable[[int, int], Any]
+) -> SentOfAll:
     """The same of the seeds that are drawn at once; the releases in any order."""
     offers = offers_of(numpy, vl, seeds, offsets, until_ns)
     releases, is_full = offers.copy(), numpy.zeros(len(seeds), bool)
@@ -66,7 +74,7 @@ def sent_of_some(numpy, vl, seeds, offsets, until_ns, sent_of_one):
     return SentOfAll(offered + plain.offered, plain.refused, offered - released.size + plain.waiting, moments, None)
 
 
-def offers_of(numpy, vl, seeds, offsets, until_ns):
+def offers_of(numpy: Any, vl: VirtualLink, seeds: list[int], offsets: list[int], until_ns: int) -> Any:
     """The moments of the offers of each seed, rising, and NONE behind them: drawn by PCG XSH RR 64/32, as tools/afdx/model does."""
     first = numpy.array(offsets, numpy.int64)
     count = max(0, (until_ns - min(offsets)) // vl.period_ns + 1)

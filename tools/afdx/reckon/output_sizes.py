@@ -3,22 +3,25 @@
 Each destination has a line of tables. Of each frame that leaves its source a trace has a line for each destination and network:
 delivered, a second copy, or lost. It is reckoned as if none were lost, with six digits for a latency in ns.
 """
+from fractions import Fraction
+
 from afdx import model
 from afdx.files.page_text import two_places
 from afdx.files.program import NoProgram
+from afdx.model import Network, VirtualLink
 
 # What `rt try` passes on of each run, of standard output and of error output.
 MOST = 2**20
 DIGITS = 6
 
 
-def frames_of(net, vl):
+def frames_of(net: Network, vl: VirtualLink) -> tuple[int, int]:
     """How many frames of a virtual link are offered, and how many of them its regulator lets go."""
     offered = model.count_of_offers(net.seed, vl.id, vl.offset_ns, vl.period_ns, vl.jitter_ns, net.until_ns)
     return offered, min(offered, max(0, net.until_ns - vl.offset_ns) // vl.bag_ns + 1)
 
 
-def of_tables(net):
+def of_tables(net: Network) -> int:
     """The bytes of the tables."""
     found = len(model.TABLES_HEAD) + 1
     for vl in net.vls.values():
@@ -28,7 +31,7 @@ def of_tables(net):
     return found
 
 
-def of_trace(net):
+def of_trace(net: Network) -> int:
     """The bytes of the trace."""
     found, moment = len(model.TRACE_HEAD) + 1, len(str(net.until_ns))
     for vl in net.vls.values():
@@ -39,6 +42,6 @@ def of_trace(net):
     return found
 
 
-def refused(what, size, remedy):
+def refused(what: str, size: int, remedy: str) -> NoProgram:
     """Why `rt try` is not begun."""
-    return NoProgram(f"{what} would have some {two_places(size / 2**20)} MiB, and `rt try` passes on 1 MiB: {remedy}")
+    return NoProgram(f"{what} would have some {two_places(Fraction(size, 2**20))} MiB, and `rt try` passes on 1 MiB: {remedy}")

@@ -1,6 +1,9 @@
 """The worst-case bounds that the program prints by `afdxsim bounds NET`: proved to be those of the formula in docs/BOUNDS.md."""
+from typing import Any
+
 from afdx import files, model
 from afdx.files import Fault, cut
+from afdx.model import Network
 
 COLUMNS = ["proved_ns", "proved_bytes"]
 AGAIN = "`afdxsim bounds NET` prints it anew"
@@ -10,8 +13,10 @@ class ProvedBounds:
     """The bounds of a file, which must be those of this network: `of` has for each virtual link and destination the latency in ns,
     or None, and `waiting` for each line the bytes that wait before it, or None."""
 
-    def __init__(self, path, net):
-        self.path, self.net, self.of, self.waiting = path, net, {}, {}
+    def __init__(self, path: str, net: Network) -> None:
+        self.path, self.net = path, net
+        self.of: dict[tuple[int, str], int | None] = {}
+        self.waiting: dict[str, int | None] = {}
         last = 0
         for last, line in enumerate(files.lines_of(path), 1):
             if not line.endswith("\n"):
@@ -24,11 +29,11 @@ class ProvedBounds:
             self.judge_head("")
         self.judge_end(last)
 
-    def judge_head(self, line):
+    def judge_head(self, line: str) -> None:
         if line != model.BOUNDS_HEAD:
             raise Fault(self.path, 1, f"begins with {cut(line)} in place of {model.BOUNDS_HEAD}: give what `afdxsim bounds NET` prints")
 
-    def row(self, i, fields):
+    def row(self, i: int, fields: list[str]) -> None:
         if len(fields) != 6 or fields[0] not in ("bound", "port", "none"):
             raise Fault(self.path, i, f"is no line of bounds; {AGAIN}")
         kind, of, where, first, _, whole = fields
@@ -39,7 +44,7 @@ class ProvedBounds:
             key = number("the virtual link", of), where
             self.put(i, self.of, key in self.net.destinations, key, number("the bound", whole) if kind == "bound" else None)
 
-    def put(self, i, table, is_known, key, value):
+    def put(self, i: int, table: dict[Any, int | None], is_known: bool, key: str | tuple[int, str], value: int | None) -> None:
         shown = key if isinstance(key, str) else f"virtual link {key[0]} at {cut(key[1])}"
         if not is_known:
             raise Fault(self.path, i, f"{shown} is not in {self.net.path}: give the bounds of this network; {AGAIN}")
@@ -47,21 +52,21 @@ class ProvedBounds:
             raise Fault(self.path, i, f"says {shown} again; {AGAIN}")
         table[key] = value
 
-    def judge_end(self, last):
+    def judge_end(self, last: int) -> None:
         lacks = [f"virtual link {vl} at {where}" for vl, where in self.net.destinations if (vl, where) not in self.of]
         lacks += [f"the port before {line}" for line in self.net.mbit if line not in self.waiting]
         if lacks:
             raise Fault(self.path, last, f"the file ends without {lacks[0]}; {AGAIN}")
 
-    def bound(self, vl, where):
+    def bound(self, vl: int, where: str) -> int | None:
         return self.of[vl, where]
 
-    def cells(self, row):
+    def cells(self, row: dict[str, Any]) -> dict[str, str]:
         """What stands beside a row of bounds.csv."""
         if "bound_ns" in row:
             return {"proved_ns": said(self.of[row["vl"], row["where"]])}
         return {"proved_bytes": said(self.waiting[row["where"]])} if "waiting_bytes" in row else {}
 
 
-def said(number):
+def said(number: int | None) -> str:
     return "none" if number is None else str(number)
