@@ -110,11 +110,17 @@ def combinations_of(description: model.Description, settings: Sequence[Setting])
 class Campaign(Protocol):
     """What came of the runs of a combination so far, as commands/campaign.py has it."""
 
-    net: model.Network
-    seeds: Sequence[int]
     merged: Merged
     done: int
-    broken: Collection[tuple[int, str]]
+
+    @property
+    def net(self) -> model.Network: ...
+
+    @property
+    def seeds(self) -> Sequence[int]: ...
+
+    @property
+    def broken(self) -> Collection[tuple[int, str]]: ...
 
     def runs(self) -> Iterable[Run]: ...
 
