@@ -14,6 +14,7 @@ import collections
 import os
 import re
 import sys
+from collections.abc import Iterator
 
 from afdx import files
 
@@ -22,10 +23,14 @@ DOCUMENT = os.path.join(TOP, "docs", "ARCHITECTURE.md")
 MARKS = "<!-- by tools/gate/cited_lemmas.py --write: from here -->\n\n", "\n\n<!-- to here -->"
 USE = re.compile(r"\buse Rattle\.(\w+)\.proofs\.([\w.]+?)(?:\.\{| as )")
 
+# For each crate with cited lemmas their files, and by each crate that cites them how many lines do.
+Cited = dict[str, tuple[set[str], collections.Counter[str]]]
 
-def crates_by_heading(top=TOP):
+
+def crates_by_heading(top: str = TOP) -> dict[str, list[str]]:
     """The names of crates.txt, in order, under the headings that its `#` lines are."""
-    found, names = {}, None
+    found: dict[str, list[str]] = {}
+    names: list[str] = []
     with open(os.path.join(top, "crates.txt"), encoding="utf-8") as file:
         for line in filter(str.strip, file):
             if line.startswith("#"):
@@ -35,7 +40,7 @@ def crates_by_heading(top=TOP):
     return found
 
 
-def sources_of(crate, top=TOP):
+def sources_of(crate: str, top: str = TOP) -> Iterator[str]:
     """The texts of a crate's code, definitions and proofs."""
     for part in ("src", "specs", "proofs"):
         for folder, _, names in os.walk(os.path.join(top, "crates", crate, part)):
@@ -44,10 +49,10 @@ def sources_of(crate, top=TOP):
                     yield file.read()
 
 
-def cited(top=TOP):
+def cited(top: str = TOP) -> Cited:
     """For each crate with cited lemmas their files, and by each crate that cites them how many lines do."""
     crates = [name for names in crates_by_heading(top).values() for name in names]
-    found = {name: (set(), collections.Counter()) for name in crates}
+    found: Cited = {name: (set(), collections.Counter()) for name in crates}
     for crate in crates:
         for text in sources_of(crate, top):
             for home, path in USE.findall(text):
@@ -57,14 +62,14 @@ def cited(top=TOP):
     return {name: both for name, both in found.items() if both[0]}
 
 
-def counted(found):
+def counted(found: Cited) -> str:
     """The line that counts, as the document has it."""
     pairs = sum(len(by) for _, by in found.values())
     lines = sum(sum(by.values()) for _, by in found.values())
     return f"{lines} lines cite lemmas of another crate, in {pairs} pairs of crates."
 
 
-def listed(found):
+def listed(found: Cited) -> str:
     """The list as it is printed: the line that counts, and a table."""
     rows = ["| Crate | Files in its `proofs/` | Cited by (lines) |", "|---|---|---|"]
     for name, (paths, by) in found.items():
@@ -74,7 +79,7 @@ def listed(found):
 
 
 @files.tool("cited_lemmas")
-def main(arguments=None):
+def main(arguments: list[str] | None = None) -> int:
     parser = argparse.ArgumentParser(prog="cited_lemmas", description=__doc__, formatter_class=argparse.RawDescriptionHelpFormatter)
     parser.add_argument("--write", action="store_true", help="puts the count into docs/ARCHITECTURE.md")
     found = cited()

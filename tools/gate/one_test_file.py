@@ -5,12 +5,15 @@
 import os
 import sys
 import unittest
+from typing import Any
 
 TOOLS = os.path.dirname(os.path.dirname(os.path.abspath(__file__)))
 
 
 class Runner(unittest.TextTestRunner):
-    def run(self, test):
+    stream: Any
+
+    def run(self, test: unittest.TestSuite | unittest.TestCase) -> unittest.TestResult:
         result = super().run(test)
         for skipped, reason in result.skipped:
             self.stream.writeln(f"skipped: {skipped.id()}: {' '.join(reason.split())}")

@@ -15,6 +15,7 @@ import shutil
 import subprocess
 import sys
 import time
+from collections.abc import Iterable, Mapping
 
 from afdx.files import program
 from afdx.runs import by_rt, crate_times
@@ -33,17 +34,19 @@ FEW_MODULES = {"numpy": "python3-numpy", "pandas": "python3-pandas"}
 DEBIAN = "/usr/bin/python3"
 # How often it prints what is proved, in s.
 EACH = 60
+# Of each crate its seconds by kind, as crate_times.py has them.
+Seconds = dict[str, dict[str, float]]
 INSTALL = ["apt-get", "install", "-y", "--no-install-recommends"]
 
 
-def tell(text):
+def tell(text: str) -> None:
     print(f"test: {text}", flush=True)
 
 
 # ---- what is needed ----
 
 
-def lacks(python, modules):
+def lacks(python: str, modules: Iterable[str]) -> list[str] | None:
     """The libraries of these that an interpreter lacks, or None where it cannot be run or is too old."""
     tries = f"import importlib.util as u, sys; print(*(n for n in {list(modules)} if not u.find_spec(n))); sys.exit(sys.version_info < (3, 11))"
     try:
@@ -53,42 +56,42 @@ def lacks(python, modules):
     return run.stdout.split() if run.returncode == 0 else None
 
 
-def python_for_tests():
+def python_for_tests() -> tuple[str, list[str]]:
     """The interpreter that runs the tests of the tools, and the libraries that it lacks: one that lacks none, and of two the one
     that Debian's packages are for."""
-    found = [(python, lacks(python, MODULES)) for python in (sys.executable, DEBIAN)]
-    found = [(python, modules) for python, modules in found if modules is not None]
+    tried = [(python, lacks(python, MODULES)) for python in (sys.executable, DEBIAN)]
+    found = [(python, modules) for python, modules in tried if modules is not None]
     return min(found, key=lambda it: (bool(it[1]), it[0] != DEBIAN))
 
 
-def without(programs):
+def without(programs: Mapping[str, str]) -> list[str]:
     """The packages of those programs that are not here."""
     return [package for name, package in programs.items() if not shutil.which(name)]
 
 
-def missing():
+def missing() -> tuple[list[str], str]:
     """The packages that are missing, and the interpreter that has the rest."""
     python, modules = python_for_tests()
     return without(PROGRAMS) + [MODULES[name] for name in modules], python
 
 
-def missing_for_few():
+def missing_for_few() -> list[str]:
     """The packages that are missing of what a few tests need. Its libraries are looked for where Debian has them."""
     return without(FEW_PROGRAMS) + [FEW_MODULES[name] for name in lacks(DEBIAN, FEW_MODULES) or []]
 
 
-def install(packages, few):
+def install(packages: list[str], few: list[str]) -> None:
     """Installs what is needed at one go, and the rest one by one: what cannot be had keeps nothing else away."""
     tell(f"installs {' '.join(packages + few)}")
     for words in (["apt-get", "update"], *([*INSTALL, *it] for it in (packages, *([name] for name in few)) if it)):
         subprocess.run(words, stdin=subprocess.DEVNULL, env=os.environ | {"DEBIAN_FRONTEND": "noninteractive"})
 
 
-def as_root(packages):
+def as_root(packages: list[str]) -> str:
     return f"{' '.join(packages)}. As root: apt-get update && {' '.join(INSTALL + packages)}"
 
 
-def set_up():
+def set_up() -> str | None:
     """Checks that all is there that the tests need, and returns the interpreter for those of the tools; None if something
     is missing, which it prints."""
     (packages, python), few = missing(), missing_for_few()
@@ -109,7 +112,10 @@ def set_up():
 class Last:
     """What is known of the last run on this machine."""
 
-    def __init__(self):
+    seconds: float | None
+    date: str | None
+
+    def __init__(self) -> None:
         cache = os.environ.get("XDG_CACHE_HOME") or os.path.join(os.path.expanduser("~"), ".cache")
         self.path = os.path.join(cache, "afdxsim", "last-test.json")
         try:
@@ -119,7 +125,7 @@ class Last:
         except (OSError, ValueError, KeyError, TypeError):
             self.seconds = self.date = None
 
-    def keep(self, seconds, crates):
+    def keep(self, seconds: float, crates: Mapping[str, int]) -> None:
         try:
             os.makedirs(os.path.dirname(self.path), exist_ok=True)
             with open(self.path, "w", encoding="utf-8") as out:
@@ -132,15 +138,17 @@ class Last:
 class Progress:
     """How far `rt ci` is, by its lines."""
 
-    def __init__(self, last):
-        self.begin, self.last, self.done, self.edits = now(), last, set(), set()
+    def __init__(self, last: Last) -> None:
+        self.begin, self.last = now(), last
+        self.done: set[str] = set()
+        self.edits: set[str] = set()
         self.crates = crates_of()
         self.with_edits = {it.split(os.sep)[1] for it in glob.glob("crates/*/must-fail/*.edit")}
 
-    def of_last(self):
+    def of_last(self) -> str:
         return f" of some {minutes(self.last.seconds)} by the last run" if self.last.seconds else ""
 
-    def take(self, line):
+    def take(self, line: str) -> None:
         """Takes a line of `rt ci`, and prints how far it is if that changes."""
         found = re.match(r"rt: (\w+)(?: is kept:| proved$| NOT PROVED| *: trying its must-fail edits)", line)
         if not found or found[1] not in self.crates:
@@ -148,12 +156,12 @@ class Progress:
         (self.edits if "must-fail" in found[0] else self.done).add(found[1])
         tell(self.says())
 
-    def says(self):
+    def says(self) -> str:
         edits = f", edits of {len(self.edits)} of {len(self.with_edits)} crates" if self.with_edits else ""
         return f"crate {len(self.done)} of {len(self.crates)}{edits}, {minutes(now() - self.begin)}{self.of_last()}"
 
 
-def crates_of():
+def crates_of() -> set[str]:
     try:
         with open("crates.txt", encoding="utf-8") as file:
             return {line.split(":")[0].split()[0] for line in file if line.strip() and not line.startswith("#")}
@@ -164,7 +172,7 @@ def crates_of():
 # ---- what is run ----
 
 
-def said_by(command, progress=None, times=None):
+def said_by(command: list[str], progress: Progress | None = None, times: Seconds | None = None) -> tuple[str, int]:
     """What a command says, which is shown as it comes, and its status. Of `rt ci` it prints besides how far it is, and takes
     down what each crate takes."""
     said = []
@@ -174,7 +182,8 @@ def said_by(command, progress=None, times=None):
         print(f"{command[0]}: {fault.strerror}", flush=True)
         return "", 127
 
-    def listen():
+    def listen() -> tuple[str, int]:
+        assert run.stdout is not None
         for line in run.stdout:
             print(line, end="", flush=True)
             said.append(line)
@@ -182,22 +191,23 @@ def said_by(command, progress=None, times=None):
                 progress.take(line.rstrip("\n"))
         return "".join(said), run.wait()
 
-    if progress is None:
+    if progress is None or times is None:
         return listen()
+    says = progress.says
     with crate_times.CrateTimes(run.pid, os.getcwd()) as watched:
-        with by_rt.Meanwhile(lambda _: f"{progress.says()}; {watched.at_work()}", EACH, tell):
+        with by_rt.Meanwhile(lambda _: f"{says()}; {watched.at_work()}", EACH, tell):
             found = listen()
     times.update(watched.seconds())
     return found
 
 
-def counts_of_rt(said):
+def counts_of_rt(said: str) -> tuple[int, int]:
     """What `rt ci` has passed and failed, by its last line."""
     lines = re.findall(r"^(\d+) passed, (\d+) failed$", said, re.MULTILINE)
-    return tuple(map(int, lines[-1])) if lines else (0, 0)
+    return (int(lines[-1][0]), int(lines[-1][1])) if lines else (0, 0)
 
 
-def counts_of_unittest(said):
+def counts_of_unittest(said: str) -> tuple[int, int]:
     """What the tests of the tools have passed and failed, by their last two lines."""
     ran = re.findall(r"^Ran (\d+) tests? in ", said, re.MULTILINE)
     end = re.findall(r"^(?:OK|FAILED)(?: \((.*)\))?$", said, re.MULTILINE)
@@ -211,17 +221,17 @@ def counts_of_unittest(said):
 class Counts:
     """What has passed and failed so far."""
 
-    def __init__(self):
+    def __init__(self) -> None:
         self.passed = self.failed = 0
 
-    def add(self, found, status):
+    def add(self, found: tuple[int, int], status: int) -> None:
         """Adds what a command counted. What ends badly, or has passed nothing, has failed, whatever it counts."""
         more, less = found
         self.passed += more
         self.failed += less or (1 if status or not more else 0)
 
 
-def prove(counts, last, times):
+def prove(counts: Counts, last: Last, times: Seconds) -> None:
     """Runs `rt ci`, and writes down what the program that it leaves was built of."""
     kit_line = program.kit(os.getcwd())
     before = program.sum_of_judged(kit_line, os.getcwd())
@@ -232,9 +242,11 @@ def prove(counts, last, times):
         program.write_record(kit_line, sources, f"{counts.passed} passed, 0 failed", os.getcwd())
 
 
-def try_tools(counts, python):
+def try_tools(counts: Counts, python: str) -> tuple[dict[str, float], list[str]]:
     """Runs the tests of the tools, file by file, and answers how long each took, and which tests were skipped and why."""
-    files, took, skipped = sorted(glob.glob("tools/tests/test_*.py")), {}, []
+    files = sorted(glob.glob("tools/tests/test_*.py"))
+    took: dict[str, float] = {}
+    skipped: list[str] = []
     for number, file in enumerate(files, 1):
         name, begin = os.path.basename(file), now()
         tell(f"tools: file {number} of {len(files)}, {name}")
@@ -247,13 +259,14 @@ def try_tools(counts, python):
     return took, skipped
 
 
-def main():
+def main() -> int:
     os.chdir(program.ROOT)
     python = set_up()
     if python is None:
         print("0 passed, 1 failed", flush=True)
         return 1
-    last, counts, times, begin = Last(), Counts(), {}, now()
+    times: Seconds = {}
+    last, counts, begin = Last(), Counts(), now()
     if last.seconds:
         tell(f"the last run on this machine took {minutes(last.seconds)} ({last.date}); what has not changed is not proved again")
     prove(counts, last, times)

@@ -20,6 +20,7 @@ import os
 import re
 import sys
 from collections import namedtuple
+from collections.abc import Collection, Iterable, Iterator
 
 from afdx import files
 
@@ -47,27 +48,34 @@ TYPE = r"^pub(?:\(\w+\))? (?:struct|enum|trait) {}\b"
 
 # Where a name is from: a crate, a path of modules under its specs/, and the name there.
 Source = namedtuple("Source", "crate path name")
+# A name, with what stands behind a point of it.
+Name = tuple[str, str]
+# A crate, and the path of a file in it.
+File = tuple[str, str]
+# Of a file of specs/: what its `use` lines bring, the text that defines each name, and the name that each case is of.
+Definitions = tuple[dict[str, Source], dict[str, str], dict[str, str]]
 
 
-def without_comments(text):
+def without_comments(text: str) -> str:
     return re.sub(r"(?:--|//).*", "", text)
 
 
-def names_in(text):
+def names_in(text: str) -> set[Name]:
     """The names in a text, each with what stands behind a point of it. A field of a value is no name of its own."""
     return {(head, rest[1:]) for head, rest in NAME.findall(text)}
 
 
-def defined_by(line):
+def defined_by(line: str) -> str:
     """The name that a line of a file of specs/ defines, or goes on to define."""
     while any(line.startswith(it) for it in MODIFIERS):
         line = line.partition(" ")[2]
     return re.split(r"[ :]", line)[0]
 
 
-def definitions_in(text):
+def definitions_in(text: str) -> dict[str, str]:
     """For each name that a file of specs/ defines the text that does, with the head of the module around it."""
-    found, around, name = {}, "", None
+    found: dict[str, str] = {}
+    around, name = "", ""
     for line in filter(str.strip, USE.sub("", text).splitlines()):
         depth = len(line) - len(line.lstrip())
         if depth == 0:
@@ -85,24 +93,25 @@ def definitions_in(text):
 class Tree:
     """The crates of the repository, as far as names are concerned."""
 
-    def __init__(self, top=TOP):
+    def __init__(self, top: str = TOP) -> None:
         self.crates = os.path.join(top, "crates")
         with open(os.path.join(top, "crates.txt"), encoding="utf-8") as file:
             self.order = [line.split(":")[0] for line in file if line.strip() and not line.startswith("#")]
-        self.known, self.texts = {}, {}
-        self.code = functools.cache(self.code)
-        self.type_home = functools.cache(self.type_home)
+        self.known: dict[tuple[str, str], Definitions] = {}
+        self.texts: dict[tuple[str, str], str] = {}
+        self.code = functools.cache(self.code)  # type: ignore[assignment]
+        self.type_home = functools.cache(self.type_home)  # type: ignore[assignment]
 
-    def text(self, crate, path):
+    def text(self, crate: str, path: str) -> str:
         if (crate, path) not in self.texts:
             with open(os.path.join(self.crates, crate, *path.split("/")), encoding="utf-8") as file:
                 self.texts[crate, path] = file.read()
         return self.texts[crate, path]
 
-    def code(self, crate, module):
+    def code(self, crate: str, module: str) -> str:
         return without_comments(self.text(crate, f"src/{module}.rt"))
 
-    def home(self, crate, path):
+    def home(self, crate: str, path: str) -> File:
         """The crate and the file that a `use` line names: it may name a type in it too, or a module that is passed on."""
         if crate not in self.order or path.startswith("declared."):
             return crate, path
@@ -113,7 +122,7 @@ class Tree:
             return crate, path
         return self.home(crate, path.rpartition(".")[0])
 
-    def imports_of(self, text):
+    def imports_of(self, text: str) -> dict[str, Source]:
         """What the `use` lines of a text bring: for each name its source. A module with a name of its own has no name there."""
         found = {}
         for crate, path, names, alias in USE.findall(text):
@@ -125,7 +134,7 @@ class Tree:
                 found[called or name] = self.passed_on(Source(crate, path, name))
         return found
 
-    def passed_on(self, source):
+    def passed_on(self, source: Source) -> Source:
         """The source of a name that a file of specs/ only passes on, as `virtual_time/specs/Law.antt` does."""
         path = "specs/" + source.path.replace(".", "/") + ".antt"
         if source.crate in self.order and not source.path.startswith("declared."):
@@ -136,13 +145,13 @@ class Tree:
                         return self.passed_on(Source(crate, home, source.name))
         return source
 
-    def imported(self, names, imports):
+    def imported(self, names: Iterable[Name], imports: dict[str, Source]) -> Iterator[Source]:
         for head, rest in names:
             if head in imports:
                 source = imports[head]
                 yield source if source.name else source._replace(name=rest.split(".")[0])
 
-    def by_definition(self, source):
+    def by_definition(self, source: Source) -> Iterator[Source]:
         """The sources of the names in a definition of specs/."""
         key = source.crate, source.path
         if key not in self.known:
@@ -151,11 +160,12 @@ class Tree:
             cases = {case: name for name, body in texts.items() for case in re.findall(r"^ +(\w+) : ", body, re.MULTILINE)}
             self.known[key] = self.imports_of(text), texts, cases
         imports, texts, cases = self.known[key]
-        names = names_in(texts.get(source.name) or texts.get(cases.get(source.name), ""))
+        case = cases.get(source.name)
+        names = names_in(texts.get(source.name) or (texts[case] if case is not None else ""))
         yield from self.imported(names, imports)
         yield from (source._replace(name=head) for head, _ in names if head in texts or head in cases)
 
-    def by_type(self, crate, module, name):
+    def by_type(self, crate: str, module: str, name: str) -> Iterator[Source]:
         """The sources of the names in a type of the code: those of the value of its model, else those of its fields."""
         text = self.code(crate, module)
         model = re.search(rf"^impl(?:<.*?>)? Model for {name}\b.*?^}}", text, re.MULTILINE | re.DOTALL)
@@ -166,13 +176,13 @@ class Tree:
         shape = re.search(TYPE.format(name) + r".*?(?:;|^})", text, re.MULTILINE | re.DOTALL)
         yield from self.types_of(crate, module, names_in(shape.group()) if shape else ())
 
-    def types_of(self, crate, module, names):
+    def types_of(self, crate: str, module: str, names: Iterable[Name]) -> Iterator[Source]:
         for head, _ in names:
             found = self.type_home(crate, module, head)
             if found:
                 yield found
 
-    def type_home(self, crate, module, name):
+    def type_home(self, crate: str, module: str, name: str) -> Source | None:
         """Where the type is that a file of the code calls so, if it is one of this repository."""
         text = self.code(crate, module)
         if re.search(TYPE.format(name), text, re.MULTILINE):
@@ -188,7 +198,7 @@ class Tree:
                     return self.type_home(crate, inside, name)
         return None
 
-    def by_contract(self, crate, module, function):
+    def by_contract(self, crate: str, module: str, function: str) -> Iterator[Source]:
         """The sources of the names in the contract of a function, and of the types that it takes and answers."""
         text = self.code(crate, module)
         (found,) = re.findall(rf"^ *pub fn {function}\b.*?\n *{{\n", text, re.MULTILINE | re.DOTALL)
@@ -196,10 +206,12 @@ class Tree:
         yield from self.imported(names_in("\n".join(clauses)), self.imports_of(text))
         yield from self.types_of(crate, module, names_in(re.split(r"\n +(?:requires|ensures)", found)[0]))
 
-    def rests_on(self, contracts):
+    def rests_on(self, contracts: Iterable[tuple[str, str, str]]) -> tuple[set[File], set[str]]:
         """The files that these contracts rest on, as pairs of a crate and a path in it; and the libraries that they name."""
         waiting = [source for contract in contracts for source in self.by_contract(*contract)]
-        seen, files, libraries = set(), set(), set()
+        seen: set[Source] = set()
+        files: set[File] = set()
+        libraries: set[str] = set()
         while waiting:
             source = waiting.pop()
             if source in seen:
@@ -217,9 +229,9 @@ class Tree:
                 waiting += self.by_type(source.crate, module, next(part for part in parts[1:] if part[0].isupper()))
         return files, libraries
 
-    def head_of(self, crate, path):
+    def head_of(self, crate: str, path: str) -> str:
         """What a file says of itself: the first sentence of its first comment."""
-        lines = []
+        lines: list[str] = []
         for line in self.text(crate, path).splitlines():
             if not line.startswith(("-- ", "//! ")):
                 break
@@ -227,14 +239,14 @@ class Tree:
         said = re.split(r"(?<!\.)\.(?= |$)", " ".join(lines))[0].removeprefix("Definition: ")
         return said[:1].lower() + said[1:] if said[1:2].islower() or said[1:2] == " " else said
 
-    def by_crate(self, files):
+    def by_crate(self, files: Collection[File]) -> Iterator[tuple[str, list[str], str]]:
         """For each crate, in their order, its files of specs/, and by their names those of src/ with types or the contract."""
         for crate in (it for it in self.order if any(it == crate for crate, _ in files)):
             mine = sorted(path for other, path in files if other == crate)
             types = [f"`{path.removeprefix('src/')}`" for path in mine if path.startswith("src/")]
             yield crate, [path for path in mine if path.startswith("specs/")], ", ".join(types)
 
-    def named(self, files):
+    def named(self, files: Collection[File]) -> str:
         """A line for each crate."""
         rows = ["| Crate | In `specs/` | In `src/` |", "|---|---|---|"]
         for crate, specs, types in self.by_crate(files):
@@ -242,7 +254,7 @@ class Tree:
             rows.append(f"| `{crate}` | {names} | {types} |")
         return "\n".join(rows)
 
-    def told(self, files):
+    def told(self, files: Collection[File]) -> str:
         """A line for each file of specs/, and one for all files of a crate with types of the code."""
         rows = ["| Crate | File | What it says |", "|---|---|---|"]
         for crate, specs, types in self.by_crate(files):
@@ -251,7 +263,7 @@ class Tree:
             rows += [f"| {'' if at else f'`{crate}`'} | {file} | {says} |" for at, (file, says) in enumerate(lines)]
         return "\n".join(rows)
 
-    def lists(self, whole=False):
+    def lists(self, whole: bool = False) -> str:
         """What the document has: the two tables, each with a line that counts. With `whole` it is what the tool prints: what
         each file says of itself, and the names of the files that `run` does not need."""
         table = self.told if whole else self.named
@@ -273,7 +285,7 @@ class Tree:
 
 
 @files.tool("reading_list")
-def main(arguments=None):
+def main(arguments: list[str] | None = None) -> int:
     parser = argparse.ArgumentParser(prog="reading_list", description=__doc__, formatter_class=argparse.RawDescriptionHelpFormatter)
     parser.add_argument("--write", action="store_true", help="puts the lists into docs/PROOFS.md")
     tree = Tree()

@@ -24,7 +24,6 @@ It prints for each command and each test how many requests were refused. The sta
 the few lines of C that refuse.
 """
 import argparse
-import itertools
 import os
 import re
 import shutil
@@ -32,13 +31,14 @@ import subprocess
 import sys
 import tempfile
 from collections import Counter, namedtuple
+from collections.abc import Callable, Iterable
 
 from afdx import files
 
 TOP = os.path.join(os.path.dirname(os.path.abspath(__file__)), "..", "..")
 
 # Where a program of this name is, once it is built.
-def program_of(crate, name):
+def program_of(crate: str, name: str) -> str:
     return os.path.normpath(os.path.join(TOP, "crates", crate, "out", name))
 
 
@@ -159,6 +159,9 @@ TESTS = (
 # killed).
 Ended = namedtuple("Ended", "status output errors files requests")
 
+# How many requests were refused, how the runs ended by their statuses, what calls they printed, and the faults.
+Refused = tuple[int, Counter[int], Counter[str], list[str]]
+
 # After this many runs in a row that made fewer requests, all were refused. With two workers not all make as many.
 MISSES = 3
 
@@ -166,7 +169,7 @@ MISSES = 3
 MOST_FAULTS = 100
 
 
-def compiler():
+def compiler() -> str:
     """A C compiler: that of the machine, or that of the kit."""
     if shutil.which("cc"):
         return "cc"
@@ -174,7 +177,7 @@ def compiler():
     return os.path.join(os.path.dirname(page), "toolchain", "bin", "clang")
 
 
-def library_in(folder, source=REFUSES):
+def library_in(folder: str, source: str = REFUSES) -> str:
     """The library of these lines of C, made in this folder."""
     path, library = os.path.join(folder, "preloaded.c"), os.path.join(folder, "preloaded.so")
     with open(path, "w") as out:
@@ -183,7 +186,7 @@ def library_in(folder, source=REFUSES):
     return library
 
 
-def ended(program, words, folder, library, place, files=()):
+def ended(program: str, words: Iterable[str], folder: str, library: str, place: int, files: Iterable[str] = ()) -> Ended:
     """How these words end in this folder, where the request with this number, from 1, is refused; 0 refuses none. The files
     are gone before and after."""
     for name in files:
@@ -203,7 +206,7 @@ def ended(program, words, folder, library, place, files=()):
     )
 
 
-def text_of(path):
+def text_of(path: str) -> str | None:
     """The text of a file, or None where there is none."""
     try:
         with open(path, encoding="utf-8", errors="replace", newline="") as file:
@@ -212,7 +215,7 @@ def text_of(path):
         return None
 
 
-def fault_of_command(command, found, is_replayed):
+def fault_of_command(command: Command, found: Ended, is_replayed: Callable[[str], object]) -> str | None:
     """What is wrong with how a command ended, or None. A whole journal is one that `is_replayed`."""
     if found.requests is None:
         return f"it was killed with status {found.status}"
@@ -233,24 +236,29 @@ def fault_of_command(command, found, is_replayed):
     return None
 
 
-def fault_of_test(found):
+def fault_of_test(found: Ended) -> str | None:
     """What is wrong with how a test ended, or None."""
     if found.status == 0 and found.output.rstrip().endswith("test result: ok"):
         return None
     return f"status {found.status} and {found.errors.strip()!r}"
 
 
-def calls_in(errors):
+def calls_in(errors: str) -> Counter[str]:
     """How often each call was refused, as a test prints it. Letters to be delivered stand for the call."""
     words = re.findall(r"^(\S+) was refused memory$", errors, re.MULTILINE)
     return Counter("deliver" if word[0] in "+-" else word for word in words)
 
 
-def refuse_each(run, fault_of, status=0):
+def refuse_each(run: Callable[[int], Ended], fault_of: Callable[[Ended], str | None], status: int = 0) -> Refused:
     """Runs with each request refused in turn, until runs make fewer, which end with this status. How many requests were
     refused, how the runs ended by their statuses, what calls they printed, and the faults, a line each."""
-    refused, statuses, calls, faults, misses = 0, Counter(), Counter(), [], 0
-    for place in itertools.count(1):
+    refused, misses = 0, 0
+    statuses: Counter[int] = Counter()
+    calls: Counter[str] = Counter()
+    faults: list[str] = []
+    place = 0
+    while True:
+        place += 1
         found = run(place)
         fault = fault_of(found)
         if fault:
@@ -269,10 +277,10 @@ def refuse_each(run, fault_of, status=0):
         calls += calls_in(found.errors)
 
 
-def refuse_command(program, command, folder, library):
+def refuse_command(program: str, command: Command, folder: str, library: str) -> bool:
     """Refuses each request of a command, and says how that went. Whether it went well."""
 
-    def is_replayed(journal):
+    def is_replayed(journal: str) -> bool | re.Match[str] | None:
         with open(os.path.join(folder, "steps_of_run.txt"), "w", newline="") as out:
             out.write(journal)
         replay = subprocess.run(
@@ -289,7 +297,7 @@ def refuse_command(program, command, folder, library):
     return is_told(command.words, refused, f" (ended {ways})" if ways else "", faults)
 
 
-def refuse_test(program, test, folder, library):
+def refuse_test(program: str, test: Test, folder: str, library: str) -> bool:
     """Refuses each request of a test, and says how that went. Whether it went well."""
     refused, _, calls, faults = refuse_each(
         lambda place: ended(program, [test.name], folder, library, place), fault_of_test
@@ -299,7 +307,7 @@ def refuse_test(program, test, folder, library):
     return is_told(f"{test.crate} {test.name}", refused, f" ({ways})" if ways else "", faults)
 
 
-def is_told(name, refused, ways, faults):
+def is_told(name: str, refused: int, ways: str, faults: list[str]) -> bool:
     """Says how refusing went. Whether it went well."""
     for fault in faults[:20]:
         files.say(f"{name}: {fault}")
@@ -307,7 +315,7 @@ def is_told(name, refused, ways, faults):
     return refused > 0 and not faults
 
 
-def prepare(folder):
+def prepare(folder: str) -> str:
     """Puts the network and the steps into a folder, and the library; its path."""
     shutil.copy(os.path.join(TOP, "examples", "n1.toml"), folder)
     for name, text in {"steps.txt": STEPS, **FAULTY}.items():
@@ -317,7 +325,7 @@ def prepare(folder):
 
 
 @files.tool("refuse_memory")
-def main(arguments=None):
+def main(arguments: list[str] | None = None) -> int:
     words = argparse.ArgumentParser(prog="refuse_memory", description=__doc__, formatter_class=argparse.RawDescriptionHelpFormatter)
     words.add_argument("--only", metavar="WORD", default="", help="only the commands and tests in whose names this stands")
     given = words.parse_args(arguments)

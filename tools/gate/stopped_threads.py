@@ -15,6 +15,8 @@ import os
 import signal
 import subprocess
 import time
+from collections.abc import Sequence
+from typing import Any
 
 TRACEME, CONT, DETACH, SETOPTIONS, GETEVENTMSG, SEIZE, INTERRUPT = 0, 7, 17, 0x4200, 0x4201, 0x4206, 0x4207
 CLONES_TOO, EVENT_OF_CLONE = 8, 3
@@ -30,18 +32,18 @@ class NotAllowed(Exception):
     """This machine does not let one process stop another."""
 
 
-def ptrace(request, tid, data=None):
+def ptrace(request: int, tid: int, data: Any = None) -> None:
     if libc.ptrace(request, tid, None, data) == -1:
         number = ctypes.get_errno()
         raise OSError(number, os.strerror(number))
 
 
-def is_stopped(tid):
+def is_stopped(tid: int) -> bool:
     """Waits for a thread, and answers whether it stands still; else it has ended."""
     return os.WIFSTOPPED(os.waitpid(tid, WALL)[1])
 
 
-def is_allowed():
+def is_allowed() -> bool:
     """Whether this system lets one process stop another."""
     try:
         run, _ = start(["true"], "/", 1)
@@ -51,7 +53,7 @@ def is_allowed():
         return False
 
 
-def stop(tid):
+def stop(tid: int) -> bool:
     """Stops a thread, if it is there. Whether it was."""
     try:
         ptrace(SEIZE, tid)
@@ -63,14 +65,14 @@ def stop(tid):
     return is_stopped(tid)
 
 
-def go_on(tid):
+def go_on(tid: int) -> None:
     """A thread that stands still goes on."""
     # A thread that was killed meanwhile is not there.
     with contextlib.suppress(ProcessLookupError):
         ptrace(DETACH, tid)
 
 
-def threads_of(run):
+def threads_of(run: subprocess.Popen[bytes]) -> list[int]:
     """The threads of a program that runs, but for the first."""
     try:
         return sorted(int(name) for name in os.listdir(f"/proc/{run.pid}/task") if int(name) != run.pid)
@@ -78,7 +80,7 @@ def threads_of(run):
         return []
 
 
-def start(words, folder, number):
+def start(words: Sequence[str], folder: str, number: int) -> tuple[subprocess.Popen[bytes], int | None]:
     """Starts a program, in which the thread of this number, from 1 behind the first, stands still from its birth, before it does
     anything. The answer is the program and this thread; None where the program ended before it had as many."""
     try:
@@ -88,7 +90,8 @@ def start(words, folder, number):
         )
     except subprocess.SubprocessError:
         raise NotAllowed("ptrace: a program may not be traced from its beginning") from None
-    threads, signals = [], 0
+    threads: list[int] = []
+    signals = 0
     status = os.waitpid(run.pid, WALL)[1]
     if os.WIFSTOPPED(status):
         ptrace(SETOPTIONS, run.pid, CLONES_TOO)
@@ -109,7 +112,7 @@ def start(words, folder, number):
     return run, threads[-1]
 
 
-def born(pid):
+def born(pid: int) -> int:
     """The thread that a program has just started, which stands still."""
     tid = ctypes.c_ulong()
     ptrace(GETEVENTMSG, pid, ctypes.byref(tid))
@@ -117,7 +120,7 @@ def born(pid):
     return tid.value
 
 
-def is_alone(run, tid, seconds):
+def is_alone(run: subprocess.Popen[bytes], tid: int, seconds: float) -> bool:
     """Whether all threads of a program but the first and this one, which stands still, end in this time."""
     end = time.monotonic() + seconds
     while time.monotonic() < end:

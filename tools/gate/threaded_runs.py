@@ -36,6 +36,7 @@ import shutil
 import subprocess
 import sys
 import tempfile
+from collections.abc import Callable
 
 from afdx import files
 from afdx.commands import large_network
@@ -75,13 +76,13 @@ status:
 """
 
 
-def power(draw, most):
+def power(draw: random.Random, most: int) -> int:
     """A number from 1 to the most, as likely to have few binary digits as many."""
     low = 2 ** draw.randrange(most.bit_length())
     return min(most, draw.randrange(low, 2 * low))
 
 
-def network_of(draw, is_large):
+def network_of(draw: random.Random, is_large: bool) -> toml_lines.Table:
     """The tree of a drawn network."""
     end_systems, switches, vls = ((4, 12), (2, 4), (8, 40)) if is_large else ((2, 6), (1, 3), (1, 12))
     words = large_network.words_of(
@@ -90,7 +91,7 @@ def network_of(draw, is_large):
         + ["--port-bytes", str(draw.choice([1518, 4096, 65536])), "--until", str(draw.randint(1, 20) * 10**6)]
         + ["--seed", str(draw.randint(0, GREATEST_SEED)), "--sub", "4", "--policing", "both"]
     )
-    pieces = []
+    pieces: list[str] = []
     refusal = large_network.write_network(words, pieces.append, lambda _: None)
     if refusal:
         raise ValueError(refusal)
@@ -102,7 +103,7 @@ def network_of(draw, is_large):
     return tree
 
 
-def bend(tree, draw):
+def bend(tree: toml_lines.Table, draw: random.Random) -> None:
     """Changes a description, so that frames wait, are late and are lost."""
     for link in tree["link"]:
         link["mbit"] = draw.choice([10, 100, 100, 100])
@@ -134,7 +135,7 @@ def bend(tree, draw):
         tree["outage"].append({"from": ends[0], "to": ends[1]} | times)
 
 
-def move_to_the_latest_end(tree):
+def move_to_the_latest_end(tree: toml_lines.Table) -> None:
     """The same network, with all of its moments as late as can be."""
     late = LATEST_NS - tree["until_ns"]
     tree["until_ns"] = LATEST_NS
@@ -148,7 +149,7 @@ def move_to_the_latest_end(tree):
 class Drawn:
     """What run number `number` has: its network, and the words that set its pace."""
 
-    def __init__(self, number):
+    def __init__(self, number: int) -> None:
         draw = random.Random(number)
         self.number = number
         self.is_large = number % 2 == 1
@@ -166,11 +167,11 @@ class Drawn:
         self.has_journal = self.is_large or number % 10 == 0
         self.has_stopped = number % 10 == 5
 
-    def pace(self):
+    def pace(self) -> list[str]:
         groups = [] if self.groups is None else ["--groups", str(self.groups)]
         return ["--workers", str(self.workers), *groups, "--turn", str(self.turn), "--window", str(self.window)]
 
-    def has_several_members(self, groups):
+    def has_several_members(self, groups: int) -> bool:
         """Whether this number of groups are several with several members each. Lines go with the node to which they lead; where groups are
         more than nodes, processes go to them in turn."""
         return groups > 1 and (groups <= self.nodes or self.processes > groups + 1)
@@ -180,12 +181,12 @@ class Difference(Exception):
     """What a run did that it must not do."""
 
 
-def read(path):
+def read(path: str) -> bytes:
     with open(path, "rb") as file:
         return file.read()
 
 
-def ended(program, words, folder, seconds):
+def ended(program: str, words: list[str], folder: str, seconds: int) -> tuple[bytes, bytes]:
     """The bytes that a command prints on both streams. Its status must be 0."""
     try:
         run = subprocess.run([program, *words], cwd=folder, capture_output=True, timeout=seconds)
@@ -196,12 +197,12 @@ def ended(program, words, folder, seconds):
     return run.stdout, run.stderr
 
 
-def same(found, wanted, what):
+def same(found: bytes, wanted: bytes, what: str) -> None:
     if found != wanted:
         raise Difference(f"{what} differ from those of seq")
 
 
-def hold(program, drawn, folder, seconds):
+def hold(program: str, drawn: Drawn, folder: str, seconds: int) -> set[str]:
     """Makes a run and holds it against the one-thread run. The answer is what it did, and whether it could be looked for."""
     with open(os.path.join(folder, "net.toml"), "w", encoding="utf-8") as out:
         out.write(drawn.network)
@@ -232,7 +233,7 @@ def hold(program, drawn, folder, seconds):
     return did
 
 
-def hold_with_stopped(program, words, folder, seconds, workers, tables):
+def hold_with_stopped(program: str, words: list[str], folder: str, seconds: int, workers: int, tables: bytes) -> set[str]:
     """Makes a run whose last worker stands still until all others have ended, if they do soon. The answer is what they did."""
     try:
         run, thread = stopped_threads.start([program, *words], folder, workers)
@@ -256,13 +257,13 @@ def hold_with_stopped(program, words, folder, seconds, workers, tables):
     return {SERVED} if is_served else set()
 
 
-def has_rolled_back(journal):
+def has_rolled_back(journal: bytes) -> bool:
     """Whether a run with this journal, which has committed all events, handled more than that."""
     lines = b"\n" + journal
     return lines.count(b"\nR ") > lines.count(b"\nC ")
 
 
-def hold_by_second_opinion(program, drawn, folder, seconds):
+def hold_by_second_opinion(program: str, drawn: Drawn, folder: str, seconds: int) -> set[str]:
     """Makes a run of one thread and holds it against the second opinion."""
     with open(os.path.join(folder, "net.toml"), "w", encoding="utf-8") as out:
         out.write(drawn.network)
@@ -277,7 +278,7 @@ def hold_by_second_opinion(program, drawn, folder, seconds):
     return set()
 
 
-def one_run(words, number, tell):
+def one_run(words: argparse.Namespace, number: int, tell: Callable[[str], object]) -> set[str]:
     """Makes one run, prints what it did and must not do, and returns what came out, each in a few words."""
     drawn = Drawn(number)
     folder = tempfile.mkdtemp(prefix=f"threaded-run-{number}-")
@@ -294,7 +295,7 @@ def one_run(words, number, tell):
     return found
 
 
-def words_of(arguments=None):
+def words_of(arguments: list[str] | None = None) -> argparse.Namespace:
     parser = argparse.ArgumentParser(
         prog="threaded_runs", description=__doc__, epilog=EXAMPLES, formatter_class=argparse.RawDescriptionHelpFormatter
     )
@@ -313,9 +314,9 @@ def words_of(arguments=None):
 
 
 @files.tool("threaded_runs")
-def main(arguments=None):
+def main(arguments: list[str] | None = None) -> int:
     words = words_of(arguments)
-    outcomes = collections.Counter()
+    outcomes: collections.Counter[str] = collections.Counter()
     for number in range(words.first, words.first + words.runs):
         outcomes.update(one_run(words, number, files.say))
     other = "the second opinion" if words.second_opinion else "seq"

@@ -36,10 +36,11 @@ import argparse
 import collections
 import operator
 import sys
+from collections.abc import Collection
 
 from afdx import files
 from afdx.model import whole
-from gate.turn_groups import Groups, NEVER, drawn
+from gate.turn_groups import Groups, Letters, NEVER, Network, drawn
 
 EXAMPLES = """
 examples, in tools/:
@@ -80,8 +81,30 @@ class State:
     )
     NUMBERS = ("resting", "gvt_ns", "gvt", "sections", "stop")
     __slots__ = (*LISTS, *NUMBERS, "workers")
+    next_ns: list[int]
+    letter_ns: list[int]
+    rests: list[bool]
+    seats: list[int | None]
+    floors: list[int]
+    boxes: list[Letters]
+    trays: list[Letters]
+    abroad: list[Letters]
+    counts: list[int]
+    done: list[bool]
+    otherwise: list[int]
+    committed: list[bool]
+    blocks: list[bool]
+    seen: list[int]
+    unposted: list[int]
+    seat_next: list[int]
+    resting: int
+    gvt_ns: int
+    gvt: int
+    sections: int
+    stop: bool
+    workers: list["Worker"]
 
-    def copy(self, number):
+    def copy(self, number: int | None) -> "State":
         """The same, in which this worker, if one is given, is a copy too."""
         other = State.__new__(State)
         for name, values in zip(State.LISTS, LISTS_OF(self)):
@@ -92,7 +115,7 @@ class State:
             other.workers[number] = self.workers[number].copy()
         return other
 
-    def key(self):
+    def key(self) -> tuple[object, ...]:
         return *map(tuple, LISTS_OF(self)), *NUMBERS_OF(self), *[(*OWN_OF(it), *it.letters) for it in self.workers]
 
 
@@ -104,19 +127,34 @@ class Worker:
         "is_parked", "behind_wakes",
     )
     __slots__ = (*OWN, "letters")
+    at: str
+    group: int
+    place: int
+    is_own: bool
+    worked: bool
+    has_worked: bool
+    handled: int
+    limit: int
+    other_limit: int
+    looks: int
+    patience: int
+    then: str | None
+    is_parked: bool
+    behind_wakes: str | None
+    letters: list[int]
 
-    def __init__(self, groups):
+    def __init__(self, groups: int) -> None:
         self.at, self.looks, self.patience, self.is_parked = "turns_until_over", 0, LOOKS_BEFORE_HELP, False
         self.letters = [NEVER] * groups
         self.forget()
 
-    def forget(self):
+    def forget(self) -> None:
         """What is not needed any more is the same in all states."""
         self.group = self.place = self.handled = self.limit = self.other_limit = 0
         self.is_own = self.worked = self.has_worked = False
         self.then = self.behind_wakes = None
 
-    def copy(self):
+    def copy(self) -> "Worker":
         other = Worker.__new__(Worker)
         for name, value in zip(Worker.OWN, OWN_OF(self)):
             setattr(other, name, value)
@@ -130,12 +168,15 @@ LISTS_OF, NUMBERS_OF, OWN_OF = (operator.attrgetter(*it) for it in (State.LISTS,
 class Model:
     """The steps of the workers, each a method, which changes a state of its own."""
 
-    def __init__(self, network, workers, window, has_wake_up=True, has_timeouts=False, gives_up=False, wrong=()):
+    def __init__(
+        self, network: Network, workers: int, window: int, has_wake_up: bool = True, has_timeouts: bool = False, gives_up: bool = False,
+        wrong: Collection[str] = (),
+    ) -> None:
         self.network, self.count, self.window = network, workers, window
         self.groups = Groups(network)
         self.has_wake_up, self.has_timeouts, self.gives_up, self.wrong = has_wake_up, has_timeouts, gives_up, wrong
 
-    def beginning(self):
+    def beginning(self) -> State:
         network, s = self.network, State.__new__(State)
         groups, events = network.groups, len(network.at)
         s.next_ns, s.letter_ns, s.seats = [NEVER] * groups, [0] * groups, [None] * groups
@@ -150,10 +191,10 @@ class Model:
         s.workers = [Worker(groups) for _ in range(self.count)]
         return s
 
-    def is_end(self, s):
+    def is_end(self, s: State) -> bool:
         return all(worker.at == "ended" for worker in s.workers)
 
-    def after(self, state, number):
+    def after(self, state: State, number: int) -> State | None:
         """The state after the next step of a worker, or None where it cannot step."""
         if number == self.count:
             return self.after_giving_up(state)
@@ -167,7 +208,7 @@ class Model:
             getattr(self, me.at)(s, me, number)
         return s
 
-    def after_giving_up(self, state):
+    def after_giving_up(self, state: State) -> State | None:
         """The state after the calling thread gives the workers up, at any moment: they are to stop, and are woken."""
         if not self.gives_up or state.stop:
             return None
@@ -179,25 +220,25 @@ class Model:
 
     # ---- report.rt, moments.rt ----
 
-    def owner(self, group):
+    def owner(self, group: int) -> int:
         return group % self.count
 
-    def limit(self, s):
+    def limit(self, s: State) -> int:
         return NEVER if self.network.groups == 1 else min(NEVER, min(s.next_ns + s.letter_ns) + LEAD)
 
-    def is_over(self, s):
+    def is_over(self, s: State) -> bool:
         return s.stop or s.gvt_ns > self.network.until
 
-    def waits_for_gvt(self, s, group):
+    def waits_for_gvt(self, s: State, group: int) -> bool:
         return s.seat_next[group] >= s.seen[group] + self.window
 
-    def is_due(self, s, group, limit):
+    def is_due(self, s: State, group: int, limit: int) -> bool:
         return s.seat_next[group] < limit and not self.waits_for_gvt(s, group)
 
-    def is_told_due(self, s, group, limit):
+    def is_told_due(self, s: State, group: int, limit: int) -> bool:
         return s.next_ns[group] < limit or s.letter_ns[group] < limit
 
-    def is_to_meet(self, s, group, limit, looks):
+    def is_to_meet(self, s: State, group: int, limit: int, looks: int) -> bool:
         if s.unposted[group] >= MOST_UNPOSTED:
             return True
         if "blind" not in self.wrong and s.letter_ns[group] <= s.seat_next[group] and s.letter_ns[group] < limit:
@@ -211,11 +252,11 @@ class Model:
 
     # ---- worker.rt ----
 
-    def turns_until_over(self, s, me, number):
+    def turns_until_over(self, s: State, me: Worker, number: int) -> None:
         me.forget()
         me.at = "end" if self.is_over(s) else "own_turns"
 
-    def own_turns(self, s, me, number):
+    def own_turns(self, s: State, me: Worker, number: int) -> None:
         """The next group of its own, or what follows behind them."""
         own = [group for group in range(me.place, self.network.groups) if self.owner(group) == number]
         if own:
@@ -227,7 +268,7 @@ class Model:
             me.forget()
             me.at = "turn_of_others" if me.looks >= me.patience else "found_nothing"
 
-    def turn_of(self, s, me, number):
+    def turn_of(self, s: State, me: Worker, number: int) -> None:
         group, me.at = me.group, "behind_turn"
         if s.seats[group] is None:
             s.seats[group] = number
@@ -237,7 +278,7 @@ class Model:
             else:
                 me.at = "handle_due" if self.is_due(s, group, me.limit) else "give_back"
 
-    def behind_turn(self, s, me, number):
+    def behind_turn(self, s: State, me: Worker, number: int) -> None:
         worked, me.worked, me.limit, me.at = me.worked, False, 0, "own_turns"
         if me.is_own:
             me.has_worked |= worked
@@ -247,10 +288,10 @@ class Model:
         else:
             me.at = "look_at_others"
 
-    def turn_of_others(self, s, me, number):
+    def turn_of_others(self, s: State, me: Worker, number: int) -> None:
         me.other_limit, me.at = self.limit(s), "look_at_others"
 
-    def look_at_others(self, s, me, number):
+    def look_at_others(self, s: State, me: Worker, number: int) -> None:
         """Whether the next group is another worker's and due."""
         if me.place == self.network.groups:
             me.at = "found_nothing"
@@ -259,7 +300,7 @@ class Model:
         if self.owner(me.group) != number and self.is_told_due(s, me.group, me.other_limit):
             me.at = "turn_of"
 
-    def meet(self, s, me, number):
+    def meet(self, s: State, me: Worker, number: int) -> None:
         group, waits = me.group, self.waits_for_gvt(s, me.group)
         self.groups.post(s, group, me.letters)
         s.sections = (s.sections + 1) % SECTIONS_PER_GVT
@@ -273,24 +314,25 @@ class Model:
         s.unposted[group] = 0
         self.call_on(s, me)
 
-    def call_on(self, s, me):
+    def call_on(self, s: State, me: Worker) -> None:
         """What follows where letters are left to be called, or none."""
         if "mute" in self.wrong:
             me.letters = [NEVER] * self.network.groups
         me.at = "call_all" if any(letter != NEVER for letter in me.letters) else "tell_next"
 
-    def call_all(self, s, me, number):
+    def call_all(self, s: State, me: Worker, number: int) -> None:
         group = next(group for group, letter in enumerate(me.letters) if letter != NEVER)
         s.letter_ns[group] = min(s.letter_ns[group], me.letters[group])
         me.letters[group] = NEVER
         self.call_on(s, me)
 
-    def tell_next(self, s, me, number):
+    def tell_next(self, s: State, me: Worker, number: int) -> None:
         s.next_ns[me.group] = s.seat_next[me.group]
+        assert me.then is not None
         me.at, me.then = me.then, None
         me.limit = self.limit(s)
 
-    def handle_due(self, s, me, number):
+    def handle_due(self, s: State, me: Worker, number: int) -> None:
         group = me.group
         most = min(PIECE, TURN - me.handled)
         count = self.groups.work(s, group, most, min(me.limit, s.letter_ns[group], s.seen[group] + self.window))
@@ -307,13 +349,13 @@ class Model:
         is_to_post = letters != NEVER or s.blocks[group] and not me.is_own
         me.at, me.then = ("meet", "wake_due") if is_to_post and "unposted" not in self.wrong else ("wake_due", None)
 
-    def give_back(self, s, me, number):
+    def give_back(self, s: State, me: Worker, number: int) -> None:
         s.seats[me.group] = None
         me.at = "behind_turn"
         if not me.is_own and self.has_wake_up:
             me.at, me.behind_wakes = "wake_due", "behind_turn"
 
-    def found_nothing(self, s, me, number):
+    def found_nothing(self, s: State, me: Worker, number: int) -> None:
         me.forget()
         me.looks += 1
         if me.looks > LOOKS_BEFORE_REST + LOOKS_PER_GVT - 1:
@@ -327,7 +369,7 @@ class Model:
                 return
         me.at = "rest" if is_long else "turns_until_over"
 
-    def publish(self, s, me, number):
+    def publish(self, s: State, me: Worker, number: int) -> None:
         self.groups.publish(s)
         follows = "rest" if me.looks >= LOOKS_BEFORE_REST else "turns_until_over"
         if s.gvt_ns != s.gvt:
@@ -338,12 +380,12 @@ class Model:
 
     # ---- signals.rt ----
 
-    def wake_due(self, s, me, number):
+    def wake_due(self, s: State, me: Worker, number: int) -> None:
         if not s.resting:
             return self.end_wakes(me)
         me.limit, me.handled, me.at = self.limit(s), 0, "wake_of"
 
-    def wake_of(self, s, me, number):
+    def wake_of(self, s: State, me: Worker, number: int) -> None:
         """`handled` is the place in the list of groups: nothing is handled meanwhile."""
         group = me.handled
         if group == self.network.groups:
@@ -353,48 +395,49 @@ class Model:
         else:
             me.handled += 1
 
-    def wake(self, s, me, number):
+    def wake(self, s: State, me: Worker, number: int) -> None:
         self.wake_worker(s, self.owner(me.handled))
         me.handled, me.at = me.handled + 1, "wake_of"
 
-    def wake_worker(self, s, other):
+    def wake_worker(self, s: State, other: int) -> None:
         s.rests[other] = False
         if s.workers[other].is_parked:
             s.workers[other] = s.workers[other].copy()
             s.workers[other].is_parked = False
 
-    def end_wakes(self, me):
+    def end_wakes(self, me: Worker) -> None:
+        assert me.behind_wakes is not None
         me.at, me.behind_wakes, me.limit, me.handled = me.behind_wakes, None, 0, 0
 
-    def rest(self, s, me, number):
+    def rest(self, s: State, me: Worker, number: int) -> None:
         s.resting += 1
         s.rests[number] = True
         me.at = "look_before_rest"
 
-    def look_before_rest(self, s, me, number):
+    def look_before_rest(self, s: State, me: Worker, number: int) -> None:
         if self.is_over(s):
             me.at = "end_rest"
         else:
             me.limit, me.at = self.limit(s), "is_any_due"
 
-    def is_any_due(self, s, me, number):
+    def is_any_due(self, s: State, me: Worker, number: int) -> None:
         own = [group for group in range(self.network.groups) if self.owner(group) == number and s.seats[group] is None]
         is_any = any(self.is_due(s, group, me.limit) or self.is_to_meet(s, group, me.limit, NEVER) for group in own)
         me.limit, me.at = 0, "end_rest" if is_any else "park"
 
-    def park(self, s, me, number):
+    def park(self, s: State, me: Worker, number: int) -> None:
         me.is_parked = s.rests[number]
         me.at = "asleep" if s.rests[number] else "end_rest"
 
-    def asleep(self, s, me, number):
+    def asleep(self, s: State, me: Worker, number: int) -> None:
         me.is_parked, me.at = False, "end_rest"
 
-    def end_rest(self, s, me, number):
+    def end_rest(self, s: State, me: Worker, number: int) -> None:
         s.rests[number] = False
         s.resting -= 1
         me.at = "turns_until_over"
 
-    def end(self, s, me, number):
+    def end(self, s: State, me: Worker, number: int) -> None:
         """`place` is that in the list of workers."""
         if me.place == self.count:
             me.forget()
@@ -405,16 +448,24 @@ class Model:
             me.place += 1
 
 
+# A worker and its step; and the state before one, None at the beginning.
+Step = tuple[int, str]
+Parent = tuple[int, int, str] | None
 # What came out: how many states there are, how many of them cannot come to the end, whether all were listed, and the way to the
 # first of those that cannot: the worker and its step, each time.
 Found = collections.namedtuple("Found", "states lost is_whole trail")
 
 
-def tried(model, most):
+def tried(model: Model, most: int) -> Found:
     """Lists all states, breadth first, up to a number, and finds out from which of them the end can be reached."""
     beginning = model.beginning()
-    numbers, states, before, parents, ends = {beginning.key(): 0}, [beginning], [[]], [None], []
+    numbers = {beginning.key(): 0}
+    states: list[State | None] = [beginning]
+    before: list[list[int]] = [[]]
+    parents: list[Parent] = [None]
+    ends: list[int] = []
     for at, state in enumerate(states):
+        assert state is not None
         if len(states) > most:
             return Found(len(states), 0, False, [])
         states[at] = None
@@ -436,7 +487,7 @@ def tried(model, most):
     return Found(len(states), *lost_of(before, ends, parents))
 
 
-def lost_of(before, ends, parents):
+def lost_of(before: list[list[int]], ends: list[int], parents: list[Parent]) -> tuple[int, bool, list[Step]]:
     """How many states cannot come to the end; True; and the way to the first one."""
     reaches = [False] * len(before)
     for end in ends:
@@ -447,14 +498,15 @@ def lost_of(before, ends, parents):
                 reaches[one] = True
                 ends.append(one)
     first = next((at for at, it in enumerate(reaches) if not it), None)
-    trail, at = [], first
-    while at and parents[at]:
-        at, number, step = parents[at]
+    trail: list[Step] = []
+    place = first
+    while place and (parent := parents[place]):
+        place, number, step = parent
         trail.insert(0, (number, step))
     return reaches.count(False), True, trail
 
 
-def words_of(arguments):
+def words_of(arguments: list[str] | None) -> argparse.Namespace:
     parser = argparse.ArgumentParser(
         prog="turn_model", description=__doc__, epilog=EXAMPLES, formatter_class=argparse.RawDescriptionHelpFormatter
     )
@@ -475,7 +527,7 @@ def words_of(arguments):
 
 
 @files.tool("turn_model")
-def main(arguments=None):
+def main(arguments: list[str] | None = None) -> int:
     words = words_of(arguments)
     is_well = True
     for seed in range(words.first, words.first + words.networks):

@@ -8,31 +8,40 @@ frame later is kept. Other offsets may make it later still: what is found is rea
 """
 import contextlib
 import random
-from collections import namedtuple
+from collections.abc import Callable, Iterable, Iterator, Mapping, Sequence
 from itertools import repeat
+from typing import Any, NamedTuple
 
 from afdx import files, model
 from afdx.files import Fault
+from afdx.files.program import Maker
 from afdx.reckon import network_calculus
+from afdx.reckon.limits import Limit
 from afdx.runs import reading_processes, run_results, second_opinion, side_by_side
+from afdx.runs.side_by_side import Keep, Run, Runs, Shown
 
 # How often an offset is moved to see whether the frame comes later, and how often all are set right again: with this number
 # of frames that meet it, and with more of them less often.
 MOVES, OF_FRAMES, ROUNDS = 200, 20, 6
+# A virtual link and a destination, and the network besides.
+Key = tuple[int, str]
+Way = tuple[int, str, str]
+# When a virtual link comes to a line's port, and to a node by each network.
+Met = dict[tuple[int, str] | tuple[int, str, str], int]
 
 
 class Meeting(second_opinion.Simulation):
     """A run that notes when the first frame of each virtual link comes to each line's port, and to nodes by each network."""
 
-    def __init__(self, tree):
-        self.came = {}
+    def __init__(self, tree: Mapping[str, Any]) -> None:
+        self.came: Met = {}
         super().__init__(tree)
 
-    def put(self, t, p, q, frame, high):
+    def put(self, t: int, p: int, q: int, frame: second_opinion.Copy, high: bool) -> None:
         self.came.setdefault((frame[0], self.names[self.out[p, q]]), t)
         super().put(t, p, q, frame, high)
 
-    def handle(self, t, p, variant, fields):
+    def handle(self, t: int, p: int, variant: str, fields: tuple[Any, ...]) -> None:
         if variant == "Arrive":
             frame = fields[1]
             self.came.setdefault((frame[0], self.names[p], frame[5]), t)
@@ -43,14 +52,14 @@ class Aim:
     """The way of a virtual link to a destination on a network, and who meets it where. Moments are those of first
     offers, which are at 0 for the aimed one until `offsets` moves all of them."""
 
-    def __init__(self, net, found, vl, where, side):
+    def __init__(self, net: model.Network, found: network_calculus.Bounds, vl: int, where: str, side: str) -> None:
         self.net, self.vl, self.where, self.side = net, net.vls[vl], where, side
         path = next(path for path in self.vl.paths[side] if path[-1] == where)
         self.lines = model.lines_of_path(path)
         ports = [found.ports[line] for line in self.lines]
         # For each of the others where it meets the way first, how long it takes to come there if nothing delays it, and by
         # which line it comes.
-        self.meets = {}
+        self.meets: dict[int, tuple[int, int, network_calculus.Port | None]] = {}
         for place, port in enumerate(ports):
             for hop in port.hops:
                 other = hop.link.vl.id
@@ -58,16 +67,17 @@ class Aim:
                     self.meets[other] = place, hop.earliest(), hop.before and hop.before.port
         self.tree = self.of_these()
         # `due` has when each of the others is to be at the port where it meets the way.
-        self.offers, self.due = {vl: 0}, {}
+        self.offers: dict[int, int] = {vl: 0}
+        self.due: dict[int, int] = {}
 
-    def of_these(self):
+    def of_these(self) -> dict[str, Any]:
         """What the description says, with the virtual links alone that meet."""
         tree = dict(self.net.description.tree)
         tree["vl"] = [row for row in tree["vl"] if row["id"] == self.vl.id or row["id"] in self.meets]
         tree["outage"] = []
         return tree
 
-    def met(self):
+    def met(self) -> Met:
         """When first frames come to ports and nodes, with the offers so far; none other is offered."""
         begin = -min(self.offers.values())
         rows = []
@@ -79,11 +89,11 @@ class Aim:
         run.run()
         return {place: moment - begin for place, moment in run.came.items()}
 
-    def arrival(self, met=None):
+    def arrival(self, met: Met | None = None) -> int:
         """How long after its offer the aimed frame is at the destination, or 0 where it is lost."""
         return (self.met() if met is None else met).get((self.vl.id, self.where, self.side), 0)
 
-    def set_ahead(self):
+    def set_ahead(self) -> None:
         """Sets the others so that they meet the frame, port by port. Where they go behind it by their priority, they come
         before all that go ahead, so that one of them is being sent when these come."""
         for place, line in enumerate(self.lines):
@@ -95,10 +105,11 @@ class Aim:
             behind = self.set_group(came, 1, [other for other in meeting if not goes_behind(other)])
             self.set_group(came, behind + 1, [other for other in meeting if goes_behind(other)])
 
-    def set_group(self, came, behind, others):
+    def set_group(self, came: int, behind: int, others: list[int]) -> int:
         """Sets some of those that meet the frame at a port, of each line one behind the other, so that the last ones are
         there the given ns before it. Returns how many ns before it the first of them is there."""
-        lines, first = {}, behind
+        lines: dict[network_calculus.Port | None, int] = {}
+        first = behind
         # The longest frame comes last, so that most of it is still to be sent.
         for other in sorted(others, key=lambda it: (-self.net.vls[it].size, it)):
             _, earliest, up = self.meets[other]
@@ -110,7 +121,7 @@ class Aim:
                 lines[up] = ahead + (self.net.vls[other].size + model.BYTES_BETWEEN_FRAMES) * up.byte_ns
         return first
 
-    def set_right(self):
+    def set_right(self) -> None:
         """The others delay each other on their own ways. So they are offered earlier by what they were late, or later,
         some times over; the offers by which the frame came latest are kept."""
         met = self.met()
@@ -125,7 +136,7 @@ class Aim:
                 best, kept = self.arrival(met), dict(self.offers)
         self.offers = kept
 
-    def improve(self, moves):
+    def improve(self, moves: int) -> int:
         """Moves offers here and there, and keeps what makes the frame later."""
         draw, best = random.Random(f"{self.vl.id} {self.where} {self.side}"), self.arrival()
         others = sorted(self.meets)
@@ -144,25 +155,28 @@ class Aim:
                 self.offers[other] = before
         return best
 
-    def offsets(self, seed):
+    def offsets(self, seed: int) -> dict[int, int]:
         """The offset of each virtual link, so that its first offer is at its moment with the jitter that this seed draws.
         Those that do not meet are first offered when the aimed frame has arrived."""
-        first, arrived = {}, self.arrival()
+        first: dict[int, int] = {}
+        arrived = self.arrival()
         for vl in self.net.vls.values():
             first[vl.id] = self.offers[vl.id] - self.drawn(seed, vl) if vl.id in self.offers else arrived
         begin = -min(first.values())
         return {vl: moment + begin for vl, moment in first.items()}
 
     @staticmethod
-    def drawn(seed, vl):
+    def drawn(seed: int, vl: model.VirtualLink) -> int:
         """The jitter of the first offer."""
         return next(model.words(seed, vl.id)) % (vl.jitter_ns + 1)
 
-    def name(self):
+    def name(self) -> str:
         return f"virtual link {self.vl.id} at {self.where} by {self.side}"
 
 
-def aimed(net, vl, where, side, found=None, moves=MOVES):
+def aimed(
+    net: model.Network, vl: int, where: str, side: str, found: network_calculus.Bounds | None = None, moves: int = MOVES
+) -> tuple[Aim, int]:
     """Who meets a virtual link on its way to a destination on a network, set so that it comes late, and how late it is."""
     aim = Aim(net, found or network_calculus.Bounds(net), vl, where, side)
     aim.set_ahead()
@@ -172,23 +186,42 @@ def aimed(net, vl, where, side, found=None, moves=MOVES):
 
 # ---- runs ----
 
-HEAD = "vl,where,network,seed,plain_ns,aimed_ns,frame_ns,way_ns,bound_ns,wait_ns"
+
+class Line(NamedTuple):
+    """What a line of the table has."""
+
+    vl: int
+    where: str
+    network: str
+    seed: int
+    plain_ns: int
+    aimed_ns: int
+    frame_ns: int
+    way_ns: int | None
+    bound_ns: int | None
+    wait_ns: int | None
+
+
+HEAD = ",".join(Line._fields)
+# Whom a run is aimed at, and how late the frame is.
+Course = tuple[Aim, int]
 
 
 class Search(reading_processes.Reckoner):
     """Looks for the offsets of aimed runs, several of them side by side in processes of their own."""
 
-    def __init__(self, net, found, moves):
+    def __init__(self, net: model.Network, found: network_calculus.Bounds, moves: int) -> None:
         self.net, self.bounds, self.moves = net, found, moves
 
-    def answer(self, *way):
+    def answer(self, *way: Any) -> tuple[dict[int, int], int]:
         """The offers by which a frame on a way comes late, and how late it is."""
-        aim, frame = aimed(self.net, *way, self.bounds, self.moves)
+        vl, where, side = way
+        aim, frame = aimed(self.net, vl, where, side, self.bounds, self.moves)
         return aim.offers, frame
 
-    def courses(self, ways, jobs, tell):
+    def courses(self, ways: Sequence[Way], jobs: int, tell: Callable[[int], object]) -> list[Course]:
         """For each way whom the runs are aimed at and how late the frame is; `tell` hears how many were found."""
-        found = []
+        found: list[Course] = []
         with contextlib.closing(reading_processes.answers(self, ways, jobs)) as answers:
             for way, (offers, frame) in zip(ways, answers):
                 aim = Aim(self.net, self.bounds, *way)
@@ -202,8 +235,12 @@ class AimedRuns:
     """The runs of a campaign that aims at destinations of virtual links, and what came of them: one for each of them, each
     network and each seed, beside that of the description with this seed. Limits are held against them."""
 
-    def __init__(self, net, wanted, seeds, limits=(), moves=MOVES):
-        self.net, self.seeds, self.limits = net, seeds, dict(limits)
+    # A network here can be changed: commands/campaign.py has its class.
+    def __init__(
+        self, net: Any, wanted: Iterable[Key], seeds: Sequence[int], limits: Mapping[Key, Limit] | tuple[()] = (), moves: int = MOVES
+    ) -> None:
+        self.net, self.seeds = net, seeds
+        self.limits: dict[Key, Limit] = dict(limits)
         self.bounds = network_calculus.Bounds(net)
         self.ways = [
             (vl, where, side)
@@ -211,24 +248,27 @@ class AimedRuns:
             for side in sorted(net.vls[vl].paths)
             if side in self.bounds.by_network.get((vl, where), {})
         ]
-        self.search, self.courses = Search(net, self.bounds, moves), []
-        self.lines, self.done, self.status, self.failure = [], 0, 0, None
+        self.search = Search(net, self.bounds, moves)
+        self.courses: list[Course] = []
+        self.lines: list[Line] = []
+        self.done, self.status = 0, 0
+        self.failure: str | None = None
 
-    def count(self):
+    def count(self) -> int:
         return len(self.seeds) * (1 + len(self.ways))
 
-    def aim(self, jobs, tell=lambda done: None):
+    def aim(self, jobs: int, tell: Callable[[int], object] = lambda done: None) -> None:
         """Looks for the offsets of all runs."""
         self.courses = self.search.courses(self.ways, jobs, tell)
 
-    def plan(self):
+    def plan(self) -> Iterator[tuple[int, Course | None]]:
         """For each run its seed, and whom it is aimed at, or None."""
         for seed in self.seeds:
             yield seed, None
             for course in self.courses:
                 yield seed, course
 
-    def runs(self):
+    def runs(self) -> Iterator[Run]:
         for seed, course in self.plan():
             if course is None:
                 yield side_by_side.Run(f"seed {seed}", self.net.with_seed(seed, False))
@@ -241,10 +281,11 @@ class AimedRuns:
                     raise Fault(self.net.path, self.net.description.line("top", None, "until_ns"), text)
                 yield side_by_side.Run(f"aimed at {aim.name()}, seed {seed}", self.net.with_offsets(seed, offsets))
 
-    def run(self, maker, keep, progress, jobs):
+    def run(self, maker: Runs, keep: Keep, progress: Shown, jobs: int) -> None:
         """Has all runs made, and takes what they say. The first one that fails ends it."""
         progress.listen(maker)
-        plain, keys = None, run_results.keys_of(self.net)
+        plain: dict[Key, int] = {}
+        keys = run_results.keys_of(self.net)
         reader, jobs = run_results.Reader([self.net]), min(jobs, self.count())
         with reading_processes.beside(reader, maker, self.runs(), repeat(0), jobs) as results:
             try:
@@ -268,45 +309,44 @@ class AimedRuns:
             finally:
                 progress.end()
 
-    def line(self, seed, aim, frame, plain, aimed):
+    def line(self, seed: int, aim: Aim, frame: int, plain: dict[Key, int], aimed: dict[Key, int]) -> Line:
         """What a line of the table has, by the greatest latencies of two runs."""
         key = aim.vl.id, aim.where
         bound, _ = self.bounds.latencies[key]
         way = self.bounds.by_network[key][aim.side].longest
-        reached = [plain[key], aimed[key], frame]
-        return Line(*key, aim.side, seed, *reached, way, bound, self.bounds.links[aim.vl.id].wait)
+        return Line(*key, aim.side, seed, plain[key], aimed[key], frame, way, bound, self.bounds.links[aim.vl.id].wait)
 
-    def tried(self):
+    def tried(self) -> dict[Key, Limit]:
         """The limits at whose destinations a run was aimed, by virtual link and destination."""
         return {it[:2]: self.limits[it[:2]] for it in self.lines if it[:2] in self.limits}
 
-    def broken(self):
+    def broken(self) -> list[tuple[Limit, int, Line]]:
         """The limits that a run breaks: each with the line whose latency is the greatest there, in their order."""
-        worst = {}
+        worst: dict[Key, tuple[int, Line]] = {}
         for it in self.lines:
             key, latency = it[:2], max(it.plain_ns, it.aimed_ns)
             if key in self.limits and latency > self.limits[key].ns and latency > worst.get(key, (0, None))[0]:
                 worst[key] = latency, it
         return [(self.limits[key], *worst[key]) for key in sorted(worst, key=lambda it: self.limits[it].line)]
 
-    def above(self):
+    def above(self) -> list[Line]:
         """The lines whose latency is above a bound: one of the two is wrong."""
         is_above = lambda found, bound: bound is not None and found > bound
         return [it for it in self.lines if is_above(max(it.plain_ns, it.aimed_ns), it.bound_ns) or is_above(it.frame_ns, it.way_ns)]
 
-    def table(self, maker):
+    def table(self, maker: Maker) -> str:
         """The table; its last column names the program."""
         return "\n".join([HEAD + ",program", *(",".join([*map(network_calculus.said, it), maker.cell()]) for it in self.lines)]) + "\n"
 
-    def long_rows(self):
+    def long_rows(self) -> Iterator[tuple[Any, ...]]:
         for it in self.lines:
             for measure in HEAD.split(",")[4:]:
                 if getattr(it, measure) is not None:
                     yield "aim", it.vl, it.where, measure, getattr(it, measure), {"network": it.network, "seed": it.seed}
 
-    def in_words(self):
+    def in_words(self) -> Iterator[str]:
         """For each destination the greatest latency with offsets and without, beside its bound."""
-        found = {}
+        found: dict[Key, list[Line]] = {}
         for it in self.lines:
             found.setdefault((it.vl, it.where), []).append(it)
         for (vl, where), ones in found.items():
@@ -316,6 +356,3 @@ class AimedRuns:
             way = f"{best.frame_ns} of {best.way_ns} ns" if best.way_ns else f"{best.frame_ns} ns"
             plain = max(it.plain_ns for it in ones)
             yield f"virtual link {vl} at {where}: {latency} ns, {of}; from the release on {way}; as described {plain} ns"
-
-
-Line = namedtuple("Line", HEAD.split(","))  # type: ignore[misc]

@@ -7,6 +7,7 @@ import contextlib
 import hashlib
 import os
 import re
+from collections.abc import Iterable, Iterator
 
 from afdx import files
 from afdx.files import Fault
@@ -23,11 +24,12 @@ MOST_NAMED = 3
 class Folder:
     """The folder at a path, which is made where it is not there. `sums` has for each file that was written its SHA-256."""
 
-    def __init__(self, path, replaces=False):
-        self.path, self.sums = path, {}
+    def __init__(self, path: str, replaces: bool = False) -> None:
+        self.path = path
+        self.sums: dict[str, str] = {}
         if path == "-":
             raise Fault(path, None, "is no folder: what a campaign writes are files, and ./- is a folder of this name")
-        files.judge_folder(path, WRITTEN.fullmatch)
+        files.judge_folder(path, lambda name: bool(WRITTEN.fullmatch(name)))
         earlier = self.earlier()
         if earlier and not replaces:
             more = f" and {len(earlier) - MOST_NAMED:,} more" if len(earlier) > MOST_NAMED else ""
@@ -39,21 +41,21 @@ class Folder:
             raise Fault(path, None, f"cannot be made: {fault.strerror}") from None
         files.ready([os.path.join(path, "campaign.json"), *(self.at(name) for name in earlier if name != "campaign.json")], prints=True)
 
-    def at(self, name):
+    def at(self, name: str) -> str:
         return os.path.join(self.path, name)
 
-    def earlier(self):
+    def earlier(self) -> list[str]:
         """The names of the files of a campaign that are there."""
         with contextlib.suppress(OSError):
             return sorted(name for name in os.listdir(self.path) if WRITTEN.fullmatch(name))
         return []
 
-    def write(self, name, text):
+    def write(self, name: str, text: str | Iterable[str]) -> str:
         """Writes a file of a text, or of texts one after another, and answers its path."""
         found = hashlib.sha256()
         texts = [text] if isinstance(text, str) else text
 
-        def pieces():
+        def pieces() -> Iterator[bytes]:
             for it in texts:
                 piece = it.encode("utf-8", "backslashreplace")
                 found.update(piece)
@@ -63,7 +65,7 @@ class Folder:
         self.sums[name] = found.hexdigest()
         return self.at(name)
 
-    def close(self):
+    def close(self) -> None:
         """Removes what an earlier campaign has left and this one has not written."""
         for name in self.earlier():
             if name not in self.sums:

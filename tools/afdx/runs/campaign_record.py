@@ -4,9 +4,10 @@ import hashlib
 import json
 import os
 from collections import namedtuple
+from typing import Any
 
 from afdx.files import Fault, cut, program, text_of
-from afdx.model import lines_of, whole_number
+from afdx.model import Latency, Tables, lines_of, whole_number
 
 NAME = "campaign.json"
 MERGED = "merged.csv"
@@ -22,19 +23,19 @@ class Record(namedtuple("Record", "description program until_ns first_seed seeds
     first of its seeds and how many of them were run, and whether offsets were drawn; its words as far as what comes of it depends
     on them; and the SHA-256 of each other file that it has written into its folder."""
 
-    def text(self):
+    def text(self) -> str:
         return json.dumps(self._asdict() | {"program": self.program._asdict()}, indent=2) + "\n"
 
-    def all_seeds(self):
+    def all_seeds(self) -> range:
         return range(self.first_seed, self.first_seed + self.seeds)
 
 
-TYPES = {
+TYPES: dict[str, type] = {
     "description": str, "program": dict, "until_ns": int, "first_seed": int, "seeds": int, "offsets": bool, "words": list, "files": dict,
 }
 
 
-def read(path):
+def read(path: str) -> Record:
     """The record of a file."""
     try:
         found = json.loads(text_of(path))
@@ -55,15 +56,16 @@ def read(path):
     return Record(**{name: found[name] for name in TYPES} | {"program": maker})
 
 
-def maker_of(found):
+def maker_of(found: dict[str, Any]) -> program.Maker | None:
     """The program that a record names, or None."""
     is_text = all(isinstance(found.get(name), (str, type(None))) for name in program.Maker._fields[:-1])
     if not is_text or not found.get("name") or type(found.get("proved")) is not bool:
         return None
-    return program.Maker(**{name: found.get(name) for name in program.Maker._fields})
+    fields: dict[str, Any] = {name: found.get(name) for name in program.Maker._fields}
+    return program.Maker(**fields)
 
 
-def beside(tables, text):
+def beside(tables: str, text: str) -> Record | None:
     """The record of merged tables, by their path and text: that in their folder, if it is theirs; else None."""
     path = os.path.join(os.path.dirname(tables), NAME)
     if not os.path.exists(path):
@@ -72,16 +74,17 @@ def beside(tables, text):
     return found if found.files.get(MERGED) == sha256(text) else None
 
 
-def sha256(text):
+def sha256(text: str) -> str:
     return hashlib.sha256(text.encode("utf-8")).hexdigest()
 
 
-def percentiles(found, tables):
+def percentiles(found: Record | None, tables: Tables) -> dict[tuple[int, str | None], list[int] | None] | None:
     """For each virtual link and destination the percentiles of all frames, or None where nothing came: of merged tables whose
     campaign has counted each latency. None where it has not."""
     if found is None or "--histograms" not in found.words:
         return None
-    path, of = os.path.join(os.path.dirname(tables.path), GREATEST), {}
+    path = os.path.join(os.path.dirname(tables.path), GREATEST)
+    of: dict[tuple[int, str | None], list[int] | None] = {}
     for i, line in enumerate(lines_of(path, [COUNTED_HEAD], "a campaign with --histograms")[1:], 2):
         fields = dict(zip(COUNTED_HEAD.split(","), line.split(",")))
         key = whole_number(path, i, "the virtual link", fields["vl"]), fields.get("where")
@@ -91,7 +94,7 @@ def percentiles(found, tables):
     return of
 
 
-def percentiles_of(path, i, fields, row):
+def percentiles_of(path: str, i: int, fields: dict[str, str], row: Latency | None) -> list[int] | None:
     """Those of a line, which must be that of a row of the merged tables."""
     names = ["greatest_ns", *(f"percent_{percent}_ns" for percent in PERCENTS)]
     found = [whole_number(path, i, name, fields[name]) for name in names if fields.get(name)]

@@ -14,9 +14,11 @@ import subprocess
 import sys
 import tempfile
 from collections import deque
+from collections.abc import Callable, Iterable
+from typing import Any
 
 from afdx.model import Fault
-from afdx.runs.side_by_side import Failure, failure_of, printed_by
+from afdx.runs.side_by_side import Failure, Printed, Results, Run, failure_of, printed_by
 
 # Debian's packages are for this interpreter.
 DEBIAN = "/usr/bin/python3"
@@ -25,19 +27,19 @@ PACKAGE = "python3-distributed"
 PATIENCE, PATIENCE_FOR_WORKERS = 30, 120
 
 
-def address(text):
+def address(text: str) -> str:
     """The type of a word of the command line: where a scheduler is."""
     if not re.fullmatch(r"(tcp|tls)://\S+:[0-9]+", text):
         raise ValueError
     return text
 
 
-def is_here():
+def is_here() -> bool:
     """Whether this interpreter has Dask."""
     return importlib.util.find_spec("distributed") is not None
 
 
-def interpreter():
+def interpreter() -> str:
     """An interpreter that has Dask, where there is another one."""
     if os.path.exists(DEBIAN) and not os.path.samefile(DEBIAN, sys.executable):
         words = [DEBIAN, "-c", "import distributed"]
@@ -46,11 +48,11 @@ def interpreter():
     raise Fault("--dask", None, f"needs Dask for {DEBIAN}: apt-get install -y {PACKAGE}")
 
 
-def made_for_workers():
+def made_for_workers() -> Callable[[str, str, str, bool], tuple[int | None, Any]]:
     """The function that a worker calls. It is made in a function, so that it is sent as it stands: the worker has none of
     these files. It answers the status and what the program printed, said and traced, or None and why it could not be run."""
 
-    def run_there(text, program, wanted, is_traced):
+    def run_there(text: str, program: str, wanted: str, is_traced: bool) -> tuple[int | None, Any]:
         import hashlib
         import os
         import shutil
@@ -84,7 +86,10 @@ def made_for_workers():
 class Cluster:
     """Makes runs on the workers of a cluster whose scheduler is at an address."""
 
-    def __init__(self, address, program, sha256, is_traced=False):
+    # Who would hear how far runs are; none says it.
+    hear: Callable[[str, str], object] | None
+
+    def __init__(self, address: str, program: str, sha256: str, is_traced: bool = False) -> None:
         from distributed import Client
 
         # What they print of connections that end is not wanted here.
@@ -101,10 +106,11 @@ class Cluster:
             self.client.close()
             raise Fault(address, None, f"has no worker, and none came in {PATIENCE_FOR_WORKERS} s") from None
 
-    def results(self, runs):
+    def results(self, runs: Iterable[Run]) -> Results:
         """Yields each run and what it printed, in the order of the runs. The first one in this order that fails ends it.
         So does the end of the generator."""
-        rest, waiting, run_there = iter(runs), deque(), made_for_workers()
+        rest, run_there = iter(runs), made_for_workers()
+        waiting: deque[tuple[Run, Any]] = deque()
         try:
             while True:
                 # Workers may come and go.
@@ -121,7 +127,7 @@ class Cluster:
             self.client.close()
 
     @staticmethod
-    def printed(run, future, folder):
+    def printed(run: Run, future: Any, folder: str) -> Printed:
         from distributed import CancelledError, KilledWorker
 
         try:

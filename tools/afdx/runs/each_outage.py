@@ -4,14 +4,17 @@ import html
 import itertools
 import re
 from collections import namedtuple
+from collections.abc import Iterable, Iterator, Mapping, Sequence
 from fractions import Fraction
+from typing import Any
 
 from afdx import files, model
 from afdx.files import program
 from afdx.reckon.frames import Range, exactly
+from afdx.reckon.limits import Limit
 from afdx.runs import reading_processes, side_by_side
-from afdx.runs.outage_frames import OfOutages
-from afdx.runs.side_by_side import Failure
+from afdx.runs.outage_frames import CameOf, OfOutages
+from afdx.runs.side_by_side import Failure, Keep, Run, Runs, Shown
 
 TABLE_HEAD = (
     "out,vl,where,delivered_before,delivered,lost_before_least,lost_before_most,lost_least,lost_most,"
@@ -19,17 +22,21 @@ TABLE_HEAD = (
 )
 # How many destinations of an outage are on the page at most; all are in the table.
 MOST_ON_THE_PAGE = 30
+# A virtual link and a destination.
+Key = tuple[int, str]
+# Attributes and text of a cell of a table.
+Cell = tuple[str, str]
 
 
 # What is out: a link or a switch, with the lines that go with it.
 Element = namedtuple("Element", "what names lines")
 
 
-def name_of(element):
+def name_of(element: Element) -> str:
     return " ".join((element.what, *element.names))
 
 
-def elements_of(net):
+def elements_of(net: model.Network) -> list[Element]:
     """Each link, and then each switch with all its lines, in the order of the description."""
     found = []
     for link in net.links:
@@ -41,7 +48,7 @@ def elements_of(net):
     return found
 
 
-def outages_text(element, from_ns, until_ns):
+def outages_text(element: Element, from_ns: int, until_ns: int) -> str:
     """The rows of the outages of an element, from a moment to the end of the run."""
     lines = []
     for line in element.lines:
@@ -55,12 +62,14 @@ class Course:
     """What came of the runs with one element out, or with none: for each run what became of the frames of each virtual link at
     each destination, where that is not as in the run without an outage."""
 
-    def __init__(self, element, number):
-        self.element, self.number, self.came = element, number, []
+    def __init__(self, element: Element | None, number: int) -> None:
+        self.element, self.number = element, number
+        self.came: list[CameOf] = []
         # What the outage does, and which limits it breaks, once all its runs are made.
-        self.changes, self.broken = [], []
+        self.changes: list[Change] = []
+        self.broken: list[Limit] = []
 
-    def together(self, key, first):
+    def together(self, key: Key, first: "Course") -> tuple[int, Range, int]:
         """What came of a virtual link at a destination in all runs; `first` is the course without an outage."""
         came = [it.get(key) or before[key] for it, before in zip(self.came, first.came)]
         missing = sum((it.missing for it in came), exactly(0))
@@ -71,26 +80,27 @@ class Course:
 Change = namedtuple("Change", "vl where delivered_before delivered lost_before lost greatest_before greatest later")
 
 
-def more_lost(change):
+def more_lost(change: Change) -> Range:
     """How many frames more are lost, at the least and at the most."""
     return Range(
         max(0, change.lost.least - change.lost_before.most), max(0, change.lost.most - change.lost_before.least)
     )
 
 
-def later(change):
+def later(change: Change) -> int:
     """By how much the greatest latency grows, in ns, where it is more than what counts; else 0."""
     return change.later
 
 
-def growth_that_counts(before, now, least):
+def growth_that_counts(before: int, now: int, least: int | Fraction) -> int:
     """By how much a latency grows, in ns; 0 if it is no more than the least that counts: a number of ns, or a part of
     what it was."""
     grown = max(0, now - before)
-    return grown if grown > (least if isinstance(least, int) else before * least) else 0
+    counts_from: int | Fraction = least if isinstance(least, int) else before * least
+    return grown if grown > counts_from else 0
 
 
-def least_later(text):
+def least_later(text: str) -> int | Fraction:
     """The type of a word of the command line: from how much on a latency is later, in ns, or in percent of what it was."""
     if re.fullmatch(r"[0-9]{1,15}", text):
         return int(text)
@@ -99,7 +109,7 @@ def least_later(text):
     raise ValueError
 
 
-def later_in_words(least):
+def later_in_words(least: int | Fraction) -> str:
     return f"{least:,} ns" if isinstance(least, int) else f"{float(least * 100):g} percent"
 
 
@@ -112,18 +122,23 @@ class EachOutage:
 
     An element that no virtual link passes changes nothing, and is not run."""
 
-    def __init__(self, net, limits, seeds, draws_offsets, from_ns, least_later=USUAL_LATER):
+    # A network here can be changed: commands/campaign.py has its class.
+    def __init__(
+        self, net: Any, limits: Mapping[Key, Limit], seeds: Sequence[int], draws_offsets: bool, from_ns: int,
+        least_later: int | Fraction = USUAL_LATER,
+    ) -> None:
         self.net, self.limits, self.seeds, self.draws_offsets, self.from_ns = net, limits, seeds, draws_offsets, from_ns
         self.least_later = least_later
         self.elements = elements_of(net)
         used = [element for element in self.elements if any(net.users[line] for line in element.lines)]
         self.courses = [Course(element, number) for number, element in enumerate([None, *used])]
-        self.done, self.status, self.failure = 0, 0, None
+        self.done, self.status = 0, 0
+        self.failure: str | None = None
 
-    def count(self):
+    def count(self) -> int:
         return len(self.courses) * len(self.seeds)
 
-    def runs(self):
+    def runs(self) -> Iterator[Run]:
         for course in self.courses:
             for seed in self.seeds:
                 text, name = self.net.with_seed(seed, self.draws_offsets), f"seed {seed}"
@@ -132,7 +147,7 @@ class EachOutage:
                     text += outages_text(course.element, self.from_ns, self.net.until_ns)
                 yield side_by_side.Run(name, text)
 
-    def run(self, maker, keep, progress, jobs):
+    def run(self, maker: Runs, keep: Keep, progress: Shown, jobs: int) -> None:
         """Has the runs made, and reckons what became of their frames, of several side by side. `keep` gets the
         beginning of the name of each one's files, and its texts."""
         progress.listen(maker)
@@ -157,7 +172,7 @@ class EachOutage:
         # What was not run for all seeds cannot be compared.
         del self.courses[self.done // len(self.seeds) :]
 
-    def compare(self, course):
+    def compare(self, course: Course) -> None:
         """Notes what an outage makes lost or late, in the order of the tables, and the limits that are broken in it and not
         without it. The runs themselves are not needed any more."""
         first, changed = self.courses[0], set().union(*course.came)
@@ -172,15 +187,17 @@ class EachOutage:
                 course.broken.append(limit)
         course.came = []
 
-    def summaries(self):
+    def summaries(self) -> list["Summary"]:
         """Each outage with what it does, the worst first."""
         found = [Summary(course, course.changes, course.broken) for course in self.courses[1:]]
         return sorted(found, key=lambda it: (-it.lost().least, -it.lost().most, -it.latest(), it.course.number))
 
-    def table(self, maker):
+    def table(self, maker: program.Maker) -> str:
         """The table; its last column names the program."""
         lines = [TABLE_HEAD + ",program"]
         for course in self.courses[1:]:
+            # Only the first has no element.
+            assert course.element is not None
             for it in course.changes:
                 numbers = it.delivered_before, it.delivered, *it.lost_before, *it.lost, it.greatest_before, it.greatest
                 lines.append(f"{name_of(course.element)},{it.vl},{it.where},{','.join(map(str, numbers))},{maker.cell()}")
@@ -190,25 +207,25 @@ class EachOutage:
 class Summary(namedtuple("Summary", "course changes broken")):
     """What an outage does."""
 
-    def name(self):
+    def name(self) -> str:
         return name_of(self.course.element)
 
-    def lost(self):
+    def lost(self) -> Range:
         """How many frames more are lost end to end at all destinations together."""
         return sum(map(more_lost, self.changes), exactly(0))
 
-    def losing(self):
+    def losing(self) -> Range:
         """At how many destinations more frames are lost, surely and at the most."""
         ranges = [more_lost(change) for change in self.changes]
         return Range(sum(it.least > 0 for it in ranges), sum(it.most > 0 for it in ranges))
 
-    def late(self):
+    def late(self) -> list[Change]:
         return [change for change in self.changes if later(change)]
 
-    def latest(self):
+    def latest(self) -> int:
         return max(map(later, self.changes), default=0)
 
-    def in_words(self):
+    def in_words(self) -> str:
         text = f"{said(self.lost())} frames more lost end to end at {said(self.losing())} destinations, {len(self.late())} later"
         if self.late():
             worst = max(self.late(), key=later)
@@ -216,7 +233,7 @@ class Summary(namedtuple("Summary", "course changes broken")):
         return text
 
 
-def said(count):
+def said(count: Range) -> str:
     """A count that may be known only from the least to the most."""
     return f"{count.least:,}" if count.least == count.most else f"{count.least:,} to {count.most:,}"
 
@@ -245,19 +262,19 @@ th, td { border-color: #2d3844; } thead th { border-color: #46535f; } footer { c
 """
 
 
-def row(cells, tag="td"):
+def row(cells: Iterable[Cell], tag: str = "td") -> str:
     return "<tr>" + "".join(f"<{tag}{look}>{text}</{tag}>" for look, text in cells) + "</tr>"
 
 
-def plain(*texts):
+def plain(*texts: object) -> list[Cell]:
     return [("", html.escape(str(text))) for text in texts]
 
 
-def tile(name, value, look=""):
+def tile(name: str, value: object, look: str = "") -> str:
     return f'<div class="tile {look}"><b>{html.escape(str(value))}</b>{html.escape(name)}</div>'
 
 
-def changes_table(changes):
+def changes_table(changes: list[Change]) -> str:
     """The destinations of an outage, the worst first."""
     told = [it for it in changes if more_lost(it).most or later(it)]
     worst = sorted(told, key=lambda it: (-more_lost(it).least, -more_lost(it).most, -later(it), it.vl))
@@ -276,7 +293,7 @@ def changes_table(changes):
     return f"<table><thead>{row(heads, 'th')}</thead><tbody>{''.join(rows)}</tbody></table>{more}"
 
 
-def summary_row(it, has_limits):
+def summary_row(it: Summary, has_limits: bool) -> str:
     name = html.escape(it.name())
     is_told = any(more_lost(change).most or later(change) for change in it.changes)
     first = f"<details><summary>{name}</summary>{changes_table(it.changes)}</details>" if is_told else name
@@ -289,7 +306,7 @@ def summary_row(it, has_limits):
     return row(cells + (plain(f"{len(it.broken):,}") if has_limits else []))
 
 
-def page(found, path, made_by):
+def page(found: EachOutage, path: str, made_by: str) -> str:
     """The page of all outages."""
     summaries = found.summaries()
     losing = sum(it.lost().most > 0 for it in summaries)

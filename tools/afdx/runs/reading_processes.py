@@ -10,9 +10,12 @@ import pickle
 import shutil
 import signal
 import tempfile
+from collections.abc import Generator, Iterable, Iterator, Sequence
+from multiprocessing.context import ForkContext
+from typing import Any
 
 from afdx import files
-from afdx.runs.side_by_side import Failure, Printed
+from afdx.runs.side_by_side import Failure, Printed, Run, Runs
 
 # Where processes share what they wait by.
 SHARED = "/dev/shm"
@@ -23,11 +26,11 @@ PATIENCE = 10
 class Reckoner:
     """What a process that reckons has. It is made before the processes begin, each of which has a copy of it."""
 
-    def asked(self, key, run, kept):
+    def asked(self, key: Any, run: Run, kept: Printed) -> tuple[Any, ...]:
         """What a process is given of a run and of the files that are kept of it."""
         return key, run, kept
 
-    def answer(self, *asked):
+    def answer(self, *asked: Any) -> Any:
         """What a process answers to that."""
         raise NotImplementedError
 
@@ -35,10 +38,10 @@ class Reckoner:
 # ---- in a process ----
 
 # Its own reckoner.
-OWN = None
+OWN: Reckoner | None = None
 
 
-def begin(reckoner):
+def begin(reckoner: Reckoner) -> None:
     """Begins a process that reckons. It ends with the one that began it, and not by a signal of the terminal."""
     global OWN
     OWN = reckoner
@@ -50,9 +53,10 @@ def begin(reckoner):
     signal.pthread_sigmask(signal.SIG_UNBLOCK, files.SIGNALS)
 
 
-def answer(path, *asked):
+def answer(path: str, *asked: Any) -> None:
     """Leaves in a file what is answered. Little goes through the pipe of the pool: where a process is ended amid a long message, who
     reads it would wait for the rest for ever."""
+    assert OWN is not None
     with open(path, "wb") as out:
         pickle.dump(OWN.answer(*asked), out, pickle.HIGHEST_PROTOCOL)
 
@@ -61,10 +65,12 @@ def answer(path, *asked):
 
 # A run that a process is asked about: what is returned with the answer, the file of that, and what shows that it is there.
 Asked = collections.namedtuple("Asked", "key run printed path future")
+# Of each run its key, the run, what it printed and what was answered.
+Results = Generator[tuple[Any, Run, Printed, Any], None, None]
 
 
 @contextlib.contextmanager
-def beside(reckoner, maker, runs, keys, jobs):
+def beside(reckoner: Reckoner, maker: Runs, runs: Iterable[Run], keys: Iterable[Any], jobs: int) -> Iterator[Results]:
     """The results of runs that a maker makes, each with its key. At the end all processes and files are gone, whatever ended it."""
     with tempfile.TemporaryDirectory() as folder, contextlib.closing(maker.results(runs)) as made:
         keyed = ((key, *it) for key, it in zip(keys, made))
@@ -72,11 +78,12 @@ def beside(reckoner, maker, runs, keys, jobs):
             yield found
 
 
-def results(reckoner, runs, jobs, folder):
+def results(reckoner: Reckoner, runs: Iterable[tuple[Any, Run, Printed]], jobs: int, folder: str) -> Results:
     """Yields of each run, given as (key, run, printed) in order, that again with the answer to it; a number of processes reckon
     side by side, by files of a folder. What ends the runs is raised once those before it are yielded."""
     forks, numbered = multiprocessing.get_context("fork"), enumerate(runs)
-    waiting, ended = collections.deque(), None
+    waiting: collections.deque[Asked] = collections.deque()
+    ended: BaseException | None = None
     with pool_of(jobs, forks, reckoner) as pool:
         try:
             # With the first call all processes begin, before the threads that make the runs.
@@ -101,7 +108,7 @@ def results(reckoner, runs, jobs, folder):
                 end_processes()
 
 
-def pool_of(jobs, forks, reckoner):
+def pool_of(jobs: int, forks: ForkContext, reckoner: Reckoner) -> concurrent.futures.ProcessPoolExecutor:
     """The processes. They need semaphores, which Linux keeps in /dev/shm."""
     try:
         return concurrent.futures.ProcessPoolExecutor(jobs, forks, begin, (reckoner,))
@@ -110,7 +117,7 @@ def pool_of(jobs, forks, reckoner):
         raise files.Fault(SHARED, None, text) from None
 
 
-def answers(reckoner, asked, jobs):
+def answers(reckoner: Reckoner, asked: Sequence[Sequence[Any]], jobs: int) -> Generator[Any, None, None]:
     """Yields what is answered to each of some calls of a reckoner, in their order: by a number of processes side by side, if
     there are several calls."""
     if min(jobs, len(asked)) < 2:
@@ -133,19 +140,20 @@ def answers(reckoner, asked, jobs):
                 end_processes()
 
 
-def own_answer(*asked):
+def own_answer(*asked: Any) -> Any:
     """What the reckoner of this process answers."""
+    assert OWN is not None
     return OWN.answer(*asked)
 
 
-def ask(pool, reckoner, path, key, run, printed):
+def ask(pool: concurrent.futures.Executor, reckoner: Reckoner, path: str, key: Any, run: Run, printed: Printed) -> Asked:
     """Asks a process about a run, whose files get this name and more behind it."""
     # Its description is long, and not needed there.
     asked = reckoner.asked(key, run._replace(text=None), keep(path, printed))
     return Asked(key, run, printed, path + ".answer", future_of(pool, answer, path + ".answer", *asked))
 
 
-def keep(path, printed):
+def keep(path: str, printed: Printed) -> Printed:
     """Keeps what a run printed for the process that reckons on it: whoever made the run keeps its trace no longer."""
     kept = Printed(path + ".tables.csv", path + ".trace.csv" if printed.trace else None)
     with open(kept.tables, "w", encoding="utf-8", newline="") as out:
@@ -155,13 +163,14 @@ def keep(path, printed):
     return kept
 
 
-def drop(kept):
+def drop(kept: Printed) -> None:
     """Removes what was kept of a run."""
-    for path in filter(None, kept):
-        os.unlink(path)
+    for path in kept:
+        if path:
+            os.unlink(path)
 
 
-def future_of(pool, *call):
+def future_of(pool: concurrent.futures.Executor, *call: Any) -> concurrent.futures.Future[Any]:
     """What a process of the pool will answer to a call."""
     try:
         return pool.submit(*call)
@@ -169,7 +178,7 @@ def future_of(pool, *call):
         raise Failure(f"no process can reckon: {fault}") from None
 
 
-def told(waiting):
+def told(waiting: collections.deque[Asked]) -> tuple[Any, Run, Printed, Any]:
     """The first of those that wait, with its answer. Until that is there it is among those that the end of all ends."""
     key, run, printed, path, future = waiting[0]
     try:
@@ -183,7 +192,7 @@ def told(waiting):
     return key, run, printed, found
 
 
-def end_processes():
+def end_processes() -> None:
     """Ends what is still reckoned on: nobody hears it any more. No future is cancelled: the pool fails at one that is where it finds
     its processes ended, and leaves some of them."""
     for process in multiprocessing.active_children():

@@ -1,5 +1,6 @@
 """What a campaign needs of one run. Its tables and its trace are read in a process beside the runs, which answers that."""
 from collections import namedtuple
+from collections.abc import Sequence
 
 from afdx import model
 from afdx.files import Fault
@@ -7,7 +8,7 @@ from afdx.model import TABLES_HEAD
 from afdx.model.traces import Trace
 from afdx.reckon import latency_counts
 from afdx.runs import reading_processes
-from afdx.runs.side_by_side import Failure
+from afdx.runs.side_by_side import Failure, Printed, Run
 
 # What a run says. Of each virtual link at each destination, in the order of `keys_of`: how many frames came, the least and the
 # greatest of their latencies and the sum of all, and how many there were in each bin of latencies (`times`, None without a trace).
@@ -15,7 +16,7 @@ from afdx.runs.side_by_side import Failure
 Told = namedtuple("Told", "count least greatest total times losses")
 
 
-def keys_of(net):
+def keys_of(net: model.Network) -> list[tuple[int, str]]:
     """The virtual links and destinations of a network, in the order in which the program prints tables."""
     return sorted(net.destinations, key=lambda it: (it[0], net.process[it[1]]))
 
@@ -23,10 +24,10 @@ def keys_of(net):
 class Reader(reading_processes.Reckoner):
     """Reads the runs of several networks. A run's key is the number of its network."""
 
-    def __init__(self, nets):
+    def __init__(self, nets: Sequence[model.Network]) -> None:
         self.nets = nets
 
-    def answer(self, number, run, kept):
+    def answer(self, number: int, run: Run, kept: Printed) -> Told:  # type: ignore[override]
         net = self.nets[number]
         keys = keys_of(net)
         try:
@@ -43,7 +44,7 @@ class Reader(reading_processes.Reckoner):
         )
 
 
-def counted(tables, run, path):
+def counted(tables: model.Tables, run: Run, path: str) -> list[latency_counts.Bins]:
     """How many frames of each virtual link and destination there are in each bin of latencies, by the trace of a run."""
     try:
         return latency_counts.of_trace(path, tables)
@@ -51,18 +52,18 @@ def counted(tables, run, path):
         raise Failure(f"{run.name}: {Fault('what it traced', fault.line, fault.text)}") from None
 
 
-def read(net, run, kept):
+def read(net: model.Network, run: Run, kept: Printed) -> tuple[model.Tables, Trace | None]:
     """The tables and the trace of a run, by the paths of its files. Without a file of a trace there is none."""
     tables = read_tables(net, run, kept)
     return tables, trace_of(tables, run, kept.trace) if kept.trace else None
 
 
-def read_tables(net, run, kept):
+def read_tables(net: model.Network, run: Run, kept: Printed) -> model.Tables:
     with open(kept.tables, encoding="utf-8", newline="") as file:
         return tables_of(net, run, file.read())
 
 
-def tables_of(net, run, text):
+def tables_of(net: model.Network, run: Run, text: str) -> model.Tables:
     """The tables that a run printed."""
     lines = text.split("\n")
     if lines.pop() or not lines or lines[0] != TABLES_HEAD:
@@ -73,7 +74,7 @@ def tables_of(net, run, text):
         raise Failure(f"{run.name}: {fault}") from None
 
 
-def trace_of(tables, run, path):
+def trace_of(tables: model.Tables, run: Run, path: str) -> Trace:
     """The trace that a run wrote."""
     try:
         return Trace(path, tables)

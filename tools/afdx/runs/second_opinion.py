@@ -8,6 +8,8 @@ within a second and the program is not built yet. It handles some 60,000 message
 import argparse
 import heapq
 import sys
+from collections.abc import Iterable, Iterator, Mapping
+from typing import Any
 
 from afdx import files, model
 from afdx.model import CAUSES, Fault, judge, long_form
@@ -41,20 +43,25 @@ error output then names the file and the line; afdx explain prints all faults of
 MOST_OFFERS = 20_000_000
 BODIES = ["Offer", "Release", "PortFree", "Arrive", "Enqueue", "Carry"]
 
+# A frame: its virtual link, its number, its size in bytes, when it was offered and when it was released. A copy has its network, too.
+Frame = tuple[int, int, int, int, int]
+Copy = tuple[int, int, int, int, int, str]
+
 
 class Simulation:
     """The run of a network, a dictionary as the reader of TOML gives it. `rows` has its notes, in their order."""
 
-    def __init__(self, net):
+    def __init__(self, net: Mapping[str, Any]) -> None:
         self.net = net
         self.until = net["until_ns"]
         nodes = net.get("node", [])
         self.place = {row["name"]: i for i, row in enumerate(nodes)}
         self.nodes = nodes
         self.names = [row["name"] for row in nodes]
-        self.lines = []
-        self.port_of = {}
-        seen = {}
+        self.lines: list[tuple[str, str, int, int, int]] = []
+        self.port_of: dict[tuple[str, str], int] = {}
+        self.out: dict[tuple[int, int], int] = {}
+        seen: dict[str, int] = {}
         for row in net.get("link", []):
             ends = (row["a"], row["b"])
             ports = []
@@ -69,10 +76,12 @@ class Simulation:
                 self.lines.append((here, there, into, 8000 // row["mbit"], row["propagation_ns"]))
                 self.port_of[here, there] = out
                 self.names.append(here + ">" + there)
-                self.out = getattr(self, "out", {})
                 self.out[self.place[here], out] = process
         self.vls = {row["id"]: row for row in net.get("vl", [])}
-        self.inputs, self.outputs, self.destinations, self.source = {}, {}, {}, {}
+        self.inputs: dict[tuple[int, int], int] = {}
+        self.outputs: dict[tuple[int, int], set[int]] = {}
+        self.destinations: dict[tuple[int, int], set[str]] = {}
+        self.source: dict[int, int] = {}
         for vl, row in self.vls.items():
             for side, key in (("A", "a"), ("B", "b")):
                 for path in row[key]:
@@ -81,13 +90,17 @@ class Simulation:
                     for before, here, after in zip(path, path[1:], path[2:]):
                         self.inputs[vl, self.place[here]] = self.port_of[here, before]
                         self.outputs.setdefault((vl, self.place[here]), set()).add(self.port_of[here, after])
-        self.regulators = {
+        self.regulators: dict[int, dict[str, Any]] = {
             vl: {"waiting": [[] for _ in range(row.get("sub", 1))], "pointer": 0, "last": None, "sn": 0}
             for vl, row in self.vls.items()
         }
-        self.ports, self.accounts, self.checks, self.delivered = {}, {}, {}, {}
-        self.counters = {}
-        self.heap, self.rows = [], []
+        self.ports: dict[tuple[int, int], dict[str, Any]] = {}
+        self.accounts: dict[tuple[int, int], tuple[int, int]] = {}
+        self.checks: dict[tuple[int, int, str], int] = {}
+        self.delivered: dict[tuple[int, int], tuple[int, int]] = {}
+        self.counters: dict[int, int] = {}
+        self.heap: list[tuple[int, int, int, int, int, tuple[Any, ...]]] = []
+        self.rows: list[tuple[int, int, int, str, int]] = []
         self.handled = 0
         for vl in sorted(self.vls):
             row = self.vls[vl]
@@ -95,31 +108,31 @@ class Simulation:
             for k, time in drawn:
                 self.push(time, self.source[vl], 4096 + vl, k, "Offer", (vl, row["size"], k % row.get("sub", 1)))
 
-    def push(self, time, receiver, sender, number, variant, fields):
+    def push(self, time: int, receiver: int, sender: int, number: int, variant: str, fields: tuple[Any, ...]) -> None:
         heapq.heappush(self.heap, (time, receiver, sender, number, BODIES.index(variant), fields))
 
-    def send(self, time, sender, receiver, variant, fields):
+    def send(self, time: int, sender: int, receiver: int, variant: str, fields: tuple[Any, ...]) -> None:
         if time <= self.until:
             number = self.counters.get(sender, 0)
             self.counters[sender] = number + 1
             self.push(time, receiver, sender, number, variant, fields)
 
-    def note(self, time, place, vl, what, value):
+    def note(self, time: int, place: int, vl: int, what: str, value: int) -> None:
         self.rows.append((time, place, vl, what, value))
 
-    def lose(self, time, place, frame, cause):
+    def lose(self, time: int, place: int, frame: Frame | Copy, cause: str) -> None:
         self.note(time, place, frame[0], cause, frame[2])
 
-    def deliver(self, t, p, frame):
+    def deliver(self, t: int, p: int, frame: Copy) -> None:
         self.note(t, p, frame[0], "delivered", max(0, t - frame[3]))
 
-    def start(self, t, p, q, frame):
+    def start(self, t: int, p: int, q: int, frame: Copy) -> None:
         line = self.out[p, q]
         byte = self.lines[line - len(self.nodes)][3]
         self.send(t + (frame[2] + 8) * byte, p, line, "Carry", (frame,))
         self.send(t + (frame[2] + 20) * byte, p, p, "PortFree", (q,))
 
-    def put(self, t, p, q, frame, high):
+    def put(self, t: int, p: int, q: int, frame: Copy, high: bool) -> None:
         port = self.ports.setdefault((p, q), {"busy": False, "high": [], "low": []})
         if not port["busy"]:
             port["busy"] = True
@@ -129,7 +142,7 @@ class Simulation:
         else:
             self.lose(t, p, frame, "port_full")
 
-    def release(self, t, vl, q, frame):
+    def release(self, t: int, vl: int, q: int, frame: Frame) -> Frame:
         """The regulator lets a frame of the sub-virtual link q go; the one after q is served next."""
         g = self.regulators[vl]
         out = (vl, g["sn"], frame[2], frame[3], t)
@@ -137,20 +150,20 @@ class Simulation:
         g["pointer"] = (q + 1) % len(g["waiting"])
         return out
 
-    def copies(self, t, p, vl, frame):
+    def copies(self, t: int, p: int, vl: int, frame: Frame) -> None:
         for net, key in (("A", "a"), ("B", "b")):
             if self.vls[vl][key]:
                 self.put(t, p, "AB".index(net), frame + (net,), False)
 
-    def handle(self, t, p, variant, fields):
+    def handle(self, t: int, p: int, variant: str, fields: tuple[Any, ...]) -> None:
         if p >= len(self.nodes):
-            here, there, port, _, propagation = self.lines[p - len(self.nodes)]
+            here, there, into, _, propagation = self.lines[p - len(self.nodes)]
             (frame,) = fields
             outages = self.net.get("outage", [])
             if any(o["from"] == here and o["to"] == there and o["from_ns"] <= t < o["to_ns"] for o in outages):
                 self.lose(t, p, frame, "outage")
             else:
-                self.send(t + propagation, p, self.place[there], "Arrive", (port, frame))
+                self.send(t + propagation, p, self.place[there], "Arrive", (into, frame))
         elif variant == "PortFree":
             (q,) = fields
             port = self.ports[p, q]
@@ -164,7 +177,7 @@ class Simulation:
         else:
             self.at_switch(t, p, variant, fields)
 
-    def at_end_system(self, t, p, variant, fields):
+    def at_end_system(self, t: int, p: int, variant: str, fields: tuple[Any, ...]) -> None:
         if variant == "Offer":
             return self.offer(t, p, *fields)
         if variant == "Release":
@@ -177,18 +190,18 @@ class Simulation:
         if not (before is None or number == 0 or number in (after(before), after(after(before)))):
             return self.lose(t, p, frame, "integrity")
         last = self.delivered.get((vl, p))
-        steps = None if last is None else number if last[0] == 0 else (number - last[0]) % 255
+        steps = 0 if last is None else number if last[0] == 0 else (number - last[0]) % 255
         if last is None or max(0, t - last[1]) > self.vls[vl]["skew_max_ns"] or (number != 0 and 1 <= steps <= 127):
             self.delivered[vl, p] = (number, t)
             self.deliver(t, p, frame)
         else:
             self.lose(t, p, frame, "duplicate")
 
-    def is_due(self, t, vl):
+    def is_due(self, t: int, vl: int) -> bool:
         last = self.regulators[vl]["last"]
         return last is None or t >= last + self.vls[vl]["bag_ms"] * 10**6
 
-    def offer(self, t, p, vl, size, q):
+    def offer(self, t: int, p: int, vl: int, size: int, q: int) -> None:
         """The application offers a frame to the sub-virtual link q."""
         g, frame = self.regulators[vl], (vl, 0, size, t, 0)
         waits = any(g["waiting"])
@@ -203,7 +216,7 @@ class Simulation:
         else:
             self.lose(t, p, frame, "queue_full")
 
-    def next_served(self, t, p, vl):
+    def next_served(self, t: int, p: int, vl: int) -> None:
         """The round robin of the regulator: the first sub-virtual link from the pointer on, going round, that has a frame."""
         g = self.regulators[vl]
         if not (any(g["waiting"]) and self.is_due(t, vl)):
@@ -215,7 +228,7 @@ class Simulation:
             self.send(t + self.vls[vl]["bag_ms"] * 10**6, p, p, "Release", (vl,))
         self.copies(t, p, vl, out)
 
-    def at_switch(self, t, p, variant, fields):
+    def at_switch(self, t: int, p: int, variant: str, fields: tuple[Any, ...]) -> None:
         q, frame = fields
         vl = frame[0]
         row = self.vls[vl]
@@ -235,22 +248,22 @@ class Simulation:
         for out in sorted(self.outputs[vl, p]):
             self.send(t + self.nodes[p]["latency_ns"], p, p, "Enqueue", (out, frame))
 
-    def run(self):
+    def run(self) -> None:
         while self.heap:
             time, receiver, _, _, variant, fields = heapq.heappop(self.heap)
             self.handle(time, receiver, BODIES[variant], fields)
             self.handled += 1
 
-    def trace(self):
+    def trace(self) -> Iterator[str]:
         """The lines of the trace: each delivery and each loss, in the order of the messages."""
         yield model.TRACE_HEAD
         for time, place, vl, what, value in self.rows:
             yield "%d,%s,%d,%s,%d" % (time, self.names[place], vl, what, value)
 
-    def tables(self):
+    def tables(self) -> Iterator[str]:
         """The lines of the tables."""
         yield model.TABLES_HEAD
-        latencies = {}
+        latencies: dict[tuple[int, int], list[int]] = {}
         for _, place, vl, what, value in self.rows:
             if what == "delivered":
                 latencies.setdefault((vl, place), []).append(value)
@@ -258,7 +271,7 @@ class Simulation:
             found = latencies.get((vl, place), [])
             numbers = (len(found), min(found, default=0), max(found, default=0), sum(found))
             yield "latency,%d,%s,,%d,%d,%d,%d" % (vl, self.names[place], *numbers)
-        drops = {}
+        drops: dict[tuple[int, int, int], int] = {}
         for _, place, vl, what, _ in self.rows:
             if what != "delivered":
                 key = (vl, place, CAUSES.index(what))
@@ -271,14 +284,16 @@ class Measured(Simulation):
     """A run that also measures what happens on the way: `found` has for each kind, virtual link (None: of all) and place
     how often it was measured, the least, the greatest and the sum. Times are in ns, what waits is in bytes."""
 
-    def __init__(self, net):
-        self.found = {}
+    def __init__(self, net: Mapping[str, Any]) -> None:
+        self.found: dict[tuple[str, int | None, int], list[int]] = {}
         # When a frame came to a port, when its first copy came to a destination, and for each virtual link at a switch
         # the last arrival with by how much it came closer than a BAG.
-        self.came, self.first, self.arrived = {}, {}, {}
+        self.came: dict[tuple[int, Frame | Copy], int] = {}
+        self.first: dict[tuple[int, Frame], int] = {}
+        self.arrived: dict[tuple[int, int], tuple[int, int]] = {}
         super().__init__(net)
 
-    def measure(self, kind, vl, place, value):
+    def measure(self, kind: str, vl: int | None, place: int, value: int) -> None:
         row = self.found.get((kind, vl, place))
         if row is None:
             self.found[kind, vl, place] = [1, value, value, value]
@@ -288,11 +303,11 @@ class Measured(Simulation):
             row[2] = max(row[2], value)
             row[3] += value
 
-    def release(self, t, vl, q, frame):
+    def release(self, t: int, vl: int, q: int, frame: Frame) -> Frame:
         self.measure("wait", vl, self.source[vl], t - frame[3])
         return super().release(t, vl, q, frame)
 
-    def put(self, t, p, q, frame, high):
+    def put(self, t: int, p: int, q: int, frame: Copy, high: bool) -> None:
         lost = len(self.rows)
         super().put(t, p, q, frame, high)
         line, port = self.out[p, q], self.ports[p, q]
@@ -300,7 +315,7 @@ class Measured(Simulation):
         if len(self.rows) == lost:
             self.came[line, frame] = t
 
-    def handle(self, t, p, variant, fields):
+    def handle(self, t: int, p: int, variant: str, fields: tuple[Any, ...]) -> None:
         if variant == "Carry":
             (frame,) = fields
             self.measure("delay", frame[0], p, t - self.came.pop((p, frame)))
@@ -312,7 +327,7 @@ class Measured(Simulation):
                 self.comes_closer(t, p, frame[0])
         super().handle(t, p, variant, fields)
 
-    def comes(self, t, p, frame):
+    def comes(self, t: int, p: int, frame: Copy) -> None:
         """A copy comes to a destination."""
         vl = frame[0]
         self.measure("network_" + frame[5].lower(), vl, p, t - frame[4])
@@ -322,18 +337,18 @@ class Measured(Simulation):
         elif len(self.destinations[vl, p]) > 1:
             self.first[p, frame[:5]] = t
 
-    def comes_closer(self, t, p, vl):
+    def comes_closer(self, t: int, p: int, vl: int) -> None:
         """A frame comes to a switch: the jitter is by how much frames came closer than a BAG, counted from any earlier one."""
         before = self.arrived.get((vl, p))
         closer = 0 if before is None else max(0, before[1] + self.vls[vl]["bag_ms"] * 10**6 - (t - before[0]))
         self.arrived[vl, p] = t, closer
         self.measure("jitter", vl, p, closer)
 
-    def deliver(self, t, p, frame):
+    def deliver(self, t: int, p: int, frame: Copy) -> None:
         super().deliver(t, p, frame)
         self.measure("network", frame[0], p, t - frame[4])
 
-    def hops(self):
+    def hops(self) -> Iterator[str]:
         """The lines of what was measured."""
         yield HOPS_HEAD
         order = lambda key: (KINDS.index(key[0]), -1 if key[1] is None else key[1], key[2])
@@ -342,7 +357,7 @@ class Measured(Simulation):
             yield "%s,%s,%s,%d,%d,%d,%d" % (kind, "" if vl is None else vl, self.names[place], *row)
 
 
-def small_enough(description):
+def small_enough(description: model.Description) -> Mapping[str, Any]:
     """The table that a description is, or a fault where it has more offers than this simulator can take."""
     until, rows = description.tree["until_ns"], description.rows("vl")
     count = sum(max(0, (until - row["offset_ns"]) // row["period_ns"] + 1) for row in rows)
@@ -353,7 +368,7 @@ def small_enough(description):
 
 
 @files.tool("afdx second-opinion")
-def main(arguments=None):
+def main(arguments: list[str] | None = None) -> None:
     parser = argparse.ArgumentParser(
         prog="afdx second-opinion", description=__doc__, epilog=EXAMPLES, formatter_class=argparse.RawDescriptionHelpFormatter
     )
@@ -367,11 +382,12 @@ def main(arguments=None):
     net = small_enough(description)
     written = [path for path in (words.trace, words.hops) if path]
     files.ready(written, prints=True)
-    simulation = (Measured if words.hops else Simulation)(net)
+    measured = Measured(net) if words.hops else None
+    simulation = measured or Simulation(net)
     simulation.run()
     text_of = lambda lines: "".join(line + "\n" for line in lines)
     texts = {words.trace: text_of(simulation.trace())} if words.trace else {}
-    files.write_all(texts | ({words.hops: text_of(simulation.hops())} if words.hops else {}))
+    files.write_all(texts | ({words.hops: text_of(measured.hops())} if measured else {}))
     tables = text_of(simulation.tables())
     if words.json:
         found = model.Tables("tables", model.Network(words.net, description=description), tables)

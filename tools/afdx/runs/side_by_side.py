@@ -7,6 +7,8 @@ import subprocess
 import tempfile
 import threading
 from collections import deque, namedtuple
+from collections.abc import Callable, Generator, Iterable, Sequence
+from typing import Protocol
 
 from afdx import files
 
@@ -21,31 +23,58 @@ FAR = re.compile(rb"afdxsim: (\d+ of \d+ ms.*)\n")
 Printed = namedtuple("Printed", "tables trace")
 
 
+# Who keeps the texts of a run: gets the beginning of the name of its files, its description and its tables.
+Keep = Callable[[str, str, str], object]
+# Each run and what it printed, in the order of the runs.
+Results = Generator[tuple[Run, Printed], None, None]
+
+
+class Runs(Protocol):
+    """What makes runs."""
+
+    hear: Callable[[str, str], object] | None
+
+    def results(self, runs: Iterable[Run]) -> Results: ...
+
+
+class Shown(Protocol):
+    """What shows how far runs are."""
+
+    def listen(self, maker: Runs) -> None: ...
+
+    def tell(self, done: int, worst: tuple[int, int, str, int] | None) -> None: ...
+
+    def end(self) -> None: ...
+
+
 class Failure(Exception):
     """Why a run failed, with its name."""
 
 
-def failure_of(status, said):
+def failure_of(status: int, said: bytes) -> str:
     """What the program said at last, and how it ended."""
-    said = said.decode("utf-8", "replace").strip().split("\n")[-1]
+    last = said.decode("utf-8", "replace").strip().split("\n")[-1]
     ended = f"status {status}" if status > 0 else files.ended_by(-status)
-    return f"{said} ({ended})" if said else ended
+    return f"{last} ({ended})" if last else ended
 
 
 class Here:
     """Makes runs on this machine, at most `jobs` side by side, by a command before the path of a description. `tells`: whether it
     knows --progress."""
 
-    def __init__(self, command, jobs, is_traced=False, tells=True):
+    def __init__(self, command: Sequence[str], jobs: int, is_traced: bool = False, tells: bool = True) -> None:
         self.command, self.jobs, self.is_traced, self.tells = command, jobs, is_traced, tells
-        self.lock, self.going, self.last = threading.Lock(), {}, None
+        self.lock = threading.Lock()
+        self.going: dict[int, subprocess.Popen[bytes]] = {}
+        self.last: int | None = None
         # Who hears how far each run is, if anybody does: it is called with the run's name and a text.
-        self.hear = None
+        self.hear: Callable[[str, str], object] | None = None
 
-    def results(self, runs):
+    def results(self, runs: Iterable[Run]) -> Results:
         """Yields each run and what it printed, in the order of the runs. The first one in this order that fails ends it,
         and those behind it. So does the end of the generator."""
-        rest, waiting, self.last = enumerate(runs), deque(), None
+        rest, self.last = enumerate(runs), None
+        waiting: deque[tuple[Run, concurrent.futures.Future[Printed | None]]] = deque()
         with tempfile.TemporaryDirectory() as folder, concurrent.futures.ThreadPoolExecutor(self.jobs) as pool:
             try:
                 while True:
@@ -55,6 +84,8 @@ class Here:
                         return
                     run, future = waiting.popleft()
                     printed = future.result()
+                    # None is of runs that are behind one that failed.
+                    assert printed is not None
                     yield run, printed
                     if printed.trace:
                         drop(printed.trace)
@@ -65,7 +96,7 @@ class Here:
                 for _, future in waiting:
                     future.cancel()
 
-    def watched(self, folder, number, run):
+    def watched(self, folder: str, number: int, run: Run) -> Printed | None:
         """A run; if it fails, those behind it need not go on."""
         try:
             return self.one(folder, number, run)
@@ -73,7 +104,7 @@ class Here:
             self.stop_after(number)
             raise
 
-    def one(self, folder, number, run):
+    def one(self, folder: str, number: int, run: Run) -> Printed | None:
         """What a run printed, or None where all has ended before it."""
         path = os.path.join(folder, f"{number}.toml")
         words = [*self.command, path]
@@ -98,11 +129,12 @@ class Here:
             raise Failure(failure_of(started.returncode, said))
         return Printed(printed.decode("utf-8", "replace"), traced if self.is_traced else None)
 
-    def heard(self, run, started):
+    def heard(self, run: Run, started: subprocess.Popen[bytes]) -> tuple[bytes, bytes]:
         """What a run printed and said; whoever hears gets the lines of its progress."""
-        said = []
+        said: list[bytes] = []
 
-        def listen():
+        def listen() -> None:
+            assert started.stderr is not None and self.hear is not None
             for line in started.stderr:
                 if far := FAR.fullmatch(line):
                     self.hear(run.name, far[1].decode("ascii", "replace"))
@@ -112,22 +144,23 @@ class Here:
         with started:
             listener = threading.Thread(target=listen)
             listener.start()
+            assert started.stdout is not None
             printed = started.stdout.read()
             listener.join()
         return printed, b"".join(said)
 
     @staticmethod
-    def started(words):
+    def started(words: Sequence[str]) -> subprocess.Popen[bytes]:
         pipe = subprocess.PIPE
         try:
             return subprocess.Popen(words, stdin=subprocess.DEVNULL, stdout=pipe, stderr=pipe)
         except OSError as fault:
             raise Failure(f"{words[0]} cannot be run: {fault.strerror}") from None
 
-    def is_over(self, number):
+    def is_over(self, number: int) -> bool:
         return self.last is not None and number > self.last
 
-    def stop_after(self, number):
+    def stop_after(self, number: int) -> None:
         """Ends the runs behind a number, and lets those before it go on."""
         with self.lock:
             self.last = number if self.last is None else min(number, self.last)
@@ -136,13 +169,13 @@ class Here:
                     started.kill()
 
 
-def drop(path):
+def drop(path: str) -> None:
     """Removes a file, if nobody has put it elsewhere."""
     with contextlib.suppress(FileNotFoundError):
         os.unlink(path)
 
 
-def printed_by(tables, trace, folder):
+def printed_by(tables: bytes, trace: str | None, folder: str) -> Printed:
     """What a run printed whose tables and trace are given as bytes and a text: the trace is put into a file of the folder."""
     path = None
     if trace is not None:

@@ -10,8 +10,10 @@ import copy
 import itertools
 import re
 from collections import namedtuple
+from collections.abc import Collection, Iterable, Iterator, Sequence
 from fractions import Fraction
 from math import floor
+from typing import Any, Protocol
 
 from afdx import files, model
 from afdx.files import Fault, program
@@ -19,7 +21,8 @@ from afdx.files.page_text import esc, span
 from afdx.model import judge
 from afdx.runs import reading_processes, run_results
 from afdx.runs.each_outage import STYLE, plain, row, tile
-from afdx.runs.side_by_side import Failure, Run
+from afdx.runs.merged import Merged
+from afdx.runs.side_by_side import Failure, Keep, Run, Runs, Shown
 
 # More combinations are hardly meant.
 MOST_COMBINATIONS = 10_000
@@ -31,7 +34,7 @@ HEAD = "vl,where,runs,delivered,least_greatest_ns,mean_greatest_ns,greatest_ns,s
 Setting = namedtuple("Setting", "name section who key values text")
 
 
-def setting(text):
+def setting(text: str) -> Setting:
     """The type of a word of the command line."""
     found = re.fullmatch(r"(vl|link|node|outage)\.([\w-]+)\.(\w+)=(.+)", text)
     if not found:
@@ -54,7 +57,7 @@ def setting(text):
     return Setting(f"{section}.{who}.{name}", section, who, key, values, text)
 
 
-def place_of(description, it):
+def place_of(description: model.Description, it: Setting) -> int:
     """The row of a setting, from 1, or a fault."""
     rows = description.rows(it.section)
     if it.section in ("vl", "node"):
@@ -74,7 +77,7 @@ def place_of(description, it):
 Combination = namedtuple("Combination", "number values name description")
 
 
-def combinations_of(description, settings):
+def combinations_of(description: model.Description, settings: Sequence[Setting]) -> list[Combination]:
     """Each combination of values, with its description, which `afdxsim` must accept."""
     names = [it.name for it in settings]
     for name in names:
@@ -86,7 +89,7 @@ def combinations_of(description, settings):
         count *= len(it.values)
     if count > MOST_COMBINATIONS:
         raise Fault(description.path, None, f"--set has {count:,} combinations, and {MOST_COMBINATIONS:,} are the most")
-    found = []
+    found: list[Combination] = []
     for number, values in enumerate(itertools.product(*(it.values for it in settings)), 1):
         tree = copy.deepcopy(description.tree)
         for it, place, value in zip(settings, places, values):
@@ -104,22 +107,46 @@ def combinations_of(description, settings):
     return found
 
 
+class Campaign(Protocol):
+    """What came of the runs of a combination so far, as commands/campaign.py has it."""
+
+    merged: Merged
+    done: int
+
+    @property
+    def net(self) -> model.Network: ...
+
+    @property
+    def seeds(self) -> Sequence[int]: ...
+
+    @property
+    def broken(self) -> Collection[tuple[int, str]]: ...
+
+    def runs(self) -> Iterable[Run]: ...
+
+    def take(self, told: run_results.Told) -> int: ...
+
+
+Course = tuple[Combination, Campaign]
+
+
 class Sweep:
     """What came of the runs so far: `courses` has for each combination its campaign."""
 
-    def __init__(self, settings, courses):
+    def __init__(self, settings: Sequence[Setting], courses: Sequence[Course]) -> None:
         self.settings, self.courses = settings, courses
-        self.done, self.status, self.failure = 0, 0, None
+        self.done, self.status = 0, 0
+        self.failure: str | None = None
 
-    def count(self):
+    def count(self) -> int:
         return sum(len(campaign.seeds) for _, campaign in self.courses)
 
-    def runs(self):
+    def runs(self) -> Iterator[Run]:
         for combination, campaign in self.courses:
             for run in campaign.runs():
                 yield Run(f"{combination.name}, {run.name}", run.text)
 
-    def run(self, maker, keep, progress, jobs):
+    def run(self, maker: Runs, keep: Keep, progress: Shown, jobs: int) -> None:
         """Has all runs made, and takes what they say. The first one that fails ends it."""
         progress.listen(maker)
         reader, jobs = run_results.Reader([campaign.net for _, campaign in self.courses]), min(jobs, self.count())
@@ -140,11 +167,11 @@ class Sweep:
             finally:
                 progress.end()
 
-    def whole(self):
+    def whole(self) -> list[Course]:
         """The courses of which all runs were made."""
         return [(combination, campaign) for combination, campaign in self.courses if campaign.done == len(campaign.seeds)]
 
-    def rows(self):
+    def rows(self) -> Iterator[tuple[Combination, int, str, list[int | str]]]:
         """For each whole course, virtual link and destination what a line of the table has."""
         for combination, campaign in self.whole():
             merged = campaign.merged
@@ -155,14 +182,14 @@ class Sweep:
                 lost = sum(row[0] for (of, _, cause), row in merged.losses.items() if of == vl and cause != "duplicate")
                 yield combination, vl, where, [over.runs, count, *spread, greatest, "" if seed is None else seed, lost]
 
-    def table(self, maker):
+    def table(self, maker: program.Maker) -> str:
         """The table; its last column names the program."""
         lines = [",".join(["set", *(it.name for it in self.settings), HEAD, "program"])]
         for combination, vl, where, numbers in self.rows():
             lines.append(",".join(map(str, [combination.number, *combination.values, vl, where, *numbers, maker.cell()])))
         return "\n".join(lines) + "\n"
 
-    def long_rows(self):
+    def long_rows(self) -> Iterator[tuple[Any, ...]]:
         """The rows of the table in the long form, with the combination and its values as further keys."""
         measures = HEAD.split(",")[2:]
         for combination, vl, where, numbers in self.rows():
@@ -171,9 +198,9 @@ class Sweep:
                 if number != "":
                     yield "set", vl, where, measure, number, more
 
-    def effects(self):
+    def effects(self) -> list["Effect"]:
         """For each virtual link and destination what the values do, the greatest effect first."""
-        found = {}
+        found: dict[tuple[int, str], list[Bar]] = {}
         for combination, vl, where, numbers in self.rows():
             runs, _, least, mean, greatest, _, _ = numbers
             if runs:
@@ -191,17 +218,17 @@ class Effect:
     combinations are apart, `spread` how far the seeds are apart in one combination at the most, and `of` has for each
     setting how far the means of its values are apart."""
 
-    def __init__(self, settings, vl, where, bars):
+    def __init__(self, settings: Sequence[Setting], vl: int, where: str, bars: list[Bar]) -> None:
         self.vl, self.where, self.bars = vl, where, bars
         self.effect = self.apart(bar.mean for bar in bars)
         self.spread = max(bar.greatest - bar.least for bar in bars)
-        self.of = []
+        self.of: list[int] = []
         for place, it in enumerate(settings):
             of_value = {value: [bar.mean for bar in bars if bar.combination.values[place] == value] for value in it.values}
             self.of.append(self.apart(Fraction(sum(means), len(means)) for means in of_value.values() if means))
 
     @staticmethod
-    def apart(numbers):
+    def apart(numbers: Iterable[int | Fraction]) -> int:
         numbers = list(numbers)
         return floor(max(numbers) - min(numbers))
 
@@ -215,7 +242,7 @@ td.bars { text-align: left; }
 WIDTH, HEIGHT = 260, 9
 
 
-def strip(bars):
+def strip(bars: list[Bar]) -> str:
     """A bar for each combination, from the least to the greatest of its runs, with a mark at the mean. The whole goes from 0
     to the greatest of all."""
     last = max(1, max(bar.greatest for bar in bars))
@@ -232,7 +259,7 @@ def strip(bars):
     return f'<svg width="{WIDTH + 2}" height="{HEIGHT * len(bars)}" role="img">{"".join(pieces)}</svg>'
 
 
-def effects_table(settings, effects, has_spread):
+def effects_table(settings: Sequence[Setting], effects: list[Effect], has_spread: bool) -> str:
     several = [i for i, it in enumerate(settings) if len(it.values) > 1] if len(settings) > 1 else []
     heads = plain("virtual link", "destination", "effect", "spread of seeds", *(f"effect of {settings[i].name}" for i in several))
     heads.append(("", "each combination, from 0 to the greatest"))
@@ -247,7 +274,7 @@ def effects_table(settings, effects, has_spread):
     return f'<table id="effects"><thead>{row(heads, "th")}</thead><tbody>{"".join(rows)}</tbody></table>{more}'
 
 
-def combinations_table(sweep, has_limits):
+def combinations_table(sweep: Sweep, has_limits: bool) -> str:
     heads = plain("set", *(it.name for it in sweep.settings), "runs", "greatest latency", "of", "frames or copies lost")
     heads += plain("limits broken") if has_limits else []
     rows = []
@@ -262,7 +289,7 @@ def combinations_table(sweep, has_limits):
     return f'<table id="combinations"><thead>{row(heads, "th")}</thead><tbody>{"".join(rows)}</tbody></table>'
 
 
-def page(sweep, path, made_by, has_limits):
+def page(sweep: Sweep, path: str, made_by: str, has_limits: bool) -> str:
     """The page of all combinations."""
     effects, whole = sweep.effects(), sweep.whole()
     seeds = sweep.courses[0][1].seeds

@@ -1,20 +1,21 @@
 """Runs of a campaign by the program of these sources without a proof: `rt try` builds it once, and runs it for each."""
 import tempfile
+from collections.abc import Callable, Iterable
 
 from afdx.files.program import NoProgram
 from afdx.runs import by_rt
-from afdx.runs.side_by_side import Failure, failure_of, printed_by
+from afdx.runs.side_by_side import Failure, Results, Run, failure_of, printed_by
 
 
 class Tried:
     """Makes runs as tools/afdx/runs/side_by_side.py does, one after another. What a run prints or traces may have at most 1 MiB."""
 
-    def __init__(self, is_traced=False):
+    def __init__(self, is_traced: bool = False) -> None:
         self.is_traced = is_traced
         # Nobody hears how far a run is: what it says comes at its end.
-        self.hear = None
+        self.hear: Callable[[str, str], object] | None = None
 
-    def results(self, runs):
+    def results(self, runs: Iterable[Run]) -> Results:
         """Yields each run and what it printed, in the order of the runs. The first one that fails ends it."""
         runs = list(runs)
         words = ["--trace", "/dev/stderr"] if self.is_traced else []
