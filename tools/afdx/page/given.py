@@ -1,4 +1,5 @@
 """What a page is made of: the files that the words name, held against each other."""
+import argparse
 import os
 from collections import namedtuple
 
@@ -25,7 +26,7 @@ Other = namedtuple("Other", "tables ends bounds")
 Runs = namedtuple("Runs", "seeds draws_offsets")
 
 
-def tables_of(path, net):
+def tables_of(path: str, net: Network) -> tuple[Tables, campaign_record.Record | None]:
     """The tables of a file or of the folder of a campaign, and the record of their campaign, or None."""
     is_folder = os.path.isdir(path)
     path = os.path.join(path, campaign_record.MERGED) if is_folder else path
@@ -44,7 +45,7 @@ def tables_of(path, net):
     return tables, found
 
 
-def runs_of(words, tables, found):
+def runs_of(words: argparse.Namespace, tables: Tables, found: campaign_record.Record | None) -> Runs | None:
     """Which runs the tables are of: as their campaign says, else as the words say; None where nobody does."""
     first, net = words.first, tables.net
     if not tables.merged:
@@ -52,12 +53,12 @@ def runs_of(words, tables, found):
             raise files.Fault(tables.path, None, "these are the tables of one run, and --seeds means a campaign")
         return Runs([net.seed], False)
     if found:
-        told = Runs(found.all_seeds(), found.offsets)
+        runs = Runs(found.all_seeds(), found.offsets)
         said = words.seeds in (None, found.seeds) and first in (None, found.first_seed)
         if not said or words.seeds and words.offsets != found.offsets:
-            seeds = f"{found.seeds} seeds from {found.first_seed} on, {'with' if found.offsets else 'without'} drawn offsets"
-            raise files.Fault(tables.path, None, f"the campaign had {seeds}, and the words say something else: leave them out")
-        return told
+            had = f"{found.seeds} seeds from {found.first_seed} on, {'with' if found.offsets else 'without'} drawn offsets"
+            raise files.Fault(tables.path, None, f"the campaign had {had}, and the words say something else: leave them out")
+        return runs
     if not words.seeds:
         return None
     first = net.seed if first is None else first
@@ -71,13 +72,13 @@ def runs_of(words, tables, found):
     return Runs(seeds, words.offsets)
 
 
-def ends_of(words, tables, found, trace=None):
+def ends_of(words: argparse.Namespace, tables: Tables, found: campaign_record.Record | None, trace: Trace | None = None) -> Ends | None:
     """What became of all frames; None if the seeds of merged tables are not known."""
     runs = runs_of(words, tables, found)
     return Ends(tables, runs.seeds, runs.draws_offsets, trace) if runs else None
 
 
-def given_by(words):
+def given_by(words: argparse.Namespace) -> Given:
     net = Network(words.net)
     tables, found = tables_of(words.tables, net)
     if tables.merged and words.trace:
