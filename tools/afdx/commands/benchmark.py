@@ -33,6 +33,7 @@ import time
 import zlib
 
 from afdx import files
+from afdx.files import program
 
 
 # For each network the words for afdx large-network, the number of messages that seq handles in it, and the CRC-32 of
