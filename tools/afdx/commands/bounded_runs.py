@@ -201,6 +201,8 @@ class Count:
             if greatest > bound:
                 self.above += 1
                 tell(f"virtual link {key[0]} at {key[1]} took {greatest} ns, and its bound is {bound} ns")
+        # None where what was measured is no virtual link's.
+        vl: Any
         for (kind, vl, place), (_, _, greatest, _) in run.found.items():
             where = run.names[place]
             bound = found.of_kind(kind, vl, where)

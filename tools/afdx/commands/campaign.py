@@ -536,6 +536,7 @@ def over_aims(words: argparse.Namespace, net: Network, limits: Limits, seeds: ra
     files.say(f"{table}: {found.done} runs, in {time.monotonic() - begin:.1f} s")
     for text in found.in_words():
         files.say(text)
+    it: Any
     for it in found.above():
         files.say(f"above its bound, so one of the two is wrong: {','.join(map(network_calculus.said, it))}")
     tell_limits(found)

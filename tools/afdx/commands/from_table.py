@@ -705,7 +705,7 @@ class Made(model.Description):
         super().__init__("", text)
         self.maker = maker
 
-    def line(self, section: str, row: int | None = None, key: str | None = None, item: int | None = None) -> int | None:
+    def line(self, section: str, row: int | None = None, key: str | None = None, item: int | None = None) -> Any:
         lines = self.maker.made_of[section]
         return lines[(row or 1) - 1].number if (row or 1) <= len(lines) else 0
 

@@ -15,7 +15,7 @@ import argparse
 import collections
 import heapq
 import sys
-from collections.abc import Iterator
+from collections.abc import Iterator, Mapping
 from typing import Any
 
 from afdx import files
@@ -30,7 +30,7 @@ Event = tuple[int, int | None, list[int]]
 class Journal(Simulation):
     """A simulation that lists its steps."""
 
-    def __init__(self, net: dict[str, Any]) -> None:
+    def __init__(self, net: Mapping[str, Any]) -> None:
         # For each process how many letters its mail has.
         self.mail: collections.Counter[int] = collections.Counter()
         # For each message that waits, which event of this window sent it.

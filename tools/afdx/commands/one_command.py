@@ -392,7 +392,7 @@ def simulate_by_try(net: str, out: BinaryIO, trace: str) -> int:
         if alone[0] is None:
             raise NoProgram("`rt try` gave no answer: it passes on at most 1 MiB, and `afdx build` builds the proved program")
     out.write(traced[1] if traced[0] == 0 else alone[1])
-    return alone[0]
+    return alone[0] or 0
 
 
 # ---- building and the shell ----

@@ -13,7 +13,7 @@ import itertools
 import os
 import struct
 import sys
-from collections.abc import Iterable, Iterator, Sequence
+from collections.abc import Iterable, Iterator, Mapping, Sequence
 from typing import Any
 
 from afdx import files, model
@@ -59,7 +59,7 @@ NETWORKS = {"A": 0x20, "B": 0x40, None: 0}
 
 
 # A frame as the second opinion has it, and a packet: its moment, its place, its frame and its comments.
-Frame = tuple[Any, ...]
+Frame = Any
 Packet = tuple[int, int, Frame, list[str]]
 
 
@@ -125,7 +125,7 @@ def packet_of(interface: int, moment: int, frame: bytes, comments: list[str]) ->
 class Seen(second_opinion.Simulation):
     """A run whose frames are noted: `packets` has for each the moment, the place, the frame and its comments."""
 
-    def __init__(self, tree: dict[str, Any]) -> None:
+    def __init__(self, tree: Mapping[str, Any]) -> None:
         self.packets: list[Packet] = []
         super().__init__(tree)
 
@@ -156,7 +156,7 @@ class SeenOnLines(Seen):
     """A run whose frames are noted on each line, at the moment of the last bit. What happens to a frame behind a line is a
     comment of its packet there; what is lost before its first line is noted at its source."""
 
-    def __init__(self, tree: dict[str, Any]) -> None:
+    def __init__(self, tree: Mapping[str, Any]) -> None:
         # For each frame and node the packet on the line by which it came there.
         self.before: dict[tuple[Frame, int], Packet] = {}
         super().__init__(tree)

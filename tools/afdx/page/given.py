@@ -2,6 +2,7 @@
 import argparse
 import os
 from collections import namedtuple
+from typing import Any
 
 from afdx import files, model
 from afdx.files import cut
@@ -65,6 +66,7 @@ def runs_of(words: argparse.Namespace, tables: Tables, found: campaign_record.Re
     if first + words.seeds - 1 > model.GREATEST_SEED:
         raise files.Fault(net.path, None, f"the seeds from {first} on would pass {model.GREATEST_SEED}")
     seeds = range(first, first + words.seeds)
+    row: Any
     for row in (*tables.latencies.values(), *tables.losses.values()):
         if row.seed is not None and row.seed not in seeds:
             told = f"the seed {row.seed} is none of the {counted(words.seeds, 'seed')} from {first} on"
@@ -85,9 +87,9 @@ def given_by(words: argparse.Namespace) -> Given:
         raise files.Fault(words.trace, None, f"is the trace of one run, and {tables.path} has the tables of several")
     trace = Trace(words.trace, tables) if words.trace else None
     bounds = bounds_file.Bounds(words.bounds, net) if words.bounds else None
-    margins = limits.margins_of(limits.limits_of(words.limits, net), tables.latencies, bounds) if words.limits else []
+    held = limits.margins_of(limits.limits_of(words.limits, net), tables.latencies, bounds) if words.limits else []
     measured = hops.Hops(words.hops, tables) if words.hops else None
-    way = hops.OnTheWay(net, measured, bounds and bounds.of_kind, tables.latencies) if measured or bounds else None
+    way = hops.OnTheWay(net, measured, bounds.of_kind if bounds else None, tables.latencies) if measured or bounds else None
     other = None
     if words.against:
         before, record_before = tables_of(words.against, Network(words.against_net) if words.against_net else net)
@@ -96,7 +98,7 @@ def given_by(words: argparse.Namespace) -> Given:
     made_of = [net.path, tables.path, words.trace, words.limits, words.bounds, words.hops]
     made_of += [words.against, words.against_net, words.against_bounds]
     made_by = words.made_by or (f"{found.program.in_words()}, as their campaign says" if found else None)
-    margins = {it.limit[:2]: it for it in margins}
+    margins = {it.limit[:2]: it for it in held}
     percentiles = campaign_record.percentiles(found, tables) if tables.merged else None
     made_of += [os.path.join(os.path.dirname(tables.path), campaign_record.GREATEST)] if percentiles else []
     ends, made_of = ends_of(words, tables, found, trace), list(filter(None, made_of))

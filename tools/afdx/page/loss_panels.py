@@ -30,7 +30,7 @@ def losses_by_place(page: OfPage, lost: list[Loss]) -> str:
     for row in lost:
         places.setdefault(row.where, Counter())[row.cause] += row.count
     causes = [cause for cause in LOSSES if any(found[cause] for found in places.values())]
-    order = sorted(places, key=page.net.process.get)
+    order = sorted(places, key=page.net.process.__getitem__)
     rows: dict[str, list[Any]] = {cause: [places[where][cause] for where in order] for cause in causes}
     rows |= {"where": order, "together": [places[where].total() for where in order]}
     columns = [column("where", "text", "place")]
@@ -91,7 +91,7 @@ def second_copies(page: OfPage) -> str:
         sums[0] += row.count if both else 0
         sums[1] += copies.count if copies else 0
         sums[2] += row.count - (copies.count if copies else 0) if both else 0
-    found = {where: found[where] for where in sorted(found, key=page.net.process.get) if any(found[where][:2])}
+    found = {where: found[where] for where in sorted(found, key=page.net.process.__getitem__) if any(found[where][:2])}
     if not found:
         return ""
     columns = [
