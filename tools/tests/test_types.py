@@ -1,4 +1,4 @@
-"""Tests that `mypy` finds nothing in the tools: tools/mypy.ini says what it is asked, and of which modules each function has types."""
+"""Tests that `mypy` finds nothing in the tools: tools/mypy.ini says what it is asked. Each function has types."""
 import os
 import shutil
 import subprocess

@@ -31,13 +31,14 @@ import sys
 import tempfile
 import time
 import zlib
+from collections.abc import Iterator
 
 from afdx import files
-
+from afdx.files import program
 
 # For each network the words for afdx large-network, the number of messages that seq handles in it, and the CRC-32 of
 # the description, by which a changed description is noticed.
-SIZES = {
+SIZES: dict[str, tuple[list[str], int, int]] = {
     "small": (["--end-systems", "16", "--switches", "2", "--virtual-links", "60"], 216_571, 0x9B01492E),
     "aircraft": ([], 4_149_705, 0x90AD70D9),
     "limit": (
@@ -55,7 +56,7 @@ COLUMNS = ["network", "command", "events", "rows", "seconds", "least", "events/s
 class Run:
     """One run of a command: its wall time in seconds and its peak memory in MiB. Its output goes to a file."""
 
-    def __init__(self, command, output):
+    def __init__(self, command: list[str], output: str) -> None:
         with open(output, "wb") as out:
             begin = time.monotonic()
             to_file = [(os.POSIX_SPAWN_DUP2, out.fileno(), 1)]
@@ -68,14 +69,14 @@ class Run:
             sys.exit(f"afdx benchmark: {' '.join(command)} ended with status {code}")
 
 
-def write_description(size, path):
+def write_description(size: str, path: str) -> None:
     words, _, _ = SIZES[size]
     command = program.command("large-network", *words)
     with open(path, "wb") as out:
         subprocess.run(command, stdout=out, stderr=subprocess.DEVNULL, check=True)
 
 
-def events_of(size, path):
+def events_of(size: str, path: str) -> int | None:
     """How many messages seq handles in this network, or None where the description is not the one that was counted."""
     _, events, counted = SIZES[size]
     seen = 0
@@ -85,14 +86,14 @@ def events_of(size, path):
     return events if seen == counted else None
 
 
-def rows_of(tables):
+def rows_of(tables: str) -> int:
     """The sum of the counts of a text of tables."""
     with open(tables, encoding="ascii") as lines:
         next(lines)
         return sum(int(line.split(",")[4]) for line in lines)
 
 
-def measure(program, size, folder, reps, workers):
+def measure(program: str, size: str, folder: str, reps: int, workers: list[str]) -> Iterator[list[str]]:
     """The lines of the table for one network."""
     net = os.path.join(folder, size + ".toml")
     write_description(size, net)
@@ -117,7 +118,7 @@ def measure(program, size, folder, reps, workers):
         ]
 
 
-def print_line(cells):
+def print_line(cells: list[str]) -> None:
     widths = [10, 16, 11, 9, 9, 9, 12, 8]
     left = [cell.ljust(width) for cell, width in zip(cells[:2], widths)]
     right = [cell.rjust(width) for cell, width in zip(cells[2:], widths[2:])]
@@ -125,7 +126,7 @@ def print_line(cells):
 
 
 @files.tool("afdx benchmark")
-def main(arguments=None):
+def main(arguments: list[str] | None = None) -> None:
     parser = argparse.ArgumentParser(prog="afdx benchmark", description=__doc__, formatter_class=argparse.RawDescriptionHelpFormatter)
     add = parser.add_argument
     add("program", metavar="PROGRAM", help="the program to measure")

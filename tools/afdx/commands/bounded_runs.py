@@ -20,6 +20,8 @@ import random
 import subprocess
 import sys
 import tempfile
+from collections.abc import Callable, Sequence
+from typing import Any
 
 from afdx import files, model
 from afdx.reckon import network_calculus, proved_bounds
@@ -44,11 +46,14 @@ status:
 
 MS = 10**6
 
+# A row of a description, or all of one.
+Row = dict[str, Any]
+
 
 class Drawn:
     """The network of a number, as the rows of its description."""
 
-    def __init__(self, number):
+    def __init__(self, number: int) -> None:
         self.number = number
         self.draw = draw = random.Random(number)
         self.until = draw.randint(3, 12) * MS
@@ -56,7 +61,7 @@ class Drawn:
         is_ring = draw.random() < 0.5
         # In some rings all goes round one way, so that what a line delays comes back to it.
         self.goes_round = is_ring and draw.random() < 0.5
-        self.beside = {i: [] for i in range(self.switches)}
+        self.beside: dict[int, list[int]] = {i: [] for i in range(self.switches)}
         for i in range(1, self.switches):
             self.join(i - 1 if is_ring else draw.randrange(i), i)
         if is_ring and self.switches > 2:
@@ -68,11 +73,11 @@ class Drawn:
             self.vls = self.fitting(self.vls)
         self.outages = [self.outage() for _ in range(draw.choice([0, 0, 0, 0, 1, 2]))]
 
-    def join(self, one, other):
+    def join(self, one: int, other: int) -> None:
         self.beside[one].append(other)
         self.beside[other].append(one)
 
-    def nodes_drawn(self):
+    def nodes_drawn(self) -> list[Row]:
         draw, rows = self.draw, []
         port_bytes = draw.choice([1518, 4096, 16384, 65536, 2**20])
         for i in range(len(self.homes)):
@@ -84,7 +89,7 @@ class Drawn:
                 rows[-1] |= {"net": net, "latency_ns": draw.choice([latency, draw.randint(1, 2 * latency)])}
         return rows
 
-    def links_drawn(self):
+    def links_drawn(self) -> list[Row]:
         draw, rows = self.draw, []
         slow = draw.choice([0, 0, 0.2, 0.6, 1])
         for net in "AB":
@@ -95,7 +100,7 @@ class Drawn:
                 rows.append({"a": a, "b": b, "mbit": mbit, "propagation_ns": draw.choice([1, 100, draw.randint(1, 5000)])})
         return rows
 
-    def virtual_link(self, number):
+    def virtual_link(self, number: int) -> Row:
         draw = self.draw
         bag = draw.choice([1, 1, 1, 2, 2, 4, 8])
         size = draw.choice([64, draw.randint(64, 300), draw.randint(64, 1518), 1518])
@@ -114,10 +119,11 @@ class Drawn:
             "a": paths("A") if "A" in nets else [], "b": paths("B") if "B" in nets else [],
         }
 
-    def fitting(self, rows):
+    def fitting(self, rows: list[Row]) -> list[Row]:
         """The virtual links, without those that would give a line more than it can send."""
-        mbit = {(link[a], link[b]): link["mbit"] for link in self.links for a, b in ("ab", "ba")}
-        load, found = {}, []
+        mbit = {(link[a], link[b]): link["mbit"] for link in self.links for a, b in (("a", "b"), ("b", "a"))}
+        load: dict[tuple[str, str], int] = {}
+        found: list[Row] = []
         for row in rows:
             lines = {line for path in row["a"] + row["b"] for line in zip(path, path[1:])}
             # In bits that a line has to send in 8 ms, which each BAG divides.
@@ -127,7 +133,7 @@ class Drawn:
                 found.append(row)
         return found
 
-    def paths(self, source, targets):
+    def paths(self, source: int, targets: list[int]) -> Callable[[str], list[list[str]]]:
         """The paths of one tree of shortest ways, for each network."""
         ways = {self.homes[source]: [self.homes[source]]}
         due = list(ways)
@@ -139,25 +145,25 @@ class Drawn:
                     ways[there] = ways[here] + [there]
                     due.append(there)
 
-        def of_net(net):
+        def of_net(net: str) -> list[list[str]]:
             inner = lambda target: [f"{net}{switch}" for switch in ways[self.homes[target]]]
             return [[f"E{source}", *inner(target), f"E{target}"] for target in targets]
 
         return of_net
 
-    def outage(self):
+    def outage(self) -> Row:
         link = self.draw.choice(self.links)
         ends = self.draw.sample([link["a"], link["b"]], 2)
         begin = self.draw.randrange(self.until)
         return {"from": ends[0], "to": ends[1], "from_ns": begin, "to_ns": begin + self.draw.randint(1, self.until)}
 
-    def tree(self, seed=0, offsets=()):
+    def tree(self, seed: int = 0, offsets: Sequence[int] = ()) -> Row:
         """What the description says, with the offsets of a run."""
         vls = [row | {"offset_ns": offset} for row, offset in zip(self.vls, offsets or [0] * len(self.vls))]
         top = {"until_ns": self.until, "seed": seed}
         return top | {"node": self.nodes, "link": self.links, "outage": self.outages, "vl": vls}
 
-    def offsets(self, run, found):
+    def offsets(self, run: int, found: network_calculus.Bounds) -> list[int]:
         """The offsets of a run."""
         draw = random.Random(f"{self.number} {run}")
         if run == 0:
@@ -175,14 +181,14 @@ class Drawn:
 class Count:
     """What was held against bounds so far."""
 
-    def __init__(self):
+    def __init__(self) -> None:
         self.latencies = self.ports = self.others = self.unbounded = self.above = self.runs = 0
-        self.shares = []
+        self.shares: list[float] = []
         # The same of the bounds that the program prints.
         self.by_program = [0, 0, 0, 0]
-        self.program_shares = []
+        self.program_shares: list[float] = []
 
-    def hold(self, found, run, tell):
+    def hold(self, found: network_calculus.Bounds, run: second_opinion.Measured, tell: Callable[[str], None]) -> None:
         """Holds a run against the bounds of its network."""
         self.runs += 1
         for key, greatest in greatest_latencies(run).items():
@@ -195,6 +201,8 @@ class Count:
             if greatest > bound:
                 self.above += 1
                 tell(f"virtual link {key[0]} at {key[1]} took {greatest} ns, and its bound is {bound} ns")
+        # None where what was measured is no virtual link's.
+        vl: Any
         for (kind, vl, place), (_, _, greatest, _) in run.found.items():
             where = run.names[place]
             bound = found.of_kind(kind, vl, where)
@@ -210,7 +218,7 @@ class Count:
                 self.above += 1
                 tell(text)
 
-    def hold_program(self, proved, run, tell):
+    def hold_program(self, proved: proved_bounds.ProvedBounds, run: second_opinion.Measured, tell: Callable[[str], None]) -> None:
         """Holds a run against the bounds that the program prints of its network."""
         held = [(proved.of[key], greatest, f"virtual link {key[0]} at {key[1]} took") for key, greatest in greatest_latencies(run).items()]
         ports = [(run.names[place], greatest) for (kind, _, place), (_, _, greatest, _) in run.found.items() if kind == "backlog"]
@@ -223,7 +231,7 @@ class Count:
                     self.by_program[3] += 1
                     tell(f"{text} {greatest}, and the bound by the program is {bound}")
 
-    def program_text(self):
+    def program_text(self) -> str:
         shares = sorted(self.program_shares) or [0]
         latencies, ports, none, above = self.by_program
         return (
@@ -231,7 +239,7 @@ class Count:
             f"greatest latency by bound: median {shares[len(shares) // 2]:.3f}, most {shares[-1]:.3f}"
         )
 
-    def text(self, networks):
+    def text(self, networks: int) -> str:
         shares = sorted(self.shares) or [0]
         return (
             f"{networks} networks, {self.runs} runs: {self.latencies} latencies, {self.ports} ports and "
@@ -240,16 +248,16 @@ class Count:
         )
 
 
-def greatest_latencies(run):
+def greatest_latencies(run: second_opinion.Measured) -> dict[tuple[int, str], int]:
     """The greatest latency of each virtual link and destination where one was delivered."""
-    found = {}
+    found: dict[tuple[int, str], int] = {}
     for _, place, vl, what, value in run.rows:
         if what == "delivered":
             found[vl, run.names[place]] = max(value, found.get((vl, run.names[place]), 0))
     return found
 
 
-def bounds_by(program, net, text):
+def bounds_by(program: str, net: model.Network, text: str) -> proved_bounds.ProvedBounds:
     """The bounds that a program prints of a network with this text."""
     with tempfile.TemporaryDirectory() as folder:
         path, printed = os.path.join(folder, "net.toml"), os.path.join(folder, "bounds.csv")
@@ -261,7 +269,7 @@ def bounds_by(program, net, text):
         return proved_bounds.ProvedBounds(printed, net)
 
 
-def hold_network(number, runs, keep, count, tell, program=None):
+def hold_network(number: int, runs: int, keep: str | None, count: Count, tell: Callable[[str], None], program: str | None = None) -> None:
     """Makes the runs of a network and holds them against its bounds."""
     drawn = Drawn(number)
     text = model.text_of_tree(drawn.tree())
@@ -280,7 +288,7 @@ def hold_network(number, runs, keep, count, tell, program=None):
             files.write_whole(os.path.join(keep, f"network-{number}-run-{run}.toml"), model.text_of_tree(tree))
 
 
-def words_of(arguments=None):
+def words_of(arguments: list[str] | None = None) -> argparse.Namespace:
     parser = argparse.ArgumentParser(
         prog="afdx bounded-runs", description=__doc__, epilog=EXAMPLES, formatter_class=argparse.RawDescriptionHelpFormatter
     )
@@ -294,7 +302,7 @@ def words_of(arguments=None):
 
 
 @files.tool("afdx bounded-runs")
-def main(arguments=None):
+def main(arguments: list[str] | None = None) -> int:
     words = words_of(arguments)
     count = Count()
     if words.keep:

@@ -84,7 +84,7 @@ status:
 """
 
 
-def accepted(path):
+def accepted(path: str) -> model.Network:
     """The network of a description that `afdxsim` accepts."""
     net = model.Network(path)
     fault = min(judge.Judge(net.description).findings, key=judge.rank, default=None)
@@ -93,7 +93,7 @@ def accepted(path):
     return net
 
 
-def words_of(arguments=None):
+def words_of(arguments: list[str] | None = None) -> argparse.Namespace:
     parser = argparse.ArgumentParser(
         prog="afdx bounds", description=__doc__, epilog=EXAMPLES, formatter_class=argparse.RawDescriptionHelpFormatter
     )
@@ -116,7 +116,7 @@ def words_of(arguments=None):
     return words
 
 
-def write_fitted(net, path):
+def write_fitted(net: model.Network, path: str) -> int:
     """Writes the description with the values that fit, and answers the status."""
     proposed = fit.proposals(net)
     files.write_all({path: fit.replaced(net.text, proposed)}, prints=True)
@@ -130,7 +130,7 @@ def write_fitted(net, path):
 
 
 @files.tool("afdx bounds")
-def main(arguments=None):
+def main(arguments: list[str] | None = None) -> int:
     words = words_of(arguments)
     net = accepted(words.net)
     files.ready(list(filter(None, [words.output, words.junit, words.fit])), prints=not words.output or bool(words.limits))

@@ -35,13 +35,15 @@ import sys
 import tempfile
 import threading
 import time
+from collections.abc import Callable, Iterable, Iterator
 from itertools import repeat
+from typing import Any, NoReturn
 
 from afdx import files, model
 from afdx.files import Fault, program, text_of, watch
 from afdx.model import GREATEST_SEED, PROGRAM, judge, long_form, whole
 from afdx.reckon import network_calculus, output_sizes
-from afdx.reckon.limits import limits_of
+from afdx.reckon.limits import Limit, limits_of
 from afdx.runs import (
     aim, campaign_record, cluster, each_outage, reading_processes, run_results, side_by_side, sweep, unproved_runs,
 )
@@ -94,6 +96,13 @@ status:
 # What an outage does is printed for this many outages at most.
 MOST_TOLD = 10
 
+# Who makes runs, limits by virtual link and destination, and what keeps the files of a run.
+Maker = side_by_side.Here | unproved_runs.Tried | cluster.Cluster
+Limits = dict[tuple[int, str], Limit]
+Keep = Callable[[str, str, str], None]
+# The greatest latency so far, its virtual link, destination and seed.
+Worst = tuple[int, int, str, int]
+
 
 # ---- the network ----
 
@@ -101,7 +110,7 @@ MOST_TOLD = 10
 class Network(model.Network):
     """A description that the program has accepted, with another end where one is given."""
 
-    def __init__(self, path, program, until_ns=None):
+    def __init__(self, path: str, program: str | None, until_ns: int | None = None) -> None:
         if program:
             text = text_of(path)
             self.check(path, text, program)
@@ -114,7 +123,7 @@ class Network(model.Network):
         self.write(self.description.tree)
 
     @staticmethod
-    def check(path, text, program):
+    def check(path: str, text: str, program: str) -> None:
         """Has the program judge the description, of which it gets a copy: so it is read once."""
         with tempfile.TemporaryDirectory() as folder:
             copy = os.path.join(folder, "net.toml")
@@ -128,11 +137,11 @@ class Network(model.Network):
             said = run.stderr.decode("utf-8", "replace").strip().split("\n")[0]
             raise Fault(path, model.line_of_refusal(text, said), "is refused: " + (said or f"status {run.returncode}"))
 
-    def write(self, found):
+    def write(self, found: dict[str, Any]) -> None:
         """Writes the description anew, line by line, but for the seed, which stands first."""
         self.lines = [f"until_ns = {found['until_ns']}"]
         # For each virtual link the place of its offset in the lines, and its period.
-        self.offsets = []
+        self.offsets: list[tuple[int, int]] = []
         for section in ("node", "link", "outage", "vl"):
             for row in found.get(section, []):
                 self.lines.append(f"[[{section}]]")
@@ -141,7 +150,7 @@ class Network(model.Network):
                         self.offsets.append((len(self.lines), row["period_ns"]))
                     self.lines.append(f"{key} = {model.written(value)}")
 
-    def with_seed(self, seed, drawn):
+    def with_seed(self, seed: int, drawn: bool) -> str:
         """The text of the description with another seed, and with drawn offsets if they are asked for."""
         lines = [f"seed = {seed}", *self.lines]
         if drawn:
@@ -150,7 +159,7 @@ class Network(model.Network):
                 lines[place + 1] = f"offset_ns = {int(draw() * period)}"
         return "\n".join(lines) + "\n"
 
-    def with_offsets(self, seed, offsets):
+    def with_offsets(self, seed: int, offsets: dict[int, int]) -> str:
         """The text of the description with another seed, and these offsets of its virtual links by their numbers."""
         lines = [f"seed = {seed}", *self.lines]
         for (place, _), row in zip(self.offsets, self.description.rows("vl")):
@@ -161,7 +170,7 @@ class Network(model.Network):
 class Changed(Network):
     """An accepted description of which some values were changed, so that it still is one."""
 
-    def __init__(self, description):
+    def __init__(self, description: model.Description) -> None:
         model.Network.__init__(self, description.path, description=description)
         self.write(self.description.tree)
 
@@ -172,27 +181,29 @@ class Changed(Network):
 class Progress:
     """The line on a terminal that says how far the campaign is."""
 
-    def __init__(self, count, of="runs"):
+    def __init__(self, count: int, of: str = "runs") -> None:
         self.count, self.of, self.begin = count, of, time.monotonic()
         self.shown, self.last = sys.stderr.isatty(), 0.0
         watch.stop()
-        self.lock, self.done, self.worst, self.far = threading.Lock(), 0, None, None
+        self.lock, self.done = threading.Lock(), 0
+        self.worst: Worst | None = None
+        self.far: str | None = None
 
-    def listen(self, maker):
+    def listen(self, maker: Any) -> None:
         """Has the maker report the progress of single runs, if that is shown."""
         maker.hear = self.hear if self.shown else None
 
-    def hear(self, name, far):
+    def hear(self, name: str, far: str) -> None:
         with self.lock:
             self.far = f"{name} at {far}"
             self.show()
 
-    def tell(self, done, worst):
+    def tell(self, done: int, worst: Worst | None) -> None:
         with self.lock:
             self.done, self.worst, self.far = done, worst, None
             self.show()
 
-    def show(self):
+    def show(self) -> None:
         now = time.monotonic()
         if not self.shown or now - self.last < 0.1 and self.done < self.count:
             return
@@ -209,7 +220,7 @@ class Progress:
         sys.stderr.write("\r\x1b[K" + text[: max(1, width - 1)])
         sys.stderr.flush()
 
-    def end(self):
+    def end(self) -> None:
         if self.shown:
             sys.stderr.write("\r\x1b[K")
             sys.stderr.flush()
@@ -218,17 +229,18 @@ class Progress:
 class Campaign:
     """What came of the runs so far, in the order of their seeds."""
 
-    def __init__(self, net, limits, seeds, draws_offsets=False):
+    def __init__(self, net: Network, limits: Limits, seeds: range, draws_offsets: bool = False) -> None:
         self.net, self.limits, self.seeds, self.draws_offsets = net, limits, seeds, draws_offsets
-        self.merged, self.done, self.status, self.failure = Merged(net), 0, 0, None
+        self.merged, self.done, self.status = Merged(net), 0, 0
+        self.failure: str | None = None
         # For each limit that is broken: in how many runs.
-        self.broken = {}
+        self.broken: dict[tuple[int, str], int] = {}
 
-    def runs(self):
+    def runs(self) -> Iterator[side_by_side.Run]:
         """The runs that are to be made."""
         return (side_by_side.Run(f"seed {seed}", self.net.with_seed(seed, self.draws_offsets)) for seed in self.seeds)
 
-    def take(self, told):
+    def take(self, told: run_results.Told) -> int:
         """Takes what a run says, whole whatever signal comes, and answers its seed."""
         with files.signals_held():
             seed = self.seeds[self.done]
@@ -239,7 +251,7 @@ class Campaign:
             self.done += 1
             return seed
 
-    def run(self, maker, keep, jobs):
+    def run(self, maker: Maker, keep: Keep, jobs: int) -> None:
         """Has the runs made and takes what they say, seed by seed. The first one in this order that fails ends it. `keep` gets
         the beginning of the name of each one's files, and its texts."""
         progress = Progress(len(self.seeds))
@@ -260,7 +272,7 @@ class Campaign:
             finally:
                 progress.end()
 
-    def tell(self, path, took):
+    def tell(self, path: str | None, took: float) -> None:
         """Says on standard output what came of it."""
         if self.failure:
             files.tell("afdx campaign", self.failure)
@@ -287,7 +299,7 @@ class Campaign:
 # ---- words ----
 
 
-def aimed_at(text):
+def aimed_at(text: str) -> str | int:
     """The type of a word of --aim: the number of a virtual link, or `all`."""
     return text if text == "all" else whole(0, 65535)(text)
 
@@ -295,7 +307,7 @@ def aimed_at(text):
 aimed_at.__name__ = "number of a virtual link"
 
 
-def words_of(arguments=None):
+def words_of(arguments: list[str] | None = None) -> argparse.Namespace:
     parser = argparse.ArgumentParser(
         prog="afdx campaign", description=__doc__, epilog=EXAMPLES, formatter_class=argparse.RawDescriptionHelpFormatter
     )
@@ -357,7 +369,7 @@ def words_of(arguments=None):
     return words
 
 
-def prepare(words):
+def prepare(words: argparse.Namespace) -> tuple[Network, Limits, range]:
     """The network, the limits and the seeds, or a fault."""
     if not words.by and not os.path.isfile(words.program):
         raise Fault(words.program, None, "is not there. `afdx build` builds the program; --by second-opinion does without it")
@@ -375,7 +387,7 @@ def prepare(words):
     return net, limits, range(first, first + words.seeds)
 
 
-def foresee(net, is_traced):
+def foresee(net: Network, is_traced: bool) -> None:
     """Refuses runs of which `rt try` could not pass on all that they print, before the two minutes in which it builds."""
     for what, size in [("the tables of a run", output_sizes.of_tables(net))] + [("the trace of a run", output_sizes.of_trace(net))] * is_traced:
         if size > output_sizes.MOST:
@@ -383,7 +395,7 @@ def foresee(net, is_traced):
             raise Fault(net.path, None, str(output_sizes.refused(what, size, remedy)))
 
 
-def judge_outages(words, net):
+def judge_outages(words: argparse.Namespace, net: Network) -> None:
     """Refuses outages in turn that begin after the end of the run, and warns of those of the description that do."""
     end = f"the run ends before that, at {net.until_ns} ns"
     if words.each_outage is not None and words.each_outage > net.until_ns:
@@ -394,7 +406,7 @@ def judge_outages(words, net):
             files.tell("afdx campaign", told)
 
 
-def maker_of(words, is_traced):
+def maker_of(words: argparse.Namespace, is_traced: bool) -> Maker:
     """Who makes the runs: this machine, by the program or by its sources, or a cluster."""
     if words.by == "try":
         return unproved_runs.Tried(is_traced)
@@ -405,7 +417,7 @@ def maker_of(words, is_traced):
     return side_by_side.Here([words.program, "seq"], words.jobs, is_traced)
 
 
-def write_results(words, campaign):
+def write_results(words: argparse.Namespace, campaign: Campaign) -> str:
     """Writes what came of the runs, and answers the path of the merged tables."""
     merged, has_counts = campaign.merged, words.histograms
     path = words.folder.write(campaign_record.MERGED, merged.text())
@@ -415,7 +427,7 @@ def write_results(words, campaign):
     return path
 
 
-def who_made(words):
+def who_made(words: argparse.Namespace) -> program.Maker:
     """Who makes the runs, as the campaign and its files name it."""
     try:
         if words.by:
@@ -427,7 +439,7 @@ def who_made(words):
         raise Fault(words.program, None, f"cannot be read: {fault.strerror}") from None
 
 
-def write_record(words, net, seeds):
+def write_record(words: argparse.Namespace, net: Network, seeds: range) -> None:
     """Writes what the campaign says of itself, last of all, with the checksum of each other file of its folder."""
     if not words.by and who_made(words).sha256 != words.maker.sha256:
         raise Fault(words.program, None, f"was replaced while the runs were made, so {campaign_record.NAME} is not written. Run the campaign anew")
@@ -444,7 +456,7 @@ def write_record(words, net, seeds):
     words.folder.close()
 
 
-def over_seeds(words, net, limits, seeds):
+def over_seeds(words: argparse.Namespace, net: Network, limits: Limits, seeds: range) -> int:
     """Runs all seeds, and answers the status."""
     begin, path = time.monotonic(), None
     campaign = Campaign(net, limits, seeds, words.offsets)
@@ -457,7 +469,7 @@ def over_seeds(words, net, limits, seeds):
     return campaign.status or (1 if campaign.broken else 0)
 
 
-def over_settings(words, net, limits, seeds):
+def over_settings(words: argparse.Namespace, net: Network, limits: Limits, seeds: range) -> int:
     """Runs all seeds with each combination of the values that are set, and answers the status."""
     begin = time.monotonic()
     courses = [
@@ -488,7 +500,7 @@ def over_settings(words, net, limits, seeds):
     return found.status or (1 if broken else 0)
 
 
-def aims_of(words, net, limits):
+def aims_of(words: argparse.Namespace, net: Network, limits: Limits) -> list[tuple[int, str]]:
     """The destinations at which runs are aimed: virtual links and names."""
     if "all" in words.aim:
         return list(limits or sorted(net.destinations))
@@ -499,7 +511,7 @@ def aims_of(words, net, limits):
     return [(vl, where) for vl in dict.fromkeys(words.aim) for where in net.vls[vl].destinations]
 
 
-def over_aims(words, net, limits, seeds):
+def over_aims(words: argparse.Namespace, net: Network, limits: Limits, seeds: range) -> int:
     """Runs all seeds with offsets that aim at virtual links, and answers the status."""
     begin = time.monotonic()
     found = aim.AimedRuns(net, aims_of(words, net, limits), seeds, limits)
@@ -524,13 +536,14 @@ def over_aims(words, net, limits, seeds):
     files.say(f"{table}: {found.done} runs, in {time.monotonic() - begin:.1f} s")
     for text in found.in_words():
         files.say(text)
+    it: Any
     for it in found.above():
         files.say(f"above its bound, so one of the two is wrong: {','.join(map(network_calculus.said, it))}")
     tell_limits(found)
     return found.status or (1 if found.above() or found.broken() else 0)
 
 
-def tell_limits(found):
+def tell_limits(found: aim.AimedRuns) -> None:
     """Says which limits the aimed runs tried, and which they break."""
     if not found.limits:
         return
@@ -543,13 +556,13 @@ def tell_limits(found):
         files.say(f"limit not tried: virtual link {key[0]} at {key[1]}")
 
 
-def write_json(words, name, rows):
+def write_json(words: argparse.Namespace, name: str, rows: Callable[[], Iterable[Any]]) -> None:
     """Writes a table in long form too, where that is asked for."""
     if words.json:
         words.folder.write(name, long_form.text_of(rows()))
 
 
-def over_outages(words, net, limits, seeds):
+def over_outages(words: argparse.Namespace, net: Network, limits: Limits, seeds: range) -> int:
     """Runs all seeds with each link and each switch out in turn, and answers the status."""
     begin = time.monotonic()
     found = each_outage.EachOutage(net, limits, seeds, words.offsets, words.each_outage, words.later)
@@ -572,10 +585,10 @@ def over_outages(words, net, limits, seeds):
     return found.status or (1 if broken else 0)
 
 
-def keeper(words):
+def keeper(words: argparse.Namespace) -> Keep:
     """What keeps the description and the tables of a run, if they are to be kept."""
 
-    def keep(name, text, tables):
+    def keep(name: str, text: str, tables: str) -> None:
         if words.keep:
             words.folder.write(f"{name}.toml", text)
             words.folder.write(f"{name}.tables.csv", tables)
@@ -584,7 +597,7 @@ def keeper(words):
 
 
 @files.tool("afdx campaign")
-def main(arguments=None):
+def main(arguments: list[str] | None = None) -> int:
     words = words_of(arguments)
     if words.dask and not cluster.is_here():
         return by_another(sys.argv[1:] if arguments is None else arguments)
@@ -592,7 +605,7 @@ def main(arguments=None):
     return over(words, *prepare(words))
 
 
-def by_another(arguments):
+def by_another(arguments: list[str]) -> NoReturn:
     """Goes on as the interpreter that has Dask."""
     command = [cluster.interpreter(), "-m", "afdx.commands.campaign", *arguments]
     os.execve(command[0], command, program.environment())

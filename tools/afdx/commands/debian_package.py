@@ -19,6 +19,7 @@ import subprocess
 import sys
 import tempfile
 import time
+from typing import Any
 
 from afdx import files
 from afdx.commands import help_texts
@@ -58,14 +59,14 @@ py3clean -p afdxsim
 }
 
 
-def git(*words, root=ROOT):
+def git(*words: str, root: str = ROOT) -> str:
     run = subprocess.run(["git", *words], cwd=root, stdin=subprocess.DEVNULL, capture_output=True, text=True)
     if run.returncode != 0:
         raise NoProgram(f"a package is made of a commit, and this is no clone of git: {run.stderr.strip()}")
     return run.stdout
 
 
-def what_is_packed(root=ROOT):
+def what_is_packed(root: str = ROOT) -> tuple[str, dict[str, Any], int]:
     """The proved program, its record for the package, and the moment of the commit."""
     if not shutil.which("dpkg-deb"):
         raise NoProgram("`dpkg-deb` makes the package, and it is not here")
@@ -73,6 +74,7 @@ def what_is_packed(root=ROOT):
     if changed := git("status", "--porcelain", root=root).strip():
         raise NoProgram(f"a package is made of a commit, and files here differ from it: {changed.splitlines()[0].split()[-1]}")
     it = program.proved(root)
+    assert it.path is not None
     record = program.record_of(it.path)
     if not record.get("gate"):
         raise NoProgram("the record of the program has no line of `rt ci`: ./test proves all, and writes it down")
@@ -84,13 +86,13 @@ def what_is_packed(root=ROOT):
 # ---- texts ----
 
 
-def roff(text):
+def roff(text: str) -> str:
     """A text as it stands, for a manual page."""
     lines = text.replace("\\", "\\e").replace("-", "\\-").split("\n")
     return "\n".join("\\&" + line if line.startswith((".", "'")) else line for line in lines)
 
 
-def manual(name, says, begin, version, sections):
+def manual(name: str, says: str, begin: int, version: str, sections: list[tuple[str, str]]) -> str:
     """A manual page of texts of help, each under its title."""
     day = time.strftime("%Y-%m-%d", time.gmtime(begin))
     lines = [f'.TH {name.upper()} 1 "{day}" "afdxsim {version}" "User Commands"', ".SH NAME", f"{name} \\- {says}"]
@@ -99,14 +101,14 @@ def manual(name, says, begin, version, sections):
     return "\n".join(lines) + "\n"
 
 
-def help_of(*words):
+def help_of(*words: str) -> str:
     """What a command says of its words, the same on every machine."""
     env = os.environ | {"COLUMNS": "80", "LC_ALL": "C.UTF-8"}
     run = subprocess.run(words, stdin=subprocess.DEVNULL, capture_output=True, text=True, env=env)
     return re.sub(r"\(default\s+here:\s+\d+\)", "(default: as many as processors)", run.stdout)
 
 
-def manuals(path, begin, version, root=ROOT):
+def manuals(path: str, begin: int, version: str, root: str = ROOT) -> dict[str, str]:
     """The manual pages of the one command and of the program."""
     python = PYTHON if os.path.exists(PYTHON) else sys.executable
     afdx = [python, os.path.join(root, "afdx")]
@@ -123,7 +125,7 @@ def manuals(path, begin, version, root=ROOT):
     }
 
 
-def libc_of(path):
+def libc_of(path: str) -> str:
     """The version of the C library that the program needs."""
     with open(path, "rb") as file:
         found = re.findall(rb"GLIBC_(\d+)\.(\d+)", file.read())
@@ -136,33 +138,33 @@ def libc_of(path):
 class Tree:
     """The files of the package."""
 
-    def __init__(self, folder):
+    def __init__(self, folder: str) -> None:
         self.folder = folder
 
-    def place(self, name):
+    def place(self, name: str) -> str:
         path = os.path.join(self.folder, name)
         os.makedirs(os.path.dirname(path), exist_ok=True)
         return path
 
-    def write(self, name, content, mode=0o644):
+    def write(self, name: str, content: str | bytes, mode: int = 0o644) -> None:
         path = self.place(name)
         with open(path, "wb") as out:
             out.write(content if isinstance(content, bytes) else content.encode())
         os.chmod(path, mode)
 
-    def copy(self, source, name, mode=0o644):
+    def copy(self, source: str, name: str, mode: int = 0o644) -> None:
         with open(source, "rb") as file:
             self.write(name, file.read(), mode)
 
-    def link(self, name, to):
+    def link(self, name: str, to: str) -> None:
         os.symlink(to, self.place(name))
 
-    def names(self):
+    def names(self) -> list[str]:
         """The plain files, in order."""
         found = (os.path.join(folder, name) for folder, _, names in os.walk(self.folder) for name in names)
         return sorted(os.path.relpath(path, self.folder) for path in found if not os.path.islink(path))
 
-    def settle(self, begin):
+    def settle(self, begin: int) -> None:
         """Gives all that is there its modes and one moment."""
         for folder, folders, names in os.walk(self.folder, topdown=False):
             for name in names + folders:
@@ -174,16 +176,16 @@ class Tree:
         os.utime(self.folder, (begin, begin))
 
 
-def zipped(text):
+def zipped(text: str) -> bytes:
     return gzip.compress(text.encode(), 9, mtime=0)
 
 
 LIBRARY, DOCUMENTS = "/usr/lib/afdxsim", "/usr/share/doc/afdxsim"
 
 
-def for_package(text):
+def for_package(text: str) -> str:
     """A document with the commands of the package, where it has those of a clone: in lines of commands, and in back quotes."""
-    def renamed(found):
+    def renamed(found: re.Match[str]) -> str:
         code = found[0].replace("./afdx", "afdx")
         code = re.sub(r"(?<![\w./])tools/", f"{LIBRARY}/tools/", code)
         return re.sub(r"(?<![\w./])examples/", f"{DOCUMENTS}/examples/", code)
@@ -191,7 +193,7 @@ def for_package(text):
     return re.sub(r"^    .*$|`[^`\n]+`", renamed, text, flags=re.MULTILINE)
 
 
-def fill(tree, path, record, begin, root=ROOT):
+def fill(tree: Tree, path: str, record: dict[str, Any], begin: int, root: str = ROOT) -> None:
     """Puts into the tree what the package has."""
     told = json.dumps(record, indent=1, sort_keys=True) + "\n"
     tree.copy(path, "usr/bin/afdxsim", 0o755)
@@ -219,7 +221,7 @@ def fill(tree, path, record, begin, root=ROOT):
     tree.write("usr/share/bash-completion/completions/afdx", help_texts.completion_text(is_clone=False))
 
 
-def close(tree, path, record, root=ROOT):
+def close(tree: Tree, path: str, record: dict[str, Any], root: str = ROOT) -> None:
     """Puts the files that describe the package into the tree."""
     names = tree.names()
     size = sum(os.path.getsize(os.path.join(tree.folder, name)) for name in names)
@@ -236,7 +238,7 @@ def close(tree, path, record, root=ROOT):
     ))
 
 
-def make(folder, root=ROOT):
+def make(folder: str, root: str = ROOT) -> str:
     """Makes the package, and answers its path."""
     path, record, begin = what_is_packed(root)
     os.makedirs(folder, exist_ok=True)
@@ -257,7 +259,7 @@ def make(folder, root=ROOT):
     return package
 
 
-def main(arguments):
+def main(arguments: list[str]) -> int:
     parser = argparse.ArgumentParser(
         prog="afdx package",
         description="Makes a Debian package of the proved program and the tools: DIR/afdxsim_VERSION_amd64.deb.",

@@ -9,6 +9,7 @@ accepted, warnings name what is allowed and probably a mistake.
 import argparse
 import sys
 from collections import Counter
+from collections.abc import Sized
 
 from afdx import files, model
 from afdx.model import Fault, judge
@@ -46,11 +47,12 @@ file cannot be read.
 MOST_OF_A_KIND, TOLD_OF_A_KIND = 10, 3
 
 
-def told_of(path, warnings, tells_all):
+def told_of(path: str, warnings: list[judge.Finding], tells_all: bool) -> tuple[list[str], str]:
     """The lines of warnings, and lines that count them. Of many of one kind the first ones are printed."""
     kinds = Counter(it.kind for it in warnings)
     many = {} if tells_all else {kind: count for kind, count in kinds.items() if count > MOST_OF_A_KIND}
-    lines, seen = [], Counter()
+    lines: list[str] = []
+    seen: Counter[str] = Counter()
     for it in warnings:
         seen[it.kind] += 1
         if it.kind not in many or seen[it.kind] <= TOLD_OF_A_KIND:
@@ -60,7 +62,7 @@ def told_of(path, warnings, tells_all):
     return lines, f", {counted(warnings, 'warning')}{more}" if warnings else ""
 
 
-def explain(path, bounds=None, tells_all=False):
+def explain(path: str, bounds: str | None = None, tells_all: bool = False) -> tuple[str, int]:
     """The faults or warnings of a file, as text, and the status. `bounds` names a file of bounds; `tells_all`: each warning."""
     try:
         text = model.text_of(path)
@@ -85,12 +87,12 @@ def explain(path, bounds=None, tells_all=False):
     return "".join(line + "\n" for line in lines), 1 if found else 0
 
 
-def counted(found, word):
+def counted(found: Sized, word: str) -> str:
     return f"{len(found)} {word}{'' if len(found) == 1 else 's'}"
 
 
 @files.tool("afdx explain")
-def main(arguments=None):
+def main(arguments: list[str] | None = None) -> int:
     parser = argparse.ArgumentParser(
         prog="afdx explain", description=__doc__, epilog=EXAMPLES, formatter_class=argparse.RawDescriptionHelpFormatter
     )

@@ -15,7 +15,9 @@ import csv
 import re
 import sys
 from collections import namedtuple
+from collections.abc import Callable, Iterable, Iterator
 from fractions import Fraction
+from typing import Any
 
 from afdx import files, model
 from afdx.files import sheets, workbook
@@ -65,7 +67,7 @@ BYTES_AROUND_A_PAYLOAD = 47
 GREATEST_PAYLOAD = model.GREATEST_FRAME - BYTES_AROUND_A_PAYLOAD
 NS_A_METRE = 5
 
-USUAL = {
+USUAL: dict[str, dict[str, Any]] = {
     "top": {"until_ns": 2 * 10**9, "seed": 1},
     "es": {"port_bytes": 16384},
     "switch": {"port_bytes": 65536, "latency_ns": 16000},
@@ -86,7 +88,7 @@ SORTS = [
     ("top", {"until_ns"}),
     ("top", {"seed"}),
 ]
-NEEDED = {"vl": ["id"], "node": ["name"], "link": ["a", "b"], "outage": ["from", "to", "from_ns", "to_ns"], "top": []}
+NEEDED: dict[str, list[str]] = {"vl": ["id"], "node": ["name"], "link": ["a", "b"], "outage": ["from", "to", "from_ns", "to_ns"], "top": []}
 WORDS = {"end system": "es", "end_system": "es", "sw": "switch"}
 # No number of a table has more digits than this.
 MOST_DIGITS = 30
@@ -104,20 +106,23 @@ class Line:
     """A line of a table: the file, the line, and the cells that are not empty, by the names of their columns. `parts` has
     the lines that it is made of, where it is made of others."""
 
-    def __init__(self, path, number, cells, has_commas=False):
-        self.path, self.number, self.cells, self.parts = path, number, cells, []
+    def __init__(self, path: str, number: int | None, cells: dict[str, str], has_commas: bool = False) -> None:
+        self.path, self.number, self.cells = path, number, cells
+        self.parts: list[Line] = []
         # Whether numbers may have a comma in place of the point.
         self.has_commas = has_commas
 
 
 # A value of a description, and what a comment says of it.
 Value = namedtuple("Value", "value said")
+# The values of a row by their keys.
+Row = dict[str, Value]
 
 
 # ---- tables ----
 
 
-def commented(section):
+def commented(section: str) -> list[str]:
     """The columns of a section that become comments."""
     return [*COMMENTED.get(section, []), REMARKS]
 
@@ -126,9 +131,14 @@ class Tables:
     """The lines of tables by section, their faults, and what is passed over. `columns` says of headings, in normal form,
     what they stand for."""
 
-    def __init__(self, paths, columns=()):
-        self.lines, self.faults, self.notes = {section: [] for section in ("top", *SECTIONS)}, [], []
-        self.columns, self.used, self.marks = dict(columns), set(), {}
+    def __init__(self, paths: list[str], columns: Iterable[tuple[str, str]] = ()) -> None:
+        self.lines: dict[str, list[Line]] = {section: [] for section in ("top", *SECTIONS)}
+        self.faults: list[Fault] = []
+        self.notes: list[Fault] = []
+        self.columns = dict(columns)
+        self.used: set[str] = set()
+        # For each file the mark of its first number that has one, and the line.
+        self.marks: dict[str, tuple[str, int | None]] = {}
         for path in paths:
             if workbook.is_workbook(path):
                 self.read_workbook(path)
@@ -139,14 +149,14 @@ class Tables:
                 self.add(Line(paths[0], None, {}), f"no table has a column {name!r} that --column can make {column!r}")
         self.lines["vl"] = self.joined(self.lines["vl"])
 
-    def read_csv(self, path):
+    def read_csv(self, path: str) -> None:
         rows = sheets.reader_of(path)
         try:
             self.read(path, sheets.numbered(rows), self.add, rows.dialect.delimiter)
         except csv.Error as fault:
             self.add(Line(path, rows.line_num, {}), f"is no line of a table: {fault}")
 
-    def read_workbook(self, path):
+    def read_workbook(self, path: str) -> None:
         """Reads the sheets. One without a table may have other contents, and is passed over."""
         before = sum(map(len, self.lines.values()))
         for sheet in workbook.sheets_of(path):
@@ -157,13 +167,15 @@ class Tables:
         if before == sum(map(len, self.lines.values())):
             self.add(Line(path, None, {}), "has no table: --help has their columns")
 
-    def add(self, line, text):
+    def add(self, line: Line, text: str) -> None:
         self.faults.append(Fault(line.path, line.number, text))
 
-    def pass_over(self, line, text):
+    def pass_over(self, line: Line, text: str) -> None:
         self.notes.append(Fault(line.path, line.number, text + ", and is passed over"))
 
-    def read(self, path, rows, tell_no_table, mark=None):
+    def read(
+        self, path: str, rows: Iterable[tuple[int, list[str]]], tell_no_table: Callable[[Line, str], None], mark: str | None = None
+    ) -> None:
         """Reads tables. The caller gives what parts the cells, and who hears of a line that stands in place of the names of columns."""
         section, columns = None, None
         for number, cells in rows:
@@ -178,7 +190,7 @@ class Tables:
             elif section:
                 self.line(line, section, columns, cells)
 
-    def comment(self, text):
+    def comment(self, text: str) -> None:
         """Takes what --back has written of the names of columns."""
         found = COLUMN_SAID.fullmatch(text)
         if found:
@@ -187,7 +199,7 @@ class Tables:
 
     # ---- the names of columns ----
 
-    def head(self, line, cells, tell_no_table):
+    def head(self, line: Line, cells: list[str], tell_no_table: Callable[[Line, str], None]) -> tuple[str | None, list[str] | None]:
         """What a table has, and its columns, by the line that names them; None and what is no table."""
         names = list(map(headings.normal, cells))
         section = self.section_of(names)
@@ -200,7 +212,7 @@ class Tables:
         tell_no_table(line, text + (": --help has them" if tell_no_table == self.add else ""))
         return None, names
 
-    def meanings(self, name, section):
+    def meanings(self, name: str, section: str) -> list[str]:
         """The columns that a heading may be in a table of this section."""
         column = self.columns.get(name)
         if column == PASSED:
@@ -208,21 +220,22 @@ class Tables:
         fitting = headings.columns_of(column, section) if column else []
         return fitting if len(fitting) == 1 else headings.columns_of(name, section)
 
-    def section_of(self, names):
+    def section_of(self, names: list[str]) -> str | None:
         """What a table has whose columns these are, or None."""
         found = []
         for section, needed in SORTS:
-            known = {name: key_of(*it, section) for name in names if len(it := self.meanings(name, section)) == 1}
+            known = {name: key_of(it[0], section) for name in names if len(it := self.meanings(name, section)) == 1}
             keys = set(known.values()) - {PASSED}
             is_weak = section == "node" and not keys & headings.OF_NODES and {it for it, key in known.items() if key == "name"} <= headings.WEAK
             if needed <= keys and not is_weak:
                 found.append((len(keys), section))
         return max(found, key=lambda it: it[0])[1] if found else None
 
-    def columns_of(self, line, section, cells, names):
+    def columns_of(self, line: Line, section: str, cells: list[str], names: list[str]) -> list[str]:
         """The columns of a table, and nothing for what is passed over."""
-        found, said = [], {}
-        present = {key_of(*it, section) for name in names if len(it := self.meanings(name, section)) == 1}
+        found: list[str] = []
+        said: dict[str, str] = {}
+        present = {key_of(it[0], section) for name in names if len(it := self.meanings(name, section)) == 1}
         for cell, name in zip(cells, names):
             fitting = self.meanings(name, section)
             if name in self.columns and (fitting == [PASSED] or fitting == headings.columns_of(self.columns[name], section)):
@@ -248,7 +261,7 @@ class Tables:
                 self.add(line, f"has no column {key}")
         return found
 
-    def unknown(self, line, section, cell, name, present):
+    def unknown(self, line: Line, section: str, cell: str, name: str, present: set[str]) -> None:
         """Reports a column that is not known. One that looks like another, which the table has not, may be misspelt."""
         near = headings.nearest(name, section)
         if near and key_of(near, section) not in present and near not in headings.ASIDE:
@@ -260,7 +273,7 @@ class Tables:
 
     # ---- lines ----
 
-    def line(self, line, section, columns, cells):
+    def line(self, line: Line, section: str, columns: list[str], cells: list[str]) -> None:
         if len(cells) > len(columns) and any(cells[len(columns) :]):
             last = max(i for i, cell in enumerate(cells) if cell)
             self.add(line, f"has {last + 1} cells, and the table has {len(columns)} columns")
@@ -269,10 +282,10 @@ class Tables:
                 line.cells[column] = cell
         self.lines[section].append(line)
 
-    def joined(self, lines):
+    def joined(self, lines: list[Line]) -> list[Line]:
         """The lines of virtual links, where those that differ in the destination alone are one. It has the destinations of
         all, and `parts` has the lines that it is made of."""
-        found = {}
+        found: dict[str | int | None, Line] = {}
         for line in lines:
             number = line.cells.get("id")
             first = found.get(number)
@@ -294,7 +307,7 @@ class Tables:
         return list(found.values())
 
     @staticmethod
-    def differences(first, line):
+    def differences(first: Line, line: Line) -> Iterator[str]:
         """In what the cells of two lines of one virtual link differ, but for what may differ."""
         columns = dict.fromkeys([*first.cells, *line.cells])
         for column in columns:
@@ -305,7 +318,7 @@ class Tables:
                     yield f"{column} is {here} here and {there} there"
 
 
-def alike(cell):
+def alike(cell: str | None) -> Fraction | str | None:
     """What two cells of the same meaning have alike: a number, or a word in small letters. Names of nodes are no such words."""
     if cell is None:
         return None
@@ -315,33 +328,35 @@ def alike(cell):
     return cell.lower() if cell.lower() in ("high", "low", "bytes", "frames") else cell
 
 
-def where_is(first, line):
+def where_is(first: Line, line: Line) -> str:
     """Where a line is, for the reader of another one."""
     return f"line {first.number}" + (f" of {first.path}" if first.path != line.path else "")
 
 
-def mapped(text):
+def mapped(text: str) -> tuple[str, str]:
     """A heading in normal form, and the column for which it stands, of `HEADING=COLUMN`."""
     heading, _, column = text.rpartition("=")
     return headings.normal(heading), PASSED if column.strip() == PASSED else headings.normal(column)
 
 
-def together(faults):
+def together(faults: list[Fault]) -> list[Fault]:
     """The faults of tables. Those of several lines that differ in values alone are printed once, with the number of lines
     that have them and the first few of these."""
-    found, said = {}, []
+    found: dict[Any, tuple[Fault, list[int]]] = {}
+    said: list[tuple[Fault, list[int]]] = []
     for fault in faults:
         kind = fault.path, VALUES.sub("#", fault.text)
         first = found.get(kind)
         if first is None or fault.line is None or first[0].line == fault.line:
-            found[kind if first is None else len(said)] = one = [fault, []]
+            one: tuple[Fault, list[int]] = (fault, [])
+            found[kind if first is None else len(said)] = one
             said.append(one)
         elif fault.line not in first[1]:
             first[1].append(fault.line)
     return [with_lines(fault, lines) for fault, lines in said]
 
 
-def with_lines(fault, lines):
+def with_lines(fault: Fault, lines: list[int]) -> Fault:
     """A fault, and the other lines that have it."""
     if not lines:
         return fault
@@ -357,10 +372,10 @@ class Maker:
     """The rows of a description, made of the lines of tables. Each row is a dictionary of values, and `made_of` has the
     line of each."""
 
-    def __init__(self, tables):
+    def __init__(self, tables: Tables) -> None:
         self.tables, self.add = tables, tables.add
-        self.made_of = {section: [] for section in ("top", *SECTIONS)}
-        self.rows = {section: [] for section in SECTIONS}
+        self.made_of: dict[str, list[Line]] = {section: [] for section in ("top", *SECTIONS)}
+        self.rows: dict[str, list[Row]] = {section: [] for section in SECTIONS}
         self.top = self.top_of(tables.lines["top"])
         for line in tables.lines["node"]:
             self.put("node", line, self.node(line))
@@ -369,15 +384,16 @@ class Maker:
             self.put("link", line, self.link(line))
         for line in tables.lines["outage"]:
             self.put("outage", line, self.row_of(line, "outage", {}))
-        self.networks, self.ways = {net: self.network(net) for net in "AB"}, {}
+        self.networks = {net: self.network(net) for net in "AB"}
+        self.ways: dict[tuple[str, str | None, frozenset[str]], dict[str, str]] = {}
         for line in tables.lines["vl"]:
             self.put("vl", line, self.virtual_link(line))
 
-    def put(self, section, line, row):
+    def put(self, section: str, line: Line, row: Row) -> None:
         self.rows[section].append(row)
         self.made_of[section].append(line)
 
-    def value(self, line, section, column):
+    def value(self, line: Line, section: str, column: str) -> Any:
         """The value of a cell, or None where the cell is empty or is none."""
         text = line.cells[column]
         time = unit_of(column, section)
@@ -395,7 +411,7 @@ class Maker:
             return WORDS.get(text.lower(), text.lower())
         return text
 
-    def time(self, line, column, text, key, in_unit):
+    def time(self, line: Line, column: str, text: str, key: str, in_unit: Callable[[Fraction], Fraction]) -> int | None:
         """The number of a cell in the unit of a key, or None. In a file that is parted by semicolons it may have a comma in
         place of the point, but not in one cell the one and in another the other."""
         plain = text.replace("_", "")
@@ -415,9 +431,10 @@ class Maker:
             return None
         return int(found)
 
-    def row_of(self, line, section, usual):
+    def row_of(self, line: Line, section: str, usual: dict[str, Any]) -> Row:
         """The values of the keys of a section that a line has, or else usual ones."""
-        row, own = {}, [it.name for it in KEYS[section] if it.value_type != "paths"]
+        row: Row = {}
+        own = [it.name for it in KEYS[section] if it.value_type != "paths"]
         for column in line.cells:
             key = key_of(column, section)
             if key in own:
@@ -431,9 +448,9 @@ class Maker:
             row.setdefault(key, Value(value, "usual"))
         return row
 
-    def top_of(self, lines):
+    def top_of(self, lines: list[Line]) -> Row:
         """The end and the seed, which stand in one line, or in several of which each has one."""
-        row = {}
+        row: Row = {}
         for line in lines:
             for key, value in self.row_of(line, "top", {}).items():
                 if key in row:
@@ -444,7 +461,7 @@ class Maker:
             row.setdefault(key, Value(value, "usual"))
         return row
 
-    def node(self, line):
+    def node(self, line: Line) -> Row:
         row = self.row_of(line, "node", {})
         if "kind" not in row:
             row["kind"] = Value("switch" if "net" in row else "es", "since it has a net" if "net" in row else "usual")
@@ -452,7 +469,7 @@ class Maker:
             row.setdefault(key, Value(value, "usual"))
         return row
 
-    def unnamed_end_systems(self):
+    def unnamed_end_systems(self) -> None:
         """Adds the nodes that have no line: sources and destinations, and then what links name."""
         self.named = {row["name"].value for row in self.rows["node"] if "name" in row}
         lines, destinations = self.tables.lines, lambda cells: sheets.names_of(cells.get("destinations", ""))
@@ -465,7 +482,7 @@ class Maker:
                     row = {"name": Value(name, "no line has it: an end system"), "kind": Value("es", "usual")}
                     self.put("node", line, row | {"port_bytes": Value(USUAL["es"]["port_bytes"], "usual")})
 
-    def link(self, line):
+    def link(self, line: Line) -> Row:
         row = self.row_of(line, "link", {})
         if "length_m" in line.cells:
             metres = self.value(line, "link", "length_m")
@@ -477,13 +494,13 @@ class Maker:
             row.setdefault(key, Value(value, "usual"))
         return row
 
-    def network(self, net):
+    def network(self, net: str) -> tuple[dict[str, list[str]], set[str]]:
         """Who is linked with whom on a network, where one of the two is a switch of it."""
         nodes = {row["name"].value: row for row in self.rows["node"] if "name" in row}
         is_switch = lambda name: name in nodes and nodes[name]["kind"].value == "switch"
         net_of = lambda name: nodes[name]["net"].value if is_switch(name) and "net" in nodes[name] else None
         is_there = lambda name: name in nodes and (not is_switch(name) or net_of(name) == net)
-        beside = {}
+        beside: dict[str, list[str]] = {}
         for row in self.rows["link"]:
             ends = [row[key].value if key in row else None for key in "ab"]
             if all(map(is_there, ends)) and any(map(is_switch, ends)):
@@ -493,7 +510,7 @@ class Maker:
 
     # ---- virtual links ----
 
-    def virtual_link(self, line):
+    def virtual_link(self, line: Line) -> Row:
         for part in line.parts:
             for column in headings.LIMITS:
                 if column in part.cells:
@@ -509,7 +526,7 @@ class Maker:
         self.ends(line, row)
         return row
 
-    def sizes(self, line, row):
+    def sizes(self, line: Line, row: Row) -> None:
         """Smax and the size of the frames, of each other or of the payload."""
         if "payload" in line.cells:
             payload = self.value(line, "vl", "payload")
@@ -527,7 +544,7 @@ class Maker:
             if key not in row and other in row:
                 row[key] = Value(row[other].value, f"that of {other}")
 
-    def times(self, line, row):
+    def times(self, line: Line, row: Row) -> None:
         """BAG and period, of each other, and the skew."""
         if "bag_ms" not in row and "period_ns" not in row:
             if not {"bag_ms", "period_ns"} & {key_of(column, "vl") for column in line.cells}:
@@ -539,14 +556,14 @@ class Maker:
         row.setdefault("period_ns", Value(row["bag_ms"].value * 10**6, "usual: the BAG"))
         row.setdefault("skew_max_ns", Value(row["bag_ms"].value * 500_000, "usual: half of the BAG"))
 
-    def stated(self, line, key):
+    def stated(self, line: Line, key: str) -> Value:
         """The paths that a column states."""
         text = line.cells[key]
         if text == "-":
             return Value([], "")
         return Value([sheets.names_of(path) for path in text.split("|") if path.strip()], "")
 
-    def shortest(self, line, net):
+    def shortest(self, line: Line, net: str) -> Value:
         """Shortest paths from the source to each destination that the network reaches."""
         beside, switches = self.networks[net]
         source, wanted = line.cells.get("source"), sheets.names_of(line.cells.get("destinations", ""))
@@ -568,7 +585,7 @@ class Maker:
             said += f"{'; ' if said else ''}not reached: {', '.join(missed)}"
         return Value(paths, said)
 
-    def ends(self, line, row):
+    def ends(self, line: Line, row: Row) -> None:
         """Holds the paths against source and destinations."""
         source, wanted = line.cells.get("source"), sheets.names_of(line.cells.get("destinations", ""))
         is_stated = "a" in line.cells or "b" in line.cells
@@ -587,7 +604,7 @@ class Maker:
             if name not in reached and source:
                 self.add(line, f"{name} is reached from {source} neither on A nor on B{self.alone(source, name)}")
 
-    def alone(self, *names):
+    def alone(self, *names: str) -> str:
         """Which of some names is in no link, and the one that may be meant."""
         linked = {*self.networks["A"][0], *self.networks["B"][0]}
         for name in names:
@@ -596,12 +613,14 @@ class Maker:
         return ""
 
 
-def ways_from(source, beside, switches, via):
+def ways_from(source: str | None, beside: dict[str, list[str]], switches: set[str], via: frozenset[str]) -> dict[str, str]:
     """For each node that is reached from the source by switches, the node before it on a shortest way. Of several the
     first by name is taken, and before all those of `via`."""
-    before, reached, ring = {}, {source}, [source]
+    before: dict[str, str] = {}
+    reached = {source}
+    ring: list[Any] = [source]
     while ring:
-        found = {}
+        found: dict[str, list[str]] = {}
         for here in ring:
             for there in beside.get(here, []):
                 if there not in reached and (here == source or here in switches):
@@ -616,23 +635,23 @@ def ways_from(source, beside, switches, via):
 # ---- the text ----
 
 
-def line_of_value(key, value):
+def line_of_value(key: str, value: Value) -> str:
     text = f"{key} = {model.written(value.value)}"
     return f"{text:<31} # {value.said}" if value.said else text
 
 
-def one_line(text):
+def one_line(text: str) -> str:
     """A text as it may stand in a comment."""
     return " ".join(re.sub(r"[\x00-\x1f\x7f]", " ", text).split())
 
 
-def lines_said(line):
+def lines_said(line: Line) -> str:
     """The number of a line, or those of the lines that it is made of."""
     numbers = [str(part.number) for part in line.parts or [line]]
     return f"line{'s' if len(numbers) > 1 else ''} {', '.join(numbers)}"
 
 
-def comments_of(section, line):
+def comments_of(section: str, line: Line) -> list[str]:
     """What a table has of a row that no key has. If the lines that it is made of differ, each is named with its
     destinations."""
     parts, said = line.parts or [line], []
@@ -649,7 +668,7 @@ def comments_of(section, line):
     return said
 
 
-def text_of_rows(maker, paths):
+def text_of_rows(maker: Maker, paths: list[str]) -> str:
     """The description, and for each of its rows the line of the table."""
     lines = [
         f"# Made of {one_line(', '.join(paths))} by afdx table.",
@@ -668,7 +687,7 @@ def text_of_rows(maker, paths):
     return "\n".join(lines) + "\n"
 
 
-def made(paths, columns=()):
+def made(paths: list[str], columns: Iterable[tuple[str, str]] = ()) -> tuple[str, list[Fault], list[Fault]]:
     """The description of tables, their faults, and what is passed over."""
     tables = Tables(paths, columns)
     maker = Maker(tables)
@@ -682,16 +701,16 @@ def made(paths, columns=()):
 class Made(model.Description):
     """A description whose places are those of the tables that it is made of."""
 
-    def __init__(self, text, maker):
+    def __init__(self, text: str, maker: Maker) -> None:
         super().__init__("", text)
         self.maker = maker
 
-    def line(self, section, row=None, key=None, item=None):
+    def line(self, section: str, row: int | None = None, key: str | None = None, item: int | None = None) -> Any:
         lines = self.maker.made_of[section]
         return lines[(row or 1) - 1].number if (row or 1) <= len(lines) else 0
 
 
-def fault_of(finding, maker, paths):
+def fault_of(finding: judge.Finding, maker: Maker, paths: list[str]) -> Fault:
     """A fault of the description as one of a table."""
     section, row, _ = finding.place
     lines = maker.made_of[section]
@@ -704,7 +723,7 @@ def fault_of(finding, maker, paths):
 # ---- words of the command line ----
 
 
-def column_word(text):
+def column_word(text: str) -> tuple[str, str]:
     """The type of a word of --column: a heading in normal form, and the column for which it stands."""
     name, column = mapped(text)
     if not name:
@@ -714,7 +733,7 @@ def column_word(text):
     return name, column
 
 
-def words_of(arguments):
+def words_of(arguments: list[str] | None) -> argparse.Namespace:
     parser = argparse.ArgumentParser(
         prog="afdx table", description=__doc__, epilog=EXAMPLES, formatter_class=argparse.RawDescriptionHelpFormatter
     )
@@ -737,7 +756,7 @@ def words_of(arguments):
 
 
 @files.tool("afdx table")
-def main(arguments=None):
+def main(arguments: list[str] | None = None) -> int:
     words = words_of(arguments)
     text, faults, notes = (to_tables.Back(words.tables[0], commented, COLUMN_SAID).text(), [], []) if words.back else made(words.tables, words.column)
     for note in notes:
@@ -750,6 +769,7 @@ def main(arguments=None):
         files.write_whole(words.output, text)
     else:
         files.write_out(text)
+    return 0
 
 
 if __name__ == "__main__":

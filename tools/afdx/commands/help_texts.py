@@ -90,7 +90,7 @@ status: that of the program or the tool; 2 if a word is wrong, or if there is no
 """
 
 
-def commands(is_clone=program.is_clone()):
+def commands(is_clone: bool = program.is_clone()) -> dict[str, tuple[str, str]]:
     """Each command with its words and what it says, in the order of the help. A package has no sources to build."""
     found = {"page": OWN["page"]}
     found |= {name: (it.usage, it.says) for name, it in OF_PROGRAM.items()}
@@ -98,13 +98,13 @@ def commands(is_clone=program.is_clone()):
     return found | {name: it for name, it in OWN.items() if name != "page" and (is_clone or name == "completion")}
 
 
-def help_text(is_clone=program.is_clone()):
+def help_text(is_clone: bool = program.is_clone()) -> str:
     lines = [f"  {name:<16}{says}" for name, (_, says) in commands(is_clone).items()]
     which, only = (IN_A_CLONE, "; with --by proved and --by try just that one") if is_clone else (IN_A_PACKAGE, "")
     return HELP.format(commands="\n".join(lines), which=which, only=only, of_run=OF_RUN)
 
 
-def options_of(name):
+def options_of(name: str) -> list[str]:
     """The options that a command's help names."""
     if name in OF_PROGRAM:
         return sorted({*re.findall(r"--[a-z-]+", OF_PROGRAM[name].usage), "--by", "--program", "--help"})
@@ -139,7 +139,7 @@ complete -o filenames -F _afdx afdx ./afdx
 """
 
 
-def completion_text(is_clone=program.is_clone()):
+def completion_text(is_clone: bool = program.is_clone()) -> str:
     """What bash is to read, so that it completes words. It is made of the texts of help: `shtab` and `argcomplete` want one parser of all words."""
     names = commands(is_clone)
     cases = "\n".join(f"    {name}) options=\"{' '.join(options_of(name))}\" ;;" for name in names)

@@ -15,7 +15,9 @@ words on the command line give the same text, on every machine.
 import argparse
 import random
 import sys
+from collections.abc import Callable, Sequence
 from fractions import Fraction
+from typing import TypeVar
 
 from afdx import files
 from afdx.model import (
@@ -61,23 +63,26 @@ there.
 """
 
 
+T = TypeVar("T")
+
+
 class Draw:
     """Draws from a seed. It stands on random() alone, which is the same in every version of Python."""
 
-    def __init__(self, seed):
+    def __init__(self, seed: int) -> None:
         self.random = random.Random(seed).random
 
-    def below(self, limit):
+    def below(self, limit: int) -> int:
         """A whole number from 0, below the limit."""
         return int(self.random() * limit)
 
-    def one_of(self, items):
+    def one_of(self, items: Sequence[T]) -> T:
         return items[self.below(len(items))]
 
-    def happens(self, percent):
+    def happens(self, percent: int) -> bool:
         return self.below(100) < percent
 
-    def share(self, shares):
+    def share(self, shares: dict[T, int]) -> T:
         """One of the keys, as often as its percent says."""
         drawn = self.below(100)
         for key, percent in shares.items():
@@ -90,11 +95,11 @@ class Draw:
 class Wiring:
     """The switches of one network, as numbers: who is beside whom, and the trees of shortest ways."""
 
-    def __init__(self, words):
+    def __init__(self, words: argparse.Namespace) -> None:
         self.count = words.switches
         self.longest = -(-words.switches // words.columns) + min(words.columns, words.switches) - 1
-        self.beside = [[] for _ in range(self.count)]
-        self.links = []
+        self.beside: list[list[int]] = [[] for _ in range(self.count)]
+        self.links: list[tuple[int, int]] = []
         for here in range(self.count):
             right, below = here + 1, here + words.columns
             if right % words.columns and right < self.count:
@@ -102,16 +107,16 @@ class Wiring:
             if below < self.count:
                 self.link(here, below)
         self.home = [e * self.count // words.end_systems for e in range(words.end_systems)]
-        self.attached = [[] for _ in range(self.count)]
+        self.attached: list[list[int]] = [[] for _ in range(self.count)]
         for end_system, switch in enumerate(self.home):
             self.attached[switch].append(end_system)
 
-    def link(self, a, b):
+    def link(self, a: int, b: int) -> None:
         self.links.append((a, b))
         self.beside[a].append(b)
         self.beside[b].append(a)
 
-    def tree(self, root, draw):
+    def tree(self, root: int, draw: Draw) -> dict[int, list[int]]:
         """For each switch the way to it from the root; a way is a list of switches with both ends."""
         ways = {root: [root]}
         ring = [root]
@@ -126,12 +131,12 @@ class Wiring:
             ring = following
         return ways
 
-    def processes(self):
+    def processes(self) -> int:
         """Two networks: the nodes, and two processes for each link."""
         end_systems = len(self.home)
         return end_systems + 2 * self.count + 2 * 2 * (end_systems + len(self.links))
 
-    def refusal(self):
+    def refusal(self) -> str | None:
         """Why the program would refuse the network, or None."""
         ports = max(len(a) + len(b) for a, b in zip(self.attached, self.beside))
         if ports > MOST_PORTS:
@@ -155,10 +160,10 @@ class Wiring:
 class VirtualLink:
     """One virtual link: what is drawn for it, and its ways through the switches."""
 
-    def __init__(self, words, wiring, trees, draw):
+    def __init__(self, words: argparse.Namespace, wiring: Wiring, trees: list[dict[int, list[int]]], draw: Draw) -> None:
         end_systems = words.end_systems
         self.source = draw.below(end_systems)
-        self.ways = {}
+        self.ways: dict[int, list[int]] = {}
         wanted = 1
         most = min(MOST_DESTINATIONS, end_systems - 1)
         while wanted < most and draw.random() * words.destinations >= 1:
@@ -177,9 +182,9 @@ class VirtualLink:
         self.sub = 1 + draw.below(words.sub) if words.sub > 1 else None
         self.policing = draw.one_of(POLICINGS) if words.policing == "both" else words.policing
 
-    def by_distance(self, wiring, tree):
+    def by_distance(self, wiring: Wiring, tree: dict[int, list[int]]) -> list[list[int]]:
         """The end systems but the source, as lists by the number of switches on the way. No list is empty."""
-        lists = {}
+        lists: dict[int, list[int]] = {}
         for switch, way in tree.items():
             found = [e for e in wiring.attached[switch] if e != self.source]
             if found:
@@ -187,7 +192,7 @@ class VirtualLink:
         return [lists[distance] for distance in sorted(lists)]
 
     @staticmethod
-    def destination(near, reach, draw):
+    def destination(near: list[list[int]], reach: int, draw: Draw) -> int:
         """A destination that was not drawn before; each step further has the chance of reach percent."""
         distance = 0
         while distance + 1 < len(near) and draw.happens(reach):
@@ -198,9 +203,9 @@ class VirtualLink:
             near.pop(distance)
         return target
 
-    def lines(self):
+    def lines(self) -> set[tuple[int | str, int]]:
         """The lines of one network that a frame of this virtual link goes over, each once."""
-        used = set()
+        used: set[tuple[int | str, int]] = set()
         for target, way in self.ways.items():
             used.add(("from", self.source))
             used.update(zip(way, way[1:]))
@@ -208,10 +213,10 @@ class VirtualLink:
         return used
 
 
-def greatest_load(virtual_links):
+def greatest_load(virtual_links: list[VirtualLink]) -> Fraction:
     """The load of the busiest line, where 1 is all its time, if each virtual link sends a frame in each BAG."""
     longest_bag_ms = max(BAG_SHARES)
-    busy_ns = {}
+    busy_ns: dict[tuple[int | str, int], int] = {}
     for vl in virtual_links:
         frames = longest_bag_ms // vl.bag_ms
         busy = frames * (vl.size + BYTES_BETWEEN_FRAMES) * NS_A_BYTE
@@ -220,7 +225,7 @@ def greatest_load(virtual_links):
     return Fraction(max(busy_ns.values(), default=0), longest_bag_ms * 10**6)
 
 
-def write_nodes(words, out):
+def write_nodes(words: argparse.Namespace, out: Callable[[str], object]) -> None:
     for e in range(words.end_systems):
         out(f'[[node]]\nname = "E{e + 1}"\nkind = "es"\nport_bytes = {words.port_bytes}\n')
     for net in "AB":
@@ -229,7 +234,7 @@ def write_nodes(words, out):
             out(f'net = "{net}"\nlatency_ns = 16000\n')
 
 
-def write_links(wiring, draw, out):
+def write_links(wiring: Wiring, draw: Draw, out: Callable[[str], object]) -> None:
     for net in "AB":
         pairs = [(f"E{e + 1}", f"{net}{s + 1}") for e, s in enumerate(wiring.home)]
         pairs += [(f"{net}{a + 1}", f"{net}{b + 1}") for a, b in wiring.links]
@@ -237,7 +242,7 @@ def write_links(wiring, draw, out):
             out(f'[[link]]\na = "{a}"\nb = "{b}"\nmbit = 100\npropagation_ns = {20 + draw.below(280)}\n')
 
 
-def write_virtual_link(number, vl, stretch, out):
+def write_virtual_link(number: int, vl: VirtualLink, stretch: Fraction, out: Callable[[str], object]) -> None:
     bag_ns = vl.bag_ms * 10**6
     period = min(LATEST_NS, int(bag_ns * stretch))
     out(f"[[vl]]\nid = {number}\nbag_ms = {vl.bag_ms}\nsmax = {vl.size}\n")
@@ -254,7 +259,7 @@ def write_virtual_link(number, vl, stretch, out):
         out(f"{net.lower()} = [" + ", ".join(paths) + "]\n")
 
 
-def write_network(words, out, tell):
+def write_network(words: argparse.Namespace, out: Callable[[str], object], tell: Callable[[str], object]) -> str | None:
     """Writes the description by out, and a summary by tell. Answers why it is refused, or None."""
     draw = Draw(words.seed)
     wiring = Wiring(words)
@@ -279,12 +284,12 @@ def write_network(words, out, tell):
     return None
 
 
-def words_of(arguments=None):
+def words_of(arguments: list[str] | None = None) -> argparse.Namespace:
     parser = argparse.ArgumentParser(
         prog="afdx large-network", description=__doc__, epilog=EXAMPLES, formatter_class=argparse.RawDescriptionHelpFormatter
     )
 
-    def number(name, least, greatest, usual, unit, meaning):
+    def number(name: str, least: int, greatest: int, usual: int, unit: str, meaning: str) -> None:
         text = f"{meaning}; {least} to {greatest} (default {usual})"
         parser.add_argument("--" + name, type=whole(least, greatest), default=usual, metavar=unit, help=text)
 
@@ -317,8 +322,8 @@ def words_of(arguments=None):
 
 
 @files.tool("afdx large-network")
-def main(arguments=None):
-    pieces = []
+def main(arguments: list[str] | None = None) -> int:
+    pieces: list[str] = []
     refusal = write_network(words_of(arguments), pieces.append, sys.stderr.write)
     if refusal:
         files.tell("afdx large-network", refusal)

@@ -15,34 +15,40 @@ import argparse
 import collections
 import heapq
 import sys
+from collections.abc import Iterator, Mapping
+from typing import Any
 
 from afdx import files
 from afdx.model import judge
 from afdx.runs.second_opinion import BODIES, Simulation
 
 
+# Its process, the event that sent its message, and who receives what it sends.
+Event = tuple[int, int | None, list[int]]
+
+
 class Journal(Simulation):
     """A simulation that lists its steps."""
 
-    def __init__(self, net):
+    def __init__(self, net: Mapping[str, Any]) -> None:
         # For each process how many letters its mail has.
-        self.mail = collections.Counter()
+        self.mail: collections.Counter[int] = collections.Counter()
         # For each message that waits, which event of this window sent it.
-        self.cause = {}
-        self.sent = []
+        self.cause: dict[tuple[int, int], int] = {}
+        self.sent: list[tuple[int, int, int]] = []
         # For each process how many of its done events are earlier than GVT and not committed.
-        self.done = collections.Counter()
+        self.done: collections.Counter[int] = collections.Counter()
         super().__init__(net)
         self.mail.update(receiver for _, receiver, *_ in self.heap)
 
-    def push(self, time, receiver, sender, number, *rest):
+    def push(self, time: int, receiver: int, sender: int, number: int, *rest: Any) -> None:
         self.sent.append((receiver, sender, number))
         super().push(time, receiver, sender, number, *rest)
 
-    def events_before(self, limit):
+    def events_before(self, limit: int) -> list[Event]:
         """The events before a moment: of each its process, the event that sent its message, if it is one of these, and who receives what it
         sends."""
-        events = []
+        events: list[Event] = []
         self.cause.clear()
         while self.heap and self.heap[0][0] < limit:
             time, process, sender, number, variant, fields = heapq.heappop(self.heap)
@@ -53,13 +59,13 @@ class Journal(Simulation):
             events.append((process, self.cause.get((sender, number)), [receiver for receiver, _, _ in self.sent]))
         return events
 
-    def turns(self, events, most):
+    def turns(self, events: list[Event], most: int) -> Iterator[str]:
         """Has the processes take turns until all these events are done."""
-        own = collections.defaultdict(collections.deque)
+        own: dict[int, collections.deque[int]] = collections.defaultdict(collections.deque)
         for place, (process, _, _) in enumerate(events):
             own[process].append(place)
         is_posted = [cause is None for _, cause, _ in events]
-        children = collections.defaultdict(list)
+        children: dict[int, list[int]] = collections.defaultdict(list)
         for place, (_, cause, _) in enumerate(events):
             if cause is not None:
                 children[cause].append(place)
@@ -73,7 +79,7 @@ class Journal(Simulation):
             yield from ["T %d 0" % process] * letters
             yield from ["A %d" % process] * letters
             places = own[process]
-            handled = []
+            handled: list[int] = []
             while places and len(handled) < most and is_posted[places[0]]:
                 handled.append(places.popleft())
             yield from ["R %d" % process] * len(handled)
@@ -89,7 +95,7 @@ class Journal(Simulation):
                     next_ones.append(it)
                     are_next.add(it)
 
-    def steps(self, most, window):
+    def steps(self, most: int, window: int) -> Iterator[str]:
         yield "G"
         while self.heap:
             events = self.events_before(self.heap[0][0] + window)
@@ -101,7 +107,7 @@ class Journal(Simulation):
 
 
 @files.tool("afdx make-journal")
-def main(arguments=None):
+def main(arguments: list[str] | None = None) -> None:
     words = argparse.ArgumentParser(prog="afdx make-journal", description=__doc__, formatter_class=argparse.RawDescriptionHelpFormatter)
     words.add_argument("net", help="the network description (TOML)")
     words.add_argument("--turn", type=int, default=16, metavar="N", help="most messages that a process handles in one turn (default: 16)")

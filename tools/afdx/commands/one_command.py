@@ -5,6 +5,7 @@ import os
 import subprocess
 import sys
 import tempfile
+from typing import Any, BinaryIO, TextIO
 
 from afdx import files, model
 from afdx.commands import debian_package, help_texts
@@ -22,13 +23,14 @@ class Mistake(Exception):
     """What is wrong with the words, in one line."""
 
 
-def version_text():
+def version_text() -> str:
     """The version, with the commit and the kit, and the program that is here."""
     lines = [f"afdxsim {program.version()}"]
     if program.is_clone():
         lines += [f"commit: {program.commit() or 'unknown'}", f"kit: {program.kit() or 'not here'}"]
     try:
         found = program.proved()
+        assert found.path is not None
         lines.append(f"program: {os.path.normpath(found.path)}: {found.says}")
     except NoProgram as fault:
         lines.append(f"program: {fault}")
@@ -38,7 +40,7 @@ def version_text():
 # ---- which program ----
 
 
-def taken_out(words, name):
+def taken_out(words: list[str], name: str) -> tuple[list[str], str | None]:
     """The words without the option of this name and its value, which may stand anywhere before --, and the value."""
     end = words.index("--") if "--" in words else len(words)
     for place, word in enumerate(words[:end]):
@@ -51,7 +53,7 @@ def taken_out(words, name):
     return words, None
 
 
-def chosen(by, path):
+def chosen(by: str | None, path: str | None) -> program.Program:
     """The program that is to run, by what the user asks for."""
     if by not in (None, "proved", "try", "second-opinion"):
         raise Mistake(f"--by is proved, try or second-opinion, and not {by!r}")
@@ -71,7 +73,7 @@ def chosen(by, path):
         return why_tried(why)
 
 
-def why_tried(why):
+def why_tried(why: NoProgram) -> program.Program:
     """The program by `rt try`, since there is no proved one."""
     try:
         found = program.tried()
@@ -86,7 +88,7 @@ def why_tried(why):
 # ---- the program's commands ----
 
 
-def files_of(name, words):
+def files_of(name: str, words: list[str]) -> tuple[list[int], list[str]]:
     """The places of the words that name files which the command reads, and the names of files that it writes."""
     read, written, rest = [], [], iter(range(len(words)))
     only_paths = False
@@ -97,8 +99,8 @@ def files_of(name, words):
         elif not only_paths and word.startswith("-") and word != "-":
             option, has_value, value = word.partition("=")
             if option in help_texts.VALUED and not has_value:
-                place = next(rest, None)
-                value = words[place] if place is not None else ""
+                behind = next(rest, None)
+                value = words[behind] if behind is not None else ""
             if option in help_texts.WRITES:
                 written.append(option)
         else:
@@ -106,11 +108,11 @@ def files_of(name, words):
     return read[: help_texts.OF_PROGRAM[name].files], written
 
 
-def asks_for_help(words):
+def asks_for_help(words: list[str]) -> bool:
     return any(word in ("--help", "-h") for word in words[: words.index("--") if "--" in words else len(words)])
 
 
-def by_program(name, words):
+def by_program(name: str, words: list[str]) -> int:
     """Hands the words to the program, and answers its status."""
     words, by = taken_out(words, "--by")
     words, path = taken_out(words, "--program")
@@ -118,6 +120,7 @@ def by_program(name, words):
         return help_of_program(name, words, path)
     it = chosen(by, path)
     if it.how in ("proved", "given"):
+        assert it.path is not None
         tell(it.says)
         return ended([it.path, name, *words])
     read, written = files_of(name, words)
@@ -148,7 +151,7 @@ def by_program(name, words):
     return status
 
 
-def ended(words, **more):
+def ended(words: list[str], **more: Any) -> int:
     """Runs a command, and answers its status. One that a signal ended says nothing itself."""
     status = subprocess.run(words, **more).returncode
     if status < 0:
@@ -156,7 +159,7 @@ def ended(words, **more):
     return status
 
 
-def foresee(path, other):
+def foresee(path: str, other: str) -> None:
     """Refuses a run of which `rt try` could not pass on the tables. What is no description the program itself refuses."""
     try:
         size = output_sizes.of_tables(model.Network(path))
@@ -166,7 +169,7 @@ def foresee(path, other):
         raise output_sizes.refused(f"the tables of {path}", size, f"{other}`afdx build` builds the proved program")
 
 
-def check_by_opinion(words, read):
+def check_by_opinion(words: list[str], read: list[int]) -> int:
     """Judges a description as `afdxsim check` does, by afdx explain, and answers the status."""
     if len(read) < 1 or len(words) > 1 + ("--" in words):
         raise Mistake(f"usage: afdx check {help_texts.OF_PROGRAM['check'].usage}")
@@ -188,11 +191,12 @@ def check_by_opinion(words, read):
     return 0
 
 
-def help_of_program(name, words, path):
+def help_of_program(name: str, words: list[str], path: str | None) -> int:
     """Prints the usage of a command of the program, by the program if there is one here, and returns the status."""
     it, status = help_texts.OF_PROGRAM[name], 0
     try:
         found = program.given(path) if path else program.proved()
+        assert found.path is not None
         status = subprocess.run([found.path, name, *words]).returncode
     except NoProgram:
         usage = f"usage: afdx {name} {it.usage} [--by WHAT] [--program PATH]"
@@ -202,7 +206,7 @@ def help_of_program(name, words, path):
     return status
 
 
-def write(stream, found):
+def write(stream: TextIO, found: bytes) -> None:
     stream.flush()
     stream.buffer.write(found)
     stream.buffer.flush()
@@ -211,7 +215,7 @@ def write(stream, found):
 # ---- tools ----
 
 
-def by_tool(name, words):
+def by_tool(name: str, words: list[str]) -> int:
     """Runs a tool in this very process."""
     tool = help_texts.OF_TOOLS[name]
     if asks_for_help(words) and name in help_texts.RUN_IT:
@@ -229,7 +233,7 @@ def by_tool(name, words):
     return importlib.import_module(tool.module).main()
 
 
-def with_program(words):
+def with_program(words: list[str]) -> tuple[list[str], int]:
     """The words of a tool that has the program run, with those that name the program; and the status if it is useless to
     go on."""
     words, by = taken_out(words, "--by")
@@ -248,7 +252,7 @@ def with_program(words):
 # ---- the page ----
 
 
-def page_words(arguments):
+def page_words(arguments: list[str]) -> tuple[argparse.Namespace, list[str]]:
     parser = argparse.ArgumentParser(
         prog="afdx page", usage="afdx page NET [TABLES] -o FILE [--by WHAT] [--program PATH] [--no-bounds] ..",
         description="Explains a description, simulates it, bounds its latencies and draws all of it on one page. With TABLES,\n"
@@ -272,7 +276,7 @@ def page_words(arguments):
     return words, more
 
 
-def names_and_options(arguments):
+def names_and_options(arguments: list[str]) -> tuple[list[str], list[str]]:
     """The names of files that stand before all options, or behind --, and the options: a word behind another option may be its
     value."""
     end = arguments.index("--") if "--" in arguments else len(arguments)
@@ -280,12 +284,12 @@ def names_and_options(arguments):
     return arguments[:begin] + arguments[end + 1 :], arguments[begin:end]
 
 
-def no_option(path):
+def no_option(path: str) -> str:
     """A name of a file that no tool takes for an option."""
     return os.path.join(".", path) if path.startswith("-") else path
 
 
-def explained(net):
+def explained(net: str) -> int:
     """Prints on error output the faults of a description and what is probably a mistake, and returns the status."""
     with watch.Watch("afdx"):
         watch.stage(f"explains {files.printable(net)}")
@@ -297,13 +301,15 @@ def explained(net):
     return found.returncode
 
 
-def page(arguments):
+def page(arguments: list[str]) -> int:
     """Makes the page of a description, and answers the status."""
     words, more = page_words(arguments)
     # Before the run, which may take long.
+    path: str
     for path in filter(None, (words.net, words.tables)):
         files.reads(path)
-    files.ready(list(filter(None, [words.output, taken_out(more, "--junit")[1]])))
+    outputs: list[str | None] = [words.output, taken_out(more, "--junit")[1]]
+    files.ready(list(filter(None, outputs)))
     if status := explained(words.net):
         return status
     it = None if words.tables else chosen(words.by, words.program)
@@ -332,14 +338,14 @@ def page(arguments):
         return subprocess.run(command, cwd=folder).returncode
 
 
-def linked_tables(path, folder):
+def linked_tables(path: str, folder: str) -> str:
     """The same of tables: by their folder, since merged ones have the record of their campaign beside them."""
     if os.path.isdir(path):
         return linked(path, folder)
     return os.path.join(linked(os.path.dirname(os.path.abspath(path)), folder), os.path.basename(path))
 
 
-def linked(path, folder):
+def linked(path: str, folder: str) -> str:
     """A name of a file in this folder, by a link; or its own from the root on, where the name is taken."""
     name = os.path.basename(os.path.normpath(path))
     if os.path.lexists(os.path.join(folder, name)) or name.startswith("-"):
@@ -348,13 +354,13 @@ def linked(path, folder):
     return name
 
 
-def absolute(word):
+def absolute(word: str) -> str:
     """A word with the file that it names, if it does, named from the root on."""
     option, has_value, value = word.rpartition("=") if word.startswith("--") else ("", "", word)
     return option + has_value + (os.path.abspath(value) if os.path.exists(value) else value)
 
 
-def simulate(it, net, tables, trace):
+def simulate(it: program.Program, net: str, tables: str, trace: str) -> int:
     """Has the tables made, and the trace where files can be kept, and answers the status."""
     with open(tables, "wb") as out:
         if it.how == "tried":
@@ -363,7 +369,7 @@ def simulate(it, net, tables, trace):
         return ended([*command, net, "--trace", trace], stdin=subprocess.DEVNULL, stdout=out)
 
 
-def simulate_by_try(net, out, trace):
+def simulate_by_try(net: str, out: BinaryIO, trace: str) -> int:
     """The same by `rt try`, with the trace where it is not too long to be passed on."""
     with open(net, "rb") as file:
         text = file.read()
@@ -386,13 +392,13 @@ def simulate_by_try(net, out, trace):
         if alone[0] is None:
             raise NoProgram("`rt try` gave no answer: it passes on at most 1 MiB, and `afdx build` builds the proved program")
     out.write(traced[1] if traced[0] == 0 else alone[1])
-    return alone[0]
+    return alone[0] or 0
 
 
 # ---- building and the shell ----
 
 
-def build(arguments):
+def build(arguments: list[str]) -> int:
     parser = argparse.ArgumentParser(
         prog="afdx build", description="Proves the program and all that it is made of, and builds it: crates/afdxsim/out/afdxsim.",
         epilog="The machine keeps what is proved, for ./test too. crates/afdxsim/out/build.log has all that `rt` printed.",
@@ -403,7 +409,7 @@ def build(arguments):
     return 0
 
 
-def completion(arguments):
+def completion(arguments: list[str]) -> int:
     if asks_for_help(arguments):
         files.say("usage: afdx completion bash\n\nPrints what completes words in bash: source <(afdx completion bash)")
         return 0
@@ -413,7 +419,7 @@ def completion(arguments):
     return 0
 
 
-def answer(words):
+def answer(words: list[str]) -> int:
     """Does what the words say, and answers the status."""
     if words[:1] in (["--help"], ["-h"], ["help"]):
         files.write_out(help_texts.help_text())
@@ -422,7 +428,7 @@ def answer(words):
         files.write_out(version_text())
         return 0
     # What is said of the program may also stand before the command.
-    asked = []
+    asked: list[str] = []
     while words and words[0].split("=")[0] in ("--by", "--program"):
         taken = 1 if "=" in words[0] else 2
         asked, words = asked + words[:taken], words[taken:]
@@ -439,7 +445,7 @@ def answer(words):
     return own[name](words)
 
 
-def main(words=None):
+def main(words: list[str] | None = None) -> int:
     try:
         with files.signals_taken():
             files.settle_streams()

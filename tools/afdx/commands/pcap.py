@@ -13,6 +13,8 @@ import itertools
 import os
 import struct
 import sys
+from collections.abc import Iterable, Iterator, Mapping, Sequence
+from typing import Any
 
 from afdx import files, model
 from afdx.files import Fault, program
@@ -56,10 +58,15 @@ PORT = 49152
 NETWORKS = {"A": 0x20, "B": 0x40, None: 0}
 
 
+# A frame as the second opinion has it, and a packet: its moment, its place, its frame and its comments.
+Frame = Any
+Packet = tuple[int, int, Frame, list[str]]
+
+
 # ---- frames ----
 
 
-def checksum_of(header):
+def checksum_of(header: bytes) -> int:
     """The checksum of a header of IP."""
     total = sum(struct.unpack("!10H", header))
     while total > 0xFFFF:
@@ -67,7 +74,7 @@ def checksum_of(header):
     return 0xFFFF - total
 
 
-def bytes_of(vl, source, net, number, size):
+def bytes_of(vl: int, source: int, net: str | None, number: int, size: int) -> bytes:
     """A frame as it is on the line, without its check sequence."""
     payload = size - BYTES_AROUND_A_PAYLOAD
     ethernet = struct.pack("!4sH3sHBH", b"\3\0\0\0", vl, b"\2\0\0", source, NETWORKS[net], 0x0800)
@@ -81,33 +88,33 @@ def bytes_of(vl, source, net, number, size):
 # ---- pcapng ----
 
 
-def padded(text):
+def padded(text: bytes) -> bytes:
     return text + bytes(-len(text) % 4)
 
 
-def option(code, value):
+def option(code: int, value: bytes) -> bytes:
     return struct.pack("<HH", code, len(value)) + padded(value)
 
 
-def block(kind, body, options=()):
+def block(kind: int, body: bytes, options: Sequence[tuple[int, bytes]] = ()) -> bytes:
     body += b"".join(option(code, value) for code, value in options) + (struct.pack("<HH", 0, 0) if options else b"")
     length = struct.pack("<I", 12 + len(body))
     return struct.pack("<I", kind) + length + body + length
 
 
-def section_of(net):
+def section_of(net: str) -> bytes:
     head = struct.pack("<IHHq", 0x1A2B3C4D, 1, 0, -1)
     return block(SECTION, head, [(APPLICATION, program.tool("pcap").in_words().encode()), (COMMENT, f"a run of {net}".encode())])
 
 
-def interface_of(name, says, mbit=None):
+def interface_of(name: str, says: str, mbit: int | None = None) -> bytes:
     options = [(NAME, name.encode()), (DESCRIPTION, says.encode()), (RESOLUTION, b"\x09")]
     if mbit:
         options.append((SPEED, struct.pack("<Q", mbit * 10**6)))
     return block(INTERFACE, struct.pack("<HHI", ETHERNET, 0, 0), options)
 
 
-def packet_of(interface, moment, frame, comments):
+def packet_of(interface: int, moment: int, frame: bytes, comments: list[str]) -> bytes:
     head = struct.pack("<IIIII", interface, moment >> 32, moment & 0xFFFFFFFF, len(frame), len(frame))
     return block(PACKET, head + padded(frame), [(COMMENT, text.encode()) for text in comments])
 
@@ -118,27 +125,27 @@ def packet_of(interface, moment, frame, comments):
 class Seen(second_opinion.Simulation):
     """A run whose frames are noted: `packets` has for each the moment, the place, the frame and its comments."""
 
-    def __init__(self, tree):
-        self.packets = []
+    def __init__(self, tree: Mapping[str, Any]) -> None:
+        self.packets: list[Packet] = []
         super().__init__(tree)
 
-    def net_of(self, frame):
+    def net_of(self, frame: Frame) -> str | None:
         return frame[5] if len(frame) > 5 else None
 
-    def deliver(self, t, p, frame):
+    def deliver(self, t: int, p: int, frame: Frame) -> None:
         super().deliver(t, p, frame)
         wait = frame[4] - frame[3]
         self.happens(t, p, frame, f"delivered at {self.names[p]}: latency {t - frame[3]} ns, {wait} ns of it in the regulator")
 
-    def lose(self, t, p, frame, cause):
+    def lose(self, t: int, p: int, frame: Frame, cause: str) -> None:
         super().lose(t, p, frame, cause)
         what = "dropped" if cause == "duplicate" else "lost"
         self.happens(t, p, frame, f"{what} at {self.names[p]}: {cause}")
 
-    def happens(self, t, p, frame, text):
+    def happens(self, t: int, p: int, frame: Frame, text: str) -> None:
         self.packets.append((t, p, frame, [text]))
 
-    def interfaces(self, net):
+    def interfaces(self, net: model.Network) -> dict[int, tuple[str, int | None]]:
         """The places that have an interface: who receives, and where a frame was lost. Each with what is said of it."""
         receivers = {place for _, place in self.destinations}
         places = sorted(receivers | {place for _, place, _, _ in self.packets})
@@ -149,30 +156,30 @@ class SeenOnLines(Seen):
     """A run whose frames are noted on each line, at the moment of the last bit. What happens to a frame behind a line is a
     comment of its packet there; what is lost before its first line is noted at its source."""
 
-    def __init__(self, tree):
+    def __init__(self, tree: Mapping[str, Any]) -> None:
         # For each frame and node the packet on the line by which it came there.
-        self.before = {}
+        self.before: dict[tuple[Frame, int], Packet] = {}
         super().__init__(tree)
 
-    def handle(self, t, p, variant, fields):
+    def handle(self, t: int, p: int, variant: str, fields: tuple[Any, ...]) -> None:
         if variant == "Carry":
             (frame,) = fields
-            packet = (t, p, frame, [])
+            packet: Packet = (t, p, frame, [])
             self.packets.append(packet)
             self.before[frame, p] = self.before[frame, self.place[self.lines[p - len(self.nodes)][1]]] = packet
         super().handle(t, p, variant, fields)
 
-    def happens(self, t, p, frame, text):
+    def happens(self, t: int, p: int, frame: Frame, text: str) -> None:
         packet = self.before.get((frame, p))
         if packet:
             packet[3].append(text)
         else:
             super().happens(t, p, frame, text)
 
-    def interfaces(self, net):
+    def interfaces(self, net: model.Network) -> dict[int, tuple[str, int | None]]:
         lines = {self.names.index(line) for vl in net.vls.values() for line in vl.lines}
         places = sorted(lines | {place for _, place, _, _ in self.packets})
-        said = {}
+        said: dict[int, tuple[str, int | None]] = {}
         for place in places:
             name = self.names[place]
             said[place] = (f"the line {name}", net.mbit[name]) if name in net.mbit else (f"frames lost at {name}", None)
@@ -182,10 +189,10 @@ class SeenOnLines(Seen):
 KINDS = {"receiver": Seen, "line": SeenOnLines}
 
 
-def blocks_of(net, simulation):
+def blocks_of(net: model.Network, simulation: Seen) -> Iterator[bytes]:
     """The blocks of the capture."""
     yield section_of(files.printable(os.path.basename(net.path)))
-    number = {}
+    number: dict[int, int] = {}
     for place, (says, mbit) in simulation.interfaces(net).items():
         number[place] = len(number)
         yield interface_of(simulation.names[place], says, mbit)
@@ -195,7 +202,7 @@ def blocks_of(net, simulation):
         yield packet_of(number[place], t, frame_bytes, comments)
 
 
-def compare(path, found, simulation):
+def compare(path: str, found: Iterable[str], simulation: Seen) -> None:
     """Refuses a trace, of which the lines are given, that is not that of the run."""
     for i, (mine, line) in enumerate(itertools.zip_longest(simulation.trace(), found), 1):
         if mine != line:
@@ -206,7 +213,7 @@ def compare(path, found, simulation):
 # ---- words of the command line ----
 
 
-def words_of(arguments):
+def words_of(arguments: list[str] | None) -> argparse.Namespace:
     parser = argparse.ArgumentParser(
         prog="afdx pcap", description=__doc__, epilog=EXAMPLES, formatter_class=argparse.RawDescriptionHelpFormatter
     )
@@ -220,7 +227,7 @@ def words_of(arguments):
 
 
 @files.tool("afdx pcap")
-def main(arguments=None):
+def main(arguments: list[str] | None = None) -> None:
     words = words_of(arguments)
     description = judge.accepted(words.net)
     found = model.lines_of(words.trace, [model.TRACE_HEAD], "a trace")

@@ -17,7 +17,7 @@ import os
 import sys
 
 from afdx import files, model
-from afdx.page.given import given_by
+from afdx.page.given import Given, given_by
 from afdx.page.html_page import Page
 from afdx.reckon import limits
 
@@ -73,7 +73,7 @@ whole; so an earlier page stays until then.
 MOST_TOLD = 10
 
 
-def words_of(arguments=None):
+def words_of(arguments: list[str] | None = None) -> argparse.Namespace:
     parser = argparse.ArgumentParser(
         prog="afdx report", description=__doc__, epilog=EXAMPLES, formatter_class=argparse.RawDescriptionHelpFormatter
     )
@@ -111,7 +111,7 @@ def words_of(arguments=None):
     return words
 
 
-def tell_above(given):
+def tell_above(given: Given) -> bool:
     """Prints the latencies above their bounds, and returns whether there are any."""
     above = given.bounds.above(given.tables.latencies) if given.bounds else []
     for row in above[:MOST_TOLD]:
@@ -126,9 +126,9 @@ def tell_above(given):
 
 
 @files.tool("afdx report")
-def main(arguments=None):
+def main(arguments: list[str] | None = None) -> int:
     words = words_of(arguments)
-    outputs = list(filter(None, [words.output, words.junit]))
+    outputs: list[str] = list(filter(None, [words.output, words.junit]))
     files.ready(outputs, prints=bool(words.limits))
     given = given_by(words)
     files.judge(outputs, prints=bool(words.limits))

@@ -1,11 +1,14 @@
 """The columns of the tables of a page, and how a cell is marked."""
-
+from collections.abc import Mapping, Sequence
+from typing import Any
 
 # How a cell is marked, as the script numbers it.
 WARN, BAD = 1, 2
 
 # A column as the script has it.
 Column = dict[str, str]
+# The rows of a table, column by column.
+Rows = Mapping[str, Sequence[Any]]
 
 
 def column(key: str, look: str, name: str, unit: str = "", hint: str = "", tone: str = "") -> Column:

@@ -1,13 +1,16 @@
 """What changed from one run to another: latencies and losses, bounds, and what the two descriptions say."""
 from fractions import Fraction
+from typing import Any
 
 from afdx import model
 from afdx.files.page_text import hundredths, mean_ns, one_or_range
+from afdx.page.given import Given
+from afdx.reckon.bounds_file import Bounds
 
 
-def of_both(given):
+def of_both(given: Given) -> dict[str, list[Any]]:
     """For each virtual link and destination of both runs: before and now, and what changed, column by column."""
-    found = {}
+    found: dict[str, list[Any]] = {}
     for key, row in given.tables.latencies.items():
         before = given.other.tables.latencies.get(key)
         if before is None:
@@ -31,9 +34,9 @@ def of_both(given):
     return found or {"vl": [], "change": [], "fall": [], "lost": [], "kept": []}
 
 
-def bounds_moved(before, now):
+def bounds_moved(before: Bounds, now: Bounds) -> dict[str, list[Any]]:
     """The bounds of destinations of both descriptions that are not the same, column by column."""
-    found = {"vl": [], "where": [], "before": [], "now": [], "moved": []}
+    found: dict[str, list[Any]] = {"vl": [], "where": [], "before": [], "now": [], "moved": []}
     for key, bound in now.of.items():
         if key in before.of and before.of[key].ns != bound.ns:
             was = before.of[key].ns
@@ -43,9 +46,9 @@ def bounds_moved(before, now):
     return found
 
 
-def differences(before, now):
+def differences(before: model.Network, now: model.Network) -> list[tuple[str, ...]]:
     """What two descriptions say differently: of which row, which key, before and now."""
-    found = []
+    found: list[tuple[str, ...]] = []
     for section in ("top", *model.SECTIONS):
         one, other = named_rows(before, section), named_rows(now, section)
         for name in [*one, *(name for name in other if name not in one)]:
@@ -59,11 +62,11 @@ def differences(before, now):
     return found
 
 
-def named_rows(net, section):
+def named_rows(net: model.Network, section: str) -> dict[str, dict[str, Any]]:
     """The rows of a section by what they are called. Outages of one line are named by their numbers."""
     if section == "top":
         return {"the run": net.description.tree}
-    found = {}
+    found: dict[str, dict[str, Any]] = {}
     for row in net.description.rows(section):
         name = {
             "node": lambda: f"node {row['name']}", "vl": lambda: f"virtual link {row['id']}",
@@ -74,7 +77,7 @@ def named_rows(net, section):
     return found
 
 
-def shown(row, key):
+def shown(row: dict[str, Any], key: model.Key) -> str:
     """A value as a reader compares it, cut where it is long."""
     value = row.get(key.name, key.usual)
     if key.value_type == "name" and key.name in ("a", "b"):

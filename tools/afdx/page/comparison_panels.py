@@ -1,10 +1,11 @@
 """The part of a page that compares a run with another one."""
 import os
+from collections.abc import Iterator
 
 from afdx.files.page_text import counted, esc
 from afdx.page import comparison
-from afdx.page.columns import DESTINATION_COLUMN, VL_COLUMN, column, count_column, time_column
-from afdx.page.panels import panel
+from afdx.page.columns import DESTINATION_COLUMN, VL_COLUMN, Column, column, count_column, time_column
+from afdx.page.panels import OfPage, panel
 
 # What changed between two runs: the name of a table, its title, and the column by which it is sorted.
 CHANGES = [
@@ -22,7 +23,7 @@ BEFORE_AND_NOW = [
 ]
 
 
-def against(page):
+def against(page: OfPage) -> str:
     other = page.given.other.tables
     rows = page.rows["against"] = comparison.of_both(page.given)
     pieces = []
@@ -43,7 +44,7 @@ def against(page):
     return panel("against", "Against another run", words, *pieces)
 
 
-def bounds_moved(page):
+def bounds_moved(page: OfPage) -> list[str]:
     """The bounds of both descriptions, those that moved most first."""
     before, now = page.given.other.bounds, page.given.bounds
     if not before:
@@ -57,7 +58,7 @@ def bounds_moved(page):
     return [title, page.grid("bounds-moved", columns, "moved", "bounds_moved")]
 
 
-def differences(page):
+def differences(page: OfPage) -> list[str]:
     """What the two descriptions say differently."""
     found = comparison.differences(page.given.other.tables.net, page.net)
     title = f"<h3>What differs in the descriptions ({len(found):,})</h3>"
@@ -69,7 +70,7 @@ def differences(page):
     return [title, page.grid("differences", columns, "", "differences")]
 
 
-def counts_of_both(page):
+def counts_of_both(page: OfPage) -> Iterator[Column]:
     yield from (count_column("count_before", "delivered before"), count_column("count", "delivered now"))
     if page.given.ends and page.given.other.ends:
         yield count_column("missing_before", "missing before", look="range_of_counts")

@@ -1,7 +1,9 @@
 """The drawings of the page: the network with the load of each line, and what was lost over time."""
 from collections import Counter
+from fractions import Fraction
 
 from afdx.files.page_text import counted, esc, frame_count, percent_of, span, two_places
+from afdx.model import Network, Outage
 from afdx.model.traces import MOMENTS
 
 # ---- the network ----
@@ -15,7 +17,7 @@ RAMP = [
 ]
 
 
-def heat(load):
+def heat(load: float | Fraction) -> str:
     """The colour of a load."""
     load = float(load)
     if load > 100:
@@ -24,13 +26,16 @@ def heat(load):
         if load <= high:
             part = (load - low) / (high - low)
             return "#" + "".join(f"{round(c + (w - c) * part):02x}" for c, w in zip(cold, warm))
+    raise AssertionError("a load is a number")
 
 
 class Place:
     """A column of the drawing: a switch of A above, a switch of B below, and the end systems between them."""
 
-    def __init__(self, a, b):
-        self.a, self.b, self.end_systems, self.left = a, b, [], 0
+    def __init__(self, a: str | None, b: str | None) -> None:
+        self.a, self.b = a, b
+        self.end_systems: list[str] = []
+        self.left: float = 0
 
 
 class Drawing:
@@ -39,39 +44,40 @@ class Drawing:
 
     ROW, BOX, COMB, LANE, HEAD, WIDTH = 42, 22, 11, 40, 36, 1330
 
-    def __init__(self, net):
-        self.net, self.out = net, []
-        self.home = {}
+    def __init__(self, net: Network) -> None:
+        self.net = net
+        self.out: list[str] = []
+        self.home: dict[tuple[str, str], str] = {}
         for link in net.links:
             for here, there in ((link.a, link.b), (link.b, link.a)):
                 if net.nodes[here].kind == "es":
                     self.home[here, net.nodes[there].net] = there
-        self.outages = {}
+        self.outages: dict[str, list[Outage]] = {}
         for outage in net.outages:
             self.outages.setdefault(outage.line, []).append(outage)
         self.places = self.columns()
         self.sizes()
 
-    def columns(self):
+    def columns(self) -> list[Place]:
         """The columns: each switch of A with the switch of B that has most of its end systems."""
         net = self.net
         above, below = net.of_kind("switch", "A"), net.of_kind("switch", "B")
         end_systems = net.of_kind("es")
         shared = Counter((self.home.get((es, "A")), self.home.get((es, "B"))) for es in end_systems)
-        partner = {}
+        partner: dict[str, str] = {}
         for (a, b), _ in shared.most_common():
             if a and b and a not in partner and b not in partner.values():
                 partner[a] = b
         free = [b for b in below if b not in partner.values()]
         places = [Place(a, partner.get(a) or (free.pop(0) if free else None)) for a in above]
         places += [Place(None, b) for b in free]
-        at = {switch: place for place in places for switch in (place.a, place.b) if switch}
+        at: dict[str | None, Place] = {switch: place for place in places for switch in (place.a, place.b) if switch}
         alone = Place(None, None)
         for es in end_systems:
             at.get(self.home.get((es, "A")) or self.home.get((es, "B")), alone).end_systems.append(es)
         return places + ([alone] if alone.end_systems else [])
 
-    def sizes(self):
+    def sizes(self) -> None:
         """How wide and high all parts are, so that the whole is about as wide as the page."""
         count = max(1, len(self.places))
         longest = max([len(es) for es in self.net.of_kind("es")] or [1])
@@ -92,14 +98,15 @@ class Drawing:
         self.width = count * self.column + (count - 1) * self.gap
         self.height = self.bottom + (self.HEAD if self.both else 0) + self.high["B"] + 14
 
-    def lanes_of(self, net):
+    def lanes_of(self, net: str) -> list[tuple[str, str, int]]:
         """The links between switches of one network, each with the lane in which it is drawn: no two overlap."""
         at = {place.a if net == "A" else place.b: i for i, place in enumerate(self.places)}
         spans = []
         for link in self.net.links:
             if self.net.nodes[link.a].net == self.net.nodes[link.b].net == net:
-                spans.append(tuple(sorted((link.a, link.b), key=at.get)))
-        taken, lanes = [], []
+                spans.append(tuple(sorted((link.a, link.b), key=at.get)))  # type: ignore[arg-type]
+        taken: list[list[tuple[int, int]]] = []
+        lanes: list[tuple[str, str, int]] = []
         for left, right in sorted(spans, key=lambda it: (at[it[1]] - at[it[0]], at[it[0]])):
             overlaps = lambda others: any(at[left] < end and begin < at[right] for begin, end in others)
             lane = next((i for i, others in enumerate(taken) if not overlaps(others)), len(taken))
@@ -108,10 +115,10 @@ class Drawing:
             lanes.append((left, right, lane))
         return lanes
 
-    def text(self, x, y, words, anchor="middle", look="load"):
+    def text(self, x: float, y: float, words: str, anchor: str = "middle", look: str = "load") -> None:
         self.out.append(f'<text class="{look}" x="{x:.1f}" y="{y:.1f}" text-anchor="{anchor}">{esc(words)}</text>')
 
-    def line(self, line, path, tip, label, mark):
+    def line(self, line: str, path: str, tip: tuple[float, float, int, int], label: tuple[float, float, str], mark: tuple[float, float]) -> None:
         """One direction of a link: its stroke along a path, the arrow at its end, its load, and its outages. The tip is
         where the arrow points and to which side: x, y, dx, dy."""
         load, out = self.net.load[line], self.outages.get(line, [])
@@ -136,7 +143,7 @@ class Drawing:
             )
         self.out.append("</g>")
 
-    def head(self, name, place, y, above):
+    def head(self, name: str, place: Place, y: float, above: bool) -> None:
         """A switch: its box, and the bar along its end systems."""
         node, x = self.net.nodes[name], place.left
         look = node.net.lower()
@@ -153,7 +160,7 @@ class Drawing:
         self.text(x + self.column / 2, y + 29, f"network {node.net} · {span(node.latency_ns)}", look="sub")
         self.out.append("</g>")
 
-    def access(self, es, switch, x_es, x_switch, y):
+    def access(self, es: str, switch: str, x_es: float, x_switch: float, y: float) -> None:
         """The two lines between an end system and its switch: to the switch above, from it below."""
         side = 1 if x_switch > x_es else -1
         middle, near = (x_es + x_switch) / 2, x_es + side * 1.5
@@ -166,7 +173,7 @@ class Drawing:
             mark = (end - toward * 16, y + dy)
             self.line(line, path, (end, y + dy, toward, 0), (middle, y + drop, "middle"), mark)
 
-    def end_system(self, place, row, es):
+    def end_system(self, place: Place, row: int, es: str) -> None:
         left = place.left + self.COMB + self.reach
         y = self.top + self.HEAD + 12 + row * self.ROW + self.ROW / 2
         for net, own, x_es, x_switch in (
@@ -194,10 +201,10 @@ class Drawing:
         self.text(left + self.box / 2, y + 4, es, look="name")
         self.out.append("</g>")
 
-    def stubs(self, net):
+    def stubs(self, net: str) -> dict[tuple[str, str], float]:
         """Where each link between switches leaves its switches: for each link the two places in x."""
         at = {place.a if net == "A" else place.b: place for place in self.places}
-        ends = {}
+        ends: dict[tuple[str, int], list[tuple[int, str]]] = {}
         for left, right, lane in self.lanes[net]:
             ends.setdefault((left, 1), []).append((lane, right))
             ends.setdefault((right, -1), []).append((lane, left))
@@ -208,7 +215,7 @@ class Drawing:
                 found[switch, other] = at[switch].left + self.column / 2 + side * step * (i + 0.6)
         return found
 
-    def backbone(self, net):
+    def backbone(self, net: str) -> None:
         """The links between switches of one network, in lanes above those of A and below those of B."""
         up = -1 if net == "A" else 1
         edge = self.top if net == "A" else self.bottom + self.HEAD
@@ -229,7 +236,7 @@ class Drawing:
                 label = (begin + toward * 10, level + drop, "start" if toward > 0 else "end")
                 self.line(line, path, (end, edge + up, 0, -up), label, ((begin + end) / 2, level))
 
-    def svg(self):
+    def svg(self) -> str:
         self.backbone("A")
         self.backbone("B")
         for place in self.places:
@@ -248,7 +255,7 @@ class Drawing:
         )
 
 
-def legend_of_loads(has_outages):
+def legend_of_loads(has_outages: bool) -> str:
     outages = (
         '<span><svg width="46" height="16" viewBox="0 0 46 16" class="net"><path d="M2 8H44" stroke="#4fa084" '
         'stroke-width="2.5" stroke-dasharray="5 3"/><g class="out"><circle cx="23" cy="8" r="6.5"/>'
@@ -272,7 +279,7 @@ def legend_of_loads(has_outages):
 # ---- charts over time ----
 
 
-def steps_to(top, most=5):
+def steps_to(top: int, most: int = 5) -> range:
     """Round numbers from 0 to a number, not many."""
     step = 1
     while top / step > most:
@@ -280,7 +287,7 @@ def steps_to(top, most=5):
     return range(0, top + 1, step)
 
 
-def chart_over_time(net, parts, high, name):
+def chart_over_time(net: Network, parts: list[tuple[str, list[int], str]], high: int, name: str) -> str:
     """Bars over the time of the run, of several causes upon each other; outages are shaded."""
     wide, left, foot = 1160, 84, 36
     heights = [sum(counts[i] for _, counts, _ in parts) for i in range(MOMENTS)]

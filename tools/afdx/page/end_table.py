@@ -1,11 +1,14 @@
 """What the page has of each virtual link at each destination, column by column."""
 from array import array
-from collections.abc import Sequence
+from collections.abc import Iterator, Sequence
+from typing import Any
 
 from afdx.files.page_text import mean_ns, one_or_range, round_up
+from afdx.model import Latency, VirtualLink
 from afdx.page.columns import BAD, WARN
+from afdx.page.given import Given
 from afdx.reckon import limits
-from afdx.reckon.frames import Way, ways_of
+from afdx.reckon.frames import End, Way, ways_of
 from afdx.runs.campaign_record import PERCENTS
 
 # Stands for the margin of a limit without a bound where margins are sorted.
@@ -19,12 +22,12 @@ MOST_HISTOGRAMS = 20_000
 BARS = 28
 
 
-def percentile(rising, percent):
+def percentile(rising: Sequence[int], percent: int) -> int:
     """The least of the values that this percentage of them does not exceed."""
     return rising[-(-len(rising) * percent // 100) - 1]
 
 
-def histogram(rising):
+def histogram(rising: Sequence[int]) -> Sequence[int]:
     """How many of the values are in each of the steps between the least and the greatest; or the values, if few."""
     if len(rising) < ENOUGH_FOR_BARS:
         return rising
@@ -39,41 +42,42 @@ class Numbers(Sequence):
 
     NONE = -(2**63)
 
-    def __init__(self):
+    def __init__(self) -> None:
         self.kept = array("q")
 
-    def takes(self, value):
+    def takes(self, value: object) -> bool:
         return value is None or type(value) is int and self.NONE < value < -self.NONE
 
-    def append(self, value):
+    def append(self, value: int | None) -> None:
         self.kept.append(self.NONE if value is None else value)
 
-    def __getitem__(self, place):
+    def __getitem__(self, place: Any) -> Any:
         found = self.kept[place]
         return None if found == self.NONE else found
 
-    def __len__(self):
+    def __len__(self) -> int:
         return len(self.kept)
 
 
 class EndTable:
     """What the page shows of each virtual link at each destination, column by column."""
 
-    def __init__(self, given):
-        self.given, self.columns = given, {}
+    def __init__(self, given: Given) -> None:
+        self.given = given
+        self.columns: dict[str, Numbers | list[Any]] = {}
         worst = sorted(given.tables.latencies.values(), key=lambda row: -row.greatest)[:MOST_HISTOGRAMS]
         self.drawn = {(row.vl, row.where) for row in worst}
         for key, row in given.tables.latencies.items():
             for name, value in self.of(key, row):
                 self.add(name, value)
 
-    def add(self, name, value):
+    def add(self, name: str, value: Any) -> None:
         column = self.columns.setdefault(name, Numbers())
         if type(column) is Numbers and not column.takes(value):
             column = self.columns[name] = list(column)
         column.append(value)
 
-    def of(self, key, row):
+    def of(self, key: tuple[int, str], row: Latency) -> Iterator[tuple[str, Any]]:
         given, vl = self.given, self.given.net.vls[row.vl]
         is_there = row.count > 0
         copies = given.tables.losses.get((*key, "duplicate"))
@@ -100,7 +104,7 @@ class EndTable:
             for percent, value in zip(PERCENTS, given.percentiles[key] or [None] * len(PERCENTS)):
                 yield f"p{percent}", value
 
-    def needed_ns(self, vl, row):
+    def needed_ns(self, vl: VirtualLink, row: Latency) -> int | None:
         """How long a run must be for ten frames, where this one is too short for them."""
         if row.count >= FEW:
             return None
@@ -110,7 +114,7 @@ class EndTable:
         return round_up(needed) if needed > self.given.net.until_ns else None
 
     @staticmethod
-    def of_end(end):
+    def of_end(end: End) -> Iterator[tuple[str, Any]]:
         yield from (("offered", end.offered), ("again", one_or_range(end.again)))
         yield from (("under_way", one_or_range(end.under_way)), ("missing", one_or_range(end.missing)))
         yield "missing_tone", BAD if end.missing.least else WARN if end.missing.most else 0
@@ -118,7 +122,7 @@ class EndTable:
         for side in "AB":
             yield "lost" + side, one_or_range(end.lost[side]) if side in end.lost else None
 
-    def of_limit(self, key, vl, row):
+    def of_limit(self, key: tuple[int, str], vl: VirtualLink, row: Latency) -> Iterator[tuple[str, Any]]:
         bounds, margin = self.given.bounds, self.given.margins.get(key)
         found = bounds.of[key] if bounds else None
         yield from (("limit", margin.limit.ns if margin else None), ("bound", found.ns if found else None))

@@ -1,6 +1,8 @@
 """What a page is made of: the files that the words name, held against each other."""
+import argparse
 import os
 from collections import namedtuple
+from typing import Any
 
 from afdx import files, model
 from afdx.files import cut
@@ -25,7 +27,7 @@ Other = namedtuple("Other", "tables ends bounds")
 Runs = namedtuple("Runs", "seeds draws_offsets")
 
 
-def tables_of(path, net):
+def tables_of(path: str, net: Network) -> tuple[Tables, campaign_record.Record | None]:
     """The tables of a file or of the folder of a campaign, and the record of their campaign, or None."""
     is_folder = os.path.isdir(path)
     path = os.path.join(path, campaign_record.MERGED) if is_folder else path
@@ -44,7 +46,7 @@ def tables_of(path, net):
     return tables, found
 
 
-def runs_of(words, tables, found):
+def runs_of(words: argparse.Namespace, tables: Tables, found: campaign_record.Record | None) -> Runs | None:
     """Which runs the tables are of: as their campaign says, else as the words say; None where nobody does."""
     first, net = words.first, tables.net
     if not tables.merged:
@@ -52,18 +54,19 @@ def runs_of(words, tables, found):
             raise files.Fault(tables.path, None, "these are the tables of one run, and --seeds means a campaign")
         return Runs([net.seed], False)
     if found:
-        told = Runs(found.all_seeds(), found.offsets)
+        runs = Runs(found.all_seeds(), found.offsets)
         said = words.seeds in (None, found.seeds) and first in (None, found.first_seed)
         if not said or words.seeds and words.offsets != found.offsets:
-            seeds = f"{found.seeds} seeds from {found.first_seed} on, {'with' if found.offsets else 'without'} drawn offsets"
-            raise files.Fault(tables.path, None, f"the campaign had {seeds}, and the words say something else: leave them out")
-        return told
+            had = f"{found.seeds} seeds from {found.first_seed} on, {'with' if found.offsets else 'without'} drawn offsets"
+            raise files.Fault(tables.path, None, f"the campaign had {had}, and the words say something else: leave them out")
+        return runs
     if not words.seeds:
         return None
     first = net.seed if first is None else first
     if first + words.seeds - 1 > model.GREATEST_SEED:
         raise files.Fault(net.path, None, f"the seeds from {first} on would pass {model.GREATEST_SEED}")
     seeds = range(first, first + words.seeds)
+    row: Any
     for row in (*tables.latencies.values(), *tables.losses.values()):
         if row.seed is not None and row.seed not in seeds:
             told = f"the seed {row.seed} is none of the {counted(words.seeds, 'seed')} from {first} on"
@@ -71,22 +74,22 @@ def runs_of(words, tables, found):
     return Runs(seeds, words.offsets)
 
 
-def ends_of(words, tables, found, trace=None):
+def ends_of(words: argparse.Namespace, tables: Tables, found: campaign_record.Record | None, trace: Trace | None = None) -> Ends | None:
     """What became of all frames; None if the seeds of merged tables are not known."""
     runs = runs_of(words, tables, found)
     return Ends(tables, runs.seeds, runs.draws_offsets, trace) if runs else None
 
 
-def given_by(words):
+def given_by(words: argparse.Namespace) -> Given:
     net = Network(words.net)
     tables, found = tables_of(words.tables, net)
     if tables.merged and words.trace:
         raise files.Fault(words.trace, None, f"is the trace of one run, and {tables.path} has the tables of several")
     trace = Trace(words.trace, tables) if words.trace else None
     bounds = bounds_file.Bounds(words.bounds, net) if words.bounds else None
-    margins = limits.margins_of(limits.limits_of(words.limits, net), tables.latencies, bounds) if words.limits else []
+    held = limits.margins_of(limits.limits_of(words.limits, net), tables.latencies, bounds) if words.limits else []
     measured = hops.Hops(words.hops, tables) if words.hops else None
-    way = hops.OnTheWay(net, measured, bounds and bounds.of_kind, tables.latencies) if measured or bounds else None
+    way = hops.OnTheWay(net, measured, bounds.of_kind if bounds else None, tables.latencies) if measured or bounds else None
     other = None
     if words.against:
         before, record_before = tables_of(words.against, Network(words.against_net) if words.against_net else net)
@@ -95,7 +98,7 @@ def given_by(words):
     made_of = [net.path, tables.path, words.trace, words.limits, words.bounds, words.hops]
     made_of += [words.against, words.against_net, words.against_bounds]
     made_by = words.made_by or (f"{found.program.in_words()}, as their campaign says" if found else None)
-    margins = {it.limit[:2]: it for it in margins}
+    margins = {it.limit[:2]: it for it in held}
     percentiles = campaign_record.percentiles(found, tables) if tables.merged else None
     made_of += [os.path.join(os.path.dirname(tables.path), campaign_record.GREATEST)] if percentiles else []
     ends, made_of = ends_of(words, tables, found, trace), list(filter(None, made_of))

@@ -2,14 +2,17 @@
 import math
 import os
 import re
+from collections.abc import Iterator, Mapping, Sequence
+from typing import Any
 
 from afdx import files, model
 from afdx.files import program
 from afdx.files.page_text import counted, esc, hundredths, span
 from afdx.page import comparison_panels, json_text, loss_panels, panels, worst_case_panels
-from afdx.page.columns import WARN
+from afdx.page.columns import WARN, Column, Rows
 from afdx.page.drawing import heat
 from afdx.page.end_table import BARS, ENOUGH_FOR_BARS, EndTable
+from afdx.page.given import Given
 from afdx.page.tiles import tiles
 from afdx.reckon import bounds_file
 from afdx.runs.campaign_record import PERCENTS
@@ -22,22 +25,26 @@ FACTS = ["id", "source", "bag_ns", "period_ns", "offset_ns", "jitter_ns", "size"
 FACTS += ["policing_ns", "skew_ns", "depth", "sub"]
 
 
-def part_of_page(name):
+def part_of_page(name: str) -> str:
     """The text of a file of the page: its style or its script."""
     return files.text_of(os.path.join(os.path.dirname(os.path.abspath(__file__)), name))
 
 
-def without(columns, *names):
+def without(columns: Mapping[str, Sequence[Any]], *names: str) -> dict[str, Sequence[Any]]:
     return {name: column for name, column in columns.items() if name not in names}
 
 
 class Page:
     """The page. Its tables are data, which its script draws."""
 
-    def __init__(self, given):
-        self.given, self.net, self.tables = given, given.net, given.tables
-        self.ends = EndTable(given).columns
-        self.grids, self.rows, self.lost = [], {}, {}
+    def __init__(self, given: Given) -> None:
+        self.given = given
+        self.net: model.Network = given.net
+        self.tables: model.Tables = given.tables
+        self.ends: Rows = EndTable(given).columns
+        self.grids: list[dict[str, Any]] = []
+        self.rows: dict[str, Rows | json_text.Blocks] = {}
+        self.lost: dict[int, list[model.Loss]] = {}
         for row in self.tables.losses.values():
             if row.cause != "duplicate":
                 self.lost.setdefault(row.vl, []).append(row)
@@ -46,23 +53,26 @@ class Page:
         links = [(link.a, link.b) for link in self.net.links]
         self.ends_of = {here + ">" + there: (here, there) for a, b in links for here, there in ((a, b), (b, a))}
 
-    def grid(self, name, columns, sort, rows="ends", only=None, what="lines", up=False):
+    def grid(
+        self, name: str, columns: list[Column], sort: str, rows: str | Rows = "ends", only: list[int] | None = None,
+        what: str = "lines", up: bool = False,
+    ) -> str:
         """A table: its columns, the one by which it is sorted, the greatest first or (`up`) the least, and where its values
         stand. It has all rows, or those of these numbers alone."""
-        spec = {"name": name, "columns": columns, "sort": sort, "rows": rows, "what": what}
+        spec: dict[str, Any] = {"name": name, "columns": columns, "sort": sort, "rows": rows, "what": what}
         spec |= {"up": True} if up else {}
         self.grids.append(spec if only is None else spec | {"only": only})
         return f'<div class="grid" id="grid-{name}"></div>'
 
-    def lines(self):
+    def lines(self) -> dict[str, list[Any]]:
         """Each line of the network, column by column."""
         net, bounds = self.net, self.given.bounds
-        found = {"name": list(net.mbit), "mbit": list(net.mbit.values())}
+        found: dict[str, list[Any]] = {"name": list(net.mbit), "mbit": list(net.mbit.values())}
         found["load"] = [hundredths(net.load[line]) for line in net.mbit]
         found["carries"] = [hundredths(net.load[line] * net.mbit[line] / 100) for line in net.mbit]
         found["users"] = [net.users[line] for line in net.mbit]
         found["colour"] = [heat(net.load[line]) for line in net.mbit]
-        out = {line: [] for line in net.mbit}
+        out: dict[str, list[list[int]]] = {line: [] for line in net.mbit}
         for outage in net.outages:
             out[outage.line].append([outage.from_ns, outage.to_ns])
         found["outages"] = list(out.values())
@@ -74,7 +84,7 @@ class Page:
             found["waiting_tone"] = [WARN if most is None or most > holds else 0 for most, holds in tones]
         return found
 
-    def virtual_links(self):
+    def virtual_links(self) -> Iterator[dict[str, Any]]:
         """What the script needs of each virtual link, one by one."""
         for vl in self.net.vls.values():
             paths = {
@@ -87,7 +97,7 @@ class Page:
             lost = [[it.where, loss_panels.side_of(self, it), it.cause, it.count] for it in self.lost.get(vl.id, ())]
             yield row | {"paths": paths, "lost": lost}
 
-    def axis(self):
+    def axis(self) -> tuple[int, int]:
         """From which to which power of ten the axis of all latencies goes, in ns."""
         values = [ns for vl in self.net.vls.values() for ns in (vl.bag_ns, vl.jitter_ns, vl.policing_ns)]
         for name in ("least", "greatest", "limit", "bound"):
@@ -96,7 +106,7 @@ class Page:
         low = math.floor(math.log10(min(values)))
         return low, max(low + 1, math.ceil(math.log10(max(values))))
 
-    def data(self):
+    def data(self) -> dict[str, Any]:
         low, high = self.axis()
         if self.is_packed():
             self.pack()
@@ -106,9 +116,9 @@ class Page:
             "enough": ENOUGH_FOR_BARS, "packed": self.is_packed(), **self.rows,
         }
 
-    def pack(self):
+    def pack(self) -> None:
         """Leaves out of the tables of a large page what the script knows without it, and puts the rest into blocks."""
-        large = {"ends": self.ends} | {name: self.rows[name] for name in ("parts", "delays", "jitters") if name in self.rows}
+        large: dict[str, Any] = {"ends": self.ends} | {name: self.rows[name] for name in ("parts", "delays", "jitters") if name in self.rows}
         if "delays" in large:
             large["delays"] = without(large["delays"], "vl", "line")
         if self.given.bounds:
@@ -122,10 +132,10 @@ class Page:
             ordered = {it: columns[it] for it in [*first, *columns]}
             self.rows[name] = json_text.Blocks(ordered, near)
 
-    def is_packed(self):
+    def is_packed(self) -> bool:
         return len(self.tables.latencies) > MOST_PLAIN
 
-    def parts(self):
+    def parts(self) -> list[str]:
         given = self.given
         found = [panels.network(self), panels.end_to_end(self), panels.latency(self)]
         found += [worst_case_panels.worst_case(self)] if given.bounds else []
@@ -136,10 +146,10 @@ class Page:
         found += [loss_panels.losses(self)] + ([loss_panels.over_time(self)] if given.trace else []) + [loss_panels.second_copies(self)]
         return [it for it in found if it]
 
-    def pieces(self):
+    def pieces(self) -> Iterator[str]:
         """The page in pieces, so that a large one is nowhere whole."""
         name, parts = os.path.basename(self.net.path), self.parts()
-        titles = [re.match(r'<section id="(.*?)"><h2>(.*?)</h2>', it).groups() for it in parts]
+        titles = [re.match(r'<section id="(.*?)"><h2>(.*?)</h2>', it).groups() for it in parts]  # type: ignore[union-attr]
         links = "".join(f'<a href="#{where}">{title}</a>' for where, title in titles)
         yield (
             f'<!DOCTYPE html>\n<html lang="en"><head><meta charset="utf-8"><title>{esc(name)} – afdxsim</title>\n'
@@ -159,7 +169,7 @@ class Page:
             yield f'</script>\n<script type="text/plain" id="script">\n{script}</script>\n'
             yield f"<script>\n{part_of_page('unpack.js')}</script></body></html>\n"
 
-    def words(self):
+    def words(self) -> str:
         net = self.net
         switches = [counted(len(net.of_kind("switch", side)), "switch", "switches") for side in "AB"]
         words = f"{counted(len(net.of_kind('es')), 'end system')}, {switches[0]} on network A and {switches[1]} on "
@@ -168,7 +178,7 @@ class Page:
             return words + "Several runs, merged: counts are those of all runs together."
         return words + f"One run of {span(net.until_ns)} with the seed {net.seed}."
 
-    def foot(self):
+    def foot(self) -> str:
         """What the page is made of, and who made that: a date stands there where it is given, so the same words make the
         same page."""
         given = self.given
@@ -178,7 +188,7 @@ class Page:
         date = f" {esc(given.date)}." if given.date else ""
         return f"{self.made_of()} {by} Description: SHA-256 {model.checksum(self.net.text)}..{date}"
 
-    def made_of(self):
+    def made_of(self) -> str:
         given = self.given
         runs = "these runs" if self.tables.merged else "this run"
         told = f"Made of {esc(', '.join(map(files.printable, given.files)))}. It tells what happened in {runs}"

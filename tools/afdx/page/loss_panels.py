@@ -1,13 +1,14 @@
 """The parts of a page on lost and second copies."""
 from collections import Counter
 from fractions import Fraction
+from typing import Any
 
 from afdx.files.page_text import span
-from afdx.model import CAUSES
+from afdx.model import CAUSES, Loss
 from afdx.model.traces import MOMENTS
 from afdx.page.columns import DESTINATION_COLUMN, VL_COLUMN, column, count_column, seed_column
 from afdx.page.drawing import chart_over_time
-from afdx.page.panels import panel
+from afdx.page.panels import OfPage, panel
 from afdx.reckon.frames import Journey, Route
 
 
@@ -15,7 +16,7 @@ LOSSES = CAUSES[:-1]
 COLOURS = dict(zip(LOSSES, ["#e69f00", "#c9392b", "#6c757d", "#111827", "#8e5ea2", "#2f6fb0", "#2a9d78"]))
 
 
-def losses(page):
+def losses(page: OfPage) -> str:
     lost = [row for rows in page.lost.values() for row in rows]
     if not lost:
         return panel("losses", "Copies lost", "", "<p><b>No copy was lost.</b></p>")
@@ -24,13 +25,13 @@ def losses(page):
     return panel("losses", "Copies lost", words, losses_by_place(page, lost), *each)
 
 
-def losses_by_place(page, lost):
-    places = {}
+def losses_by_place(page: OfPage, lost: list[Loss]) -> str:
+    places: dict[str, Counter[str]] = {}
     for row in lost:
         places.setdefault(row.where, Counter())[row.cause] += row.count
     causes = [cause for cause in LOSSES if any(found[cause] for found in places.values())]
-    order = sorted(places, key=page.net.process.get)
-    rows = {cause: [places[where][cause] for where in order] for cause in causes}
+    order = sorted(places, key=page.net.process.__getitem__)
+    rows: dict[str, list[Any]] = {cause: [places[where][cause] for where in order] for cause in causes}
     rows |= {"where": order, "together": [places[where].total() for where in order]}
     columns = [column("where", "text", "place")]
     columns += [count_column(cause, cause, look="heat") for cause in causes]
@@ -38,7 +39,7 @@ def losses_by_place(page, lost):
     return page.grid("heat", columns, "together", rows, what="places")
 
 
-def losses_of_each(page, lost):
+def losses_of_each(page: OfPage, lost: list[Loss]) -> str:
     columns = [VL_COLUMN, column("where", "text", "place"), column("net", "text", "network")]
     columns += [column("cause", "text", "cause"), count_column("count", "lost")]
     rows = {name: [getattr(row, name) for row in lost] for name in ("vl", "where", "cause", "count")}
@@ -49,7 +50,7 @@ def losses_of_each(page, lost):
     return page.grid("lost", columns, "count", rows)
 
 
-def side_of(page, loss):
+def side_of(page: OfPage, loss: Loss) -> str:
     """The network on which copies were lost; of an end system tables may leave it open."""
     vl = page.net.vls[loss.vl]
     found = {page.net.nodes[name].net for name in page.ends_of.get(loss.where, (loss.where,))} - {None}
@@ -60,7 +61,7 @@ def side_of(page, loss):
     return " or ".join(side for side in "AB" if vl.paths[side])
 
 
-def over_time(page):
+def over_time(page: OfPage) -> str:
     lost = page.given.trace.over_time
     parts = [(cause, lost[cause], COLOURS[cause]) for cause in LOSSES if any(lost[cause])]
     step = span(Fraction(page.net.until_ns, MOMENTS).__ceil__())
@@ -80,9 +81,9 @@ def over_time(page):
     return panel("time", "Losses over time", words, *pieces)
 
 
-def second_copies(page):
+def second_copies(page: OfPage) -> str:
     """The second copies, which are ordinary, by destination."""
-    found = {}
+    found: dict[str, list[int]] = {}
     for row in page.tables.latencies.values():
         both = len(page.net.vls[row.vl].destinations[row.where]) == 2
         copies = page.tables.losses.get((row.vl, row.where, "duplicate"))
@@ -90,7 +91,7 @@ def second_copies(page):
         sums[0] += row.count if both else 0
         sums[1] += copies.count if copies else 0
         sums[2] += row.count - (copies.count if copies else 0) if both else 0
-    found = {where: found[where] for where in sorted(found, key=page.net.process.get) if any(found[where][:2])}
+    found = {where: found[where] for where in sorted(found, key=page.net.process.__getitem__) if any(found[where][:2])}
     if not found:
         return ""
     columns = [

@@ -1,20 +1,42 @@
 """The parts of every page: the network, what became of the frames, latencies and their distribution."""
+from typing import Protocol
+
 from afdx.files.page_text import counted
+from afdx.model import Loss, Network, Tables
 from afdx.page.columns import (
-    COPIES_COLUMN, DELIVERED_COLUMN, DESTINATION_COLUMN, VL_COLUMN, column, count_column, seed_column, time_column,
+    COPIES_COLUMN, DELIVERED_COLUMN, DESTINATION_COLUMN, VL_COLUMN, Column, Rows, column, count_column, seed_column, time_column,
 )
 from afdx.page.drawing import Drawing, legend_of_loads
 from afdx.page.end_table import BARS, ENOUGH_FOR_BARS, FEW
+from afdx.page.given import Given
+from afdx.page.json_text import Blocks
 from afdx.runs.campaign_record import PERCENTS
 
 
-def panel(name, title, words, *pieces):
+class OfPage(Protocol):
+    """What the parts of a page need of it."""
+
+    given: Given
+    net: Network
+    tables: Tables
+    ends: Rows
+    rows: dict[str, Rows | Blocks]
+    lost: dict[int, list[Loss]]
+    ends_of: dict[str, tuple[str, str]]
+
+    def grid(
+        self, name: str, columns: list[Column], sort: str, rows: str | Rows = "ends", only: list[int] | None = None,
+        what: str = "lines", up: bool = False,
+    ) -> str: ...
+
+
+def panel(name: str, title: str, words: str, *pieces: str) -> str:
     """A part of the page with its title and what there is to know of it."""
     said = f"<p>{words}</p>" if words else ""
     return f'<section id="{name}"><h2>{title}</h2>{said}' + "".join(pieces) + "</section>"
 
 
-def legend(*items):
+def legend(*items: tuple[str, str]) -> str:
     keys = "".join(f'<span><b class="k {look}"></b> {words}</span>' for look, words in items)
     return f'<div class="legend">{keys}</div>'
 
@@ -26,7 +48,7 @@ FIND = (
 )
 
 
-def network(page):
+def network(page: OfPage) -> str:
     net = page.net
     picture = f'<div class="wide">{Drawing(net).svg()}</div>' if net.nodes else "<p>The network has no nodes.</p>"
     pieces = [FIND, picture, legend_of_loads(bool(net.outages)), '<div id="one" hidden></div>']
@@ -48,7 +70,7 @@ def network(page):
     return panel("network", "The network", "", *pieces)
 
 
-def outages(page):
+def outages(page: OfPage) -> str:
     found = sorted(page.net.outages, key=lambda it: it.from_ns - it.to_ns)
     columns = [column("line", "line", "line"), column("from", "ms", "out from", "ms")]
     columns += [column("to", "ms", "to", "ms"), column("for", "ms", "for", "ms")]
@@ -57,7 +79,7 @@ def outages(page):
     return page.grid("outages", columns, "for", rows)
 
 
-def end_to_end(page):
+def end_to_end(page: OfPage) -> str:
     if not page.given.ends:
         words = (
             "How many frames were offered is not known of merged tables alone: give the folder of the campaign, or "
@@ -91,7 +113,7 @@ def end_to_end(page):
     return panel("ends", "End to end", words, page.grid("end-to-end", columns, "missing", only=by_trouble(page)))
 
 
-def by_trouble(page):
+def by_trouble(page: OfPage) -> list[int]:
     """The destinations, those first that lack most: frames, copies, or enough frames to show anything."""
     found = []
     for i, end in enumerate(page.given.ends.of.values()):
@@ -100,7 +122,7 @@ def by_trouble(page):
     return [i for *_, i in sorted(found)]
 
 
-def latency(page):
+def latency(page: OfPage) -> str:
     has_limits, has_bounds = bool(page.given.margins), bool(page.given.bounds)
     columns = [
         VL_COLUMN,
@@ -141,7 +163,7 @@ def latency(page):
     return panel("latency", "Latencies", words, marks, grid)
 
 
-def marks_of_ranges(has_limits, has_bounds):
+def marks_of_ranges(has_limits: bool, has_bounds: bool) -> str:
     marks = [("range", "least to greatest"), ("range late", "the same, where the greatest is above the BAG")]
     marks += [("dot", "mean"), ("bag", "BAG"), ("jit", "jitter of the offers"), ("pol", "policing jitter")]
     if has_limits:
@@ -151,7 +173,7 @@ def marks_of_ranges(has_limits, has_bounds):
     return legend(*marks)
 
 
-def distribution(page):
+def distribution(page: OfPage) -> str:
     drawn = [column("histogram", "histogram", "histogram")] if page.given.trace else []
     percents = [time_column(f"p{it}", f"{it}th", f"{it} % of the frames took no longer") for it in PERCENTS]
     columns = [VL_COLUMN, DESTINATION_COLUMN, *drawn, *percents, time_column("greatest", "greatest"), DELIVERED_COLUMN]

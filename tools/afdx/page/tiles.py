@@ -1,14 +1,19 @@
 """The tiles of a page: what went wrong first, then what the run was."""
 from collections import Counter
+from collections.abc import Collection, Iterator
+from typing import Any
 from urllib.parse import quote
 
 from afdx.files.page_text import counted, esc, frame_count, frames_of, span, two_places
-from afdx.page.columns import BAD, WARN
+from afdx.model import Tables
+from afdx.page.columns import BAD, WARN, Rows
 from afdx.page.end_table import FEW
+from afdx.page.given import Given
+from afdx.reckon.bounds_file import Bounds
 from afdx.reckon.frames import Range
 
 
-def tile(name, value, more="", look="", where=""):
+def tile(name: str, value: str, more: str = "", look: str = "", where: str = "") -> str:
     """A tile, which leads to its lines: to a part of the page, or to a virtual link or a line of the network."""
     said = f"<span>{esc(name)}</span><b>{esc(value)}</b><small>{esc(more)}</small>"
     if not where:
@@ -16,27 +21,27 @@ def tile(name, value, more="", look="", where=""):
     return f'<a class="tile {look}" data-name="{esc(name)}" href="#{esc(where)}">{said}</a>'
 
 
-def tile_of_way(given):
+def tile_of_way(given: Given) -> str:
     """What was measured on the way and is above its bound."""
     above = given.way.above() if given.way else 0
     more = "hops, jitters, skews or what waits: one of the two is wrong"
     return tile("above on the way", f"{above:,}", more, "bad", "way") if above else ""
 
 
-def tile_of_transmit_jitter(given):
+def tile_of_transmit_jitter(given: Given) -> str:
     """The end systems that may send later than the standard allows."""
     broken = given.transmit.broken()
     more = "40 µs and the frames of its virtual links, or what is known of its jitter, are more than ARINC 664 allows"
     return tile("transmit jitter too long", counted(len(broken), "end-system line"), more, "bad", "transmit") if broken else ""
 
 
-def tiles(given, ends):
+def tiles(given: Given, ends: Rows) -> str:
     found = [tile_of_above(given), tile_of_way(given), tile_of_transmit_jitter(given), tile_of_lost(given, ends), tile_of_too_long(given), tile_of_copies_lost(given.tables)]
     found += [*tiles_of_limits(given, ends), *tiles_of_bounds(given.bounds), tile_of_few(given, ends), *tiles_of_run(given)]
     return '<div class="tiles">' + "".join(filter(None, found)) + "</div>"
 
 
-def tile_of_above(given):
+def tile_of_above(given: Given) -> str:
     """The latencies above their bounds."""
     above = given.bounds.above(given.tables.latencies) if given.bounds else []
     if not above:
@@ -46,7 +51,7 @@ def tile_of_above(given):
     return tile("above their bound", counted(len(above), "latency", "latencies"), more, "bad", "latency")
 
 
-def tile_of_too_long(given):
+def tile_of_too_long(given: Given) -> str:
     """Frames that may be of another run."""
     count = sum(end.too_long for end in given.ends.of.values()) if given.ends else 0
     if not count:
@@ -55,24 +60,25 @@ def tile_of_too_long(given):
     return tile("under way too long", frame_count(count), more, "bad", "ends")
 
 
-def tiles_of_bounds(bounds):
+def tiles_of_bounds(bounds: Bounds | None) -> Iterator[str]:
     """What may go wrong in the worst case."""
     if not bounds:
         return
     refusing, twice, unsure, small = bounds.refusing(), bounds.twice(), bounds.not_sure(), bounds.too_small()
     links = counted(len({vl for vl, _ in refusing}), "virtual link")
-    for name, found, all_of, more in (
+    kinds: list[tuple[str, Collection[Any], Collection[Any], str]] = [
         ("accounts may refuse", refusing, bounds.accounts, f"frames of {links} come closer than policing_jitter_ns allows"),
         ("may be lost on both", unsure, bounds.of, "destinations to which no network brings each frame"),
         ("may be delivered twice", twice, bounds.of, "destinations where the copies may be further apart than SkewMax"),
         ("ports too small", small, bounds.waiting, "more bytes may wait there than port_bytes"),
-    ):
+    ]
+    for name, found, all_of, more in kinds:
         where = "loads" if found is small else "worst"
         told = f"in the worst case: {more}" if found else "in the worst case"
         yield tile(name, f"{len(found):,} of {len(all_of):,}", told, "warn" if found else "good", where)
 
 
-def tile_of_lost(given, ends):
+def tile_of_lost(given: Given, ends: Rows) -> str:
     if not given.ends:
         more = "of merged tables it is known with the folder of their campaign, or with --seeds"
         return tile("lost end to end", "not known", more, "warn", "ends")
@@ -86,8 +92,8 @@ def tile_of_lost(given, ends):
     return tile("lost end to end", frames_of(missing), more, look, "ends")
 
 
-def tile_of_copies_lost(tables):
-    lost = Counter()
+def tile_of_copies_lost(tables: Tables) -> str:
+    lost: Counter[str] = Counter()
     for row in tables.losses.values():
         lost[row.cause] += row.count
     del lost["duplicate"]
@@ -95,7 +101,7 @@ def tile_of_copies_lost(tables):
     return tile("copies lost", frame_count(lost.total()), causes or "no copy was lost", "" if lost else "good", "losses")
 
 
-def tiles_of_limits(given, ends):
+def tiles_of_limits(given: Given, ends: Rows) -> Iterator[str]:
     if not given.margins:
         return
     found = [i for i, limit in enumerate(ends["limit"]) if limit is not None]
@@ -110,7 +116,7 @@ def tiles_of_limits(given, ends):
     yield tile("limits kept", kept, ", ".join(told) or "none is broken", look, "latency")
 
 
-def tile_of_few(given, ends):
+def tile_of_few(given: Given, ends: Rows) -> str:
     few = [i for i, count in enumerate(ends["count"]) if count < FEW]
     if not few:
         return ""
@@ -126,7 +132,7 @@ def tile_of_few(given, ends):
     return tile("fewer than ten frames", f"at {len(few):,} of {len(ends['count']):,}", "; ".join(told), "warn", "ends")
 
 
-def tiles_of_run(given):
+def tiles_of_run(given: Given) -> Iterator[str]:
     net, tables = given.net, given.tables
     delivered = sum(row.count for row in tables.latencies.values())
     copies = sum(row.count for row in tables.losses.values() if row.cause == "duplicate")

@@ -1,9 +1,11 @@
 """The parts of a page that bounds and measures on the way give it."""
-from afdx.page.columns import DESTINATION_COLUMN, VL_COLUMN, column, count_column, time_column
-from afdx.page.panels import panel
+from collections.abc import Callable
+
+from afdx.page.columns import DESTINATION_COLUMN, VL_COLUMN, Column, column, count_column, time_column
+from afdx.page.panels import OfPage, panel
 
 
-def worst_case(page):
+def worst_case(page: OfPage) -> str:
     """What the bounds show of the worst case beside latencies."""
     bounds = page.given.bounds
     refusing, of_each = set(bounds.refusing()), page.given.way.switches()
@@ -32,12 +34,12 @@ def worst_case(page):
     return panel("worst", "In the worst case", words, *pieces)
 
 
-def on_the_way(page):
+def on_the_way(page: OfPage) -> str:
     """What was measured on the way, and its bounds."""
     way = page.given.way
     sides = [("", "measured")] * way.is_measured + [("_bound", "bound")] * way.is_bounded
 
-    def pair(kind, name, hint, make=time_column):
+    def pair(kind: str, name: str, hint: str, make: Callable[[str, str, str, str], Column] = time_column) -> list[Column]:
         return [make(kind + side, f"{name}, {said}" if len(sides) > 1 else name, hint, kind + "_tone") for side, said in sides]
 
     page.rows |= {"parts": way.destinations(), "delays": way.hops(), "jitters": way.switches(), "backlogs": way.ports()}
@@ -52,7 +54,7 @@ def on_the_way(page):
     jitters = [VL_COLUMN, column("where", "text", "switch")]
     jitters += pair("jitter", "jitter", "by how much frames come closer than a BAG")
     jitters.append(time_column("allowed", "allowed", "policing_jitter_ns"))
-    in_bytes = lambda *words: count_column(*words, "bytes")
+    in_bytes = lambda key, name, hint, tone: count_column(key, name, hint, tone, "bytes")
     backlogs = [column("line", "line", "line"), *pair("backlog", "waits", "bytes of frames at the output port", in_bytes)]
     backlogs.append(count_column("holds", "port holds", unit="bytes"))
     words = {
@@ -69,7 +71,7 @@ def on_the_way(page):
     )
 
 
-def transmit_jitter(page):
+def transmit_jitter(page: OfPage) -> str:
     """The lines by which end systems send, and what the standard allows there: where something is known of their jitter,
     or where the description alone breaks the rule."""
     of = page.given.transmit
