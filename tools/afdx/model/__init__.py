@@ -372,7 +372,8 @@ class Network:
         self.process = {name: i for i, name in enumerate([*self.nodes, *self.mbit])}
         self.outages = [self.outage(i, row) for i, row in enumerate(self.rows("outage"), 1)]
         # Each line by its two nodes, so that its name is kept once.
-        self.line_of: dict[tuple[str, ...], str] = {tuple(line.split(">")): line for line in self.mbit}
+        both_ways = [ends for link in self.links for ends in ((link.a, link.b), (link.b, link.a))]
+        self.line_of: dict[tuple[str, str], str] = dict(zip(both_ways, self.mbit))
         self.vls: dict[int, VirtualLink] = {}
         for i, row in enumerate(self.rows("vl"), 1):
             if row["id"] in self.vls:

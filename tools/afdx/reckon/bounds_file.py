@@ -1,7 +1,7 @@
 """The worst-case bounds that `afdx bounds` has written, read line by line. A network of 65,536 virtual links has three million of
 them, so numbers are kept in arrays by virtual link, in the order of its destinations, lines or switches."""
 from array import array
-from collections.abc import Iterable, Iterator
+from collections.abc import Callable, Iterable, Iterator
 from typing import Any, NamedTuple
 
 from afdx import files, model
@@ -110,7 +110,7 @@ class Bounds:
         where, warnings = row["where"], row["warning"].split(" ")
         number = lambda name: None if row[name] == "none" else model.whole_number(self.path, i, name, row[name])
         if not row["vl"]:
-            return self.port(i, where, number("waiting_bytes"), row["why"])
+            return self.port(i, where, lambda: number("waiting_bytes"), row["why"])
         vl = model.whole_number(self.path, i, "the virtual link", row["vl"])
         places = self.places(vl) if vl in self.net.vls else {}
         for first in ("bound", "delay", "jitter"):
@@ -136,12 +136,12 @@ class Bounds:
         for kind, found in known.items():
             self.put(kind, vl, where, NONE if found is None else found)
 
-    def port(self, i: int, line: str, most: int | None, why: str) -> None:
+    def port(self, i: int, line: str, most: Callable[[], int | None], why: str) -> None:
         if line not in self.net.mbit:
             raise Fault(self.path, i, f"{cut(line)} is no line in {self.net.path}")
         if line in self.waiting:
             raise Fault(self.path, i, f"says again what line {self.line_of('', line)} says")
-        self.waiting[line] = Waiting(most, why)
+        self.waiting[line] = Waiting(most(), why)
 
     def line_of(self, vl: str, where: str) -> int | None:
         """The line of the file that first speaks of a virtual link and a place."""

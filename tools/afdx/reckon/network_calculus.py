@@ -768,5 +768,5 @@ def long_rows(rows: Iterable[dict[str, Any]]) -> Iterator[tuple[str, int | None,
                 yield kind, row.get("vl"), row["where"], column, int(row[column])
 
 
-def said(number: int | None) -> str:
+def said(number: object) -> str:
     return "none" if number is None else str(number)

@@ -64,7 +64,7 @@ class Aim:
             for hop in port.hops:
                 other = hop.link.vl.id
                 if other != vl and other not in self.meets:
-                    self.meets[other] = place, hop.earliest(), hop.before and hop.before.port
+                    self.meets[other] = place, hop.earliest(), hop.before.port if hop.before else None
         self.tree = self.of_these()
         # `due` has when each of the others is to be at the port where it meets the way.
         self.offers: dict[int, int] = {vl: 0}

@@ -78,16 +78,16 @@ def sha256(text: str) -> str:
     return hashlib.sha256(text.encode("utf-8")).hexdigest()
 
 
-def percentiles(found: Record | None, tables: Tables) -> dict[tuple[int, str | None], list[int] | None] | None:
+def percentiles(found: Record | None, tables: Tables) -> dict[tuple[int, str], list[int] | None] | None:
     """For each virtual link and destination the percentiles of all frames, or None where nothing came: of merged tables whose
     campaign has counted each latency. None where it has not."""
     if found is None or "--histograms" not in found.words:
         return None
     path = os.path.join(os.path.dirname(tables.path), GREATEST)
-    of: dict[tuple[int, str | None], list[int] | None] = {}
+    of: dict[tuple[int, str], list[int] | None] = {}
     for i, line in enumerate(lines_of(path, [COUNTED_HEAD], "a campaign with --histograms")[1:], 2):
         fields = dict(zip(COUNTED_HEAD.split(","), line.split(",")))
-        key = whole_number(path, i, "the virtual link", fields["vl"]), fields.get("where")
+        key = whole_number(path, i, "the virtual link", fields["vl"]), fields.get("where", "")
         of[key] = percentiles_of(path, i, fields, tables.latencies.get(key))
     if of.keys() != tables.latencies.keys():
         raise Fault(path, None, f"is of another campaign than {tables.path}")
