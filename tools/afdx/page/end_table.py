@@ -1,5 +1,6 @@
 """What the page has of each virtual link at each destination, column by column."""
 from array import array
+from collections import defaultdict
 from collections.abc import Iterator, Sequence
 from typing import Any
 
@@ -64,7 +65,8 @@ class EndTable:
 
     def __init__(self, given: Given) -> None:
         self.given = given
-        self.columns: dict[str, Numbers | list[Any]] = {}
+        # Without a row each column is empty.
+        self.columns: defaultdict[str, Numbers | list[Any]] = defaultdict(Numbers)
         worst = sorted(given.tables.latencies.values(), key=lambda row: -row.greatest)[:MOST_HISTOGRAMS]
         self.drawn = {(row.vl, row.where) for row in worst}
         for key, row in given.tables.latencies.items():

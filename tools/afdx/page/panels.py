@@ -95,7 +95,7 @@ def end_to_end(page: OfPage) -> str:
         count_column("under_way", "under way", "not delivered yet at the end, and may still come", **wide),
         count_column("missing", "missing", "lost end to end", "missing_tone", **wide),
     ]
-    if any(found != 0 for found in page.ends.get("again", ())):
+    if any(found != 0 for found in page.ends["again"]):
         columns.append(count_column("again", "twice", "delivered a second time: SkewMax is too small", **wide))
     for side in "AB":
         hint = f"on the way by network {side}, or refused at the destination"
