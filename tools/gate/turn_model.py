@@ -33,10 +33,10 @@ With --without-wake-up the worker that helped does not call `wake_due` after it 
 to rest while another held the seat of its group may sleep for ever; with --gives-up as well, the run reaches its end.
 """
 import argparse
-import collections
 import operator
 import sys
 from collections.abc import Collection
+from typing import NamedTuple
 
 from afdx import files
 from afdx.model import whole
@@ -66,7 +66,7 @@ SECTIONS_PER_GVT, LOOKS_PER_GVT, LOOKS_BEFORE_POST, LOOKS_BEFORE_HELP, LOOKS_BEF
 
 # What can be left out of the code, to see that the model finds it.
 WRONG = {
-    "mute": "call_all tells no group of its letters",
+    "mute": "call_all reports the letters to no group",
     "blind": "is_to_meet does not look at letters",
     "unposted": "a turn never ends with a meeting, and what is not due is never posted",
 }
@@ -451,9 +451,16 @@ class Model:
 # A worker and its step; and the state before one, None at the beginning.
 Step = tuple[int, str]
 Parent = tuple[int, int, str] | None
-# What came out: how many states there are, how many of them cannot come to the end, whether all were listed, and the way to the
-# first of those that cannot: the worker and its step, each time.
-Found = collections.namedtuple("Found", "states lost is_whole trail")
+
+
+class Found(NamedTuple):
+    """What a search found: how many states there are, how many of them cannot come to the end, whether all were listed, and the
+    way to the first of those that cannot: the worker and its step, each time."""
+
+    states: int
+    lost: int
+    is_whole: bool
+    trail: list[Step]
 
 
 def tried(model: Model, most: int) -> Found:

@@ -451,7 +451,7 @@ class Explained(unittest.TestCase):
             lines = explain.explain(path)[0].splitlines()
             of_kind = [line for line in lines if "below the BAG of" in line]
             self.assertEqual(len(of_kind), told)
-            each = explain.explain(path, tells_all=True)[0].splitlines()
+            each = explain.explain(path, prints_all=True)[0].splitlines()
             self.assertEqual([line for line in each if "below the BAG of" in line][:told], of_kind)
             self.assertEqual(len([line for line in each if ": warning: " in line]), int(each[-1].split(", ")[1].split(" ")[0]))
             rest = [line for line in lines if line.endswith(" more (--all)")]

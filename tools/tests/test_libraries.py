@@ -6,12 +6,20 @@ import glob
 import os
 import re
 import unittest
-from collections import namedtuple
+from typing import NamedTuple
 
 from tests.places import TOP
 
-# A library, what it is for, the crate that does this, and the names of the library that do it.
-Place = namedtuple("Place", "library purpose crate names")
+
+class Place(NamedTuple):
+    """A library, what it is for, the crate that does this, and the names of the library that do it."""
+
+    library: str
+    purpose: str
+    crate: str
+    names: tuple[str, ...]
+
+
 PLACES = (
     Place("toml", "descriptions are read", "network_rows", ("table_from_str", "Table")),
     Place("clap", "command lines are read", "command_line", ("Command", "ArgMatches")),

@@ -452,10 +452,10 @@ class Writer(unittest.TestCase):
 
     def test_what_ends_it_leaves_nothing(self):
         for ended in (files.Interrupted(signal.SIGTERM), MemoryError(), OSError(28, "No space left on device")):
-            with tempfile.TemporaryDirectory() as folder, mock.patch.object(files.os, "O_TMPFILE", None):
+            with tempfile.TemporaryDirectory() as folder, mock.patch.object(os, "O_TMPFILE", None):
                 path = os.path.join(folder, "it")
                 files.write_whole(path, "before")
-                with mock.patch.object(files.os, "replace", side_effect=ended):
+                with mock.patch.object(os, "replace", side_effect=ended):
                     with self.assertRaises((type(ended), files.Fault)):
                         files.write_whole(path, "after")
                 self.assertEqual(os.listdir(folder), ["it"])

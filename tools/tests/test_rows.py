@@ -7,7 +7,7 @@ import subprocess
 import tempfile
 import tty
 import unittest
-from collections import namedtuple
+from typing import NamedTuple
 
 from afdx.model import BOUNDS_HEAD, PROGRAM, TABLES_HEAD, TRACE_HEAD
 from gate.refuse_memory import library_in
@@ -50,8 +50,16 @@ int clock_gettime(int clock, long time[2]) {
 }
 """
 
-# How words end: the status, both streams, and the files that are left, each None where there is none.
-Ended = namedtuple("Ended", "status output errors trace journal")
+
+class Ended(NamedTuple):
+    """How words end: the status, both streams, and the files that are left, each None if there is none."""
+
+    status: int
+    output: bytes
+    errors: bytes
+    trace: bytes | None
+    journal: bytes | None
+
 
 # The words behind those that set the pace of a run, which ask for files.
 FILES = ("", " --trace trace.csv", " --journal journal.txt", " --journal journal.txt --trace trace.csv")

@@ -100,8 +100,8 @@ class ThreadedRuns(unittest.TestCase):
             ("if command == 'run': trace = 'others'", "the rows of run's trace differ from those of seq"),
             ("if command == 'run' and '--trace' not in sys.argv: tables = ''", "the tables of run alone differ from those of seq"),
             ("if command == 'replay': tables = ''", "the tables of replay differ from those of seq"),
-            ("told = told.replace('finished', 'unfinished')", "replay told: replay: 3 did, 0 not enabled, 0 refused, gvt 9, unfinished"),
-            ("told = told.replace('0 refused', '1 refused')", "replay told: replay: 3 did, 0 not enabled, 1 refused, gvt 9, finished"),
+            ("told = told.replace('finished', 'unfinished')", "replay printed: replay: 3 did, 0 not enabled, 0 refused, gvt 9, unfinished"),
+            ("told = told.replace('0 refused', '1 refused')", "replay printed: replay: 3 did, 0 not enabled, 1 refused, gvt 9, finished"),
             ("if command == 'run': sys.exit('afdxsim: torn')", "run ended with status 1: afdxsim: torn"),
             ("groups = ''", "run did not report its groups and workers"),
         ):

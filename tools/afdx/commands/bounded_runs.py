@@ -188,7 +188,7 @@ class Count:
         self.by_program = [0, 0, 0, 0]
         self.program_shares: list[float] = []
 
-    def hold(self, found: network_calculus.Bounds, run: second_opinion.Measured, tell: Callable[[str], None]) -> None:
+    def hold(self, found: network_calculus.Bounds, run: second_opinion.Measured, report: Callable[[str], None]) -> None:
         """Holds a run against the bounds of its network."""
         self.runs += 1
         for key, greatest in greatest_latencies(run).items():
@@ -200,7 +200,7 @@ class Count:
             self.shares.append(greatest / bound)
             if greatest > bound:
                 self.above += 1
-                tell(f"virtual link {key[0]} at {key[1]} took {greatest} ns, and its bound is {bound} ns")
+                report(f"virtual link {key[0]} at {key[1]} took {greatest} ns, and its bound is {bound} ns")
         # None where what was measured is no virtual link's.
         vl: Any
         for (kind, vl, place), (_, _, greatest, _) in run.found.items():
@@ -216,9 +216,9 @@ class Count:
                 text = f"{kind} of virtual link {vl} at {where} was {greatest} ns, and its bound is {bound} ns"
             if greatest > bound:
                 self.above += 1
-                tell(text)
+                report(text)
 
-    def hold_program(self, proved: proved_bounds.ProvedBounds, run: second_opinion.Measured, tell: Callable[[str], None]) -> None:
+    def hold_program(self, proved: proved_bounds.ProvedBounds, run: second_opinion.Measured, report: Callable[[str], None]) -> None:
         """Holds a run against the bounds that the program prints of its network."""
         held = [(proved.of[key], greatest, f"virtual link {key[0]} at {key[1]} took") for key, greatest in greatest_latencies(run).items()]
         ports = [(run.names[place], greatest) for (kind, _, place), (_, _, greatest, _) in run.found.items() if kind == "backlog"]
@@ -229,7 +229,7 @@ class Count:
                     self.program_shares.append(greatest / bound)
                 if bound is not None and greatest > bound:
                     self.by_program[3] += 1
-                    tell(f"{text} {greatest}, and the bound by the program is {bound}")
+                    report(f"{text} {greatest}, and the bound by the program is {bound}")
 
     def program_text(self) -> str:
         shares = sorted(self.program_shares) or [0]
@@ -269,7 +269,7 @@ def bounds_by(program: str, net: model.Network, text: str) -> proved_bounds.Prov
         return proved_bounds.ProvedBounds(printed, net)
 
 
-def hold_network(number: int, runs: int, keep: str | None, count: Count, tell: Callable[[str], None], program: str | None = None) -> None:
+def hold_network(number: int, runs: int, keep: str | None, count: Count, report: Callable[[str], None], program: str | None = None) -> None:
     """Makes the runs of a network and holds them against its bounds."""
     drawn = Drawn(number)
     text = model.text_of_tree(drawn.tree())
@@ -280,7 +280,7 @@ def hold_network(number: int, runs: int, keep: str | None, count: Count, tell: C
         simulation = second_opinion.Measured(tree)
         simulation.run()
         again = f"afdx bounded-runs --networks 1 --first {number} --runs {run + 1} --keep DIR"
-        says = lambda text: tell(f"network {number}, run {run}: {text}; again: {again}")
+        says = lambda text: report(f"network {number}, run {run}: {text}; again: {again}")
         count.hold(found, simulation, says)
         if proved:
             count.hold_program(proved, simulation, says)

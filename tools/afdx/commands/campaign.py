@@ -94,7 +94,7 @@ status:
 """
 
 # What an outage does is printed for this many outages at most.
-MOST_TOLD = 10
+MOST_PRINTED = 10
 
 # Who makes runs, limits by virtual link and destination, and what keeps the files of a run.
 Maker = side_by_side.Here | unproved_runs.Tried | cluster.Cluster
@@ -198,7 +198,7 @@ class Progress:
             self.far = f"{name} at {far}"
             self.show()
 
-    def tell(self, done: int, worst: Worst | None) -> None:
+    def update(self, done: int, worst: Worst | None) -> None:
         with self.lock:
             self.done, self.worst, self.far = done, worst, None
             self.show()
@@ -240,12 +240,12 @@ class Campaign:
         """The runs that are to be made."""
         return (side_by_side.Run(f"seed {seed}", self.net.with_seed(seed, self.draws_offsets)) for seed in self.seeds)
 
-    def take(self, told: run_results.Told) -> int:
+    def take(self, result: run_results.RunResult) -> int:
         """Takes what a run says, whole whatever signal comes, and answers its seed."""
         with files.signals_held():
             seed = self.seeds[self.done]
-            self.merged.add(seed, told)
-            for key, greatest in zip(self.merged.latencies, told.greatest) if self.limits else ():
+            self.merged.add(seed, result)
+            for key, greatest in zip(self.merged.latencies, result.greatest) if self.limits else ():
                 if key in self.limits and greatest > self.limits[key].ns:
                     self.broken[key] = self.broken.get(key, 0) + 1
             self.done += 1
@@ -259,10 +259,10 @@ class Campaign:
         reader, jobs = run_results.Reader([self.net]), min(jobs, len(self.seeds))
         with reading_processes.beside(reader, maker, self.runs(), repeat(0), jobs) as results:
             try:
-                for _, run, printed, told in results:
-                    seed = self.take(told)
+                for _, run, printed, result in results:
+                    seed = self.take(result)
                     keep(f"seed-{seed}", run.text, printed.tables)
-                    progress.tell(self.done, self.merged.worst() if progress.shown else None)
+                    progress.update(self.done, self.merged.worst() if progress.shown else None)
             except Failure as failure:
                 self.status, self.failure = 1, str(failure)
             except files.ENDS as ended:
@@ -272,10 +272,10 @@ class Campaign:
             finally:
                 progress.end()
 
-    def tell(self, path: str | None, took: float) -> None:
-        """Says on standard output what came of it."""
+    def report(self, path: str | None, took: float) -> None:
+        """Prints the result: faults on error output, the rest on standard output."""
         if self.failure:
-            files.tell("afdx campaign", self.failure)
+            files.report("afdx campaign", self.failure)
         if not self.done:
             files.say("no run was merged, and nothing is written")
             return
@@ -402,8 +402,8 @@ def judge_outages(words: argparse.Namespace, net: Network) -> None:
         raise Fault(words.net, net.description.line("top", None, "until_ns"), f"--each-outage {words.each_outage}: {end}")
     for i, it in enumerate(net.outages, 1):
         if it.from_ns > net.until_ns:
-            told = Fault(words.net, net.description.line("outage", i, "from_ns"), f"warning: {it.line} is out from {it.from_ns} ns on: {end}")
-            files.tell("afdx campaign", told)
+            warning = Fault(words.net, net.description.line("outage", i, "from_ns"), f"warning: {it.line} is out from {it.from_ns} ns on: {end}")
+            files.report("afdx campaign", warning)
 
 
 def maker_of(words: argparse.Namespace, is_traced: bool) -> Maker:
@@ -411,7 +411,7 @@ def maker_of(words: argparse.Namespace, is_traced: bool) -> Maker:
     if words.by == "try":
         return unproved_runs.Tried(is_traced)
     if words.by == "second-opinion":
-        return side_by_side.Here(program.command("second-opinion"), words.jobs, is_traced, tells=False)
+        return side_by_side.Here(program.command("second-opinion"), words.jobs, is_traced, knows_progress=False)
     if words.dask:
         return cluster.Cluster(words.dask, words.program, words.maker.sha256, is_traced)
     return side_by_side.Here([words.program, "seq"], words.jobs, is_traced)
@@ -465,7 +465,7 @@ def over_seeds(words: argparse.Namespace, net: Network, limits: Limits, seeds: r
         path = write_results(words, campaign)
         write_json(words, "merged.json", campaign.merged.long_rows)
         write_record(words, net, seeds[: campaign.done])
-    campaign.tell(path, time.monotonic() - begin)
+    campaign.report(path, time.monotonic() - begin)
     return campaign.status or (1 if campaign.broken else 0)
 
 
@@ -479,7 +479,7 @@ def over_settings(words: argparse.Namespace, net: Network, limits: Limits, seeds
     found = sweep.Sweep(words.set, courses)
     found.run(maker_of(words, False), keeper(words), Progress(found.count()), words.jobs)
     if found.failure:
-        files.tell("afdx campaign", found.failure)
+        files.report("afdx campaign", found.failure)
     whole = found.whole()
     if not whole:
         files.say("no combination was run to its end, and nothing is written")
@@ -489,7 +489,7 @@ def over_settings(words: argparse.Namespace, net: Network, limits: Limits, seeds
     write_json(words, "sweep.json", found.long_rows)
     write_record(words, net, seeds)
     files.say(f"{table} and {page}: {len(whole)} combinations, {found.done} runs, in {time.monotonic() - begin:.1f} s")
-    for it in found.effects()[:MOST_TOLD]:
+    for it in found.effects()[:MOST_PRINTED]:
         spread = f"seeds {it.spread} ns" if len(seeds) > 1 else "one seed"
         files.say(f"virtual link {it.vl} at {it.where}: effect {it.effect} ns, {spread}")
     broken = [(it.name, campaign.broken) for it, campaign in whole if campaign.broken]
@@ -519,14 +519,14 @@ def over_aims(words: argparse.Namespace, net: Network, limits: Limits, seeds: ra
         raise Fault(words.net, None, "no frame of the aimed virtual links arrives: size is above smax")
     progress = Progress(len(found.ways), "ways aimed at")
     try:
-        found.aim(words.jobs, lambda done: progress.tell(done, None))
+        found.aim(words.jobs, lambda done: progress.update(done, None))
     except Failure as failure:
         raise Fault(words.net, None, str(failure)) from None
     finally:
         progress.end()
     found.run(maker_of(words, False), keeper(words), Progress(found.count()), words.jobs)
     if found.failure:
-        files.tell("afdx campaign", found.failure)
+        files.report("afdx campaign", found.failure)
     if not found.lines:
         files.say("no aimed run was made, and nothing is written")
         return found.status
@@ -539,11 +539,11 @@ def over_aims(words: argparse.Namespace, net: Network, limits: Limits, seeds: ra
     it: Any
     for it in found.above():
         files.say(f"above its bound, so one of the two is wrong: {','.join(map(network_calculus.said, it))}")
-    tell_limits(found)
+    report_limits(found)
     return found.status or (1 if found.above() or found.broken() else 0)
 
 
-def tell_limits(found: aim.AimedRuns) -> None:
+def report_limits(found: aim.AimedRuns) -> None:
     """Says which limits the aimed runs tried, and which they break."""
     if not found.limits:
         return
@@ -552,7 +552,7 @@ def tell_limits(found: aim.AimedRuns) -> None:
     for limit, latency, line in broken:
         how = f"aimed at by network {line.network}" if latency == line.aimed_ns else "as described"
         files.say(f"limit broken: virtual link {limit.vl} at {limit.where} has {limit.ns} ns, and took {latency} ns {how} with the seed {line.seed}")
-    for key in [key for key in found.limits if key not in tried][:MOST_TOLD]:
+    for key in [key for key in found.limits if key not in tried][:MOST_PRINTED]:
         files.say(f"limit not tried: virtual link {key[0]} at {key[1]}")
 
 
@@ -568,7 +568,7 @@ def over_outages(words: argparse.Namespace, net: Network, limits: Limits, seeds:
     found = each_outage.EachOutage(net, limits, seeds, words.offsets, words.each_outage, words.later)
     found.run(maker_of(words, True), keeper(words), Progress(found.count()), words.jobs)
     if found.failure:
-        files.tell("afdx campaign", found.failure)
+        files.report("afdx campaign", found.failure)
     if not found.courses:
         files.say("no run without an outage was made, and nothing is written")
         return found.status
@@ -577,7 +577,7 @@ def over_outages(words: argparse.Namespace, net: Network, limits: Limits, seeds:
     write_record(words, net, seeds)
     summaries = found.summaries()
     files.say(f"{table} and {page}: {len(summaries)} outages, {found.done} runs, in {time.monotonic() - begin:.1f} s")
-    for it in summaries[:MOST_TOLD]:
+    for it in summaries[:MOST_PRINTED]:
         files.say(f"{it.name()}: {it.in_words()}")
     broken = sum(bool(it.broken) for it in summaries)
     if limits:

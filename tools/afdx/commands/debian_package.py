@@ -195,15 +195,15 @@ def for_package(text: str) -> str:
 
 def fill(tree: Tree, path: str, record: dict[str, Any], begin: int, root: str = ROOT) -> None:
     """Puts into the tree what the package has."""
-    told = json.dumps(record, indent=1, sort_keys=True) + "\n"
+    record_text = json.dumps(record, indent=1, sort_keys=True) + "\n"
     tree.copy(path, "usr/bin/afdxsim", 0o755)
     with open(os.path.join(root, "afdx"), encoding="utf-8") as file:
         tree.write("usr/lib/afdxsim/afdx", file.read().replace("#!/usr/bin/env python3", "#!" + PYTHON, 1), 0o755)
     tree.link("usr/bin/afdx", "../lib/afdxsim/afdx")
     tree.link("usr/lib/python3/dist-packages/afdx", "../../afdxsim/tools/afdx")
     tree.link(f"usr/lib/afdxsim/{program.BUILT}", "../../../../../bin/afdxsim")
-    tree.write(f"usr/lib/afdxsim/{program.BUILT}{program.RECORD}", told)
-    tree.write("usr/share/doc/afdxsim/proof.json", told)
+    tree.write(f"usr/lib/afdxsim/{program.BUILT}{program.RECORD}", record_text)
+    tree.write("usr/share/doc/afdxsim/proof.json", record_text)
     # What is in the commit, and not what happens to lie beside it.
     for name in sorted(git("ls-files", "-z", "tools", "docs", "examples", "README.md", "CHANGELOG.md", root=root).split("\0")):
         source = os.path.join(root, name)

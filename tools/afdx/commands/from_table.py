@@ -14,14 +14,13 @@ import argparse
 import csv
 import re
 import sys
-from collections import namedtuple
 from collections.abc import Callable, Iterable, Iterator
 from fractions import Fraction
-from typing import Any
+from typing import Any, NamedTuple
 
 from afdx import files, model
-from afdx.files import sheets, workbook
-from afdx.model import BAGS_MS, Fault, KEYS, SECTIONS, cut, headings, judge, to_tables
+from afdx.files import cut, sheets, workbook
+from afdx.model import BAGS_MS, Fault, KEYS, SECTIONS, headings, judge, to_tables
 from afdx.model.headings import REMARKS, key_of, unit_of
 
 EXAMPLES = """
@@ -113,8 +112,13 @@ class Line:
         self.has_commas = has_commas
 
 
-# A value of a description, and what a comment says of it.
-Value = namedtuple("Value", "value said")
+class Value(NamedTuple):
+    """A value of a description, and what a comment says of it."""
+
+    value: Any
+    said: str
+
+
 # The values of a row by their keys.
 Row = dict[str, Value]
 
@@ -174,7 +178,7 @@ class Tables:
         self.notes.append(Fault(line.path, line.number, text + ", and is passed over"))
 
     def read(
-        self, path: str, rows: Iterable[tuple[int, list[str]]], tell_no_table: Callable[[Line, str], None], mark: str | None = None
+        self, path: str, rows: Iterable[tuple[int, list[str]]], report_no_table: Callable[[Line, str], None], mark: str | None = None
     ) -> None:
         """Reads tables. The caller gives what parts the cells, and who hears of a line that stands in place of the names of columns."""
         section, columns = None, None
@@ -186,7 +190,7 @@ class Tables:
             elif cells[0].startswith("#"):
                 self.comment((mark or "").join(cells))
             elif columns is None:
-                section, columns = self.head(line, cells, tell_no_table)
+                section, columns = self.head(line, cells, report_no_table)
             elif section:
                 self.line(line, section, columns, cells)
 
@@ -199,7 +203,7 @@ class Tables:
 
     # ---- the names of columns ----
 
-    def head(self, line: Line, cells: list[str], tell_no_table: Callable[[Line, str], None]) -> tuple[str | None, list[str] | None]:
+    def head(self, line: Line, cells: list[str], report_no_table: Callable[[Line, str], None]) -> tuple[str | None, list[str] | None]:
         """What a table has, and its columns, by the line that names them; None and what is no table."""
         names = list(map(headings.normal, cells))
         section = self.section_of(names)
@@ -209,7 +213,7 @@ class Tables:
             self.pass_over(line, f"is a title, {''.join(cells)!r}")
             return None, None
         text = f"names no columns of a table, but {', '.join(filter(None, names))}"
-        tell_no_table(line, text + (": --help has them" if tell_no_table == self.add else ""))
+        report_no_table(line, text + (": --help has them" if report_no_table == self.add else ""))
         return None, names
 
     def meanings(self, name: str, section: str) -> list[str]:
@@ -662,8 +666,8 @@ def comments_of(section: str, line: Line) -> list[str]:
         for cell in dict.fromkeys(filter(None, cells)):
             names = [name for part, own in zip(parts, cells) if own == cell for name in sheets.names_of(part.cells.get("destinations", ""))]
             # So is a text that ends as if it named some.
-            is_told = set(cells) != {cell} or to_tables.AT.fullmatch(cell)
-            of = f" at {' '.join(dict.fromkeys(names))}" if is_told and names else ""
+            is_said = set(cells) != {cell} or to_tables.AT.fullmatch(cell)
+            of = f" at {' '.join(dict.fromkeys(names))}" if is_said and names else ""
             said.append(f"{column} {cell}{of}")
     return said
 
@@ -760,9 +764,9 @@ def main(arguments: list[str] | None = None) -> int:
     words = words_of(arguments)
     text, faults, notes = (to_tables.Back(words.tables[0], commented, COLUMN_SAID).text(), [], []) if words.back else made(words.tables, words.column)
     for note in notes:
-        files.tell("afdx table", f"note: {note}")
+        files.report("afdx table", f"note: {note}")
     for fault in faults:
-        files.tell("afdx table", fault)
+        files.report("afdx table", fault)
     if faults:
         return 1
     if words.output:

@@ -1,12 +1,19 @@
 """What `afdx` can do: its commands, which tool does each, and the texts of help and of the completion of words."""
 import re
 import subprocess
-from collections import namedtuple
+from typing import NamedTuple
 
 from afdx.files import program
 
-# Of a command of the program: which of its words are files that it reads, in order, and what it says.
-OfProgram = namedtuple("OfProgram", "files usage says")
+
+class OfProgram(NamedTuple):
+    """A command of the program: how many of its first words are files that it reads, its usage, and what it does."""
+
+    files: int
+    usage: str
+    says: str
+
+
 OF_PROGRAM = {
     "check": OfProgram(1, "NET", "check a description, and count its contents"),
     "seq": OfProgram(1, "NET [--trace FILE] [--progress]", "simulate the network on one thread; prints tables as CSV"),
@@ -16,8 +23,17 @@ OF_PROGRAM = {
     ),
     "replay": OfProgram(2, "NET STEPS", "simulate the network by the steps of a journal"),
 }
-# Of a tool: its module, the option that it has in any case, and what it says.
-OfTool = namedtuple("OfTool", "module option usage says")
+
+
+class OfTool(NamedTuple):
+    """A tool: its module, the option that it gets in any case or None, its usage, and what it does."""
+
+    module: str
+    option: str | None
+    usage: str
+    says: str
+
+
 OF_TOOLS = {
     "explain": OfTool("afdx.commands.explain", None, "NET", "print all faults of a description with their lines, or its warnings"),
     "bounds": OfTool("afdx.commands.bounds", None, "NET [-o FILE]", "compute worst-case bounds of latencies and ports, as CSV"),

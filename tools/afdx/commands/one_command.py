@@ -14,7 +14,7 @@ from afdx.files.program import NoProgram
 from afdx.model import judge
 from afdx.reckon import output_sizes
 from afdx.runs import by_rt
-from afdx.runs.by_rt import tell
+from afdx.runs.by_rt import report
 
 TOO_LONG = "the trace is too long for `rt try`: the page has no histograms, and has the losses of tables alone"
 
@@ -81,7 +81,7 @@ def why_tried(why: NoProgram) -> program.Program:
         raise NoProgram(
             f"{why}, and {other}: `afdx build` needs the kit; all but run and replay have --by second-opinion"
         ) from None
-    tell(f"{why}; `afdx build` builds it, in 25 to 60 minutes")
+    report(f"{why}; `afdx build` builds it, in 25 to 60 minutes")
     return found
 
 
@@ -121,14 +121,14 @@ def by_program(name: str, words: list[str]) -> int:
     it = chosen(by, path)
     if it.how in ("proved", "given"):
         assert it.path is not None
-        tell(it.says)
+        report(it.says)
         return ended([it.path, name, *words])
     read, written = files_of(name, words)
     if it.how == "second opinion":
         lacks = name if name in ("run", "replay") else f"{name} --progress" if "--progress" in words else None
         if lacks:
             raise Mistake(f"{lacks} needs the program: the second opinion has no such thing")
-        tell(it.says)
+        report(it.says)
         return check_by_opinion(words, read) if name == "check" else ended(program.command("second-opinion", *words))
     if len(read) < help_texts.OF_PROGRAM[name].files:
         raise Mistake(f"usage: afdx {name} {help_texts.OF_PROGRAM[name].usage}")
@@ -144,7 +144,7 @@ def by_program(name: str, words: list[str]) -> int:
             return 4
     if name in ("seq", "run"):
         foresee(words[read[0]], "--by second-opinion, or " if name == "seq" else "")
-    tell(it.says)
+    report(it.says)
     status, printed, said = by_rt.by_try([name, *words], [1 + place for place in read])
     write(sys.stderr, said)
     write(sys.stdout, printed)
@@ -155,7 +155,7 @@ def ended(words: list[str], **more: Any) -> int:
     """Runs a command, and answers its status. One that a signal ended says nothing itself."""
     status = subprocess.run(words, **more).returncode
     if status < 0:
-        tell(f"{os.path.basename(words[0])} was {files.ended_by(-status)}")
+        report(f"{os.path.basename(words[0])} was {files.ended_by(-status)}")
     return status
 
 
@@ -239,7 +239,7 @@ def with_program(words: list[str]) -> tuple[list[str], int]:
     words, by = taken_out(words, "--by")
     words, path = taken_out(words, "--program")
     it = chosen(by, path)
-    tell(it.says)
+    report(it.says)
     if it.path:
         return ["--program", it.path, *words], 0
     if it.how == "second opinion":
@@ -314,7 +314,7 @@ def page(arguments: list[str]) -> int:
         return status
     it = None if words.tables else chosen(words.by, words.program)
     if it:
-        tell(it.says)
+        report(it.says)
     with tempfile.TemporaryDirectory(prefix="afdx-page-") as folder:
         tables, trace, bounds = (os.path.join(folder, name) for name in ("tables.csv", "trace.csv", "bounds.csv"))
         reckoning = None if words.no_bounds else subprocess.Popen(program.command("bounds", words.net, "-o", bounds))
@@ -377,7 +377,7 @@ def simulate_by_try(net: str, out: BinaryIO, trace: str) -> int:
     found = model.Network(net)
     is_short = output_sizes.of_trace(found) <= output_sizes.MOST
     if not is_short:
-        tell(TOO_LONG)
+        report(TOO_LONG)
     cases = [(text, ["--trace", "/dev/stderr"])] * is_short + [(text, [])]
     *with_trace, alone = by_rt.cases_by_try(cases)
     traced = with_trace[0] if with_trace else (None, b"", b"")
@@ -386,7 +386,7 @@ def simulate_by_try(net: str, out: BinaryIO, trace: str) -> int:
             file.write(traced[2])
     elif alone[0] == 0:
         if is_short:
-            tell(TOO_LONG)
+            report(TOO_LONG)
     else:
         write(sys.stderr, alone[2])
         if alone[0] is None:
@@ -453,9 +453,9 @@ def main(words: list[str] | None = None) -> int:
         # A shell reports so what a signal ended.
         return status if status >= 0 else files.BEHIND_A_SIGNAL - status
     except (Mistake, NoProgram) as fault:
-        tell(str(fault))
+        report(str(fault))
         return files.BAD
     except files.ENDS as ended:
         status, said = files.why(ended)
-        tell(said)
+        report(said)
         return status

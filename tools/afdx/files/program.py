@@ -19,6 +19,7 @@ TOOLS = os.path.dirname(os.path.dirname(os.path.dirname(os.path.realpath(__file_
 ROOT = os.path.dirname(TOOLS)
 # In a package this is a link to /usr/bin/afdxsim.
 BUILT = os.path.join("crates", "afdxsim", "out", "afdxsim")
+PROGRAM = os.path.join(ROOT, BUILT)
 # What a record is called, beside the program.
 RECORD = ".record.json"
 # Where the number of the version stands, once for all.
@@ -26,7 +27,6 @@ VERSION_STANDS = os.path.join("crates", "command_line", "src", "program.rt")
 SECONDS_FOR_GIT = 60
 # What a record has, by name.
 Record = dict[str, Any]
-
 
 
 # ---- other processes ----

@@ -6,9 +6,8 @@ what is allowed. The fault that `afdxsim` answers is the first one.
 """
 import difflib
 import re
-from collections import namedtuple
 from collections.abc import Callable, Iterable
-from typing import Any
+from typing import Any, NamedTuple
 
 from afdx import model
 from afdx.files import toml_lines
@@ -42,8 +41,16 @@ RULES = {
     6: "a node has the same predecessor in all paths",
 }
 
-# A fault, or with the number 0 a warning. `who` is the row and what in it, for a reader; `kind` what all warnings of one kind say.
-Finding = namedtuple("Finding", "number place line who text kind", defaults=[""])
+
+class Finding(NamedTuple):
+    """A fault, or with the number 0 a warning. `who` is the row and what in it, for a reader; `kind` what all warnings of one kind say."""
+
+    number: int
+    place: model.Place | None
+    line: int
+    who: str
+    text: str
+    kind: str = ""
 
 
 def answer(finding: Finding) -> str:

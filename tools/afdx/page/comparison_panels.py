@@ -38,9 +38,9 @@ def against(page: OfPage) -> str:
     words = f"This run against that of <code>{esc(os.path.basename(other.path))}</code>, worst first."
     alone = sorted(set(other.latencies) ^ set(page.tables.latencies))
     if alone:
-        told = ", ".join(f"virtual link {vl} at {where}" for vl, where in alone[:5])
+        named = ", ".join(f"virtual link {vl} at {where}" for vl, where in alone[:5])
         more = " and others" if len(alone) > 5 else ""
-        words += f" {counted(len(alone), 'destination')} of one run alone: {esc(told)}{more}."
+        words += f" {counted(len(alone), 'destination')} of one run alone: {esc(named)}{more}."
     return panel("against", "Against another run", words, *pieces)
 
 

@@ -191,7 +191,7 @@ class Page:
     def made_of(self) -> str:
         given = self.given
         runs = "these runs" if self.tables.merged else "this run"
-        told = f"Made of {esc(', '.join(map(files.printable, given.files)))}. It tells what happened in {runs}"
+        said = f"Made of {esc(', '.join(map(files.printable, given.files)))}. It shows what happened in {runs}"
         if given.bounds:
-            return told + ". Bounds are bounds of this model, computed outside the proofs."
-        return told + ", and is no bound on what can happen."
+            return said + ". Bounds are bounds of this model, computed outside the proofs."
+        return said + ", and is no bound on what can happen."

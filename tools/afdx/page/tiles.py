@@ -74,8 +74,8 @@ def tiles_of_bounds(bounds: Bounds | None) -> Iterator[str]:
     ]
     for name, found, all_of, more in kinds:
         where = "loads" if found is small else "worst"
-        told = f"in the worst case: {more}" if found else "in the worst case"
-        yield tile(name, f"{len(found):,} of {len(all_of):,}", told, "warn" if found else "good", where)
+        said = f"in the worst case: {more}" if found else "in the worst case"
+        yield tile(name, f"{len(found):,} of {len(all_of):,}", said, "warn" if found else "good", where)
 
 
 def tile_of_lost(given: Given, ends: Rows) -> str:
@@ -108,28 +108,28 @@ def tiles_of_limits(given: Given, ends: Rows) -> Iterator[str]:
     broken = sum(ends["limit_tone"][i] == BAD for i in found)
     below = sum(ends["limit_tone"][i] == WARN for i in found)
     silent = sum(ends["count"][i] == 0 for i in found)
-    told = [f"{broken} broken"] if broken else []
-    told += [f"{below} below the bound"] if below else []
-    told += [f"nothing was delivered at {silent}"] if silent else []
+    said = [f"{broken} broken"] if broken else []
+    said += [f"{below} below the bound"] if below else []
+    said += [f"nothing was delivered at {silent}"] if silent else []
     look = "bad" if broken else "warn" if below or silent else "good"
     kept = f"{len(found) - broken - silent:,} of {len(found):,}"
-    yield tile("limits kept", kept, ", ".join(told) or "none is broken", look, "latency")
+    yield tile("limits kept", kept, ", ".join(said) or "none is broken", look, "latency")
 
 
 def tile_of_few(given: Given, ends: Rows) -> str:
     few = [i for i, count in enumerate(ends["count"]) if count < FEW]
     if not few:
         return ""
-    told = []
+    said = []
     none = sum(ends["count"][i] == 0 for i in few)
     if none:
-        told.append(f"nothing came at {none:,}")
+        said.append(f"nothing came at {none:,}")
     needed = [ends["needed"][i] for i in few if ends["needed"][i]]
     if needed:
-        told.append(f"run {span(max(needed))} (until_ns = {max(needed):_}) for ten frames each")
+        said.append(f"run {span(max(needed))} (until_ns = {max(needed):_}) for ten frames each")
     if len(needed) < len(few):
-        told.append(f"at {len(few) - len(needed):,} too many are lost for that")
-    return tile("fewer than ten frames", f"at {len(few):,} of {len(ends['count']):,}", "; ".join(told), "warn", "ends")
+        said.append(f"at {len(few) - len(needed):,} too many are lost for that")
+    return tile("fewer than ten frames", f"at {len(few):,} of {len(ends['count']):,}", "; ".join(said), "warn", "ends")
 
 
 def tiles_of_run(given: Given) -> Iterator[str]:
@@ -142,8 +142,8 @@ def tiles_of_run(given: Given) -> Iterator[str]:
     worst = max(tables.latencies.values(), key=lambda row: row.greatest, default=None)
     if worst and worst.count:
         seed = f", seed {worst.seed}" if worst.seed is not None else ""
-        told = f"virtual link {worst.vl} at {worst.where}{seed}"
-        yield tile("greatest latency", span(worst.greatest), told, "", f"vl-{worst.vl}")
+        said = f"virtual link {worst.vl} at {worst.where}{seed}"
+        yield tile("greatest latency", span(worst.greatest), said, "", f"vl-{worst.vl}")
     if net.load:
         line = max(net.load, key=net.load.get)
         load = two_places(net.load[line]) + " %"
@@ -151,7 +151,7 @@ def tiles_of_run(given: Given) -> Iterator[str]:
         yield tile("busiest line", load, f"{line}, of {net.mbit[line]} Mbit/s", look, "line-" + quote(line, safe=""))
     if net.outages:
         count = len(net.outages)
-        told = f"on {len({outage.line for outage in net.outages})} of {len(net.mbit)} lines"
+        said = f"on {len({outage.line for outage in net.outages})} of {len(net.mbit)} lines"
         after = sum(outage.from_ns > net.until_ns for outage in net.outages)
-        told += f"; {after} begin{'s' if after == 1 else ''} after the end of the run" if after else ""
-        yield tile("outages", str(count), told, "warn" if after else "", "grid-outages")
+        said += f"; {after} begin{'s' if after == 1 else ''} after the end of the run" if after else ""
+        yield tile("outages", str(count), said, "warn" if after else "", "grid-outages")

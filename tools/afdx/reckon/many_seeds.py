@@ -6,18 +6,23 @@ the release before it and a BAG, whichever sub-virtual link has its turn. This h
 which is so where fewer wait than one queue holds; a seed in which that may be otherwise is drawn by itself.
 """
 from bisect import bisect_right
-from collections import namedtuple
 from collections.abc import Callable
-from typing import Any
+from typing import Any, NamedTuple
 
 from afdx.files import debian_modules
 from afdx.model import VirtualLink
 
 
-class SentOfAll(namedtuple("SentOfAll", "offered refused waiting releases one")):
+class SentOfAll(NamedTuple):
     """Of the runs of several seeds together: how many frames of a virtual link are offered, refused by its regulator, and wait
     there at the end; and the moments of all releases, rising. Of one run alone also the frames that were released, each with
     the moments when it was offered and released, in the order of their release."""
+
+    offered: int
+    refused: int
+    waiting: int
+    releases: Any
+    one: list[tuple[int, int]] | None
 
     def released_after(self, moment: int) -> int:
         """How many frames are released later than a moment."""
@@ -75,7 +80,7 @@ def sent_of_some(
 
 
 def offers_of(numpy: Any, vl: VirtualLink, seeds: list[int], offsets: list[int], until_ns: int) -> Any:
-    """The moments of the offers of each seed, rising, and NONE behind them: drawn by PCG XSH RR 64/32, as tools/afdx/model does."""
+    """The moments of the offers of each seed, rising, and NONE behind them: drawn by PCG XSH RR 64/32, as tools/afdx/model/drawn_offers.py does."""
     first = numpy.array(offsets, numpy.int64)
     count = max(0, (until_ns - min(offsets)) // vl.period_ns + 1)
     found = numpy.full((len(seeds), count), NONE, numpy.int64)

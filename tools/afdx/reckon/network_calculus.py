@@ -8,9 +8,8 @@ import heapq
 import itertools
 import math
 from bisect import bisect_left
-from collections import namedtuple
 from collections.abc import Callable, Iterable, Iterator
-from typing import Any
+from typing import Any, NamedTuple
 
 from afdx import model
 from afdx.files import program
@@ -47,13 +46,23 @@ MOST_ROUNDS = 1000
 
 # ---- what can come ----
 
-# The frames that can come in any time of t ns, in parts of a byte: `at + slope * t` where t is at most `last`, and later
-# the next piece. A list of pieces is concave: slopes fall.
-Piece = namedtuple("Piece", "last at slope")
+class Piece(NamedTuple):
+    """The frames that can come in any time of t ns, in parts of a byte: `at + slope * t` where t is at most `last`, and later
+    the next piece. A list of pieces is concave: slopes fall. The last one has no end: there `last` is None."""
 
-# Frames that come to a port by one line, or straight from a regulator (then `speed` is None): the greatest of them, all
-# that can come at once or None where it is not known, and how much comes in each ns, in parts of a byte.
-Group = namedtuple("Group", "speed greatest burst rate")
+    last: Any
+    at: int
+    slope: int
+
+
+class Group(NamedTuple):
+    """Frames that come to a port by one line, or straight from a regulator (then `speed` is None): the greatest of them, all
+    that can come at once or None where it is not known, and how much comes in each ns, in parts of a byte."""
+
+    speed: int | None
+    greatest: int
+    burst: Any
+    rate: int
 
 
 def curve(groups: Iterable[Group]) -> list[Piece]:

@@ -219,15 +219,15 @@ class Search(reading_processes.Reckoner):
         aim, frame = aimed(self.net, vl, where, side, self.bounds, self.moves)
         return aim.offers, frame
 
-    def courses(self, ways: Sequence[Way], jobs: int, tell: Callable[[int], object]) -> list[Course]:
-        """For each way whom the runs are aimed at and how late the frame is; `tell` hears how many were found."""
+    def courses(self, ways: Sequence[Way], jobs: int, report: Callable[[int], object]) -> list[Course]:
+        """For each way whom the runs are aimed at and how late the frame is; `report` hears how many were found."""
         found: list[Course] = []
         with contextlib.closing(reading_processes.answers(self, ways, jobs)) as answers:
             for way, (offers, frame) in zip(ways, answers):
                 aim = Aim(self.net, self.bounds, *way)
                 aim.offers = offers
                 found.append((aim, frame))
-                tell(len(found))
+                report(len(found))
         return found
 
 
@@ -257,9 +257,9 @@ class AimedRuns:
     def count(self) -> int:
         return len(self.seeds) * (1 + len(self.ways))
 
-    def aim(self, jobs: int, tell: Callable[[int], object] = lambda done: None) -> None:
+    def aim(self, jobs: int, report: Callable[[int], object] = lambda done: None) -> None:
         """Looks for the offsets of all runs."""
-        self.courses = self.search.courses(self.ways, jobs, tell)
+        self.courses = self.search.courses(self.ways, jobs, report)
 
     def plan(self) -> Iterator[tuple[int, Course | None]]:
         """For each run its seed, and whom it is aimed at, or None."""
@@ -289,8 +289,8 @@ class AimedRuns:
         reader, jobs = run_results.Reader([self.net]), min(jobs, self.count())
         with reading_processes.beside(reader, maker, self.runs(), repeat(0), jobs) as results:
             try:
-                for (seed, course), (_, run, printed, told) in zip(self.plan(), results):
-                    greatest = dict(zip(keys, told.greatest))
+                for (seed, course), (_, run, printed, result) in zip(self.plan(), results):
+                    greatest = dict(zip(keys, result.greatest))
                     if course is None:
                         plain, name = greatest, f"seed-{seed}"
                     else:
@@ -298,7 +298,7 @@ class AimedRuns:
                         self.lines.append(self.line(seed, *course, plain, greatest))
                     keep(name, run.text, printed.tables)
                     self.done += 1
-                    progress.tell(self.done, None)
+                    progress.update(self.done, None)
             except side_by_side.Failure as failure:
                 self.status, self.failure = 1, str(failure)
             except Fault as fault:

@@ -3,10 +3,9 @@ what becomes late is shown beside the same runs without it, as a table and as a 
 import html
 import itertools
 import re
-from collections import namedtuple
 from collections.abc import Iterable, Iterator, Mapping, Sequence
 from fractions import Fraction
-from typing import Any
+from typing import Any, NamedTuple
 
 from afdx import files, model
 from afdx.files import program
@@ -28,8 +27,12 @@ Key = tuple[int, str]
 Cell = tuple[str, str]
 
 
-# What is out: a link or a switch, with the lines that go with it.
-Element = namedtuple("Element", "what names lines")
+class Element(NamedTuple):
+    """What is out: a link or a switch, with its names and the lines that go with it."""
+
+    what: str
+    names: tuple[str, ...]
+    lines: tuple[str, ...]
 
 
 def name_of(element: Element) -> str:
@@ -76,8 +79,18 @@ class Course:
         return sum(it.count for it in came), missing, max(it.greatest for it in came)
 
 
-# What an outage does to a virtual link at a destination: the counts and latencies without it and with it.
-Change = namedtuple("Change", "vl where delivered_before delivered lost_before lost greatest_before greatest later")
+class Change(NamedTuple):
+    """What an outage does to a virtual link at a destination: the counts and latencies without it and with it."""
+
+    vl: int
+    where: str
+    delivered_before: int
+    delivered: int
+    lost_before: Range
+    lost: Range
+    greatest_before: int
+    greatest: int
+    later: int
 
 
 def more_lost(change: Change) -> Range:
@@ -161,7 +174,7 @@ class EachOutage:
                         self.compare(course)
                     keep(f"outage-{course.number}-seed-{seed}", run.text, printed.tables)
                     self.done += 1
-                    progress.tell(self.done, None)
+                    progress.update(self.done, None)
             except Failure as failure:
                 self.status, self.failure = 1, str(failure)
             except files.ENDS as ended:
@@ -204,8 +217,12 @@ class EachOutage:
         return "\n".join(lines) + "\n"
 
 
-class Summary(namedtuple("Summary", "course changes broken")):
-    """What an outage does."""
+class Summary(NamedTuple):
+    """What an outage does: the runs with it, what it changes, and the limits that it breaks."""
+
+    course: Course
+    changes: list[Change]
+    broken: list[Limit]
 
     def name(self) -> str:
         return name_of(self.course.element)
@@ -276,8 +293,8 @@ def tile(name: str, value: object, look: str = "") -> str:
 
 def changes_table(changes: list[Change]) -> str:
     """The destinations of an outage, the worst first."""
-    told = [it for it in changes if more_lost(it).most or later(it)]
-    worst = sorted(told, key=lambda it: (-more_lost(it).least, -more_lost(it).most, -later(it), it.vl))
+    shown = [it for it in changes if more_lost(it).most or later(it)]
+    worst = sorted(shown, key=lambda it: (-more_lost(it).least, -more_lost(it).most, -later(it), it.vl))
     heads = plain("virtual link", "destination", "delivered before", "delivered", "lost before", "lost", "greatest before", "greatest")
     rows = []
     for it in worst[:MOST_ON_THE_PAGE]:
@@ -295,8 +312,8 @@ def changes_table(changes: list[Change]) -> str:
 
 def summary_row(it: Summary, has_limits: bool) -> str:
     name = html.escape(it.name())
-    is_told = any(more_lost(change).most or later(change) for change in it.changes)
-    first = f"<details><summary>{name}</summary>{changes_table(it.changes)}</details>" if is_told else name
+    is_shown = any(more_lost(change).most or later(change) for change in it.changes)
+    first = f"<details><summary>{name}</summary>{changes_table(it.changes)}</details>" if is_shown else name
     latest = max(it.late(), key=later, default=None)
     cells = [("", first), *plain(said(it.lost()), said(it.losing()), f"{len(it.late()):,}", f"{it.latest():,} ns" if latest else "")]
     if it.lost().most:

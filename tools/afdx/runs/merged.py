@@ -42,12 +42,12 @@ class Merged:
         # For each virtual link, place and cause: count, the greatest count of one run, and its seed.
         self.losses: dict[tuple[int, str, str], list[Any]] = {}
 
-    def add(self, seed: int, told: run_results.Told) -> None:
+    def add(self, seed: int, result: run_results.RunResult) -> None:
         """Adds what the run of a later seed says."""
         if not self.latencies:
             for key in run_results.keys_of(self.net):
                 self.latencies[key], self.over_seeds[key] = [0, 0, 0, 0, None], OverSeeds()
-        rows = zip(self.latencies.values(), self.over_seeds.values(), told.count, told.least, told.greatest, told.total)
+        rows = zip(self.latencies.values(), self.over_seeds.values(), result.count, result.least, result.greatest, result.total)
         for mine, over, count, least, greatest, total in rows:
             if count == 0:
                 continue
@@ -57,9 +57,9 @@ class Merged:
             mine[1] = least if mine[0] == 0 else min(mine[1], least)
             mine[0] += count
             mine[3] += total
-        for over, times in zip(self.over_seeds.values(), told.times or ()):
+        for over, times in zip(self.over_seeds.values(), result.times or ()):
             over.counts.add(zip(*times))
-        for of, count in told.losses.items():
+        for of, count in result.losses.items():
             mine = self.losses.setdefault(of, [0, 0, None])
             mine[0] += count
             if count > mine[1]:

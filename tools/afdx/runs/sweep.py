@@ -9,11 +9,10 @@ import argparse
 import copy
 import itertools
 import re
-from collections import namedtuple
 from collections.abc import Collection, Iterable, Iterator, Sequence
 from fractions import Fraction
 from math import floor
-from typing import Any, Protocol
+from typing import Any, NamedTuple, Protocol
 
 from afdx import files, model
 from afdx.files import Fault, program
@@ -30,8 +29,16 @@ MOST_COMBINATIONS = 10_000
 MOST_ON_THE_PAGE = 200
 HEAD = "vl,where,runs,delivered,least_greatest_ns,mean_greatest_ns,greatest_ns,seed,copies_lost"
 
-# A key of a row that is set, with the values: `who` is the number or the name of the row, `text` the word that said it.
-Setting = namedtuple("Setting", "name section who key values text")
+
+class Setting(NamedTuple):
+    """A key of a row that is set, with the values: `who` is the number or the name of the row, `text` the word that said it."""
+
+    name: str
+    section: str
+    who: str
+    key: model.Key
+    values: list[int | str]
+    text: str
 
 
 def setting(text: str) -> Setting:
@@ -74,7 +81,13 @@ def place_of(description: model.Description, it: Setting) -> int:
     return found[0]
 
 
-Combination = namedtuple("Combination", "number values name description")
+class Combination(NamedTuple):
+    """A combination of values: its number from 1, a value of each setting, these in words, and the description with them."""
+
+    number: int
+    values: tuple[int | str, ...]
+    name: str
+    description: model.Description
 
 
 def combinations_of(description: model.Description, settings: Sequence[Setting]) -> list[Combination]:
@@ -124,7 +137,7 @@ class Campaign(Protocol):
 
     def runs(self) -> Iterable[Run]: ...
 
-    def take(self, told: run_results.Told) -> int: ...
+    def take(self, result: run_results.RunResult) -> int: ...
 
 
 Course = tuple[Combination, Campaign]
@@ -153,12 +166,12 @@ class Sweep:
         numbers = (number for number, (_, campaign) in enumerate(self.courses) for _ in campaign.seeds)
         with reading_processes.beside(reader, maker, self.runs(), numbers, jobs) as results:
             try:
-                for number, run, printed, told in results:
+                for number, run, printed, result in results:
                     combination, campaign = self.courses[number]
-                    seed = campaign.take(told)
+                    seed = campaign.take(result)
                     keep(f"set-{combination.number}-seed-{seed}", run.text, printed.tables)
                     self.done += 1
-                    progress.tell(self.done, None)
+                    progress.update(self.done, None)
             except Failure as failure:
                 self.status, self.failure = 1, str(failure)
             except files.ENDS as ended:
@@ -209,8 +222,13 @@ class Sweep:
         return sorted(effects, key=lambda it: (-it.effect, it.vl, it.where))
 
 
-# Of the greatest latencies of the runs of a combination the least, the mean and the greatest.
-Bar = namedtuple("Bar", "combination least mean greatest")
+class Bar(NamedTuple):
+    """Of the greatest latencies of the runs of a combination the least, the mean and the greatest."""
+
+    combination: Combination
+    least: int
+    mean: int
+    greatest: int
 
 
 class Effect:
