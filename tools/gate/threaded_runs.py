@@ -42,7 +42,7 @@ from afdx import files
 from afdx.commands import large_network
 from afdx.files import toml_lines
 from afdx.model import GREATEST_FRAME, GREATEST_SEED, LATEST_NS, PROGRAM, text_of_tree, whole
-from afdx.runs.second_opinion import Simulation
+from afdx.runs.plain_simulator import Simulation
 from gate import stopped_threads
 
 WELL_REPLAYED = re.compile(r"replay: \d+ did, 0 not enabled, 0 refused, gvt \d+, finished\n")

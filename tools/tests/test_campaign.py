@@ -21,7 +21,7 @@ from afdx import model
 from afdx.commands import campaign, report
 from afdx.reckon import latency_counts
 from afdx.runs.merged import Merged
-from afdx.runs.second_opinion import CAUSES, Simulation
+from afdx.runs.plain_simulator import CAUSES, Simulation
 from tests.places import EXAMPLES, TOOLS, tool_words
 
 COCKPIT, SATURATED, FAILING, N1 = (
@@ -31,7 +31,7 @@ COCKPIT, SATURATED, FAILING, N1 = (
 # A program that prints what the plain simulator finds, after lines of a test's own.
 STAND_IN = """#!{python}
 import os, signal, sys, time, tomllib
-from afdx.runs.second_opinion import Simulation
+from afdx.runs.plain_simulator import Simulation
 if sys.argv[1] == "--version":
     sys.exit(print("stand-in 1"))
 with open(sys.argv[2], "rb") as file:

@@ -6,7 +6,7 @@ import unittest
 
 from afdx.reckon.frames import Range
 from afdx.runs import each_outage
-from afdx.runs.second_opinion import Simulation
+from afdx.runs.plain_simulator import Simulation
 from tests.test_campaign import FAILING, Here, N1, read
 
 HEAD = (

@@ -16,7 +16,7 @@ from fractions import Fraction
 from afdx import model
 from afdx.reckon import network_calculus
 from afdx.runs import aim
-from afdx.runs.second_opinion import Simulation
+from afdx.runs.plain_simulator import Simulation
 from tests.places import EXAMPLES, TOP
 
 EXAMPLE = os.path.join(EXAMPLES, "five_links.toml")

@@ -15,7 +15,7 @@ from afdx import model
 from afdx.commands import from_table
 from afdx.files import toml_lines, workbook
 from afdx.model import judge
-from afdx.runs.second_opinion import Simulation
+from afdx.runs.plain_simulator import Simulation
 from tests.places import EXAMPLES, tool_words
 
 

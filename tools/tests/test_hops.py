@@ -12,6 +12,7 @@ from afdx.commands import bounds
 from afdx.files import Fault
 from afdx.reckon import hops, network_calculus
 from afdx.runs import second_opinion
+from afdx.runs.measured_hops import Measured
 from tests.test_bounds import MS, TO_END, TO_SWITCH, busy, last_bit, network, virtual_link, way
 from tests.test_report import Browser, UNFOLD, make, ns_of, number_of
 from tests.places import EXAMPLES
@@ -74,9 +75,9 @@ class Beside(unittest.TestCase):
         """Of the smallest example, with bounds of a test's own: one is above."""
         path = os.path.join(EXAMPLES, "n1.toml")
         net = model.Network(path)
-        run = second_opinion.Measured(net.description.tree)
+        run = Measured(net.description.tree)
         run.run()
-        greatest = {(kind, vl, run.names[place]): row[2] for (kind, vl, place), row in run.found.items()}
+        greatest = {(kind, vl, run.names[place]): tally.greatest for (kind, vl, place), tally in run.found.items()}
 
         class Found:
             def greatest(self, *key):

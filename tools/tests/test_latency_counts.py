@@ -8,7 +8,7 @@ import unittest
 from afdx import model
 from afdx.reckon import latency_counts
 from afdx.reckon.latency_counts import Counts, bin_of, ends_of
-from afdx.runs import second_opinion
+from afdx.runs.plain_simulator import Simulation
 from tests.places import EXAMPLES
 
 COCKPIT = os.path.join(EXAMPLES, "cockpit.toml")
@@ -73,7 +73,7 @@ class OfATrace(unittest.TestCase):
         self.addCleanup(folder.cleanup)
         self.path = os.path.join(folder.name, "trace.csv")
         self.net = model.Network(COCKPIT)
-        simulation = second_opinion.Simulation(self.net.description.tree)
+        simulation = Simulation(self.net.description.tree)
         simulation.run()
         self.trace = "".join(line + "\n" for line in simulation.trace())
         self.tables = model.Tables(COCKPIT.replace(".toml", ".tables.csv"), self.net)

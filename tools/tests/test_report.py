@@ -24,7 +24,7 @@ from afdx.page import end_table
 from afdx.page.drawing import Drawing
 from afdx.reckon.frames import Ends, drawn_offsets
 from afdx.reckon.bounds_file import COLUMNS as BOUNDS_COLUMNS
-from afdx.runs.second_opinion import Simulation
+from afdx.runs.plain_simulator import Simulation
 from tests import drawn
 from tests.places import EXAMPLES, tool_words
 
@@ -51,7 +51,7 @@ class Followed(Simulation):
 
     def release(self, t, vl, q, frame):
         out = super().release(t, vl, q, frame)
-        self.released.setdefault(vl, []).append((out[3], out[4]))
+        self.released.setdefault(vl, []).append((out.offered, out.released))
         return out
 
     def put(self, t, p, q, frame, high):
@@ -60,8 +60,7 @@ class Followed(Simulation):
         self.line = None
 
     def lose(self, time, place, frame, cause):
-        side = frame[5] if len(frame) > 5 else None
-        self.died.append((frame[0], (frame[3], frame[4]), side, self.line or self.names[place], cause))
+        self.died.append((frame.vl, (frame.offered, frame.released), frame.net, self.line or self.names[place], cause))
         super().lose(time, place, frame, cause)
 
     def note(self, time, place, vl, what, value):

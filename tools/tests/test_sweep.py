@@ -10,7 +10,7 @@ from afdx import model
 from afdx.commands import report
 from afdx.model import long_form
 from afdx.reckon import network_calculus
-from afdx.runs.second_opinion import Simulation
+from afdx.runs.plain_simulator import Simulation
 from tests.test_campaign import COCKPIT, Here, N1, SATURATED, read
 
 

@@ -13,7 +13,7 @@ from afdx import model
 from afdx.commands import benchmark, large_network
 from afdx.files import toml_lines
 from afdx.model import judge
-from afdx.runs.second_opinion import Simulation
+from afdx.runs.plain_simulator import Simulation
 from gate import stopped_threads, threaded_runs
 from tests.places import TOOLS
 

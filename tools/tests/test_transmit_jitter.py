@@ -12,6 +12,7 @@ from afdx.commands import report
 from afdx.reckon import description_warnings
 from afdx.reckon.transmit_jitter import TransmitJitter
 from afdx.runs import second_opinion
+from afdx.runs.measured_hops import Measured
 from tests.test_bounds import busy, network, virtual_link, way
 
 # How long a frame of 64 bytes takes of a line of 100 Mbit/s, in ns: 84 bytes of 80 ns.
@@ -71,7 +72,7 @@ class OnThePage(unittest.TestCase):
             found = many(count)
             with self.subTest(count), tempfile.TemporaryDirectory() as folder:
                 path = lambda name: os.path.join(folder, name)
-                run = second_opinion.Measured(found.net.description.tree)
+                run = Measured(found.net.description.tree)
                 run.run()
                 for name, text in (("net.toml", found.net.text), ("bounds.csv", found.text()), ("tables.csv", "".join(line + "\n" for line in run.tables()))):
                     with open(path(name), "w", encoding="utf-8") as out:

@@ -25,7 +25,7 @@ from typing import Any
 
 from afdx import files, model
 from afdx.reckon import network_calculus, proved_bounds
-from afdx.runs import second_opinion
+from afdx.runs.measured_hops import Measured
 
 EXAMPLES = """
 examples:
@@ -188,7 +188,7 @@ class Count:
         self.by_program = [0, 0, 0, 0]
         self.program_shares: list[float] = []
 
-    def hold(self, found: network_calculus.Bounds, run: second_opinion.Measured, report: Callable[[str], None]) -> None:
+    def hold(self, found: network_calculus.Bounds, run: Measured, report: Callable[[str], None]) -> None:
         """Holds a run against the bounds of its network."""
         self.runs += 1
         for key, greatest in greatest_latencies(run).items():
@@ -203,8 +203,8 @@ class Count:
                 report(f"virtual link {key[0]} at {key[1]} took {greatest} ns, and its bound is {bound} ns")
         # None where what was measured is no virtual link's.
         vl: Any
-        for (kind, vl, place), (_, _, greatest, _) in run.found.items():
-            where = run.names[place]
+        for (kind, vl, place), tally in run.found.items():
+            where, greatest = run.names[place], tally.greatest
             bound = found.of_kind(kind, vl, where)
             if bound is None:
                 continue
@@ -218,10 +218,10 @@ class Count:
                 self.above += 1
                 report(text)
 
-    def hold_program(self, proved: proved_bounds.ProvedBounds, run: second_opinion.Measured, report: Callable[[str], None]) -> None:
+    def hold_program(self, proved: proved_bounds.ProvedBounds, run: Measured, report: Callable[[str], None]) -> None:
         """Holds a run against the bounds that the program prints of its network."""
         held = [(proved.of[key], greatest, f"virtual link {key[0]} at {key[1]} took") for key, greatest in greatest_latencies(run).items()]
-        ports = [(run.names[place], greatest) for (kind, _, place), (_, _, greatest, _) in run.found.items() if kind == "backlog"]
+        ports = [(run.names[place], tally.greatest) for (kind, _, place), tally in run.found.items() if kind == "backlog"]
         for what, rows in enumerate((held, [(proved.waiting[where], most, f"before {where} waited") for where, most in ports])):
             for bound, greatest, text in rows:
                 self.by_program[2 if bound is None else what] += 1
@@ -248,7 +248,7 @@ class Count:
         )
 
 
-def greatest_latencies(run: second_opinion.Measured) -> dict[tuple[int, str], int]:
+def greatest_latencies(run: Measured) -> dict[tuple[int, str], int]:
     """The greatest latency of each virtual link and destination where one was delivered."""
     found: dict[tuple[int, str], int] = {}
     for _, place, vl, what, value in run.rows:
@@ -277,7 +277,7 @@ def hold_network(number: int, runs: int, keep: str | None, count: Count, report:
     found, proved = network_calculus.Bounds(net), bounds_by(program, net, text) if program else None
     for run in range(runs):
         tree = drawn.tree(run, drawn.offsets(run, found))
-        simulation = second_opinion.Measured(tree)
+        simulation = Measured(tree)
         simulation.run()
         again = f"afdx bounded-runs --networks 1 --first {number} --runs {run + 1} --keep DIR"
         says = lambda text: report(f"network {number}, run {run}: {text}; again: {again}")

@@ -405,7 +405,7 @@ def build(arguments: list[str]) -> int:
     )
     parser.add_argument("--jobs", type=model.whole(1, 1024), metavar="N", help="on at most N processors (default: all)")
     record = by_rt.build(parser.parse_args(arguments).jobs)
-    files.say(f"{program.BUILT}: {program.in_words(record)}")
+    files.say(f"{program.BUILT}: {record.in_words()}")
     return 0
 
 

@@ -17,7 +17,8 @@ from afdx.files import Fault
 from afdx.files.program import Maker
 from afdx.reckon import network_calculus
 from afdx.reckon.limits import Limit
-from afdx.runs import reading_processes, run_results, second_opinion, side_by_side
+from afdx.runs import reading_processes, run_results, side_by_side
+from afdx.runs.plain_simulator import Frame, Simulation
 from afdx.runs.side_by_side import Keep, Run, Runs, Shown
 
 # How often an offset is moved to see whether the frame comes later, and how often all are set right again: with this number
@@ -30,21 +31,21 @@ Way = tuple[int, str, str]
 Met = dict[tuple[int, str] | tuple[int, str, str], int]
 
 
-class Meeting(second_opinion.Simulation):
+class Meeting(Simulation):
     """A run that notes when the first frame of each virtual link comes to each line's port, and to nodes by each network."""
 
     def __init__(self, tree: Mapping[str, Any]) -> None:
         self.came: Met = {}
         super().__init__(tree)
 
-    def put(self, t: int, p: int, q: int, frame: second_opinion.Copy, high: bool) -> None:
-        self.came.setdefault((frame[0], self.names[self.out[p, q]]), t)
+    def put(self, t: int, p: int, q: int, frame: Frame, high: bool) -> None:
+        self.came.setdefault((frame.vl, self.names[self.out[p, q]]), t)
         super().put(t, p, q, frame, high)
 
     def handle(self, t: int, p: int, variant: str, fields: tuple[Any, ...]) -> None:
         if variant == "Arrive":
             frame = fields[1]
-            self.came.setdefault((frame[0], self.names[p], frame[5]), t)
+            self.came.setdefault((frame.vl, self.names[p], frame.net), t)
         super().handle(t, p, variant, fields)
 
 
