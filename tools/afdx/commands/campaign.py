@@ -49,7 +49,7 @@ from afdx.runs import (
 )
 from afdx.runs.campaign_folder import Folder
 from afdx.runs.merged import Merged
-from afdx.runs.side_by_side import Failure
+from afdx.runs.side_by_side import Failure, Worst
 
 EXAMPLES = """
 examples:
@@ -100,8 +100,6 @@ MOST_PRINTED = 10
 Maker = side_by_side.Here | unproved_runs.Tried | cluster.Cluster
 Limits = dict[tuple[int, str], Limit]
 Keep = Callable[[str, str, str], None]
-# The greatest latency so far, its virtual link, destination and seed.
-Worst = tuple[int, int, str, int]
 
 
 # ---- the network ----
@@ -215,7 +213,7 @@ class Progress:
         if self.far:
             text += f"; {self.far}"
         elif self.worst:
-            text += f"; greatest {self.worst[0]:,} ns: VL {self.worst[1]} at {self.worst[2]}, seed {self.worst[3]}"
+            text += f"; greatest {self.worst.ns:,} ns: VL {self.worst.vl} at {self.worst.where}, seed {self.worst.seed}"
         width = os.get_terminal_size(sys.stderr.fileno()).columns or 80
         sys.stderr.write("\r\x1b[K" + text[: max(1, width - 1)])
         sys.stderr.flush()
@@ -283,16 +281,15 @@ class Campaign:
         files.say(f"{path}: {runs} merged, seeds {self.seeds[0]} to {self.seeds[self.done - 1]}, in {took:.1f} s")
         worst = self.merged.worst()
         if worst:
-            files.say(f"greatest latency: {worst[0]} ns, virtual link {worst[1]} at {worst[2]}, seed {worst[3]}")
-        lost = sum(row[0] for (_, _, cause), row in self.merged.losses.items() if cause != "duplicate")
-        files.say(f"lost: {lost} frames or copies, duplicates not counted")
+            files.say(f"greatest latency: {worst.ns} ns, virtual link {worst.vl} at {worst.where}, seed {worst.seed}")
+        files.say(f"lost: {self.merged.copies_lost()} frames or copies, duplicates not counted")
         if self.limits:
             files.say(f"limits: {len(self.limits)}, broken: {len(self.broken)}")
         for key in sorted(self.broken, key=lambda it: self.limits[it].line):
             limit, row = self.limits[key], self.merged.latencies[key]
             files.say(
-                f"limit broken: virtual link {limit.vl} at {limit.where} has {limit.ns} ns, and took {row[2]} ns with "
-                f"the seed {row[4]}; broken by {self.broken[key]} of {runs}"
+                f"limit broken: virtual link {limit.vl} at {limit.where} has {limit.ns} ns, and took {row.greatest} ns with "
+                f"the seed {row.seed}; broken by {self.broken[key]} of {runs}"
             )
 
 

@@ -46,12 +46,21 @@ class Runs(Protocol):
     def results(self, runs: Iterable[Run]) -> Results: ...
 
 
+class Worst(NamedTuple):
+    """The greatest latency of runs in ns, with its virtual link, destination and seed."""
+
+    ns: int
+    vl: int
+    where: str
+    seed: int
+
+
 class Shown(Protocol):
     """What shows how far runs are."""
 
     def listen(self, maker: Runs) -> None: ...
 
-    def update(self, done: int, worst: tuple[int, int, str, int] | None) -> None: ...
+    def update(self, done: int, worst: Worst | None) -> None: ...
 
     def end(self) -> None: ...
 

@@ -189,11 +189,11 @@ class Sweep:
         for combination, campaign in self.whole():
             merged = campaign.merged
             for vl, where in merged.latencies:
-                count, _, greatest, _, seed = merged.latencies[vl, where]
+                of_all = merged.latencies[vl, where]
                 over = merged.over_seeds[vl, where]
                 spread = [over.least, over.mean()] if over.runs else [0, 0]
-                lost = sum(row[0] for (of, _, cause), row in merged.losses.items() if of == vl and cause != "duplicate")
-                yield combination, vl, where, [over.runs, count, *spread, greatest, "" if seed is None else seed, lost]
+                seed = "" if of_all.seed is None else of_all.seed
+                yield combination, vl, where, [over.runs, of_all.count, *spread, of_all.greatest, seed, merged.copies_lost(vl)]
 
     def table(self, maker: program.Maker) -> str:
         """The table; its last column names the program."""
@@ -298,8 +298,8 @@ def combinations_table(sweep: Sweep, has_limits: bool) -> str:
     rows = []
     for combination, campaign in sweep.whole():
         worst = campaign.merged.worst()
-        lost = sum(found[0] for (_, _, cause), found in campaign.merged.losses.items() if cause != "duplicate")
-        late = [span(worst[0]), f"VL {worst[1]} at {worst[2]}, seed {worst[3]}"] if worst else ["nothing came", ""]
+        lost = campaign.merged.copies_lost()
+        late = [span(worst.ns), f"VL {worst.vl} at {worst.where}, seed {worst.seed}"] if worst else ["nothing came", ""]
         cells = plain(combination.number, *combination.values, campaign.done, *late, f"{lost:,}")
         if lost:
             cells[-1] = ' class="lost"', cells[-1][1]
