@@ -17,13 +17,14 @@ from fractions import Fraction
 from html.parser import HTMLParser
 
 from afdx import model
-from afdx.commands import campaign, report
+from afdx.commands import report
 from afdx.files.page_text import span, two_places
 from afdx.model import traces
 from afdx.page import end_table
 from afdx.page.drawing import Drawing
 from afdx.reckon.frames import Ends, drawn_offsets
 from afdx.reckon.bounds_file import COLUMNS as BOUNDS_COLUMNS
+from afdx.runs.campaign_network import CampaignNetwork
 from afdx.runs.plain_simulator import Simulation
 from tests import drawn
 from tests.places import EXAMPLES, tool_words
@@ -1073,7 +1074,7 @@ class WithoutABrowser(unittest.TestCase):
 
     def test_drawn_offsets_are_those_of_a_campaign(self):
         path, _ = example("cockpit")
-        drawn = tomllib.loads(campaign.Network(path, "true").with_seed(7, True))["vl"]
+        drawn = tomllib.loads(CampaignNetwork(path, "true").with_seed(7, True))["vl"]
         self.assertEqual({vl["id"]: vl["offset_ns"] for vl in drawn}, drawn_offsets(model.Network(path), 7))
 
     def test_a_run_that_is_too_short_is_not_good(self):

@@ -29,27 +29,22 @@ With a file of limits, each run is compared with them, and the status is 1 if a 
 """
 import argparse
 import os
-import random
-import subprocess
 import sys
-import tempfile
-import threading
 import time
-from collections.abc import Callable, Iterable, Iterator
-from itertools import repeat
+from collections.abc import Callable, Iterable
 from typing import Any, NoReturn
 
 from afdx import files, model
-from afdx.files import Fault, program, text_of, watch
+from afdx.files import Fault, program
 from afdx.model import GREATEST_SEED, PROGRAM, judge, long_form, whole
 from afdx.reckon import network_calculus, output_sizes
-from afdx.reckon.limits import Limit, limits_of
-from afdx.runs import (
-    aim, campaign_record, cluster, each_outage, reading_processes, run_results, side_by_side, sweep, unproved_runs,
-)
+from afdx.reckon.limits import limits_of
+from afdx.runs import aim, campaign_record, cluster, each_outage, side_by_side, sweep, unproved_runs
 from afdx.runs.campaign_folder import Folder
-from afdx.runs.merged import Merged
-from afdx.runs.side_by_side import Failure, Worst
+from afdx.runs.campaign_network import CampaignNetwork, ChangedNetwork
+from afdx.runs.campaign_progress import Progress
+from afdx.runs.seeds_campaign import Campaign, Limits
+from afdx.runs.side_by_side import Failure, Keep
 
 EXAMPLES = """
 examples:
@@ -96,204 +91,8 @@ status:
 # What an outage does is printed for this many outages at most.
 MOST_PRINTED = 10
 
-# Who makes runs, limits by virtual link and destination, and what keeps the files of a run.
+# Who makes runs.
 Maker = side_by_side.Here | unproved_runs.Tried | cluster.Cluster
-Limits = dict[tuple[int, str], Limit]
-Keep = Callable[[str, str, str], None]
-
-
-# ---- the network ----
-
-
-class Network(model.Network):
-    """A description that the program has accepted, with another end where one is given."""
-
-    def __init__(self, path: str, program: str | None, until_ns: int | None = None) -> None:
-        if program:
-            text = text_of(path)
-            self.check(path, text, program)
-            description = model.Description(path, text)
-        else:
-            description = judge.accepted(path)
-        if until_ns is not None:
-            description.tree["until_ns"] = until_ns
-        super().__init__(path, description=description)
-        self.write(self.description.tree)
-
-    @staticmethod
-    def check(path: str, text: str, program: str) -> None:
-        """Has the program judge the description, of which it gets a copy: so it is read once."""
-        with tempfile.TemporaryDirectory() as folder:
-            copy = os.path.join(folder, "net.toml")
-            with open(copy, "w", encoding="utf-8", newline="\n") as out:
-                out.write(text)
-            try:
-                run = subprocess.run([program, "check", copy], stdin=subprocess.DEVNULL, capture_output=True)
-            except OSError as fault:
-                raise Fault(program, None, f"cannot be run: {fault.strerror}") from None
-        if run.returncode != 0:
-            said = run.stderr.decode("utf-8", "replace").strip().split("\n")[0]
-            raise Fault(path, model.line_of_refusal(text, said), "is refused: " + (said or f"status {run.returncode}"))
-
-    def write(self, found: dict[str, Any]) -> None:
-        """Writes the description anew, line by line, but for the seed, which stands first."""
-        self.lines = [f"until_ns = {found['until_ns']}"]
-        # For each virtual link the place of its offset in the lines, and its period.
-        self.offsets: list[tuple[int, int]] = []
-        for section in ("node", "link", "outage", "vl"):
-            for row in found.get(section, []):
-                self.lines.append(f"[[{section}]]")
-                for key, value in row.items():
-                    if section == "vl" and key == "offset_ns":
-                        self.offsets.append((len(self.lines), row["period_ns"]))
-                    self.lines.append(f"{key} = {model.written(value)}")
-
-    def with_seed(self, seed: int, drawn: bool) -> str:
-        """The text of the description with another seed, and with drawn offsets if they are asked for."""
-        lines = [f"seed = {seed}", *self.lines]
-        if drawn:
-            draw = random.Random(seed).random
-            for place, period in self.offsets:
-                lines[place + 1] = f"offset_ns = {int(draw() * period)}"
-        return "\n".join(lines) + "\n"
-
-    def with_offsets(self, seed: int, offsets: dict[int, int]) -> str:
-        """The text of the description with another seed, and these offsets of its virtual links by their numbers."""
-        lines = [f"seed = {seed}", *self.lines]
-        for (place, _), row in zip(self.offsets, self.description.rows("vl")):
-            lines[place + 1] = f"offset_ns = {offsets[row['id']]}"
-        return "\n".join(lines) + "\n"
-
-
-class Changed(Network):
-    """An accepted description of which some values were changed, so that it still is one."""
-
-    def __init__(self, description: model.Description) -> None:
-        model.Network.__init__(self, description.path, description=description)
-        self.write(self.description.tree)
-
-
-# ---- what came of the runs ----
-
-
-class Progress:
-    """The line on a terminal that says how far the campaign is."""
-
-    def __init__(self, count: int, of: str = "runs") -> None:
-        self.count, self.of, self.begin = count, of, time.monotonic()
-        self.shown, self.last = sys.stderr.isatty(), 0.0
-        watch.stop()
-        self.lock, self.done = threading.Lock(), 0
-        self.worst: Worst | None = None
-        self.far: str | None = None
-
-    def listen(self, maker: Any) -> None:
-        """Has the maker report the progress of single runs, if that is shown."""
-        maker.hear = self.hear if self.shown else None
-
-    def hear(self, name: str, far: str) -> None:
-        with self.lock:
-            self.far = f"{name} at {far}"
-            self.show()
-
-    def update(self, done: int, worst: Worst | None) -> None:
-        with self.lock:
-            self.done, self.worst, self.far = done, worst, None
-            self.show()
-
-    def show(self) -> None:
-        now = time.monotonic()
-        if not self.shown or now - self.last < 0.1 and self.done < self.count:
-            return
-        self.last = now
-        took = now - self.begin
-        text = f"{self.done:,} of {self.count:,} {self.of}, {took:.0f} s"
-        if self.done:
-            text += f", {took / self.done * (self.count - self.done):.0f} s to go"
-        if self.far:
-            text += f"; {self.far}"
-        elif self.worst:
-            text += f"; greatest {self.worst.ns:,} ns: VL {self.worst.vl} at {self.worst.where}, seed {self.worst.seed}"
-        width = os.get_terminal_size(sys.stderr.fileno()).columns or 80
-        sys.stderr.write("\r\x1b[K" + text[: max(1, width - 1)])
-        sys.stderr.flush()
-
-    def end(self) -> None:
-        if self.shown:
-            sys.stderr.write("\r\x1b[K")
-            sys.stderr.flush()
-
-
-class Campaign:
-    """What came of the runs so far, in the order of their seeds."""
-
-    def __init__(self, net: Network, limits: Limits, seeds: range, draws_offsets: bool = False) -> None:
-        self.net, self.limits, self.seeds, self.draws_offsets = net, limits, seeds, draws_offsets
-        self.merged, self.done, self.status = Merged(net), 0, 0
-        self.failure: str | None = None
-        # For each limit that is broken: in how many runs.
-        self.broken: dict[tuple[int, str], int] = {}
-
-    def runs(self) -> Iterator[side_by_side.Run]:
-        """The runs that are to be made."""
-        return (side_by_side.Run(f"seed {seed}", self.net.with_seed(seed, self.draws_offsets)) for seed in self.seeds)
-
-    def take(self, result: run_results.RunResult) -> int:
-        """Takes what a run says, whole whatever signal comes, and answers its seed."""
-        with files.signals_held():
-            seed = self.seeds[self.done]
-            self.merged.add(seed, result)
-            for key, greatest in zip(self.merged.latencies, result.greatest) if self.limits else ():
-                if key in self.limits and greatest > self.limits[key].ns:
-                    self.broken[key] = self.broken.get(key, 0) + 1
-            self.done += 1
-            return seed
-
-    def run(self, maker: Maker, keep: Keep, jobs: int) -> None:
-        """Has the runs made and takes what they say, seed by seed. The first one in this order that fails ends it. `keep` gets
-        the beginning of the name of each one's files, and its texts."""
-        progress = Progress(len(self.seeds))
-        progress.listen(maker)
-        reader, jobs = run_results.Reader([self.net]), min(jobs, len(self.seeds))
-        with reading_processes.beside(reader, maker, self.runs(), repeat(0), jobs) as results:
-            try:
-                for _, run, printed, result in results:
-                    seed = self.take(result)
-                    keep(f"seed-{seed}", run.text, printed.tables)
-                    progress.update(self.done, self.merged.worst() if progress.shown else None)
-            except Failure as failure:
-                self.status, self.failure = 1, str(failure)
-            except files.ENDS as ended:
-                self.status, said = files.why(ended)
-                rest = self.seeds[self.done :]
-                self.failure = f"{said}, before the run of the seed {rest[0]} was merged" if rest else f"{said}, behind the last run"
-            finally:
-                progress.end()
-
-    def report(self, path: str | None, took: float) -> None:
-        """Prints the result: faults on error output, the rest on standard output."""
-        if self.failure:
-            files.report("afdx campaign", self.failure)
-        if not self.done:
-            files.say("no run was merged, and nothing is written")
-            return
-        runs = f"{self.done:,} run" + ("" if self.done == 1 else "s")
-        files.say(f"{path}: {runs} merged, seeds {self.seeds[0]} to {self.seeds[self.done - 1]}, in {took:.1f} s")
-        worst = self.merged.worst()
-        if worst:
-            files.say(f"greatest latency: {worst.ns} ns, virtual link {worst.vl} at {worst.where}, seed {worst.seed}")
-        files.say(f"lost: {self.merged.copies_lost()} frames or copies, duplicates not counted")
-        if self.limits:
-            files.say(f"limits: {len(self.limits)}, broken: {len(self.broken)}")
-        for key in sorted(self.broken, key=lambda it: self.limits[it].line):
-            limit, row = self.limits[key], self.merged.latencies[key]
-            files.say(
-                f"limit broken: virtual link {limit.vl} at {limit.where} has {limit.ns} ns, and took {row.greatest} ns with "
-                f"the seed {row.seed}; broken by {self.broken[key]} of {runs}"
-            )
-
-
-# ---- words ----
 
 
 def aimed_at(text: str) -> str | int:
@@ -366,12 +165,12 @@ def words_of(arguments: list[str] | None = None) -> argparse.Namespace:
     return words
 
 
-def prepare(words: argparse.Namespace) -> tuple[Network, Limits, range]:
+def prepare(words: argparse.Namespace) -> tuple[CampaignNetwork, Limits, range]:
     """The network, the limits and the seeds, or a fault."""
     if not words.by and not os.path.isfile(words.program):
         raise Fault(words.program, None, "is not there. `afdx build` builds the program; --by second-opinion does without it")
     words.maker = who_made(words)
-    net = Network(words.net, None if words.by else words.program, words.until)
+    net = CampaignNetwork(words.net, None if words.by else words.program, words.until)
     judge_outages(words, net)
     if words.by == "try":
         foresee(net, words.histograms or words.each_outage is not None)
@@ -384,7 +183,7 @@ def prepare(words: argparse.Namespace) -> tuple[Network, Limits, range]:
     return net, limits, range(first, first + words.seeds)
 
 
-def foresee(net: Network, is_traced: bool) -> None:
+def foresee(net: CampaignNetwork, is_traced: bool) -> None:
     """Refuses runs of which `rt try` could not pass on all that they print, before the two minutes in which it builds."""
     for what, size in [("the tables of a run", output_sizes.of_tables(net))] + [("the trace of a run", output_sizes.of_trace(net))] * is_traced:
         if size > output_sizes.MOST:
@@ -392,7 +191,7 @@ def foresee(net: Network, is_traced: bool) -> None:
             raise Fault(net.path, None, str(output_sizes.refused(what, size, remedy)))
 
 
-def judge_outages(words: argparse.Namespace, net: Network) -> None:
+def judge_outages(words: argparse.Namespace, net: CampaignNetwork) -> None:
     """Refuses outages in turn that begin after the end of the run, and warns of those of the description that do."""
     end = f"the run ends before that, at {net.until_ns} ns"
     if words.each_outage is not None and words.each_outage > net.until_ns:
@@ -436,7 +235,7 @@ def who_made(words: argparse.Namespace) -> program.Maker:
         raise Fault(words.program, None, f"cannot be read: {fault.strerror}") from None
 
 
-def write_record(words: argparse.Namespace, net: Network, seeds: range) -> None:
+def write_record(words: argparse.Namespace, net: CampaignNetwork, seeds: range) -> None:
     """Writes what the campaign says of itself, last of all, with the checksum of each other file of its folder."""
     if not words.by and who_made(words).sha256 != words.maker.sha256:
         raise Fault(words.program, None, f"was replaced while the runs were made, so {campaign_record.NAME} is not written. Run the campaign anew")
@@ -453,7 +252,7 @@ def write_record(words: argparse.Namespace, net: Network, seeds: range) -> None:
     words.folder.close()
 
 
-def over_seeds(words: argparse.Namespace, net: Network, limits: Limits, seeds: range) -> int:
+def over_seeds(words: argparse.Namespace, net: CampaignNetwork, limits: Limits, seeds: range) -> int:
     """Runs all seeds, and answers the status."""
     begin, path = time.monotonic(), None
     campaign = Campaign(net, limits, seeds, words.offsets)
@@ -466,11 +265,11 @@ def over_seeds(words: argparse.Namespace, net: Network, limits: Limits, seeds: r
     return campaign.status or (1 if campaign.broken else 0)
 
 
-def over_settings(words: argparse.Namespace, net: Network, limits: Limits, seeds: range) -> int:
+def over_settings(words: argparse.Namespace, net: CampaignNetwork, limits: Limits, seeds: range) -> int:
     """Runs all seeds with each combination of the values that are set, and answers the status."""
     begin = time.monotonic()
     courses = [
-        (it, Campaign(Changed(it.description), limits, seeds, words.offsets))
+        (it, Campaign(ChangedNetwork(it.description), limits, seeds, words.offsets))
         for it in sweep.combinations_of(net.description, words.set)
     ]
     found = sweep.Sweep(words.set, courses)
@@ -497,7 +296,7 @@ def over_settings(words: argparse.Namespace, net: Network, limits: Limits, seeds
     return found.status or (1 if broken else 0)
 
 
-def aims_of(words: argparse.Namespace, net: Network, limits: Limits) -> list[tuple[int, str]]:
+def aims_of(words: argparse.Namespace, net: CampaignNetwork, limits: Limits) -> list[tuple[int, str]]:
     """The destinations at which runs are aimed: virtual links and names."""
     if "all" in words.aim:
         return list(limits or sorted(net.destinations))
@@ -508,7 +307,7 @@ def aims_of(words: argparse.Namespace, net: Network, limits: Limits) -> list[tup
     return [(vl, where) for vl in dict.fromkeys(words.aim) for where in net.vls[vl].destinations]
 
 
-def over_aims(words: argparse.Namespace, net: Network, limits: Limits, seeds: range) -> int:
+def over_aims(words: argparse.Namespace, net: CampaignNetwork, limits: Limits, seeds: range) -> int:
     """Runs all seeds with offsets that aim at virtual links, and answers the status."""
     begin = time.monotonic()
     found = aim.AimedRuns(net, aims_of(words, net, limits), seeds, limits)
@@ -559,7 +358,7 @@ def write_json(words: argparse.Namespace, name: str, rows: Callable[[], Iterable
         words.folder.write(name, long_form.text_of(rows()))
 
 
-def over_outages(words: argparse.Namespace, net: Network, limits: Limits, seeds: range) -> int:
+def over_outages(words: argparse.Namespace, net: CampaignNetwork, limits: Limits, seeds: range) -> int:
     """Runs all seeds with each link and each switch out in turn, and answers the status."""
     begin = time.monotonic()
     found = each_outage.EachOutage(net, limits, seeds, words.offsets, words.each_outage, words.later)

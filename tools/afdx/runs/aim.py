@@ -18,6 +18,7 @@ from afdx.files.program import Maker
 from afdx.reckon import network_calculus
 from afdx.reckon.limits import Limit
 from afdx.runs import reading_processes, run_results, side_by_side
+from afdx.runs.campaign_network import CampaignNetwork
 from afdx.runs.plain_simulator import Frame, Simulation
 from afdx.runs.side_by_side import Keep, Run, Runs, Shown
 
@@ -236,9 +237,8 @@ class AimedRuns:
     """The runs of a campaign that aims at destinations of virtual links, and what came of them: one for each of them, each
     network and each seed, beside that of the description with this seed. Limits are held against them."""
 
-    # A network here can be changed: commands/campaign.py has its class.
     def __init__(
-        self, net: Any, wanted: Iterable[Key], seeds: Sequence[int], limits: Mapping[Key, Limit] | tuple[()] = (), moves: int = MOVES
+        self, net: CampaignNetwork, wanted: Iterable[Key], seeds: Sequence[int], limits: Mapping[Key, Limit] | tuple[()] = (), moves: int = MOVES
     ) -> None:
         self.net, self.seeds = net, seeds
         self.limits: dict[Key, Limit] = dict(limits)

@@ -5,13 +5,14 @@ import itertools
 import re
 from collections.abc import Iterable, Iterator, Mapping, Sequence
 from fractions import Fraction
-from typing import Any, NamedTuple
+from typing import NamedTuple
 
 from afdx import files, model
 from afdx.files import program
 from afdx.reckon.frames import Range, exactly
 from afdx.reckon.limits import Limit
 from afdx.runs import reading_processes, side_by_side
+from afdx.runs.campaign_network import CampaignNetwork
 from afdx.runs.outage_frames import CameOf, OfOutages
 from afdx.runs.side_by_side import Failure, Keep, Run, Runs, Shown
 
@@ -135,9 +136,8 @@ class EachOutage:
 
     An element that no virtual link passes changes nothing, and is not run."""
 
-    # A network here can be changed: commands/campaign.py has its class.
     def __init__(
-        self, net: Any, limits: Mapping[Key, Limit], seeds: Sequence[int], draws_offsets: bool, from_ns: int,
+        self, net: CampaignNetwork, limits: Mapping[Key, Limit], seeds: Sequence[int], draws_offsets: bool, from_ns: int,
         least_later: int | Fraction = USUAL_LATER,
     ) -> None:
         self.net, self.limits, self.seeds, self.draws_offsets, self.from_ns = net, limits, seeds, draws_offsets, from_ns

@@ -3,7 +3,7 @@ in the processes of reading_processes.py."""
 import collections
 import copy
 from bisect import bisect_left
-from collections.abc import Callable, Iterable, Iterator
+from collections.abc import Iterable, Iterator
 from io import BufferedReader
 from typing import Any, NamedTuple
 

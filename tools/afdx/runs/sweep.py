@@ -9,10 +9,10 @@ import argparse
 import copy
 import itertools
 import re
-from collections.abc import Collection, Iterable, Iterator, Sequence
+from collections.abc import Iterable, Iterator, Sequence
 from fractions import Fraction
 from math import floor
-from typing import Any, NamedTuple, Protocol
+from typing import Any, NamedTuple
 
 from afdx import files, model
 from afdx.files import Fault, program
@@ -20,7 +20,7 @@ from afdx.files.page_text import esc, span
 from afdx.model import judge
 from afdx.runs import reading_processes, run_results
 from afdx.runs.each_outage import STYLE, plain, row, tile
-from afdx.runs.merged import Merged
+from afdx.runs.seeds_campaign import Campaign
 from afdx.runs.side_by_side import Failure, Keep, Run, Runs, Shown
 
 # More combinations are hardly meant.
@@ -120,26 +120,7 @@ def combinations_of(description: model.Description, settings: Sequence[Setting])
     return found
 
 
-class Campaign(Protocol):
-    """What came of the runs of a combination so far, as commands/campaign.py has it."""
-
-    merged: Merged
-    done: int
-
-    @property
-    def net(self) -> model.Network: ...
-
-    @property
-    def seeds(self) -> Sequence[int]: ...
-
-    @property
-    def broken(self) -> Collection[tuple[int, str]]: ...
-
-    def runs(self) -> Iterable[Run]: ...
-
-    def take(self, result: run_results.RunResult) -> int: ...
-
-
+# A combination and its runs.
 Course = tuple[Combination, Campaign]
 
 
