@@ -17,7 +17,8 @@ from unittest import mock
 from afdx import model
 from afdx.commands import bounded_runs, large_network
 from afdx.files import program
-from afdx.reckon import network_calculus
+from afdx.reckon import network_calculus, output_ports, whole_frames
+from afdx.reckon.arrival_curves import PARTS
 from tests.places import EXAMPLES, tool_words
 
 MS = 10**6
@@ -145,7 +146,7 @@ class ByHand(unittest.TestCase):
         found = network([*of(priority="high"), virtual_link(5, way("E6", "A", "E3"), size=1518)])
         for vl in (1, 3):
             self.assertEqual(found.latencies[vl, "E3"], (busy(64) + last_bit(64) + TO_SWITCH + delay + busy(1518) + TO_END, ""))
-        with mock.patch.object(network_calculus, "peak_of_frames", lambda hops, speed, most: most):
+        with mock.patch.object(output_ports, "peak_of_frames", lambda hops, speed, most: most):
             self.assertEqual(network(of()).hops[1, "A>E3"].delay, delay + 45)
 
     def test_whole_frames_by_hand(self):
@@ -156,11 +157,11 @@ class ByHand(unittest.TestCase):
             hops = network([virtual_link(i, way("E1", "A", "E2"), size=1000) for i in range(count)]).ports["E1>A"].hops
             for hop in hops:
                 hop.spread = spread
-            speed = network_calculus.PARTS // BYTE
-            self.assertEqual(network_calculus.peak_of_frames(hops, speed, 10**18), excess * speed)
-            self.assertEqual(network_calculus.peak_of_frames(hops, speed, excess * speed - 1), excess * speed - 1)
+            speed = PARTS // BYTE
+            self.assertEqual(whole_frames.peak_of_frames(hops, speed, 10**18), excess * speed)
+            self.assertEqual(whole_frames.peak_of_frames(hops, speed, excess * speed - 1), excess * speed - 1)
             hops[0].spread = None
-            self.assertEqual(network_calculus.peak_of_frames(hops, speed, 5), 5)
+            self.assertEqual(whole_frames.peak_of_frames(hops, speed, 5), 5)
 
     def test_whole_low_frames_behind_high_ones_by_hand(self):
         """Low frames of 1000 bytes, 81,600 ns, behind high ones of 500, 41,600 ns, each in 1 ms. Twelve high ones with a
@@ -180,8 +181,8 @@ class ByHand(unittest.TestCase):
                 high, low = hops[:highs], hops[highs:]
                 for hop in hops:
                     hop.spread = high_spread if hop in high else low_spread
-                whole = network_calculus.WholeBehindHigh(high, low, network_calculus.PARTS // BYTE)
-                wait = lambda most: whole.longest(low_frame // BYTE * network_calculus.PARTS, most)
+                whole = whole_frames.WholeBehindHigh(high, low, PARTS // BYTE)
+                wait = lambda most: whole.longest(low_frame // BYTE * PARTS, most)
                 self.assertEqual((wait(10**9), wait(longest + 1), wait(longest)), (longest, longest, longest))
                 self.assertEqual(wait(longest - 1), longest - 1)
 
@@ -194,10 +195,10 @@ class ByHand(unittest.TestCase):
             hop.spread = draw.choice([0, 1, draw.randint(0, 3 * MS), 2 * hop.link.vl.bag_ns])
         moments = [draw.randint(0, 200 * MS) for _ in range(200)]
         moments += [turn * hop.link.vl.bag_ns - hop.spread + more for hop in hops for turn in (3, 4) for more in (-1, 0)]
-        whole = network_calculus.WholeFrames(hops)
+        whole = whole_frames.WholeFrames(hops)
         for t in (it for it in moments if it >= 0):
             count = lambda hop: 1 + (t + hop.spread) // hop.link.vl.bag_ns
-            self.assertEqual(whole.come(t), sum(count(hop) * hop.link.amount for hop in hops) * network_calculus.PARTS)
+            self.assertEqual(whole.come(t), sum(count(hop) * hop.link.amount for hop in hops) * PARTS)
 
     def test_a_slow_line_brings_less(self):
         """As above, but the first line has 10 Mbit/s: a byte takes ten times the time, so it brings one frame in 67,200

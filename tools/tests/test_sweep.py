@@ -9,7 +9,7 @@ import unittest
 from afdx import model
 from afdx.commands import report
 from afdx.model import long_form
-from afdx.reckon import network_calculus
+from afdx.reckon import network_calculus, output_ports
 from afdx.runs.plain_simulator import Simulation
 from tests.test_campaign import COCKPIT, Here, N1, SATURATED, read
 
@@ -224,12 +224,12 @@ class Aims(Here):
 
     def test_above_a_bound(self):
         """What cannot be: it is told, and the status says so."""
-        honest = network_calculus.longest_wait
+        honest = output_ports.longest_wait
         try:
-            network_calculus.longest_wait = lambda vl: -10**6
+            output_ports.longest_wait = lambda vl: -10**6
             status, out, _ = self.call(N1, "--aim", "1")
         finally:
-            network_calculus.longest_wait = honest
+            output_ports.longest_wait = honest
         self.assertEqual(status, 1)
         self.assertIn("above its bound, so one of the two is wrong: 1,ES2,A,42,27720,27720,27720,27720,", out)
 

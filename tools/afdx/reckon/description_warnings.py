@@ -5,7 +5,7 @@ from collections.abc import Callable, Iterable
 from afdx import model
 from afdx.model import Link, Network, VirtualLink
 from afdx.model.judge import Finding
-from afdx.reckon import network_calculus, transmit_jitter
+from afdx.reckon import output_ports, transmit_jitter
 from afdx.reckon.bounds_file import Bounds
 
 class Warnings:
@@ -77,7 +77,7 @@ class Warnings:
         if most > depth:
             text = f"is {vl.jitter_ns}: {most} frames may wait in the regulator, and it holds {depth} (queue_full)"
             add("jitter_ns", text, "more frames may wait in the regulator than it holds")
-        elif (wait := network_calculus.longest_wait(vl)) > vl.bag_ns:
+        elif (wait := output_ports.longest_wait(vl)) > vl.bag_ns:
             text = f"is {vl.jitter_ns}: up to {wait} ns of a latency, which begins at the offer, are the regulator's"
             add("jitter_ns", text, "much of a latency may be the regulator's")
 

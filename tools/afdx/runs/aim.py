@@ -15,7 +15,7 @@ from typing import Any, NamedTuple
 from afdx import files, model
 from afdx.files import Fault
 from afdx.files.program import Maker
-from afdx.reckon import network_calculus
+from afdx.reckon import network_calculus, output_ports
 from afdx.reckon.limits import Limit
 from afdx.runs import reading_processes, run_results, side_by_side
 from afdx.runs.campaign_network import CampaignNetwork
@@ -61,7 +61,7 @@ class Aim:
         ports = [found.ports[line] for line in self.lines]
         # For each of the others where it meets the way first, how long it takes to come there if nothing delays it, and by
         # which line it comes.
-        self.meets: dict[int, tuple[int, int, network_calculus.Port | None]] = {}
+        self.meets: dict[int, tuple[int, int, output_ports.Port | None]] = {}
         for place, port in enumerate(ports):
             for hop in port.hops:
                 other = hop.link.vl.id
@@ -110,7 +110,7 @@ class Aim:
     def set_group(self, came: int, behind: int, others: list[int]) -> int:
         """Sets some of those that meet the frame at a port, of each line one behind the other, so that the last ones are
         there the given ns before it. Returns how many ns before it the first of them is there."""
-        lines: dict[network_calculus.Port | None, int] = {}
+        lines: dict[output_ports.Port | None, int] = {}
         first = behind
         # The longest frame comes last, so that most of it is still to be sent.
         for other in sorted(others, key=lambda it: (-self.net.vls[it].size, it)):
