@@ -4,7 +4,7 @@ from collections.abc import Callable, Iterable
 
 from afdx import model
 from afdx.model import Link, Network, VirtualLink
-from afdx.model.judge import Finding
+from afdx.model.findings import Finding
 from afdx.reckon import output_ports, transmit_jitter
 from afdx.reckon.bounds_file import Bounds
 
