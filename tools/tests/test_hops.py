@@ -119,8 +119,8 @@ class Bounds(unittest.TestCase):
         text = found.text().splitlines()
         rows = [dict(zip(text[0].split(","), line.split(","))) for line in text[1:]]
         row = next(row for row in rows if (row["vl"], row["where"]) == ("1", "E2"))
-        told = [row[name] for name in ("bound_ns", "wait_ns", "network_ns", "network_a_ns", "network_b_ns", "skew_ns", "delay_ns")]
-        self.assertEqual(told, [str(by_a + 200_000), "200000", str(by_a), str(by_a), str(by_b), str(by_b - least_a), ""])
+        said = [row[name] for name in ("bound_ns", "wait_ns", "network_ns", "network_a_ns", "network_b_ns", "skew_ns", "delay_ns")]
+        self.assertEqual(said, [str(by_a + 200_000), "200000", str(by_a), str(by_a), str(by_b), str(by_b - least_a), ""])
         self.assertEqual([row["delay_ns"] for row in rows if (row["vl"], row["where"]) == ("1", "E1>A")], [str(busy(64) + last_bit(64))])
 
     def test_where_there_is_no_bound(self):
@@ -185,7 +185,7 @@ class InTheBrowser(unittest.TestCase):
         self.assertNotIn("above on the way", page.tiles)
 
     def test_what_is_above_its_bound(self):
-        """A delay of a bounds file that is too low is marked, told, and gives the status 1."""
+        """A delay of a bounds file that is too low is marked and reported, and the status is 1."""
         other = os.path.join(self.folder, "low.csv")
         with open(self.bounds, encoding="utf-8") as file:
             rows = list(csv.reader(file))

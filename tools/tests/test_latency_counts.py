@@ -47,9 +47,9 @@ class Counting(unittest.TestCase):
         self.assertEqual(found.total(), len(all_of))
         for percent in (1, 50, 95, 99, 100):
             exact = all_of[-(-percent * len(all_of) // 100) - 1]
-            (told,) = found.percentiles([percent], all_of[-1])
-            self.assertEqual(told, min(all_of[-1], ends_of(bin_of(exact))[1]))
-            self.assertTrue(0 <= told - exact <= exact / 1000)
+            (said,) = found.percentiles([percent], all_of[-1])
+            self.assertEqual(said, min(all_of[-1], ends_of(bin_of(exact))[1]))
+            self.assertTrue(0 <= said - exact <= exact / 1000)
 
     def test_counts_of_any_size(self):
         found = Counts()

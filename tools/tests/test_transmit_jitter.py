@@ -51,8 +51,8 @@ class ByHand(unittest.TestCase):
             (many(10, size=1500), None, 40_000 + 10 * 1520 * 80, "too_small transmit_jitter"),
         ):
             (port,) = [row for row in found.rows() if row["where"] == "E1>A" and "vl" not in row]
-            told = "none" if jitter is None else str(jitter)
-            self.assertEqual((port["transmit_jitter_ns"], port["transmit_rule_ns"], port["warning"]), (told, rule, warning))
+            said = "none" if jitter is None else str(jitter)
+            self.assertEqual((port["transmit_jitter_ns"], port["transmit_rule_ns"], port["warning"]), (said, rule, warning))
             others = [row for row in found.rows() if row["where"] == "A>E2" and "vl" not in row]
             self.assertNotIn("transmit_jitter_ns", (others or [{}])[0])
 

@@ -60,7 +60,7 @@ class TurnModel(unittest.TestCase):
         with self.assertRaises(Undone):
             groups.work(s, 1, 9, 9)
 
-    def test_states_are_told_apart(self):
+    def test_states_are_kept_apart(self):
         model = Model(drawn(2, 2, 3), 2, 1)
         s = model.beginning()
         other = s.copy(0)
