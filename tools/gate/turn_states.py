@@ -1,7 +1,12 @@
 """A state of a small run: what all workers see, what each group has, and the workers."""
 import operator
 
-from gate.turn_groups import Letters
+from gate.turn_groups import Letters, NEVER
+
+# In the place of the numbers of `turns`, small ones: how far ahead events are due, how many a turn and a piece of it have, when a
+# group posts, when it sees GVT, and how many looks in vain lead to what.
+LEAD, TURN, PIECE, MOST_UNPOSTED, MOST_WITH_LETTERS, BEHIND = 2, 2, 1, 2, 1, 3
+SECTIONS_PER_GVT, LOOKS_PER_GVT, LOOKS_BEFORE_POST, LOOKS_BEFORE_HELP, LOOKS_BEFORE_REST = 2, 1, 1, 1, 2
 
 
 class State:

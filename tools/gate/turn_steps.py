@@ -2,14 +2,13 @@
 from collections.abc import Collection
 
 from gate.turn_groups import Groups, NEVER, Network
-from gate.turn_states import State, Worker
+from gate.turn_states import (
+    BEHIND, LEAD, LOOKS_BEFORE_HELP, LOOKS_BEFORE_POST, LOOKS_BEFORE_REST, LOOKS_PER_GVT, MOST_UNPOSTED, MOST_WITH_LETTERS, PIECE, SECTIONS_PER_GVT,
+    TURN, State, Worker,
+)
 
 # What a worker does for itself alone, at once behind the step before.
 SILENT = ("own_turns", "behind_turn")
-# In the place of the numbers of `turns`, small ones: how far ahead events are due, how many a turn and a piece of it have, when a
-# group posts, when it sees GVT, and how many looks in vain lead to what.
-LEAD, TURN, PIECE, MOST_UNPOSTED, MOST_WITH_LETTERS, BEHIND = 2, 2, 1, 2, 1, 3
-SECTIONS_PER_GVT, LOOKS_PER_GVT, LOOKS_BEFORE_POST, LOOKS_BEFORE_HELP, LOOKS_BEFORE_REST = 2, 1, 1, 1, 2
 
 # What can be left out of the code, to see that the model finds it.
 WRONG = {
