@@ -4,7 +4,7 @@ from collections.abc import Iterator
 
 from afdx.files.page_text import counted, esc
 from afdx.page import comparison
-from afdx.page.columns import DESTINATION_COLUMN, VL_COLUMN, Column, column, count_column, time_column
+from afdx.page.columns import DESTINATION_COLUMN, VL_COLUMN, Column, count_column, time_column
 from afdx.page.panels import OfPage, panel
 
 # What changed between two runs: the name of a table, its title, and the column by which it is sorted.
@@ -17,7 +17,7 @@ CHANGES = [
 BEFORE_AND_NOW = [
     time_column("before", "greatest before"),
     time_column("greatest", "greatest now"),
-    column("percent", "percent", "of before", "%"),
+    Column("percent", "percent", "of before", "%"),
     time_column("mean_before", "mean before"),
     time_column("mean", "mean now"),
 ]
@@ -31,7 +31,7 @@ def against(page: OfPage) -> str:
         only = [i for i, value in enumerate(rows[key]) if (value or 0) > 0]
         pieces.append(f"<h3>{title} ({len(only):,})</h3>")
         if only:
-            times = BEFORE_AND_NOW if change["look"] == "us" else []
+            times = BEFORE_AND_NOW if change.look == "us" else []
             columns = [VL_COLUMN, DESTINATION_COLUMN, change, *times, *counts_of_both(page)]
             pieces.append(page.grid(name, columns, key, "against", only))
     pieces += bounds_moved(page) + differences(page)
@@ -66,7 +66,7 @@ def differences(page: OfPage) -> list[str]:
         return [title]
     names = ("what", "key", "before", "now")
     rows = page.rows["differences"] = {name: [it[i] for it in found] for i, name in enumerate(names)}
-    columns = [column(name, "text", name) for name in names]
+    columns = [Column(name, "text", name) for name in names]
     return [title, page.grid("differences", columns, "", "differences")]
 
 

@@ -59,7 +59,7 @@ class Page:
     ) -> str:
         """A table: its columns, the one by which it is sorted, the greatest first or (`up`) the least, and where its values
         stand. It has all rows, or those of these numbers alone."""
-        spec: dict[str, Any] = {"name": name, "columns": columns, "sort": sort, "rows": rows, "what": what}
+        spec: dict[str, Any] = {"name": name, "columns": [it.data() for it in columns], "sort": sort, "rows": rows, "what": what}
         spec |= {"up": True} if up else {}
         self.grids.append(spec if only is None else spec | {"only": only})
         return f'<div class="grid" id="grid-{name}"></div>'

@@ -6,7 +6,7 @@ from typing import Any
 from afdx.files.page_text import span
 from afdx.model import CAUSES, Loss
 from afdx.model.traces import MOMENTS
-from afdx.page.columns import DESTINATION_COLUMN, VL_COLUMN, column, count_column, seed_column
+from afdx.page.columns import DESTINATION_COLUMN, VL_COLUMN, Column, count_column, seed_column
 from afdx.page.drawing import chart_over_time
 from afdx.page.panels import OfPage, panel
 from afdx.reckon.frames import Journey, Route
@@ -33,15 +33,15 @@ def losses_by_place(page: OfPage, lost: list[Loss]) -> str:
     order = sorted(places, key=page.net.process.__getitem__)
     rows: dict[str, list[Any]] = {cause: [places[where][cause] for where in order] for cause in causes}
     rows |= {"where": order, "together": [places[where].total() for where in order]}
-    columns = [column("where", "text", "place")]
+    columns = [Column("where", "text", "place")]
     columns += [count_column(cause, cause, look="heat") for cause in causes]
     columns.append(count_column("together", "together"))
     return page.grid("heat", columns, "together", rows, what="places")
 
 
 def losses_of_each(page: OfPage, lost: list[Loss]) -> str:
-    columns = [VL_COLUMN, column("where", "text", "place"), column("net", "text", "network")]
-    columns += [column("cause", "text", "cause"), count_column("count", "lost")]
+    columns = [VL_COLUMN, Column("where", "text", "place"), Column("net", "text", "network")]
+    columns += [Column("cause", "text", "cause"), count_column("count", "lost")]
     rows = {name: [getattr(row, name) for row in lost] for name in ("vl", "where", "cause", "count")}
     rows["net"] = [side_of(page, row) for row in lost]
     if page.tables.merged:

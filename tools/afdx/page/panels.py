@@ -4,7 +4,7 @@ from typing import Protocol
 from afdx.files.page_text import counted
 from afdx.model import Loss, Network, Tables
 from afdx.page.columns import (
-    COPIES_COLUMN, DELIVERED_COLUMN, DESTINATION_COLUMN, VL_COLUMN, Column, Rows, column, count_column, seed_column, time_column,
+    COPIES_COLUMN, DELIVERED_COLUMN, DESTINATION_COLUMN, VL_COLUMN, Column, Rows, count_column, seed_column, time_column,
 )
 from afdx.page.drawing import Drawing, legend_of_loads
 from afdx.page.end_table import BARS, ENOUGH_FOR_BARS, FEW
@@ -55,9 +55,9 @@ def network(page: OfPage) -> str:
     if net.outages:
         pieces += ["<h3>Outages</h3>", outages(page)]
     columns = [
-        column("name", "line", "line"),
-        column("load", "load", "load", "%"),
-        column("carries", "percent", "carries", "Mbit/s", "what its virtual links can put on it"),
+        Column("name", "line", "line"),
+        Column("load", "load", "load", "%"),
+        Column("carries", "percent", "carries", "Mbit/s", "what its virtual links can put on it"),
         count_column("mbit", "speed", unit="Mbit/s"),
         count_column("users", "virtual links", unit="number"),
     ]
@@ -72,8 +72,8 @@ def network(page: OfPage) -> str:
 
 def outages(page: OfPage) -> str:
     found = sorted(page.net.outages, key=lambda it: it.from_ns - it.to_ns)
-    columns = [column("line", "line", "line"), column("from", "ms", "out from", "ms")]
-    columns += [column("to", "ms", "to", "ms"), column("for", "ms", "for", "ms")]
+    columns = [Column("line", "line", "line"), Column("from", "ms", "out from", "ms")]
+    columns += [Column("to", "ms", "to", "ms"), Column("for", "ms", "for", "ms")]
     rows = {"line": [it.line for it in found], "from": [it.from_ns for it in found]}
     rows |= {"to": [it.to_ns for it in found], "for": [it.to_ns - it.from_ns for it in found]}
     return page.grid("outages", columns, "for", rows)
@@ -86,26 +86,26 @@ def end_to_end(page: OfPage) -> str:
             "<code>--seeds</code>, and <code>--first</code> and <code>--offsets</code> where the campaign had them."
         )
         return panel("ends", "End to end", words)
-    wide = {"look": "range_of_counts"}
+    wide = "range_of_counts"
     columns = [
         VL_COLUMN,
         DESTINATION_COLUMN,
         count_column("offered", "offered", "offered by the application until the end, drawn anew"),
         DELIVERED_COLUMN,
-        count_column("under_way", "under way", "not delivered yet at the end, and may still come", **wide),
-        count_column("missing", "missing", "lost end to end", "missing_tone", **wide),
+        count_column("under_way", "under way", "not delivered yet at the end, and may still come", look=wide),
+        count_column("missing", "missing", "lost end to end", "missing_tone", look=wide),
     ]
     if any(found != 0 for found in page.ends["again"]):
-        columns.append(count_column("again", "twice", "delivered a second time: SkewMax is too small", **wide))
+        columns.append(count_column("again", "twice", "delivered a second time: SkewMax is too small", look=wide))
     for side in "AB":
         hint = f"on the way by network {side}, or refused at the destination"
-        columns.append(count_column("lost" + side, "lost on " + side, hint, unit="copies", **wide))
+        columns.append(count_column("lost" + side, "lost on " + side, hint, unit="copies", look=wide))
     columns.append(COPIES_COLUMN)
     if any(page.ends["needed"]):
         hint = "how long a run must be to bring ten frames"
-        columns.append(column("needed", "ms", "ten frames take", "ms", hint))
+        columns.append(Column("needed", "ms", "ten frames take", "ms", hint))
     if any(page.ends["why"]):
-        columns.append(column("why", "words", "why it is open", hint="if missing is a range"))
+        columns.append(Column("why", "words", "why it is open", hint="if missing is a range"))
     words = (
         "What the application offered, and what became of it at each destination. A frame is missing where no copy "
         "of it came and none can come any more; copies that were lost while the other one came are counted apart."
@@ -127,7 +127,7 @@ def latency(page: OfPage) -> str:
     columns = [
         VL_COLUMN,
         DESTINATION_COLUMN,
-        column("greatest", "range", "range"),
+        Column("greatest", "range", "range"),
         time_column("least", "least"),
         time_column("mean", "mean"),
         time_column("greatest", "greatest"),
@@ -145,7 +145,7 @@ def latency(page: OfPage) -> str:
         columns.append(time_column("margin", "margin", hint, "limit_tone") | {"order": "margin_order"})
     closer = "policing_jitter_ns: how much closer than a BAG frames may come to a switch"
     columns += [
-        column("bag", "bag", "BAG", "ms"),
+        Column("bag", "bag", "BAG", "ms"),
         time_column("jitter", "jitter", "jitter_ns: how late the application may offer a frame"),
         time_column("policing", "policing jitter", closer),
         DELIVERED_COLUMN,
@@ -174,7 +174,7 @@ def marks_of_ranges(has_limits: bool, has_bounds: bool) -> str:
 
 
 def distribution(page: OfPage) -> str:
-    drawn = [column("histogram", "histogram", "histogram")] if page.given.trace else []
+    drawn = [Column("histogram", "histogram", "histogram")] if page.given.trace else []
     percents = [time_column(f"p{it}", f"{it}th", f"{it} % of the frames took no longer") for it in PERCENTS]
     columns = [VL_COLUMN, DESTINATION_COLUMN, *drawn, *percents, time_column("greatest", "greatest"), DELIVERED_COLUMN]
     title, grid = "Distribution of the latencies", page.grid("percentiles", columns, "greatest")
