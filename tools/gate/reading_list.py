@@ -48,11 +48,11 @@ TYPE = r"^pub(?:\(\w+\))? (?:struct|enum|trait) {}\b"
 
 
 class Source(NamedTuple):
-    """Where a name is from: a crate, a path of modules under its specs/, and the name there; None is the module itself."""
+    """Where a name is from: a crate, a path of modules under its specs/, and the name there; without one the module itself."""
 
     crate: str
     path: str
-    name: str | None
+    name: str
 
 
 # A name, with what stands behind a point of it.
@@ -135,7 +135,7 @@ class Tree:
         for crate, path, names, alias in USE.findall(text):
             crate, path = self.home(crate, path)
             if alias:
-                found[alias] = Source(crate, path, None)
+                found[alias] = Source(crate, path, "")
             for item in filter(None, map(str.strip, names.split(","))):
                 name, _, called = item.partition(" as ")
                 found[called or name] = self.passed_on(Source(crate, path, name))

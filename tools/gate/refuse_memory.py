@@ -254,7 +254,8 @@ def fault_of_command(command: Command, found: Ended, is_replayed: Callable[[str]
     if found.output not in ("", command.output):
         return f"it was refused and printed {found.output!r}"
     for name, text in found.files.items():
-        if not (command.files[name].startswith(text) if command.files[name] is not None else JOURNAL.fullmatch(text)):
+        whole = command.files[name]
+        if not (whole.startswith(text) if whole is not None else JOURNAL.fullmatch(text)):
             return f"it was refused and {name} has {text!r}"
     return None
 

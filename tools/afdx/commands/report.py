@@ -113,9 +113,11 @@ def words_of(arguments: list[str] | None = None) -> argparse.Namespace:
 
 def report_above(given: Given) -> bool:
     """Prints the latencies above their bounds, and returns whether there are any."""
-    above = given.bounds.above(given.tables.latencies) if given.bounds else []
+    bounds = given.bounds
+    above = bounds.above(given.tables.latencies) if bounds else []
     for row in above[:MOST_PRINTED]:
-        text = f"virtual link {row.vl} at {row.where} took {row.greatest} ns, and its bound is {given.bounds.of[row.vl, row.where].ns} ns"
+        assert bounds is not None
+        text = f"virtual link {row.vl} at {row.where} took {row.greatest} ns, and its bound is {bounds.of[row.vl, row.where].ns} ns"
         files.report("afdx report", f"{text}: one of the two is wrong")
     if len(above) > MOST_PRINTED:
         files.report("afdx report", f"so are {len(above) - MOST_PRINTED:,} more latencies above their bounds")
@@ -131,15 +133,16 @@ def main(arguments: list[str] | None = None) -> int:
     outputs: list[str] = list(filter(None, [words.output, words.junit]))
     files.ready(outputs, prints=bool(words.limits))
     given = given_by(words)
+    margins = list(given.margins.values())
     files.judge(outputs, prints=bool(words.limits))
     files.write_pieces(words.output, (piece.encode("utf-8", "backslashreplace") for piece in Page(given).pieces()))
     if words.junit:
-        text = limits.junit_text(list(given.margins.values()), words.strict, os.path.basename(words.net))
+        text = limits.junit_text(margins, words.strict, os.path.basename(words.net))
         files.write_whole(words.junit, text)
     if words.limits:
-        files.write_out(limits.margins_text(given.margins.values()))
+        files.write_out(limits.margins_text(margins))
     is_above = report_above(given)
-    return 1 if is_above or limits.has_failed(given.margins.values(), words.strict) else 0
+    return 1 if is_above or limits.has_failed(margins, words.strict) else 0
 
 
 if __name__ == "__main__":

@@ -60,7 +60,8 @@ def allowed(key: Key) -> str:
     if key.choices:
         return among(key.choices)
     if key.value_type == "integer":
-        return f"a whole number from {limit(key.least)} to {limit(key.greatest)}"
+        least, greatest = map(limit, key.limits())
+        return f"a whole number from {least} to {greatest}"
     if key.value_type == "paths":
         return 'a list of paths, each a list of 3 to 32 names, as [["ES1", "SW1", "ES2"]]; or []'
     if key.value_type == "name":

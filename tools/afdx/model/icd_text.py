@@ -83,6 +83,7 @@ class Made(Description):
 
 def fault_of(finding: judge.Finding, maker: Maker, paths: list[str]) -> Fault:
     """A fault of the description as one of a table."""
+    assert finding.place is not None
     section, row, _ = finding.place
     lines = maker.made_of[section]
     path = lines[(row or 1) - 1].path if (row or 1) <= len(lines) else paths[0]

@@ -30,6 +30,11 @@ class Key(NamedTuple):
     def python_type(self) -> type:
         return {"integer": int, "paths": toml_lines.Array}.get(self.value_type, str)
 
+    def limits(self) -> tuple[int, int]:
+        """The least and the greatest, of a key that has such limits."""
+        assert self.least is not None and self.greatest is not None
+        return self.least, self.greatest
+
     def is_needed(self, row: Mapping[str, Any]) -> bool:
         return self.needed == "all" or self.needed == "switches" and row.get("kind") == "switch"
 

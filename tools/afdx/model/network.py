@@ -137,7 +137,7 @@ class Network:
         """What would make a number of a page, a bound or a draw meaningless."""
         for key in KEYS["vl"]:
             if key.value_type == "integer":
-                least = min(key.choices) if key.choices else min(key.least, 1)
+                least = min(map(int, key.choices)) if key.choices else min(key.limits()[0], 1)
                 if row[key.name] < least:
                     self.refuse("vl", i, key.name, f"is less than {least}")
 

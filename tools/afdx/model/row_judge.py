@@ -105,16 +105,18 @@ class RowJudge:
 
     def limits(self, section: str, i: int | None, row: Table, key: Key, value: Any) -> None:
         if key.value_type == "paths":
+            least, greatest = key.limits()
             for number, path in enumerate(value, 1):
-                if not key.least <= len(path) <= key.greatest:
-                    text = f"it has {len(path)} names, and must have {key.least} to {key.greatest}: "
+                if not least <= len(path) <= greatest:
+                    text = f"it has {len(path)} names, and must have {least} to {greatest}: "
                     text += "the source, each switch on the way, and the destination"
                     self.at_path(4, i, key.name, number, text)
         elif key.choices and value not in key.choices:
             near = self.near_choice(key, value)
             self.add(4, section, i, key.name, f"is {shown(value)}, and must be {allowed(key)}{near}")
         elif key.value_type == "integer" and not key.choices:
-            if not key.least <= value <= key.greatest:
+            least, greatest = key.limits()
+            if not least <= value <= greatest:
                 self.add(4, section, i, key.name, f"is {value}, and must be {allowed(key)}")
             elif key.name == "to_ns" and type(row.get("from_ns")) is int and 0 <= value <= row["from_ns"]:
                 text = f"is {value}, and must be later than from_ns, which is {row['from_ns']}"
@@ -127,10 +129,10 @@ class RowJudge:
     @staticmethod
     def near_choice(key: Key, value: Any) -> str:
         if type(value) is str:
-            return meant(value, key.choices)
+            return meant(value, map(str, key.choices or ()))
         if key.name != "bag_ms":
             return ""
-        below = [it for it in key.choices if it < value]
+        below = [it for it in key.choices or () if it < value]
         return f". The next below {value} is {below[-1]}" if below else ""
 
     def at_path(self, number: int, i: int | None, key: str, path: int, text: str) -> None:

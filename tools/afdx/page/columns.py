@@ -1,5 +1,5 @@
 """The columns of the tables of a page, and how a cell is marked."""
-from collections.abc import Mapping, Sequence
+from collections.abc import Iterable, Mapping, Sequence
 from typing import Any, NamedTuple
 
 # How a cell is marked, as the script numbers it.
@@ -7,11 +7,13 @@ WARN, BAD = 1, 2
 
 # The rows of a table, column by column.
 Rows = Mapping[str, Sequence[Any]]
+# The same, of which some values are worked out each time that they are asked for.
+AnyRows = Mapping[str, Iterable[Any]]
 
 
 class Column(NamedTuple):
     """A column of a table of the page: where its values stand, how they look, its name and unit, what more there is to know
-    of it, and where it stands how a cell is marked."""
+    of it, where it stands how a cell is marked, and where the numbers stand by which its rows are sorted, if not in itself."""
 
     key: str
     look: str
@@ -19,6 +21,7 @@ class Column(NamedTuple):
     unit: str = ""
     hint: str = ""
     tone: str = ""
+    order: str = ""
 
     def data(self) -> dict[str, str]:
         """The column as the script has it: what is empty is left out."""

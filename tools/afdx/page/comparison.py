@@ -4,15 +4,15 @@ from typing import Any
 
 from afdx import model
 from afdx.files.page_text import hundredths, mean_ns, one_or_range
-from afdx.page.given import Given
+from afdx.page.given import Given, Other
 from afdx.reckon.bounds_file import Bounds
 
 
-def of_both(given: Given) -> dict[str, list[Any]]:
+def of_both(given: Given, other: Other) -> dict[str, list[Any]]:
     """For each virtual link and destination of both runs: before and now, and what changed, column by column."""
     found: dict[str, list[Any]] = {}
     for key, row in given.tables.latencies.items():
-        before = given.other.tables.latencies.get(key)
+        before = other.tables.latencies.get(key)
         if before is None:
             continue
         change = row.greatest - before.greatest if row.count and before.count else None
@@ -22,8 +22,8 @@ def of_both(given: Given) -> dict[str, list[Any]]:
         shown["percent"] = hundredths(Fraction(row.greatest * 100, before.greatest)) if change is not None else None
         shown |= {"mean_before": mean_ns(before) if before.count else None, "mean": mean_ns(row) if row.count else None}
         shown |= {"count_before": before.count, "count": row.count}
-        if given.ends and given.other.ends:
-            now, then = given.ends.of[key].missing, given.other.ends.of[key].missing
+        if given.ends and other.ends:
+            now, then = given.ends.of[key].missing, other.ends.of[key].missing
             shown |= {"missing_before": one_or_range(then), "missing": one_or_range(now)}
             # Of what is left open, the change that is sure.
             sure, fewer = now.least - then.most, then.least - now.most

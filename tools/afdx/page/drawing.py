@@ -50,8 +50,9 @@ class Drawing:
         self.home: dict[tuple[str, str], str] = {}
         for link in net.links:
             for here, there in ((link.a, link.b), (link.b, link.a)):
-                if net.nodes[here].kind == "es":
-                    self.home[here, net.nodes[there].net] = there
+                side = net.nodes[there].net
+                if net.nodes[here].kind == "es" and side:
+                    self.home[here, side] = there
         self.outages: dict[str, list[Outage]] = {}
         for outage in net.outages:
             self.outages.setdefault(outage.line, []).append(outage)
@@ -146,6 +147,8 @@ class Drawing:
     def head(self, name: str, place: Place, y: float, above: bool) -> None:
         """A switch: its box, and the bar along its end systems."""
         node, x = self.net.nodes[name], place.left
+        # A switch has a network.
+        assert node.net is not None
         look = node.net.lower()
         reach = self.rows * self.ROW + 10
         bar_x, bar_y = (x, y + self.HEAD - 6) if above else (x + self.column - self.COMB, y - reach)

@@ -121,7 +121,7 @@ def given_by(words: argparse.Namespace) -> Given:
     made_of = [net.path, tables.path, words.trace, words.limits, words.bounds, words.hops]
     made_of += [words.against, words.against_net, words.against_bounds]
     made_by = words.made_by or (f"{found.program.in_words()}, as their campaign says" if found else None)
-    margins = {it.limit[:2]: it for it in held}
+    margins = {(it.limit.vl, it.limit.where): it for it in held}
     percentiles = campaign_record.percentiles(found, tables) if tables.merged else None
     made_of += [os.path.join(os.path.dirname(tables.path), campaign_record.GREATEST)] if percentiles else []
     ends, made_of = ends_of(words, tables, found, trace), list(filter(None, made_of))

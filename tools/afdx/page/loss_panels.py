@@ -5,7 +5,7 @@ from typing import Any
 
 from afdx.files.page_text import span
 from afdx.model import CAUSES, Loss
-from afdx.model.traces import MOMENTS
+from afdx.model.traces import MOMENTS, Trace
 from afdx.page.columns import DESTINATION_COLUMN, VL_COLUMN, Column, count_column, seed_column
 from afdx.page.drawing import chart_over_time
 from afdx.page.panels import OfPage, panel
@@ -53,7 +53,7 @@ def losses_of_each(page: OfPage, lost: list[Loss]) -> str:
 def side_of(page: OfPage, loss: Loss) -> str:
     """The network on which copies were lost; of an end system tables may leave it open."""
     vl = page.net.vls[loss.vl]
-    found = {page.net.nodes[name].net for name in page.ends_of.get(loss.where, (loss.where,))} - {None}
+    found = {net for name in page.ends_of.get(loss.where, (loss.where,)) if (net := page.net.nodes[name].net)}
     if found:
         return found.pop()
     if loss.cause == "integrity":
@@ -61,8 +61,8 @@ def side_of(page: OfPage, loss: Loss) -> str:
     return " or ".join(side for side in "AB" if vl.paths[side])
 
 
-def over_time(page: OfPage) -> str:
-    lost = page.given.trace.over_time
+def over_time(page: OfPage, trace: Trace) -> str:
+    lost = trace.over_time
     parts = [(cause, lost[cause], COLOURS[cause]) for cause in LOSSES if any(lost[cause])]
     step = span(Fraction(page.net.until_ns, MOMENTS).__ceil__())
     words = f"From the trace: frames and copies in each hundredth of the run, {step}, by cause."

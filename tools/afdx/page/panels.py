@@ -1,15 +1,16 @@
 """The parts of every page: the network, what became of the frames, latencies and their distribution."""
-from typing import Protocol
+from typing import Any, Protocol
 
 from afdx.files.page_text import counted
 from afdx.model import Loss, Network, Tables
 from afdx.page.columns import (
-    COPIES_COLUMN, DELIVERED_COLUMN, DESTINATION_COLUMN, VL_COLUMN, Column, Rows, count_column, seed_column, time_column,
+    COPIES_COLUMN, DELIVERED_COLUMN, DESTINATION_COLUMN, VL_COLUMN, AnyRows, Column, Rows, count_column, seed_column, time_column,
 )
 from afdx.page.drawing import Drawing, legend_of_loads
 from afdx.page.end_table import BARS, ENOUGH_FOR_BARS, FEW
 from afdx.page.given import Given
 from afdx.page.json_text import Blocks
+from afdx.reckon.frames import Ends
 from afdx.runs.campaign_record import PERCENTS
 
 
@@ -20,7 +21,7 @@ class OfPage(Protocol):
     net: Network
     tables: Tables
     ends: Rows
-    rows: dict[str, Rows | Blocks]
+    rows: dict[str, AnyRows | Blocks]
     lost: dict[int, list[Loss]]
     ends_of: dict[str, tuple[str, str]]
 
@@ -74,7 +75,7 @@ def outages(page: OfPage) -> str:
     found = sorted(page.net.outages, key=lambda it: it.from_ns - it.to_ns)
     columns = [Column("line", "line", "line"), Column("from", "ms", "out from", "ms")]
     columns += [Column("to", "ms", "to", "ms"), Column("for", "ms", "for", "ms")]
-    rows = {"line": [it.line for it in found], "from": [it.from_ns for it in found]}
+    rows: dict[str, list[Any]] = {"line": [it.line for it in found], "from": [it.from_ns for it in found]}
     rows |= {"to": [it.to_ns for it in found], "for": [it.to_ns - it.from_ns for it in found]}
     return page.grid("outages", columns, "for", rows)
 
@@ -110,20 +111,21 @@ def end_to_end(page: OfPage) -> str:
         "What the application offered, and what became of it at each destination. A frame is missing where no copy "
         "of it came and none can come any more; copies that were lost while the other one came are counted apart."
     )
-    return panel("ends", "End to end", words, page.grid("end-to-end", columns, "missing", only=by_trouble(page)))
+    return panel("ends", "End to end", words, page.grid("end-to-end", columns, "missing", only=by_trouble(page.given.ends)))
 
 
-def by_trouble(page: OfPage) -> list[int]:
+def by_trouble(ends: Ends) -> list[int]:
     """The destinations, those first that lack most: frames, copies, or enough frames to show anything."""
     found = []
-    for i, end in enumerate(page.given.ends.of.values()):
+    for i, end in enumerate(ends.of.values()):
         lost = sum(count.least for count in end.lost.values())
         found.append((-end.missing.least, -lost, min(FEW, end.delivered), i))
     return [i for *_, i in sorted(found)]
 
 
 def latency(page: OfPage) -> str:
-    has_limits, has_bounds = bool(page.given.margins), bool(page.given.bounds)
+    bounds = page.given.bounds
+    has_limits, has_bounds = bool(page.given.margins), bounds is not None
     columns = [
         VL_COLUMN,
         DESTINATION_COLUMN,
@@ -137,12 +139,12 @@ def latency(page: OfPage) -> str:
         columns.append(time_column("limit", "limit", "", "limit_tone"))
     if has_bounds:
         columns.append(time_column("bound", "bound", "a bound of this model, computed outside the proofs", "bound_tone"))
-    if has_bounds and page.given.bounds.has_proved():
+    if bounds and bounds.has_proved():
         hint = "the bound that the program prints: proved to be the number of the formula in docs/BOUNDS.md"
         columns.append(time_column("proved", "bound by the program", hint, "proved_tone"))
     if has_limits:
         hint = "the limit less " + ("the bound" if has_bounds else "the greatest")
-        columns.append(time_column("margin", "margin", hint, "limit_tone") | {"order": "margin_order"})
+        columns.append(time_column("margin", "margin", hint, "limit_tone")._replace(order="margin_order"))
     closer = "policing_jitter_ns: how much closer than a BAG frames may come to a switch"
     columns += [
         Column("bag", "bag", "BAG", "ms"),

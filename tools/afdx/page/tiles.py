@@ -43,10 +43,12 @@ def tiles(given: Given, ends: Rows) -> str:
 
 def tile_of_above(given: Given) -> str:
     """The latencies above their bounds."""
-    above = given.bounds.above(given.tables.latencies) if given.bounds else []
-    if not above:
+    bounds = given.bounds
+    above = bounds.above(given.tables.latencies) if bounds else []
+    if not bounds or not above:
         return ""
-    worst = max(above, key=lambda row: row.greatest - given.bounds.of[row.vl, row.where].ns)
+    of = bounds.of
+    worst = max(above, key=lambda row: row.greatest - of[row.vl, row.where].ns)
     more = f"most virtual link {worst.vl} at {worst.where}: one of the two is wrong"
     return tile("above their bound", counted(len(above), "latency", "latencies"), more, "bad", "latency")
 
@@ -145,7 +147,7 @@ def tiles_of_run(given: Given) -> Iterator[str]:
         said = f"virtual link {worst.vl} at {worst.where}{seed}"
         yield tile("greatest latency", span(worst.greatest), said, "", f"vl-{worst.vl}")
     if net.load:
-        line = max(net.load, key=net.load.get)
+        line = max(net.load, key=net.load.__getitem__)
         load = two_places(net.load[line]) + " %"
         look = "bad" if net.load[line] > 100 else ""
         yield tile("busiest line", load, f"{line}, of {net.mbit[line]} Mbit/s", look, "line-" + quote(line, safe=""))

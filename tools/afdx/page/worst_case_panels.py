@@ -3,12 +3,13 @@ from collections.abc import Callable
 
 from afdx.page.columns import DESTINATION_COLUMN, VL_COLUMN, Column, count_column, time_column
 from afdx.page.panels import OfPage, panel
+from afdx.reckon.bounds_file import Bounds
+from afdx.reckon.hops import OnTheWay
 
 
-def worst_case(page: OfPage) -> str:
+def worst_case(page: OfPage, bounds: Bounds, way: OnTheWay) -> str:
     """What the bounds show of the worst case beside latencies."""
-    bounds = page.given.bounds
-    refusing, of_each = set(bounds.refusing()), page.given.way.switches()
+    refusing, of_each = set(bounds.refusing()), way.switches()
     # They are rows of the jitters at switches.
     only = [i for i, key in enumerate(zip(of_each["vl"], of_each["where"])) if key in refusing]
     columns = [VL_COLUMN, Column("where", "text", "switch")]
@@ -34,9 +35,8 @@ def worst_case(page: OfPage) -> str:
     return panel("worst", "In the worst case", words, *pieces)
 
 
-def on_the_way(page: OfPage) -> str:
+def on_the_way(page: OfPage, way: OnTheWay) -> str:
     """What was measured on the way, and its bounds."""
-    way = page.given.way
     sides = [("", "measured")] * way.is_measured + [("_bound", "bound")] * way.is_bounded
 
     def pair(kind: str, name: str, hint: str, make: Callable[[str, str, str, str], Column] = time_column) -> list[Column]:

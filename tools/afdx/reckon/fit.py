@@ -29,7 +29,7 @@ class Proposal(NamedTuple):
 
 
 POLICING, PORT = "policing_jitter_ns", "port_bytes"
-MOST = {key.name: key.greatest for section in ("vl", "node") for key in model.KEYS[section] if key.name in (POLICING, PORT)}
+MOST = {key.name: key.limits()[1] for section in ("vl", "node") for key in model.KEYS[section] if key.name in (POLICING, PORT)}
 STEP_NS = 1000
 
 
@@ -95,7 +95,7 @@ def replaced(text: str, proposed: Iterable[Proposal]) -> str:
     tree = reader.document()
     edits: list[tuple[int, int, int]] = []
     for it in proposed:
-        if it.after not in (None, it.before):
+        if it.after is not None and it.after != it.before:
             edits.append((*reader.places[id(tree[it.section][it.row - 1]), it.key], it.after))
     pieces: list[str] = []
     last = 0

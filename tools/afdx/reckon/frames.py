@@ -10,7 +10,7 @@ import functools
 import random
 from bisect import bisect_left
 from collections import Counter, deque
-from collections.abc import Callable, Iterable, Iterator
+from collections.abc import Callable, Iterable, Iterator, Sequence
 from typing import Any, NamedTuple, NoReturn
 
 from afdx import model
@@ -191,7 +191,7 @@ class Ends:
     missing, it is under way at the end."""
 
     def __init__(
-        self, tables: Tables, seeds: list[int], draws_offsets: bool = False, trace: Trace | None = None, known: dict[int | tuple[int, str], Any] | None = None
+        self, tables: Tables, seeds: Sequence[int], draws_offsets: bool = False, trace: Trace | None = None, known: dict[int | tuple[int, str], Any] | None = None
     ) -> None:
         self.tables, self.net, self.trace = tables, tables.net, trace
         # What does not depend on the tables, for those who reckon with the same seeds again.
@@ -218,7 +218,7 @@ class Ends:
             self.known[key] = make(*given)
         return self.known[key]
 
-    def all_sent(self, seeds: list[int], draws_offsets: bool) -> Iterator[tuple[VirtualLink, many_seeds.SentOfAll]]:
+    def all_sent(self, seeds: Sequence[int], draws_offsets: bool) -> Iterator[tuple[VirtualLink, many_seeds.SentOfAll]]:
         """For each virtual link what its regulator did in the runs of all seeds together."""
         numpy = many_seeds.library(seeds)
         offsets = [drawn_offsets(self.net, seed) if draws_offsets else {} for seed in seeds]

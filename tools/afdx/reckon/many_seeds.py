@@ -6,7 +6,7 @@ the release before it and a BAG, whichever sub-virtual link has its turn. This h
 which is so where fewer wait than one queue holds; a seed in which that may be otherwise is drawn by itself.
 """
 from bisect import bisect_right
-from collections.abc import Callable
+from collections.abc import Callable, Sequence
 from typing import Any, NamedTuple
 
 from afdx.files import debian_modules
@@ -36,7 +36,7 @@ AT_ONCE = 2**21
 NONE = 2**63 - 1
 
 
-def library(seeds: list[int]) -> Any:
+def library(seeds: Sequence[int]) -> Any:
     """The library, if it is installed and pays for this number of seeds; else None."""
     return debian_modules.found("numpy") if len(seeds) >= ENOUGH else None
 
@@ -49,7 +49,7 @@ def together(runs: list[Any]) -> SentOfAll:
 
 
 def sent_of_all(
-    numpy: Any, vl: VirtualLink, seeds: list[int], offsets: list[int], until_ns: int, sent_of_one: Callable[[int, int], Any]
+    numpy: Any, vl: VirtualLink, seeds: Sequence[int], offsets: list[int], until_ns: int, sent_of_one: Callable[[int, int], Any]
 ) -> SentOfAll:
     """What the regulator of a virtual link does in the runs of seeds, each with its offset. `sent_of_one` draws a seed by itself,
     with an offset."""
@@ -62,7 +62,7 @@ def sent_of_all(
 
 
 def sent_of_some(
-    numpy: Any, vl: VirtualLink, seeds: list[int], offsets: list[int], until_ns: int, sent_of_one: Callable[[int, int], Any]
+    numpy: Any, vl: VirtualLink, seeds: Sequence[int], offsets: list[int], until_ns: int, sent_of_one: Callable[[int, int], Any]
 ) -> SentOfAll:
     """The same of the seeds that are drawn at once; the releases in any order."""
     offers = offers_of(numpy, vl, seeds, offsets, until_ns)
@@ -79,7 +79,7 @@ def sent_of_some(
     return SentOfAll(offered + plain.offered, plain.refused, offered - released.size + plain.waiting, moments, None)
 
 
-def offers_of(numpy: Any, vl: VirtualLink, seeds: list[int], offsets: list[int], until_ns: int) -> Any:
+def offers_of(numpy: Any, vl: VirtualLink, seeds: Sequence[int], offsets: list[int], until_ns: int) -> Any:
     """The moments of the offers of each seed, rising, and NONE behind them: drawn by PCG XSH RR 64/32, as tools/afdx/model/drawn_offers.py does."""
     first = numpy.array(offsets, numpy.int64)
     count = max(0, (until_ns - min(offsets)) // vl.period_ns + 1)

@@ -61,7 +61,9 @@ def read(path: str) -> Record:
     maker = maker_of(found["program"])
     if maker is None:
         raise Fault(path, None, f"is no record of a campaign: program is {cut(repr(found['program']))}")
-    return Record(**{name: found[name] for name in TYPES} | {"program": maker})
+    return Record(
+        found["description"], maker, found["until_ns"], found["first_seed"], found["seeds"], found["offsets"], found["words"], found["files"]
+    )
 
 
 def maker_of(found: dict[str, Any]) -> program.Maker | None:

@@ -191,8 +191,8 @@ class EachOutage:
         first, changed = self.courses[0], set().union(*course.came)
         for key in sorted(changed, key=lambda it: (it[0], self.net.process[it[1]])):
             before, now = first.together(key, first), course.together(key, first)
-            counts = before[0], now[0], before[1], now[1], before[2], now[2]
-            change = Change(*key, *counts, growth_that_counts(before[2], now[2], self.least_later))
+            grown = growth_that_counts(before[2], now[2], self.least_later)
+            change = Change(key[0], key[1], before[0], now[0], before[1], now[1], before[2], now[2], grown)
             if more_lost(change).most or now[2] > before[2]:
                 course.changes.append(change)
         for key, limit in self.limits.items():
@@ -202,8 +202,9 @@ class EachOutage:
 
     def summaries(self) -> list["Summary"]:
         """Each outage with what it does, the worst first."""
-        found = [Summary(course, course.changes, course.broken) for course in self.courses[1:]]
-        return sorted(found, key=lambda it: (-it.lost().least, -it.lost().most, -it.latest(), it.course.number))
+        # Only the first course has no element.
+        found = [Summary(course.number, course.element, course.changes, course.broken) for course in self.courses if course.element]
+        return sorted(found, key=lambda it: (-it.lost().least, -it.lost().most, -it.latest(), it.number))
 
     def table(self, maker: program.Maker) -> str:
         """The table; its last column names the program."""
@@ -218,14 +219,15 @@ class EachOutage:
 
 
 class Summary(NamedTuple):
-    """What an outage does: the runs with it, what it changes, and the limits that it breaks."""
+    """What an outage does: its number, what is out, what it changes, and the limits that it breaks."""
 
-    course: Course
+    number: int
+    element: Element
     changes: list[Change]
     broken: list[Limit]
 
     def name(self) -> str:
-        return name_of(self.course.element)
+        return name_of(self.element)
 
     def lost(self) -> Range:
         """How many frames more are lost end to end at all destinations together."""
@@ -328,7 +330,7 @@ def page(found: EachOutage, path: str, made_by: str) -> str:
     summaries = found.summaries()
     losing = sum(it.lost().most > 0 for it in summaries)
     late = sum(bool(it.late()) for it in summaries)
-    links, switches = (sum(it.course.element.what == what for it in summaries) for what in ("link", "switch"))
+    links, switches = (sum(it.element.what == what for it in summaries) for what in ("link", "switch"))
     unused = len(found.elements) - (len(found.courses) - 1) if not found.failure else None
     tiles = [tile("links and switches out in turn", f"{links} and {switches}")]
     tiles.append(tile("outages that cost frames end to end", losing, "bad" if losing else "good"))

@@ -53,12 +53,12 @@ def setting(text: str) -> Setting:
         raise argparse.ArgumentTypeError(f"{name} is no key of {judge.A_ROW[section]} that can be set{judge.meant(name, known)}")
     if section != "node" and not (model.NUMBER.fullmatch(who) and len(who) < 20):
         raise argparse.ArgumentTypeError(f"{who!r} is no number of {judge.A_ROW[section]}")
-    values = texts.split(",")
+    values: list[int | str] = [*texts.split(",")]
     if key.value_type == "integer":
-        for value in values:
+        for value in texts.split(","):
             if not model.NUMBER.fullmatch(value.replace("_", "")):
                 raise argparse.ArgumentTypeError(f"{name} is {value!r}, and no whole number")
-        values = [int(value.replace("_", "")) for value in values]
+        values = [int(value.replace("_", "")) for value in texts.split(",")]
     if len(set(values)) < len(values):
         raise argparse.ArgumentTypeError(f"{text!r} has a value twice")
     return Setting(f"{section}.{who}.{name}", section, who, key, values, text)
@@ -120,6 +120,27 @@ def combinations_of(description: model.Description, settings: Sequence[Setting])
     return found
 
 
+class Outcome(NamedTuple):
+    """What the runs of a combination gave of a virtual link at a destination: how many runs delivered a frame, how many frames
+    came, the least, the mean and the greatest of the greatest latencies, the seed of that, and how many copies were lost."""
+
+    combination: Combination
+    vl: int
+    where: str
+    runs: int
+    delivered: int
+    least: int
+    mean: int
+    greatest: int
+    seed: int | None
+    copies_lost: int
+
+    def numbers(self) -> list[int | str]:
+        """The cells of a line of the table behind virtual link and destination."""
+        *numbers, seed, lost = self[3:]
+        return [*numbers, "" if seed is None else seed, lost]
+
+
 # A combination and its runs.
 Course = tuple[Combination, Campaign]
 
@@ -165,40 +186,41 @@ class Sweep:
         """The courses of which all runs were made."""
         return [(combination, campaign) for combination, campaign in self.courses if campaign.done == len(campaign.seeds)]
 
-    def rows(self) -> Iterator[tuple[Combination, int, str, list[int | str]]]:
-        """For each whole course, virtual link and destination what a line of the table has."""
+    def outcomes(self) -> Iterator[Outcome]:
+        """For each whole course, virtual link and destination what came of its runs."""
         for combination, campaign in self.whole():
             merged = campaign.merged
-            for vl, where in merged.latencies:
-                of_all = merged.latencies[vl, where]
+            for (vl, where), of_all in merged.latencies.items():
                 over = merged.over_seeds[vl, where]
-                spread = [over.least, over.mean()] if over.runs else [0, 0]
-                seed = "" if of_all.seed is None else of_all.seed
-                yield combination, vl, where, [over.runs, of_all.count, *spread, of_all.greatest, seed, merged.copies_lost(vl)]
+                least, mean = (over.least, over.mean()) if over.runs else (0, 0)
+                yield Outcome(
+                    combination, vl, where, over.runs, of_all.count, least, mean, of_all.greatest, of_all.seed, merged.copies_lost(vl)
+                )
 
     def table(self, maker: program.Maker) -> str:
         """The table; its last column names the program."""
         lines = [",".join(["set", *(it.name for it in self.settings), HEAD, "program"])]
-        for combination, vl, where, numbers in self.rows():
-            lines.append(",".join(map(str, [combination.number, *combination.values, vl, where, *numbers, maker.cell()])))
+        for it in self.outcomes():
+            cells = [it.combination.number, *it.combination.values, it.vl, it.where, *it.numbers(), maker.cell()]
+            lines.append(",".join(map(str, cells)))
         return "\n".join(lines) + "\n"
 
     def long_rows(self) -> Iterator[tuple[Any, ...]]:
         """The rows of the table in the long form, with the combination and its values as further keys."""
         measures = HEAD.split(",")[2:]
-        for combination, vl, where, numbers in self.rows():
+        for outcome in self.outcomes():
+            combination = outcome.combination
             more = {"set": combination.number} | {it.name: value for it, value in zip(self.settings, combination.values)}
-            for measure, number in zip(measures, numbers):
+            for measure, number in zip(measures, outcome.numbers()):
                 if number != "":
-                    yield "set", vl, where, measure, number, more
+                    yield "set", outcome.vl, outcome.where, measure, number, more
 
     def effects(self) -> list["Effect"]:
         """For each virtual link and destination what the values do, the greatest effect first."""
         found: dict[tuple[int, str], list[Bar]] = {}
-        for combination, vl, where, numbers in self.rows():
-            runs, _, least, mean, greatest, _, _ = numbers
-            if runs:
-                found.setdefault((vl, where), []).append(Bar(combination, least, mean, greatest))
+        for it in self.outcomes():
+            if it.runs:
+                found.setdefault((it.vl, it.where), []).append(Bar(it.combination, it.least, it.mean, it.greatest))
         effects = [Effect(self.settings, *key, bars) for key, bars in found.items()]
         return sorted(effects, key=lambda it: (-it.effect, it.vl, it.where))
 
