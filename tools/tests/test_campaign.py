@@ -103,7 +103,7 @@ class Here(unittest.TestCase):
         self.folder = folder.name
         self.output = os.path.join(self.folder, "campaign")
         self.merged = os.path.join(self.output, "merged.csv")
-        self.program = campaign.PROGRAM
+        self.program = model.PROGRAM
 
     def file(self, name, text):
         path = os.path.join(self.folder, name)
