@@ -143,8 +143,8 @@ class ByTshark(Here):
         """Each frame of the smallest example on both lines, and what is lost on a line beside what came through."""
         self.capture_of("n1", "--each", "line")
         found = [(it["frame.interface_name"], it["frame.time_epoch"], it["frame.comment"]) for it in self.packets()]
-        told = "delivered at ES2: latency 27720 ns, 0 ns of it in the regulator"
-        self.assertEqual(found, [("ES1>SW1", "0.000005760", ""), ("SW1>ES2", "0.000027620", told)])
+        said = "delivered at ES2: latency 27720 ns, 0 ns of it in the regulator"
+        self.assertEqual(found, [("ES1>SW1", "0.000005760", ""), ("SW1>ES2", "0.000027620", said)])
         tables = self.capture_of("link_outage", "--each", "line")
         outages = Counter()
         for packet in self.packets("-Y", 'frame.comment contains "outage"'):
@@ -153,7 +153,7 @@ class ByTshark(Here):
         self.assertTrue(wanted)
         self.assertEqual(outages, wanted)
 
-    def test_what_is_lost_at_a_switch_is_told_on_the_line_to_it(self):
+    def test_what_is_lost_at_a_switch_is_noted_on_the_line_to_it(self):
         """And what is lost in the regulator stands at the source, with no network."""
         tables = self.capture_of("saturated_port", "--each", "line")
         lost = {key: row.count for key, row in tables.losses.items() if key[2] == "port_full"}

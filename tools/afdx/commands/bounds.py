@@ -125,7 +125,7 @@ def write_fitted(net: model.Network, path: str) -> int:
     for it in stays:
         line = net.description.line(it.section, it.row, it.key)
         who = f"virtual link {it.name}" if it.section == "vl" else it.name
-        files.tell("afdx bounds", model.Fault(net.path, line, f"{who}, {it.key} stays {it.before}: {it.why}"))
+        files.report("afdx bounds", model.Fault(net.path, line, f"{who}, {it.key} stays {it.before}: {it.why}"))
     return 1 if stays else 0
 
 
