@@ -499,8 +499,8 @@ class Workbooks(Here):
         self.assertEqual(status, 0, said)
         self.assertEqual(said.splitlines(), [
             f"afdx table: note: {path}, sheet Sheet, line 9: is hidden, and is read all the same; so has 1 more line: 10",
-            f"afdx table: note: {path}, sheet Sheet,: has the column E, which is hidden, and is read all the same",
-            f"afdx table: note: {path}, sheet Old,: is hidden, and is read all the same",
+            f"afdx table: note: {path}, sheet Sheet: has the column E, which is hidden, and is read all the same",
+            f"afdx table: note: {path}, sheet Old: is hidden, and is read all the same",
         ])
         self.assertEqual(len(toml_lines.read(read(self.output))["vl"]), 2)
 

@@ -53,12 +53,12 @@ class WithoutSharedMemory(Here):
     def test_the_folder_is_named(self):
         """Where /dev/shm cannot be written the system refuses semaphores, without a name. No run is made."""
         self.stand_in("open(%r, 'w')" % os.path.join(self.folder, "ran"))
-        for fault, said in ((PermissionError(13, "Permission denied"), "Permission denied"), (OSError(38, "Function not implemented"), "Function not implemented")):
-            with mock.patch("multiprocessing.synchronize.SemLock.__init__", side_effect=fault):
-                told = self.call(N1, "--seeds", "2")
-            begin = f"afdx campaign: /dev/shm: holds no semaphore for processes side by side: {said}. Mount it: "
-            self.assertEqual((told[0], told[1], told[2].startswith(begin), told[2].count("\n")), (2, "", True, 1), told)
-            self.assertFalse(os.path.exists(os.path.join(self.folder, "ran")))
+        refused = PermissionError(13, "Permission denied")
+        with mock.patch("multiprocessing.synchronize.SemLock.__init__", side_effect=refused):
+            told = self.call(N1, "--seeds", "2")
+        begin = "afdx campaign: /dev/shm: holds no semaphore for processes side by side: Permission denied. `mount "
+        self.assertEqual((*told[:2], told[2].startswith(begin), told[2].count("\n")), (2, "no run was merged, and nothing is written\n", True, 1), told)
+        self.assertFalse(os.path.exists(os.path.join(self.folder, "ran")))
 
 
 class Plain(reading_processes.Reckoner):

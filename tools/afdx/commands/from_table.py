@@ -162,7 +162,7 @@ class Tables:
         for sheet in workbook.sheets_of(path):
             place = f"{path}, sheet {sheet['name']},"
             for number, text in sheet["hidden"]:
-                self.notes.append(Fault(place, number, text + ", and is read all the same"))
+                self.notes.append(Fault(place if number else place.rstrip(","), number, text + ", and is read all the same"))
             self.read(place, workbook.numbered(sheet["rows"]), self.pass_over)
         if before == sum(map(len, self.lines.values())):
             self.add(Line(path, None, {}), "has no table: --help has their columns")

@@ -5,9 +5,7 @@ behind them, to the next such number. So whole numbers give the bin, and all run
 """
 from __future__ import annotations
 
-import re
 from array import array
-from collections import Counter
 from collections.abc import Iterable, Iterator
 
 from afdx.files import Fault
@@ -19,10 +17,9 @@ HALF = 2 ** (DIGITS - 1)
 # many bytes are read at once.
 TOGETHER = HALF
 SIZES = ["B", "H", "I", "Q"]
-BLOCK = 2**22
+BLOCK = 2**18
 # The numbers of bins in which frames came, and how many came in each.
 Bins = tuple["array[int]", "array[int]"]
-DELIVERED = re.compile(rb"^[0-9]+,([^,\n]+,[0-9]+),delivered,([0-9]{1,19})$", re.MULTILINE)
 
 
 def bin_of(ns: int) -> int:
@@ -89,30 +86,45 @@ class Counts:
 
 
 def of_trace(path: str, tables: Tables) -> list[Bins]:
-    """For each virtual link and destination, in the order of the tables, how many frames came in each bin, as `bins_of` has it. A trace that has not
-    what the tables have is refused."""
-    found = {f"{where},{vl}".encode(): array("Q") for vl, where in tables.latencies}
+    """For each virtual link and destination, in the order of the tables, how many frames came in each bin, as `bins_of` has it.
+    A trace that has not what the tables have is refused."""
+    found: dict[str, dict[str, list[str]]] = {}
+    for vl, where in tables.latencies:
+        found.setdefault(str(vl), {})[where] = []
     with open(path, "rb") as file:
         rest = b""
         while block := file.read(BLOCK):
             block = rest + block
             end = block.rfind(b"\n") + 1
+            take(path, tables, found, block[:end].decode("utf-8", "replace"))
             rest = block[end:]
+    return [bins_of(path, found[str(row.vl)][row.where], row) for row in tables.latencies.values()]
+
+
+def take(path: str, tables: Tables, found: dict[str, dict[str, list[str]]], lines: str) -> None:
+    """Takes the latencies in lines of a trace, of five fields each; as texts, so that no number is read by itself."""
+    fields = lines.replace("\n", ",").split(",")
+    for where, vl, what, latency in zip(fields[1::5], fields[2::5], fields[3::5], fields[4::5]):
+        if what == "delivered":
             try:
-                for key, latency in DELIVERED.findall(block, 0, end):
-                    found[key].append(int(latency))
-            except KeyError as fault:
-                raise Fault(path, None, f"{fault.args[0].decode('utf-8', 'replace')} is no destination in {tables.net.path}") from None
-    return [bins_of(path, latencies, row) for latencies, row in zip(found.values(), tables.latencies.values())]
+                found[vl][where].append(latency)
+            except KeyError:
+                raise Fault(path, None, f"{where},{vl} is no destination in {tables.net.path}") from None
 
 
-def bins_of(path: str, latencies: array[int], row: Latency) -> Bins:
+def bins_of(path: str, texts: list[str], row: Latency) -> Bins:
     """How many of these latencies are in each bin, as the numbers of the bins and the counts, which another process is soon given;
     they must be those of a row of the tables."""
-    count = len(latencies)
-    if (count, min(latencies, default=0), max(latencies, default=0), sum(latencies)) != row[2:6]:
-        raise Fault(path, None, f"is of another run than the tables: {count} frames of virtual link {row.vl} came to {row.where}")
-    # As bin_of does, without a call for each.
-    numbers = [ns if (shift := ns.bit_length() - DIGITS) <= 0 else shift * HALF + (ns >> shift) for ns in latencies]
-    found = Counter(numbers)
+    try:
+        latencies = list(map(int, texts))
+    except ValueError:
+        latencies = []
+    if (len(latencies), min(latencies, default=0), max(latencies, default=0), sum(latencies)) != row[2:6]:
+        raise Fault(path, None, f"is of another run than the tables: {len(texts)} frames of virtual link {row.vl} came to {row.where}")
+    found: dict[int, int] = {}
+    for ns in latencies:
+        # As bin_of does, without a call for each.
+        shift = ns.bit_length() - DIGITS
+        number = ns if shift <= 0 else shift * HALF + (ns >> shift)
+        found[number] = found.get(number, 0) + 1
     return array("H", found), array("I", found.values())
