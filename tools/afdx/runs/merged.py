@@ -57,8 +57,8 @@ class Merged:
             mine[1] = least if mine[0] == 0 else min(mine[1], least)
             mine[0] += count
             mine[3] += total
-        for over, times in zip(self.over_seeds.values(), told.times or ()):
-            over.counts.add(zip(*times))
+        for over, times in zip(self.over_seeds.values(), told.times.each() if told.times else ()):
+            over.counts.add(times)
         for of, count in told.losses.items():
             mine = self.losses.setdefault(of, [0, 0, None])
             mine[0] += count

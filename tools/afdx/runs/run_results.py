@@ -44,7 +44,7 @@ class Reader(reading_processes.Reckoner):
         )
 
 
-def counted(tables: model.Tables, run: Run, path: str) -> list[latency_counts.Bins]:
+def counted(tables: model.Tables, run: Run, path: str) -> latency_counts.Bins:
     """How many frames of each virtual link and destination there are in each bin of latencies, by the trace of a run."""
     try:
         return latency_counts.of_trace(path, tables)
