@@ -11,3 +11,4 @@ pub mod Counted
 pub mod Undoing
 pub mod Sealing
 pub mod Trail
+pub mod Waiting

@@ -89,6 +89,7 @@ impl<R: Actor> Hand<R> {
     /// Returns the first message of the queue, if any: the least of all that the members have to handle, if none of them rolled back.
     pub fn next(&mut self) -> Option<Message>
         ensures same { IsAsBefore self.old self.new }
+        ensures unchanged { self.new ≡ record self.old { flow = record self.old.flow { room = self.new.flow.room } } }
         ensures among { IfSome result (Contains self.old.flow.queue) }
         ensures first { IfSome result (λ m. All (λ x. is_before x m ≡ false) self.old.flow.queue) }
         ensures none { IfNone result (self.old.flow.queue ≡ []) }

@@ -74,6 +74,7 @@ impl<R: Actor> Hand<R> {
     /// letters in the tray, and of `end`, the moment after the end of the run, in ns. It is exact if `count_done` was called before.
     pub fn floor(&mut self, end: Time) -> Time
         ensures same { IsAsBefore self.old self.new }
+        ensures unchanged { self.new ≡ record self.old { flow = record self.old.flow { room = self.new.flow.room } } }
         ensures least { result ≡ floor_in message_order end self.old.flow }
         ensures bound { (x : Setting R) (v : World Message R) → end ≡ suc x.until → StandsForGroup (rules_of R.plain) R.is_value x v self.old →
             (p : ℕ) → is_ours self.old.members p ≡ true → result ≤ v.floors p }
@@ -89,6 +90,7 @@ impl<R: Actor> Hand<R> {
     /// Returns the moment of the first message of the queue, if any.
     pub fn next_time(&mut self) -> Option<Time>
         ensures same { IsAsBefore self.old self.new }
+        ensures unchanged { self.new ≡ record self.old { flow = record self.old.flow { room = self.new.flow.room } } }
         ensures among { IfSome result (λ t. (m : Message) × Contains self.old.flow.queue m × (m.time ≡ t)) }
         ensures least { IfSome result (λ t. All (λ m. t ≤ m.time) self.old.flow.queue) }
         ensures none { IfNone result (self.old.flow.queue ≡ []) }
@@ -124,6 +126,7 @@ impl Letters {
     fn floor(&mut self, end: Time) -> Time
         ensures same { IsPermutation self.old.queue self.new.queue }
         ensures others { self.new ≡ record self.old { queue = self.new.queue; room = self.new.room } }
+        ensures unchanged { self.new ≡ record self.old { room = self.new.room } }
         ensures least { result ≡ floor_in message_order end self.old }
     {
         order_law();

@@ -112,6 +112,7 @@ impl Letters {
         ensures same { IsPermutation self.old.queue self.new.queue }
         ensures room { self.old.room ≤ self.new.room }
         ensures others { self.new ≡ record self.old { queue = self.new.queue; room = self.new.room } }
+        ensures unchanged { self.new ≡ record self.old { room = self.new.room } }
         ensures among { IfSome result (Contains self.old.queue) }
         ensures first { IfSome result (λ m. All (λ x. is_before x m ≡ false) self.old.queue) }
         ensures none { IfNone result (self.old.queue ≡ []) }
