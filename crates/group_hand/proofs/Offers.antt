@@ -4,7 +4,7 @@ use Rattle.std.specs.Cmp.{IsTotalOrder}
 use Rattle.std.proofs.lemmas.Bool.{both_ways, cases_lt}
 use Rattle.std.proofs.lemmas.List.{nil_from_length}
 use Rattle.std.proofs.lemmas.List.Elements.{All-append, All-contains, Contains-append_right}
-use Rattle.std.proofs.lemmas.List.Sorted.{IsPermutation-append_right, IsPermutation-to_front, IsPermutation-sym, IsPermutation-trans, Contains-permutation}
+use Rattle.std.proofs.lemmas.List.Sorted.{IsPermutation-append_right, IsPermutation-refl, IsPermutation-to_front, IsPermutation-trans}
 use Rattle.std.proofs.lemmas.Option.{get_or_from_slice_get, slice_get_within, slice_get-get_or}
 use Rattle.vlink.specs.declared.message.Message.{Message}
 use Rattle.vlink.specs.Order.{message_cmp, message_order}
@@ -50,12 +50,12 @@ last-among lists offers (Some m) e = Contains-append_right lists offers m.now (l
 
 -- two that are first of a list are one
 pub first-out : IsOrder message_order → (old new : List Message) (m : Message) (taken : Option Message) → Contains old m → NoneBefore m old →
-    IfSome taken (λ z. IsPermutation old (z ∷ new)) → IfSome taken (λ z. NoneBefore z old) → IfNone taken (old ≡ []) → IsPermutation old (m ∷ new)
+    IfSome taken (λ z. old ≡ z ∷ new) → IfSome taken (λ z. NoneBefore z old) → IfNone taken (old ≡ []) → IsPermutation old (m ∷ new)
 first-out O old new m None there first p q none = absurd (let k = subst (λ (xs : List Message). Contains xs m) none there in let l = k.1 in omega (arith, l))
 first-out O old new m (Some z) there first p q none =
-    let inside : Contains old z = Contains-permutation (z ∷ new) old z (IsPermutation-sym old (z ∷ new) p) (0, omega arith, refl) in
+    let inside : Contains old z = subst (λ (xs : List Message). Contains xs z) (sym p) (0, omega arith, refl) in
     let same : z ≡ m = O.total z m (All-contains (λ x. is_before x m ≡ false) old z first inside) (All-contains (λ x. is_before x z ≡ false) old m q there) in
-    subst (λ (w : Message). IsPermutation old (w ∷ new)) same p
+    subst (IsPermutation old) (p ∙ ap (λ (w : Message). w ∷ new) same) (IsPermutation-refl old)
 
 -- all that was in no order lies beside now, in order
 pub put-beside : (lists now far put offers : List Message) → offers ≡ [] → IsPermutation lists (now ++ far) → IsPermutation far put → IsPermutation (lists ++ offers) (now ++ put)

@@ -1,5 +1,6 @@
 -- The same messages have one order.
 use Rattle.std.proofs.Common.{◌≡◌, ◌+◌, ◌∙◌, inl, inr, Bool, true, false, cond, List, [], ◌∷◌, Option, Some, None, IfSome, IfNone, All, Contains, IsPermutation, refl, sym, ap, subst, arith}
+use Rattle.std.proofs.lemmas.List.Elements.{All-head, All-tail}
 use Rattle.std.specs.Bool.{⊤}
 use Rattle.std.proofs.lemmas.Bool.{both_ways, false_from_ne_true}
 use Rattle.std.proofs.lemmas.List.Sorted.{All-permutation, Contains-permutation, IsPermutation-refl, IsPermutation-sym, IsPermutation-cons, IsPermutation-middle, IsPermutation-trans}
@@ -24,6 +25,11 @@ pub ordered-permuted : (xs : List Message) → IsPermutation xs (ordered xs)
 ordered-permuted [] = IsPermutation-refl []
 ordered-permuted (x ∷ xs) =
     IsPermutation-trans (x ∷ xs) (x ∷ ordered xs) (placed x (ordered xs)) (IsPermutation-cons x xs (ordered xs) (ordered-permuted xs)) (placed-permuted x (ordered xs))
+
+-- where none comes before it, it is the first
+pub placed-first : (m : Message) (xs : List Message) → All (λ x. is_before x m ≡ false) xs → placed m xs ≡ m ∷ xs
+placed-first m [] a = refl
+placed-first m (x ∷ xs) a = ap (λ b. cond b (x ∷ placed m xs) (m ∷ x ∷ xs)) (All-head (λ x. is_before x m ≡ false) x xs a)
 
 -- none comes before one that is ahead of it
 abbrev Rises : List Message → Type 0
@@ -82,6 +88,17 @@ module _ (O : IsOrder message_order) where
       let c = times-permutation message_order m xs ys p in
       omega (arith, a, b, c))
 
+  -- the first of them is the head
+  pub first-ordered : (m : Message) (xs ys : List Message) → IsPermutation xs (m ∷ ys) → All (λ x. is_before x m ≡ false) xs → ordered xs ≡ m ∷ ordered ys
+  first-ordered m xs ys p a =
+      let P : Message → Type 0 = λ x. is_before x m ≡ false in
+      same-ordered xs (m ∷ ys) p ∙ placed-first m (ordered ys) (All-permutation P ys (ordered ys) (ordered-permuted ys) (All-tail P m ys (All-permutation P xs (m ∷ ys) p a)))
+
+  pub if-out : (o : Option Message) (xs ys : List Message) → IfSome o (λ m. IsPermutation xs (m ∷ ys)) → IfSome o (λ m. All (λ x. is_before x m ≡ false) xs) →
+      IfSome o (λ m. ordered xs ≡ m ∷ ordered ys)
+  if-out None xs ys h a = tt
+  if-out (Some m) xs ys h a = first-ordered m xs ys h a
+
 -- what holds of messages in whatever order holds of them in order
 pub if-among : (o : Option Message) (xs : List Message) → IfSome o (Contains xs) → IfSome o (Contains (ordered xs))
 if-among None xs h = tt
@@ -105,6 +122,3 @@ pub in-ordered : (m : Message) (xs ys : List Message) → IsPermutation (m ∷ x
 in-ordered m xs ys p =
     IsPermutation-sym (ordered ys) (m ∷ ordered xs) (out-ordered m ys xs (IsPermutation-sym (m ∷ xs) ys p))
 
-pub if-out : (o : Option Message) (xs ys : List Message) → IfSome o (λ m. IsPermutation xs (m ∷ ys)) → IfSome o (λ m. IsPermutation (ordered xs) (m ∷ ordered ys))
-if-out None xs ys h = tt
-if-out (Some m) xs ys h = out-ordered m xs ys h

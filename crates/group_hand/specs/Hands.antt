@@ -1,5 +1,5 @@
 -- What a group holds, when it represents its processes in a small world of the laws of virtual time, and what its calls do there.
-use Rattle.std.specs.Prelude.{◌≡◌, ℕ, suc, ◌<◌, ◌≤◌, Bool, true, false, List, [], ◌++◌, map, length, slice_get, Option, Some, None, All, IfSome, min, ⊤, IsPermutation}
+use Rattle.std.specs.Prelude.{◌≡◌, ℕ, suc, ◌<◌, ◌≤◌, Bool, true, false, List, [], ◌++◌, map, length, slice_get, Option, Some, None, All, IfSome, min, ⊤}
 use Rattle.vlink.specs.declared.message.Message.{Message}
 use Rattle.vlink.specs.declared.note.Note.{Note}
 use Rattle.vlink.specs.Letters.{Letter}
@@ -131,13 +131,9 @@ pub record IsOpened {S K : Type 0} (x : Setting S) (v : World Message S) (h : He
   pub floor : (p : ℕ) → is_ours h.members p ≡ true → v.floors p ≡ suc x.until
   pub mail : (q : ℕ) → v.mail q ≡ []
 
--- nothing changed but the order of the queue, and for how much more there is room
-pub record IsAsBefore {S K : Type 0} (old new : Held S K) : Type 0 where
-  pub members : new.members ≡ old.members
-  pub done : new.done ≡ old.done
-  pub rows : new.rows ≡ old.rows
-  pub queue : IsPermutation old.flow.queue new.flow.queue
-  pub flow : new.flow ≡ record old.flow { queue = new.flow.queue; room = new.flow.room }
+-- nothing changed but for how much more there is room
+abbrev pub IsAsBefore : {S K : Type 0} → Held S K → Held S K → Type 0
+IsAsBefore old new = new ≡ record old { flow = record old.flow { room = new.flow.room } }
 
 -- the same where GVT stands at this moment or later; GVT stays
 pub record CommitsTold {S K : Type 0} (r : Rules Message S K Note) (is_value : S → Message → Type 0) (moment : ℕ) (old new : Held S K) : Type 0 where

@@ -89,7 +89,6 @@ impl<R: Actor> Hand<R> {
     /// Returns the first message of the queue, if any: the least of all that the members have to handle, if none of them rolled back.
     pub fn next(&mut self) -> Option<Message>
         ensures same { IsAsBefore self.old self.new }
-        ensures unchanged { self.new ≡ record self.old { flow = record self.old.flow { room = self.new.flow.room } } }
         ensures among { IfSome result (Contains self.old.flow.queue) }
         ensures first { IfSome result (λ m. All (λ x. is_before x m ≡ false) self.old.flow.queue) }
         ensures none { IfNone result (self.old.flow.queue ≡ []) }
@@ -106,8 +105,7 @@ impl<R: Actor> Hand<R> {
             × (self.new.rows ≡ record self.old.rows { all = self.old.rows.all ++ rows_in ds }) × All (λ m. m.time < moment) (messages_of ds)) }
         ensures left { OnOk result (StaysDone moment self.new) }
         ensures words { AddsCommits self.old.flow.words self.new.flow.words }
-        ensures queue { IsPermutation self.old.flow.queue self.new.flow.queue }
-        ensures flow { self.new.flow ≡ record self.old.flow { queue = self.new.flow.queue; words = self.new.flow.words; room = self.new.flow.room } }
+        ensures flow { self.new.flow ≡ record self.old.flow { words = self.new.flow.words; room = self.new.flow.room } }
         ensures memory { IfErr result (λ fault. fault ≡ OutOfMemory) }
         ensures unchanged { OnErr result (IsAsBefore self.old self.new) }
     {

@@ -1,5 +1,5 @@
 //! What a group passes to the rest of the run: its block, the letters for others, and its floor.
-ghost use Rattle.std.specs.Prelude.{◌≡◌, ◌⊎◌, ◌≤◌, ℕ, suc, min, [], true, Some, All, Contains, IfSome, IfNone, IsPermutation};
+ghost use Rattle.std.specs.Prelude.{◌≡◌, ◌⊎◌, ◌≤◌, ℕ, suc, min, [], true, Some, All, Contains, IfSome, IfNone};
 ghost use Rattle.vlink.specs.declared.message.Message.{Message};
 ghost use Rattle.vlink.specs.Order.{message_order};
 ghost use Rattle.virtual_time.specs.Law.{World, in_hand, lowest, received_by, times_of};
@@ -74,7 +74,6 @@ impl<R: Actor> Hand<R> {
     /// letters in the tray, and of `end`, the moment after the end of the run, in ns. It is exact if `count_done` was called before.
     pub fn floor(&mut self, end: Time) -> Time
         ensures same { IsAsBefore self.old self.new }
-        ensures unchanged { self.new ≡ record self.old { flow = record self.old.flow { room = self.new.flow.room } } }
         ensures least { result ≡ floor_in message_order end self.old.flow }
         ensures bound { (x : Setting R) (v : World Message R) → end ≡ suc x.until → StandsForGroup (rules_of R.plain) R.is_value x v self.old →
             (p : ℕ) → is_ours self.old.members p ≡ true → result ≤ v.floors p }
@@ -90,7 +89,6 @@ impl<R: Actor> Hand<R> {
     /// Returns the moment of the first message of the queue, if any.
     pub fn next_time(&mut self) -> Option<Time>
         ensures same { IsAsBefore self.old self.new }
-        ensures unchanged { self.new ≡ record self.old { flow = record self.old.flow { room = self.new.flow.room } } }
         ensures among { IfSome result (λ t. (m : Message) × Contains self.old.flow.queue m × (m.time ≡ t)) }
         ensures least { IfSome result (λ t. All (λ m. t ≤ m.time) self.old.flow.queue) }
         ensures none { IfNone result (self.old.flow.queue ≡ []) }
@@ -124,8 +122,6 @@ impl Letters {
 
     /// Returns the least time of the messages of the queue and of the letters in the tray, or `end`.
     fn floor(&mut self, end: Time) -> Time
-        ensures same { IsPermutation self.old.queue self.new.queue }
-        ensures others { self.new ≡ record self.old { queue = self.new.queue; room = self.new.room } }
         ensures unchanged { self.new ≡ record self.old { room = self.new.room } }
         ensures least { result ≡ floor_in message_order end self.old }
     {

@@ -5,6 +5,7 @@ ghost use Rattle.vlink.specs.Letters.{Letter};
 ghost use Rattle.reverse.specs.Rules.{is_before};
 ghost use Rattle.group_hand.specs.declared.block.Did.TheVariants.{Home, Taken};
 ghost use Rattle.group_hand.specs.Flow.{WentAbroad, CameHome, WasTaken, TookFirst};
+ghost use Rattle.group_hand.specs.Waiting.{placed};
 
 use crate::block::{Did, Words};
 use crate::queue::Queue;
@@ -109,9 +110,7 @@ impl Letters {
     /// Returns the first message, if any.
     #[inline(always)]
     pub(crate) fn first(&mut self) -> Option<Message>
-        ensures same { IsPermutation self.old.queue self.new.queue }
         ensures room { self.old.room ≤ self.new.room }
-        ensures others { self.new ≡ record self.old { queue = self.new.queue; room = self.new.room } }
         ensures unchanged { self.new ≡ record self.old { room = self.new.room } }
         ensures among { IfSome result (Contains self.old.queue) }
         ensures first { IfSome result (λ m. All (λ x. is_before x m ≡ false) self.old.queue) }
@@ -148,6 +147,7 @@ impl Letters {
     pub(crate) fn wait_again(&mut self, message: &Message)
         requires { 0 < self.old.room }
         ensures waits { IsPermutation (message.now ∷ self.old.queue) self.new.queue }
+        ensures placed { self.new.queue ≡ placed message.now self.old.queue }
         ensures others { self.new ≡ record self.old { queue = self.new.queue; room = self.new.room } }
         ensures room { self.old.room ≤ self.new.room + 1 }
     {

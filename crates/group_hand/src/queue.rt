@@ -5,6 +5,7 @@ ghost use Rattle.std.proofs.Props.{props};
 ghost use Rattle.vlink.specs.Order.{message_order};
 ghost use Rattle.vlink.specs.declared.message.Message.{Message};
 ghost use Rattle.reverse.specs.Rules.{is_before};
+ghost use Rattle.group_hand.specs.Waiting.{placed};
 
 use std::alloc::{AllocError, Global};
 use std::marker::Model;
@@ -70,13 +71,14 @@ impl Queue {
     /// Removes and returns the first message, if any.
     #[inline(always)]
     pub(crate) fn pop(&mut self) -> Option<Message>
-        ensures one { IfSome result (λ m. IsPermutation self.old.messages (m ∷ self.new.messages)) }
+        ensures one { IfSome result (λ m. self.old.messages ≡ m ∷ self.new.messages) }
         ensures first { IfSome result (λ m. All (λ x. is_before x m ≡ false) self.old.messages) }
         ensures none { IfNone result (self.old.messages ≡ []) }
         ensures empty { IfNone result (self.new.messages ≡ []) }
         ensures room { self.old.room ≤ self.new.room }
     {
         message_order_law();
+        order_law();
         let Some(message) = self.lists.pop_before(self.offers.last()) else {
             return self.offers.pop();
         };
@@ -124,8 +126,10 @@ impl Queue {
     pub(crate) fn push_reserved(&mut self, message: &Message)
         requires { 0 < self.old.room }
         ensures more { IsPermutation (message.now ∷ self.old.messages) self.new.messages }
+        ensures placed { self.new.messages ≡ placed message.now self.old.messages }
         ensures room { self.old.room ≤ self.new.room + 1 }
     {
+        order_law();
         self.lists.push_reserved(message);
     }
 

@@ -1,14 +1,13 @@
 //! Handles the first message of a group.
-ghost use Rattle.std.specs.Prelude.{◌≡◌, ◌≢◌, ◌≤◌, ◌<◌, ◌+◌, ◌++◌, ◌∷◌, [], false, true, Some, All, Contains, Ok, Err, OnOk, OnErr, slice_get};
+ghost use Rattle.std.specs.Prelude.{◌≡◌, ◌≤◌, ◌<◌, ◌+◌, ◌++◌, ◌∷◌, [], false, true, All, Contains, Ok, Err, OnOk, OnErr};
 ghost use Rattle.vlink.specs.declared.message.Message.{Message};
 ghost use Rattle.vlink.specs.Order.{message_order};
-ghost use Rattle.vlink.specs.Numbering.{greatest_number};
 ghost use Rattle.virtual_time.specs.Law.{World, IsAscending};
 ghost use Rattle.reverse.specs.Rules.{rules_of, is_before};
 ghost use Rattle.reverse.specs.Setting.{Setting};
 ghost use Rattle.antimessages.specs.Counting.{is_after, newest_of};
 ghost use Rattle.group_hand.specs.DoneEvents.{DoneEvent, messages_of};
-ghost use Rattle.group_hand.specs.Handling.{IsHandled, RanFirst};
+ghost use Rattle.group_hand.specs.Handling.{FirstLacksNumbers, IsHandled, RanFirst};
 ghost use Rattle.group_hand.specs.Hands.{DoesTold, FirstWaits, IsAsBefore, StandsForGroup};
 ghost use Rattle.group_hand.specs.Undoing.{HasRoomFor};
 ghost use Rattle.group_hand.specs.declared.fault.HandFault.TheVariants.{Exhausted};
@@ -47,9 +46,7 @@ impl<R: Actor> Hand<R> {
             × Contains self.old.flow.queue d.message × All (λ x. is_before x d.message ≡ false) self.old.flow.queue × (d.message.time < limit) }
         ensures first { result ≡ Ok Ran → (m : Message) × (m.time < limit) × RanFirst m self.old self.new }
         ensures soon { result ≡ Ok Late → (m : Message) × Contains self.old.flow.queue m × (m.time < limit) }
-        ensures exhausted { result ≡ Err Exhausted → (m : Message) × Contains self.old.flow.queue m × All (λ x. is_before x m ≡ false) self.old.flow.queue
-            × (IsAscending message_order (messages_of self.old.done) → All (λ x. x ≢ m) (messages_of self.old.done))
-            × ((s : R) → slice_get self.old.members m.receiver ≡ Some (Some s) → greatest_number < R.plain.counter s + MOST_SENT) }
+        ensures exhausted { result ≡ Err Exhausted → FirstLacksNumbers (λ s. R.plain.counter s) self.old }
         ensures unchanged { OnErr result (IsAsBefore self.old self.new) }
     {
         actor_rules_law::<R>();
@@ -93,9 +90,7 @@ impl<R: Actor> Hand<R> {
         // where the first message of the queue is not done, it is handled
         ensures first { result ≡ Ok true → (IsAscending message_order (messages_of self.old.done) → FirstWaits message_order self.old) →
             (x : Setting R) (v : World Message R) → StandsForGroup (rules_of R.plain) R.is_value x v self.old → (m : Message) × (m.time < limit) × RanFirst m self.old self.new }
-        ensures exhausted { result ≡ Err Exhausted → (m : Message) × Contains self.old.flow.queue m × All (λ x. is_before x m ≡ false) self.old.flow.queue
-            × (IsAscending message_order (messages_of self.old.done) → All (λ x. x ≢ m) (messages_of self.old.done))
-            × ((s : R) → slice_get self.old.members m.receiver ≡ Some (Some s) → greatest_number < R.plain.counter s + MOST_SENT) }
+        ensures exhausted { result ≡ Err Exhausted → FirstLacksNumbers (λ s. R.plain.counter s) self.old }
         ensures unchanged { OnErr result (IsAsBefore self.old self.new) }
     {
         actor_rules_law::<R>();
@@ -121,9 +116,7 @@ impl<R: Actor> Hand<R> {
             (m : Message) × Contains self.old.flow.queue m × All (λ y. is_before y m ≡ false) self.old.flow.queue × IsHandled m self.old self.new) }
         ensures first { OnOk result ((IsAscending message_order (messages_of self.old.done) → FirstWaits message_order self.old) →
             (x : Setting R) (v : World Message R) → StandsForGroup (rules_of R.plain) R.is_value x v self.old → (m : Message) × RanFirst m self.old self.new) }
-        ensures exhausted { result ≡ Err Exhausted → (m : Message) × Contains self.old.flow.queue m × All (λ x. is_before x m ≡ false) self.old.flow.queue
-            × (IsAscending message_order (messages_of self.old.done) → All (λ x. x ≢ m) (messages_of self.old.done))
-            × ((s : R) → slice_get self.old.members m.receiver ≡ Some (Some s) → greatest_number < R.plain.counter s + MOST_SENT) }
+        ensures exhausted { result ≡ Err Exhausted → FirstLacksNumbers (λ s. R.plain.counter s) self.old }
         ensures unchanged { OnErr result (IsAsBefore self.old self.new) }
     {
         actor_rules_law::<R>();

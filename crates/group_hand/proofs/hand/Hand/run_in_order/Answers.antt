@@ -16,12 +16,12 @@ use Rattle.group_hand.specs.declared.fault.HandFault.TheVariants.{Exhausted}
 use Rattle.group_hand.proofs.Adding.{adds-run-again}
 use Rattle.group_hand.proofs.Answering.{not-both-faults, not-err, not-idle-late, not-idle-ran, not-ran-late}
 use Rattle.group_hand.proofs.NewestDone.{after-none}
-use Rattle.group_hand.proofs.Still.{as-both, as-empty, as-put_back, as-roomy, on-err, still, took-first}
+use Rattle.group_hand.proofs.Still.{as-roomy, none-back, on-err, put-back, roomy-both, still, took-first}
 use Rattle.group_hand.proofs.Telling.{does-both}
 use Rattle.group_hand.proofs.Came.{came-alike}
 use Rattle.group_hand.proofs.Rooms.{room-still, some-room}
 use Rattle.group_hand.proofs.hand.Hand.run_in_order.Given.{Over}
-use Rattle.group_hand.proofs.hand.Hand.run_in_order.Goals.{After-make_room, After-wait_again, In-Some}
+use Rattle.group_hand.proofs.hand.Hand.run_in_order.Goals.{After-make_room, After-pop, After-wait_again, In-Some}
 use Rattle.group_hand.proofs.hand.Hand.run_in_order.Goals as goal
 
 -- where the first message is not earlier than the limit, none is
@@ -32,8 +32,15 @@ all-late O limit m queue first late =
 -- after room was made
 roomy : (g : Over) (c : After-make_room g) → IsAsBefore c.args.self.now (held c.self.inside.members.items c.make_room.new.done.events c.self.inside.rows c.make_room.new.letters)
 roomy g c =
-    subst (λ h. IsAsBefore h (held c.self.inside.members.items c.make_room.new.done.events c.self.inside.rows c.make_room.new.letters)) c.self.view_is
-    (as-roomy c.self.inside.members.items c.self.inside.done.events c.make_room.new.done.events c.self.inside.rows c.self.inside.letters c.make_room.new.letters c.make_room.ensures.done c.make_room.ensures.letters)
+    as-roomy c.args.self.now c.self.inside.members.items c.self.inside.done.events c.make_room.new.done.events c.self.inside.rows c.self.inside.letters c.make_room.new.letters
+    c.self.view_is c.make_room.ensures.done c.make_room.ensures.letters
+
+-- there was no message
+empty : (g : Over) (c : After-pop g) → c.make_room.new.letters.queue ≡ [] → c.pop.new.self.queue ≡ [] → IsAsBefore c.args.self.now (held c.self.inside.members.items c.make_room.new.done.events c.self.inside.rows c.pop.new.self)
+empty g c was is =
+    as-roomy c.args.self.now c.self.inside.members.items c.self.inside.done.events c.make_room.new.done.events c.self.inside.rows c.self.inside.letters c.pop.new.self c.self.view_is c.make_room.ensures.done
+    (roomy-both c.self.inside.letters c.make_room.new.letters c.pop.new.self c.make_room.ensures.letters
+    (none-back c.make_room.new.letters c.pop.new.self was is c.pop.ensures.others))
 
 pub returns-in_default-clause-did : goal.returns-in_default-clause-did
 returns-in_default-clause-did g c =
@@ -42,22 +49,15 @@ returns-in_default-clause-did g c =
 
 pub returns-in_default-pop-clause-did : goal.returns-in_default-pop-clause-did
 returns-in_default-pop-clause-did g c =
-    let members = c.self.inside.members.items in
-    let events = c.make_room.new.done.events in
-    let rows = c.self.inside.rows in
-    still g.R.Reversible.plain g.R.Reversible.is_value c.actor_rules_law.ensures.order c.actor_rules_law.ensures.undoes c.args.self.now (held members events rows c.pop.new.self)
-    (as-both c.args.self.now (held members events rows c.make_room.new.letters) (held members events rows c.pop.new.self) (roomy g (goal.at.returns-in_default-pop-clause-did g c).After-make_room)
-    (as-empty members events rows c.make_room.new.letters c.pop.new.self c.in_default-pop.ensures.none c.in_default-pop.ensures.empty c.pop.ensures.others))
+    still g.R.Reversible.plain g.R.Reversible.is_value c.actor_rules_law.ensures.order c.actor_rules_law.ensures.undoes c.args.self.now
+    (held c.self.inside.members.items c.make_room.new.done.events c.self.inside.rows c.pop.new.self) (empty g (goal.at.returns-in_default-pop-clause-did g c).After-pop c.in_default-pop.ensures.none c.in_default-pop.ensures.empty)
 
 -- the first message waits again
-back : (g : Over) (c : After-wait_again g) (before : IsAsBefore c.args.self.now (held c.self.inside.members.items c.make_room.new.done.events c.self.inside.rows c.make_room.new.letters)) →
-    IsAsBefore c.args.self.now (held c.self.inside.members.items c.make_room.new.done.events c.self.inside.rows c.wait_again.new.self)
-back g c before =
-    let members = c.self.inside.members.items in
-    let events = c.make_room.new.done.events in
-    let rows = c.self.inside.rows in
-    as-both c.args.self.now (held members events rows c.make_room.new.letters) (held members events rows c.wait_again.new.self) before
-    (as-put_back members events rows c.make_room.new.letters c.pop.new.self c.wait_again.new.self c.in-Some.message c.in-Some.ensures.taken c.wait_again.ensures.waits c.wait_again.ensures.others)
+back : (g : Over) (c : After-wait_again g) → IsAsBefore c.args.self.now (held c.self.inside.members.items c.make_room.new.done.events c.self.inside.rows c.wait_again.new.self)
+back g c =
+    as-roomy c.args.self.now c.self.inside.members.items c.self.inside.done.events c.make_room.new.done.events c.self.inside.rows c.self.inside.letters c.wait_again.new.self c.self.view_is c.make_room.ensures.done
+    (roomy-both c.self.inside.letters c.make_room.new.letters c.wait_again.new.self c.make_room.ensures.letters
+    (put-back c.make_room.new.letters c.pop.new.self c.wait_again.new.self c.in-Some.message c.in-Some.ensures.taken c.wait_again.ensures.placed c.wait_again.ensures.others))
 
 -- it is the first of the queue
 first : (g : Over) (c : In-Some g) → Contains c.args.self.now.flow.queue c.in-Some.message × All (λ x. is_before x c.in-Some.message ≡ false) c.args.self.now.flow.queue
@@ -68,9 +68,8 @@ first g c =
 
 pub returns-in_default-outcome-clause-did : goal.returns-in_default-outcome-clause-did
 returns-in_default-outcome-clause-did g c =
-    let at = goal.at.returns-in_default-outcome-clause-did g c in
     still g.R.Reversible.plain g.R.Reversible.is_value c.actor_rules_law.ensures.order c.actor_rules_law.ensures.undoes c.args.self.now
-    (held c.self.inside.members.items c.make_room.new.done.events c.self.inside.rows c.wait_again.new.self) (back g at.After-wait_again (roomy g at.After-make_room))
+    (held c.self.inside.members.items c.make_room.new.done.events c.self.inside.rows c.wait_again.new.self) (back g (goal.at.returns-in_default-outcome-clause-did g c).After-wait_again)
 
 pub returns-in_default-outcome-clause-late : goal.returns-in_default-outcome-clause-late
 returns-in_default-outcome-clause-late g c = λ e.
@@ -97,26 +96,17 @@ returns-in_default-outcome-clause-exhausted g c = λ e.
 
 pub returns-in_default-outcome-clause-unchanged : goal.returns-in_default-outcome-clause-unchanged
 returns-in_default-outcome-clause-unchanged g c =
-    let at = goal.at.returns-in_default-outcome-clause-unchanged g c in
-    on-err c.in_order_of-outcome.result _ (back g at.After-wait_again (roomy g at.After-make_room))
+    on-err c.in_order_of-outcome.result _ (back g (goal.at.returns-in_default-outcome-clause-unchanged g c).After-wait_again)
 
 pub returns-in_default-outcome-clause-still : goal.returns-in_default-outcome-clause-still
-returns-in_default-outcome-clause-still g c = λ e.
-    let at = goal.at.returns-in_default-outcome-clause-still g c in
-    back g at.After-wait_again (roomy g at.After-make_room)
+returns-in_default-outcome-clause-still g c = λ _. back g (goal.at.returns-in_default-outcome-clause-still g c).After-wait_again
 
 pub returns-in_default-pop-clause-idle_still : goal.returns-in_default-pop-clause-idle_still
 returns-in_default-pop-clause-idle_still g c = λ _.
-    let members = c.self.inside.members.items in
-    let events = c.make_room.new.done.events in
-    let rows = c.self.inside.rows in
-    as-both c.args.self.now (held members events rows c.make_room.new.letters) (held members events rows c.pop.new.self) (roomy g (goal.at.returns-in_default-pop-clause-idle_still g c).After-make_room)
-    (as-empty members events rows c.make_room.new.letters c.pop.new.self c.in_default-pop.ensures.none c.in_default-pop.ensures.empty c.pop.ensures.others)
+    empty g (goal.at.returns-in_default-pop-clause-idle_still g c).After-pop c.in_default-pop.ensures.none c.in_default-pop.ensures.empty
 
 pub returns-in_default-outcome-clause-idle_still : goal.returns-in_default-outcome-clause-idle_still
-returns-in_default-outcome-clause-idle_still g c = λ e.
-    let at = goal.at.returns-in_default-outcome-clause-idle_still g c in
-    back g at.After-wait_again (roomy g at.After-make_room)
+returns-in_default-outcome-clause-idle_still g c = λ _. back g (goal.at.returns-in_default-outcome-clause-idle_still g c).After-wait_again
 
 pub returns-in_default-outcome-clause-soon : goal.returns-in_default-outcome-clause-soon
 returns-in_default-outcome-clause-soon g c = λ e.

@@ -1,14 +1,16 @@
-use Rattle.std.proofs.Common.{[], Ok, ◌+◌, ◌<◌, rules, true, false, refl}
+use Rattle.std.proofs.Common.{◌≡◌, [], Ok, All, Contains, rules, true, false, refl, subst, sym}
 use Rattle.std.proofs.lemmas.Result.{err_from_is_err_and}
-use Rattle.std.proofs.lemmas.List.Sorted.{Contains-permutation}
-use Rattle.vlink.specs.Numbering.{greatest_number}
-use Rattle.reverse.specs.Rules.{rules_of}
+use Rattle.vlink.specs.Order.{message_order}
+use Rattle.virtual_time.specs.Law.{IsAscending}
+use Rattle.reverse.specs.Rules.{is_before, rules_of}
+use Rattle.group_hand.specs.DoneEvents.{messages_of}
+use Rattle.group_hand.specs.Handling.{FirstLacksNumbers}
+use Rattle.group_hand.specs.Hands.{FirstWaits}
 use Rattle.group_hand.specs.declared.fault.HandFault.TheVariants.{Exhausted}
 use Rattle.group_hand.proofs.Answering.{not-both, not-err}
 use Rattle.group_hand.proofs.Telling.{does-both}
-use Rattle.group_hand.proofs.Still.{as-both, exhausted-again, handled-soon, on-err, ran-soon, stands-still, waits-still}
+use Rattle.group_hand.proofs.Still.{as-both, first-soon, handled-again, on-err, ran-again, stands-still}
 use Rattle.group_hand.proofs.hand.Hand.run_next.Goals as goal
-use Rattle.reverse.specs.declared.sends.TheConstants.{MOST_SENT}
 
 pub returns-in_err-run_out_of_order-in-Late-clause-did : goal.returns-in_err-run_out_of_order-in-Late-clause-did
 returns-in_err-run_out_of_order-in-Late-clause-did g c =
@@ -25,13 +27,12 @@ returns-in_err-run_out_of_order-in-Late-clause-unchanged g c =
 
 pub returns-in_err-run_out_of_order-in-Late-clause-exhausted : goal.returns-in_err-run_out_of_order-in-Late-clause-exhausted
 returns-in_err-run_out_of_order-in-Late-clause-exhausted g c = λ e.
-    exhausted-again c.args.self.now c.run_in_order.new.self (λ s. greatest_number < g.R.Reversible.plain.counter s + MOST_SENT)
-    (c.in_ok-run_in_order.ensures.still (λ j. Ok (c.in-Late.is j))) (c.run_out_of_order.ensures.exhausted (search rules))
+    subst (FirstLacksNumbers (λ s. g.R.Reversible.plain.counter s)) (c.in_ok-run_in_order.ensures.still (λ j. Ok (c.in-Late.is j))) (c.run_out_of_order.ensures.exhausted (search rules))
 
 pub run_out_of_order-requires : goal.run_out_of_order-requires
 run_out_of_order-requires g c =
     let k = c.in_ok-run_in_order.ensures.soon (λ j. Ok (c.in-Late.is j)) in
-    (k.0, Contains-permutation c.args.self.now.flow.queue c.run_in_order.new.self.flow.queue k.0 (c.in_ok-run_in_order.ensures.still (λ j. Ok (c.in-Late.is j))).queue k.1)
+    (k.0, subst (λ h. Contains h.flow.queue k.0) (sym (c.in_ok-run_in_order.ensures.still (λ j. Ok (c.in-Late.is j)))) k.1)
 
 pub returns-in_ok-run_out_of_order-in-Late-clause-ran : goal.returns-in_ok-run_out_of_order-in-Late-clause-ran
 returns-in_ok-run_out_of_order-in-Late-clause-ran g c = λ _ x v stands.
@@ -41,8 +42,10 @@ returns-in_ok-run_out_of_order-in-Late-clause-ran g c = λ _ x v stands.
     let old = c.args.self.now in
     let mid = c.run_in_order.new.self in
     let still = c.in_ok-run_in_order.ensures.still (λ j. Ok (c.in-Late.is j)) in
-    handled-soon O c.args.limit old mid c.run_out_of_order.new.self still (c.in_ok-run_in_order.ensures.soon (λ j. Ok (c.in-Late.is j)))
-    (c.in_ok-run_out_of_order-in-Late.ensures.ran x v (stands-still plain V O c.actor_rules_law.ensures.undoes old mid still x v stands))
+    let r = c.in_ok-run_out_of_order-in-Late.ensures.ran x v (stands-still plain V O c.actor_rules_law.ensures.undoes old mid still x v stands) in
+    let m = r.0 in
+    let first = subst (λ h. Contains h.flow.queue m × All (λ y. is_before y m ≡ false) h.flow.queue) still (r.1, r.2) in
+    (m, first.0, first-soon O c.args.limit old.flow.queue m first.1 (c.in_ok-run_in_order.ensures.soon (λ j. Ok (c.in-Late.is j))), handled-again m old mid c.run_out_of_order.new.self still r.3)
 
 pub returns-in_err-run_in_order-clause-idle : goal.returns-in_err-run_in_order-clause-idle
 returns-in_err-run_in_order-clause-idle g c = λ e. not-err false _ c.from_residual.result e (err_from_is_err_and c.from_residual.result c.from_residual.ensures.1).1
@@ -125,8 +128,10 @@ returns-in_ok-run_out_of_order-in-Late-clause-first g c = λ _ waits x v stands.
     let old = c.args.self.now in
     let mid = c.run_in_order.new.self in
     let still = c.in_ok-run_in_order.ensures.still (λ j. Ok (c.in-Late.is j)) in
-    ran-soon O c.args.limit old mid c.run_out_of_order.new.self still (c.in_ok-run_in_order.ensures.soon (λ j. Ok (c.in-Late.is j)))
-    (c.in_ok-run_out_of_order-in-Late.ensures.first (waits-still O old mid still waits) x v (stands-still plain V O c.actor_rules_law.ensures.undoes old mid still x v stands))
+    let first = subst (λ h. IsAscending message_order (messages_of h.done) → FirstWaits message_order h) (sym still) waits in
+    let r = c.in_ok-run_out_of_order-in-Late.ensures.first first x v (stands-still plain V O c.actor_rules_law.ensures.undoes old mid still x v stands) in
+    let ran = ran-again r.0 old mid c.run_out_of_order.new.self still r.1 in
+    (r.0, first-soon O c.args.limit old.flow.queue r.0 ran.first (c.in_ok-run_in_order.ensures.soon (λ j. Ok (c.in-Late.is j))), ran)
 
 pub returns-in_err-run_in_order-clause-first : goal.returns-in_err-run_in_order-clause-first
 returns-in_err-run_in_order-clause-first g c = λ e. not-err true _ c.from_residual.result e (err_from_is_err_and c.from_residual.result c.from_residual.ensures.1).1

@@ -1,6 +1,5 @@
 use Rattle.std.proofs.Common.{ℕ, ◌≡◌, ◌≢◌, ◌+◌, [], ◌∷◌, List, Some, inl, inr, false, All, Contains, IsPermutation, length, slice_get, subst, sym, ap, ◌∙◌, refl, rules}
 use Rattle.std.proofs.lemmas.List.{with_items_is}
-use Rattle.std.proofs.lemmas.List.Sorted.{Contains-permutation, IsPermutation-trans, All-permutation}
 use Rattle.vlink.specs.declared.message.Message.{Message}
 use Rattle.vlink.specs.Order.{message_order}
 use Rattle.virtual_time.specs.Law.{IsAscending}
@@ -19,7 +18,7 @@ use Rattle.group_hand.proofs.CountsAgain.{counts-again}
 use Rattle.group_hand.proofs.FrontWaits.{not-waiting}
 use Rattle.group_hand.proofs.NotLater.{not-later}
 use Rattle.group_hand.proofs.Telling.{does-both}
-use Rattle.group_hand.proofs.Still.{as-both, as-first, as-roomy, on-err, still}
+use Rattle.group_hand.proofs.Still.{as-roomy, on-err, roomy-both, still}
 use Rattle.group_hand.proofs.Came.{came-alike}
 use Rattle.group_hand.proofs.hand.Hand.run_out_of_order.Given.{Over}
 use Rattle.group_hand.proofs.hand.Hand.run_out_of_order.Goals.{After-first, After-make_late_room, In-Some, in-Ok, in-Err}
@@ -28,8 +27,13 @@ use Rattle.group_hand.proofs.hand.Hand.run_out_of_order.Goals as goal
 -- after a look at the first message
 as-looked : (g : Over) (c : After-first g) → IsAsBefore c.args.self.now (held c.self.inside.members.items c.self.inside.done.events c.self.inside.rows c.first.new.self)
 as-looked g c =
-    subst (λ h. IsAsBefore h (held c.self.inside.members.items c.self.inside.done.events c.self.inside.rows c.first.new.self)) c.self.view_is
-    (as-first c.self.inside.members.items c.self.inside.done.events c.self.inside.rows c.self.inside.letters c.first.new.self c.first.ensures.same c.first.ensures.others)
+    as-roomy c.args.self.now c.self.inside.members.items c.self.inside.done.events c.self.inside.done.events c.self.inside.rows c.self.inside.letters c.first.new.self c.self.view_is refl c.first.ensures.unchanged
+
+-- the first message is still the first
+ahead : (g : Over) (c : In-Some g) → Contains c.first.new.self.queue c.in-Some.message × All (λ x. is_before x c.in-Some.message ≡ false) c.first.new.self.queue
+ahead g c =
+    subst (λ (z : Flow). Contains z.queue c.in-Some.message × All (λ x. is_before x c.in-Some.message ≡ false) z.queue) (sym c.first.ensures.unchanged)
+    (c.in-Some.ensures.among, c.in-Some.ensures.first)
 
 looked : (g : Over) (c : After-first g) → DoesSent (rules_of g.R.Reversible.plain) g.R.Reversible.is_value c.args.self.now []
     (held c.self.inside.members.items c.self.inside.done.events c.self.inside.rows c.first.new.self) []
@@ -39,12 +43,10 @@ looked g c =
     (as-looked g c)
 
 pub count_again-requires-clause-among : goal.count_again-requires-clause-among
-count_again-requires-clause-among g c =
-    Contains-permutation c.self.inside.letters.queue c.first.new.self.queue c.in-Some.message c.first.ensures.same c.in-Some.ensures.among
+count_again-requires-clause-among g c = (ahead g (goal.at.count_again-requires-clause-among g c).In-Some).0
 
 pub count_again-requires-clause-first : goal.count_again-requires-clause-first
-count_again-requires-clause-first g c =
-    All-permutation (λ (x : Message). is_before x c.in-Some.message ≡ false) c.self.inside.letters.queue c.first.new.self.queue c.first.ensures.same c.in-Some.ensures.first
+count_again-requires-clause-first g c = (ahead g (goal.at.count_again-requires-clause-first g c).In-Some).1
 
 pub returns-then-not-has_numbers-clause-did : goal.returns-then-not-has_numbers-clause-did
 returns-then-not-has_numbers-clause-did g c = looked g (goal.at.returns-then-not-has_numbers-clause-did g c).After-first
@@ -63,13 +65,8 @@ returns-then-not-has_numbers-clause-exhausted g c = λ e. (
 -- after room was made
 as-it-was : (g : Over) (c : After-make_late_room g) → IsAsBefore c.args.self.now (held c.self.inside.members.items c.make_late_room.new.done.events c.self.inside.rows c.make_late_room.new.letters)
 as-it-was g c =
-    let members = c.self.inside.members.items in
-    let done = c.self.inside.done.events in
-    let rows = c.self.inside.rows in
-    as-both c.args.self.now (held members done rows c.first.new.self) (held members c.make_late_room.new.done.events rows c.make_late_room.new.letters)
-    (subst (λ h. IsAsBefore h (held members done rows c.first.new.self)) c.self.view_is
-    (as-first members done rows c.self.inside.letters c.first.new.self c.first.ensures.same c.first.ensures.others))
-    (as-roomy members done c.make_late_room.new.done.events rows c.first.new.self c.make_late_room.new.letters c.make_late_room.ensures.done c.make_late_room.ensures.letters)
+    as-roomy c.args.self.now c.self.inside.members.items c.self.inside.done.events c.make_late_room.new.done.events c.self.inside.rows c.self.inside.letters c.make_late_room.new.letters
+    c.self.view_is c.make_late_room.ensures.done (roomy-both c.self.inside.letters c.first.new.self c.make_late_room.new.letters c.first.ensures.unchanged c.make_late_room.ensures.letters)
 
 roomy : (g : Over) (c : After-make_late_room g) → DoesSent (rules_of g.R.Reversible.plain) g.R.Reversible.is_value c.args.self.now []
     (held c.self.inside.members.items c.make_late_room.new.done.events c.self.inside.rows c.make_late_room.new.letters) []
@@ -83,12 +80,12 @@ returns-in_default-make_late_room-clause-did g c = roomy g (goal.at.returns-in_d
 pub handle_out_of_order-requires-clause-among : goal.handle_out_of_order-requires-clause-among
 handle_out_of_order-requires-clause-among g c =
     subst (λ (xs : List Message). Contains xs c.in-Some.message) (sym (ap (λ z. z.queue) c.make_late_room.ensures.letters))
-    (Contains-permutation c.self.inside.letters.queue c.first.new.self.queue c.in-Some.message c.first.ensures.same c.in-Some.ensures.among)
+    (ahead g (goal.at.handle_out_of_order-requires-clause-among g c).In-Some).0
 
 pub handle_out_of_order-requires-clause-first : goal.handle_out_of_order-requires-clause-first
 handle_out_of_order-requires-clause-first g c =
     subst (λ (xs : List Message). All (λ x. is_before x c.in-Some.message ≡ false) xs) (sym (ap (λ z. z.queue) c.make_late_room.ensures.letters))
-    (All-permutation (λ (x : Message). is_before x c.in-Some.message ≡ false) c.self.inside.letters.queue c.first.new.self.queue c.first.ensures.same c.in-Some.ensures.first)
+    (ahead g (goal.at.handle_out_of_order-requires-clause-first g c).In-Some).1
 
 pub returns-clause-did : goal.returns-clause-did
 returns-clause-did g c =
@@ -234,8 +231,7 @@ returns-then-has-clause-ran g c =
         c.in-Some.message,
         k.0,
         k.1,
-        inr (subst (λ (q : List Message). IsPermutation q (c.in-Some.message ∷ c.count_again.new.self.queue)) (ap (λ h. h.flow.queue) c.self.view_is)
-            (IsPermutation-trans c.self.inside.letters.queue c.first.new.self.queue (c.in-Some.message ∷ c.count_again.new.self.queue) c.first.ensures.same w.in-Ok.ensures.queue)),
+        inr (subst (λ (q : List Message). IsPermutation q (c.in-Some.message ∷ c.count_again.new.self.queue)) (ap (λ (z : Flow). z.queue) c.first.ensures.unchanged ∙ ap (λ h. h.flow.queue) c.self.view_is) w.in-Ok.ensures.queue),
       ))
       | in-Err w ↦ no-ok _ _ _ w.result-is
     ]
@@ -264,7 +260,7 @@ returns-clause-first g c = λ waits x v stands.
     let a = c.if-not-has_numbers.ensures.yes refl in
     (a.0, subst (λ ms. slice_get ms m.receiver ≡ Some (Some a.0)) (c.deref.ensures.value ∙ ap (λ h. h.members) c.self.view_is) a.1) in
     let not_done = subst (λ ds. IsAscending message_order (messages_of ds) → All (λ y. y ≢ m) (messages_of ds)) (ap (λ h. h.done) c.self.view_is) (c.if-has.ensures.no refl) in
-    let words = ap (λ (z : Flow). z.words) (as-it-was g (goal.at.returns-clause-first g c).After-make_late_room).flow in (
+    let words = ap (λ h. h.flow.words) (as-it-was g (goal.at.returns-clause-first g c).After-make_late_room) in (
       m,
       record {
         among = k.0;
