@@ -1,5 +1,5 @@
 -- Where each message that is handled is earlier than a limit, and no letter waits.
-use Rattle.std.proofs.Common.{◌≡◌, ℕ, ◌+◌, ◌≤◌, Bool, List, [], ◌∷◌, ◌++◌, ap, ◌∙◌, arith}
+use Rattle.std.proofs.Common.{◌≡◌, ℕ, ◌+◌, ◌≤◌, Bool, List, [], ◌∷◌, ◌++◌, length, ap, ◌∙◌, arith}
 use Rattle.vlink.specs.declared.message.Message.{Message}
 use Rattle.vlink.specs.declared.note.Note.{Note}
 use Rattle.virtual_time.specs.Law.{Simulation, World, done_by}
@@ -7,7 +7,7 @@ use Rattle.virtual_time.specs.declared.step.Step.{Step}
 use Rattle.virtual_time.specs.declared.step.Step.TheVariants.{Take, Arrive, Run, Post, Gvt, Commit}
 use Rattle.group_hand.specs.declared.block.Did.{Did}
 use Rattle.group_hand.specs.declared.block.Did.TheVariants.{Ran, Home, Taken, Arrived, Committed}
-use Rattle.group_hand.specs.Block.{AddsLetters, AddsRun, runs_in, steps_told}
+use Rattle.group_hand.specs.Block.{AddsLetters, AddsRun, commits_in, runs_in, steps_told}
 use Rattle.group_hand.proofs.Adding.{runs-append}
 use Rattle.group_exchange.specs.Effects.{AreTimely, IsTimely}
 
@@ -40,6 +40,18 @@ module _ {S K : Type 0} (f : Simulation Message S K Note) (ours : ℕ → Bool) 
   pub timely-weaker : (low high : ℕ) → low ≤ high → (xs : List Step) (v : World Message S) → AreTimely f low ours xs v → AreTimely f high ours xs v
   timely-weaker low high l [] v t = tt
   timely-weaker low high l (x ∷ xs) v t = (one-weaker low high l x v t.0, timely-weaker low high l xs _ t.1)
+
+-- where each word is of a committed event, no message is handled
+runs-within : (ds : List Did) → runs_in ds + commits_in ds ≤ length ds
+runs-within [] = omega arith
+runs-within (Ran p ∷ ds) = omega (arith, runs-within ds)
+runs-within (Home p ∷ ds) = omega (arith, runs-within ds)
+runs-within (Taken p ∷ ds) = omega (arith, runs-within ds)
+runs-within (Arrived p ∷ ds) = omega (arith, runs-within ds)
+runs-within (Committed p ∷ ds) = omega (arith, runs-within ds)
+
+pub runs-commits : (ds : List Did) → commits_in ds ≡ length ds → runs_in ds ≡ 0
+runs-commits ds e = omega (arith, runs-within ds, e)
 
 -- how many messages were handled by then
 pub runs-letters : (old new : List Did) → AddsLetters old new → runs_in new ≡ runs_in old

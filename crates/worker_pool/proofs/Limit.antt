@@ -6,7 +6,7 @@ use Rattle.virtual_time.specs.Law.{Simulation}
 use Rattle.group_hand.specs.declared.block.Did.{Did}
 use Rattle.journal.specs.declared.fault.PoolFault.{PoolFault}
 use Rattle.group_exchange.specs.Views.{Ledger, GroupState}
-use Rattle.group_exchange.specs.Effects.{Collects, IsGroupAsBefore, Posts, posts, Publishes, publishes}
+use Rattle.group_exchange.specs.Effects.{Collects, CountsDone, IsGroupAsBefore, Posts, posts, Publishes, publishes}
 
 module _ {S K : Type 0} (f : Simulation Message S K Note) (owners : List ℕ) where
   pub collect-limit : (x : Ledger) (h : GroupState S K) (y : Ledger) (k : GroupState S K) (result : Result ℕ PoolFault) →
@@ -19,7 +19,7 @@ module _ {S K : Type 0} (f : Simulation Message S K Note) (owners : List ℕ) wh
   with-words (d ∷ ds) x h y k P = ap (λ (l : Ledger). l.limit) P.exchange
 
   pub post-limit : {X : Type 0} (x : Ledger) (h : GroupState S K) (y : Ledger) (k : GroupState S K) (result : Result X PoolFault) →
-      OnOk result (Posts f owners x h y k) → OnErr result ((y ≡ x) × IsGroupAsBefore h k) → y.limit ≡ x.limit
+      OnOk result (Posts f owners x h y k) → OnErr result ((y ≡ x) × CountsDone h k) → y.limit ≡ x.limit
   post-limit x h y k (Ok _) P same = with-words h.held.flow.words x h y k P
   post-limit x h y k (Err fault) P same = ap (λ (l : Ledger). l.limit) same.0
 

@@ -1,7 +1,5 @@
 use Rattle.std.proofs.Common.{◌≡◌, ◌+◌, ◌≤◌, ◌⊎◌, inl, inr, Ok, Err, refl, sym, ap, ◌∙◌}
-use Rattle.std.proofs.lemmas.List.Sorted.{All-permutation}
 use Rattle.vlink.specs.declared.message.Message.{Message}
-use Rattle.group_hand.specs.Flow.{Flow}
 use Rattle.group_hand.specs.Hands.{IsAsBefore}
 use Rattle.group_hand.specs.Block.{runs_in}
 use Rattle.group_hand.specs.declared.in_order.InOrder.{InOrder}
@@ -55,13 +53,13 @@ returns-clause-idle g c =
     elim c.match-run_in_order.branch [
       | in-Ok w ↦ λ e. (
           let same = ok-same w.in-Ok.outcome Idle c.match-run_in_order.result w.result-is e in
-          All-permutation (λ (m : Message). c.args.limit ≤ m.time) c.self.inside.hand.flow.queue c.run_in_order.new.self.flow.queue (still g c (inl e)).queue (w.in-Ok.ensures.idle (λ j. Ok (same j))))
+          subst (λ h. All (λ (m : Message). c.args.limit ≤ m.time) h.flow.queue) (sym (still g c (inl e))) (w.in-Ok.ensures.idle (λ j. Ok (same j))))
       | in-Err-Exhausted w ↦ λ e. not-ok _ _ _ e w.result-is
       | in-Err-OutOfMemory w ↦ λ e. not-ok _ _ _ e w.result-is
     ]
 
 pub returns-clause-tray : goal.returns-clause-tray
-returns-clause-tray g c = λ e. ap (λ (z : Flow). z.tray) (still g c e).flow ∙ ap (λ z. z.held.flow.tray) c.self.view_is
+returns-clause-tray g c = λ e. ap (λ z. z.flow.tray) (still g c e) ∙ ap (λ z. z.held.flow.tray) c.self.view_is
 
 pub returns-clause-short : goal.returns-clause-short
 returns-clause-short g c =
@@ -81,7 +79,7 @@ returns-clause-goes g c =
     let new = c.run_in_order.new.self in
     let d = c.run_in_order.ensures.did in
     let none = ap (λ z. z.held.flow.tray) c.self.view_is ∙ c.requires.arrived in
-    let stayed = λ (a : IsAsBefore c.self.inside.hand new). goes-letters h L new c.self.inside.gone d (adds-none _ _ (ap (λ (z : Flow). z.words) a.flow)) c.args.limit in
+    let stayed = λ (a : IsAsBefore c.self.inside.hand new). goes-letters h L new c.self.inside.gone d (adds-none _ _ (ap (λ z. z.flow.words) a)) c.args.limit in
     rw (sym c.self.view_is) (elim c.match-run_in_order.branch [
       | in-Ok w ↦ elim (either w.in-Ok.outcome) [
         | inl ran ↦ goes-run h L new c.self.inside.gone d none c.args.limit (w.in-Ok.ensures.first (λ j. Ok (ran j)))
@@ -106,4 +104,4 @@ returns-clause-counted g c =
     ]
 
 pub returns-clause-words : goal.returns-clause-words
-returns-clause-words g c = λ e. ap (λ (z : Flow). z.words) (still g c e).flow ∙ ap (λ z. z.held.flow.words) c.self.view_is
+returns-clause-words g c = λ e. ap (λ z. z.flow.words) (still g c e) ∙ ap (λ z. z.held.flow.words) c.self.view_is

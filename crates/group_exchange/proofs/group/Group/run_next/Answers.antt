@@ -1,11 +1,9 @@
 use Rattle.std.proofs.Common.{◌≡◌, ◌+◌, ◌<◌, ◌≤◌, ◌⊎◌, inl, inr, Bool, true, false, All, Ok, Err, IfOk, refl, sym, ap, ◌∙◌, subst, arith}
-use Rattle.std.proofs.lemmas.List.Sorted.{All-permutation}
 use Rattle.vlink.specs.declared.message.Message.{Message}
 use Rattle.vlink.specs.Order.{message_order}
 use Rattle.virtual_time.specs.Law.{IsAscending, one_if}
 use Rattle.group_hand.specs.Block.{runs_in}
 use Rattle.group_hand.specs.DoneEvents.{messages_of}
-use Rattle.group_hand.specs.Flow.{Flow}
 use Rattle.group_hand.specs.Handling.{RanFirst}
 use Rattle.group_hand.specs.Hands.{FirstWaits, IsAsBefore}
 use Rattle.group_hand.proofs.Adding.{adds-none}
@@ -49,10 +47,10 @@ still g c =
     ]
 
 pub returns-clause-idle : goal.returns-clause-idle
-returns-clause-idle g c = λ e. let s = still g c e in All-permutation (λ (m : Message). c.args.limit ≤ m.time) c.self.inside.hand.flow.queue c.run_next.new.self.flow.queue s.1.queue s.0
+returns-clause-idle g c = λ e. let s = still g c e in subst (λ h. All (λ (m : Message). c.args.limit ≤ m.time) h.flow.queue) (sym s.1) s.0
 
 pub returns-clause-tray : goal.returns-clause-tray
-returns-clause-tray g c = λ e. ap (λ (z : Flow). z.tray) (still g c e).1.flow ∙ (ap (λ z. z.held.flow.tray) c.self.view_is ∙ ap (λ (z : Flow). z.tray) c.count_done.ensures.stood.flow)
+returns-clause-tray g c = λ e. ap (λ z. z.flow.tray) (still g c e).1 ∙ (ap (λ z. z.held.flow.tray) c.self.view_is ∙ ap (λ z. z.held.flow.tray) c.count_done.ensures.stood)
 
 pub returns-clause-short : goal.returns-clause-short
 returns-clause-short g c =
@@ -84,8 +82,8 @@ returns-clause-goes g c =
     let L = c.actor_law.ensures g.J.GroupRun.setting h.laid in
     let new = c.run_next.new.self in
     let d = c.run_next.ensures.did in
-    let none = ap (λ z. z.held.flow.tray) c.self.view_is ∙ (ap (λ (z : Flow). z.tray) c.count_done.ensures.stood.flow ∙ c.requires.arrived) in
-    let stayed = λ (a : IsAsBefore c.self.inside.hand new). goes-letters h L new c.self.inside.gone d (adds-none _ _ (ap (λ (z : Flow). z.words) a.flow)) c.args.limit in
+    let none = ap (λ z. z.held.flow.tray) c.self.view_is ∙ (ap (λ z. z.held.flow.tray) c.count_done.ensures.stood ∙ c.requires.arrived) in
+    let stayed = λ (a : IsAsBefore c.self.inside.hand new). goes-letters h L new c.self.inside.gone d (adds-none _ _ (ap (λ z. z.flow.words) a)) c.args.limit in
     goes-later _ _ _ _ _ _ _ c.count_done.ensures.stood c.self.view_is (elim c.match-run_next.branch [
       | in-Ok w ↦ elim (either w.in-Ok.has_run) [
         | inl ran_one ↦ goes-run h L new c.self.inside.gone d none c.args.limit (ran g (goal.at.returns-clause-goes g c).Joined-run_next (w.result-is ∙ ap Ok ran_one))
@@ -98,12 +96,12 @@ returns-clause-goes g c =
 pub returns-clause-counted : goal.returns-clause-counted
 returns-clause-counted g c =
     let at = (goal.at.returns-clause-counted g c).Joined-run_next in
-    let before = ap (λ z. runs_in z.held.flow.words) c.self.view_is ∙ ap (λ (z : Flow). runs_in z.words) c.count_done.ensures.stood.flow in
+    let before = ap (λ z. runs_in z.held.flow.words) c.self.view_is ∙ ap (λ z. runs_in z.held.flow.words) c.count_done.ensures.stood in
     elim c.match-run_next.branch [
       | in-Ok w ↦ subst (λ z. IfOk z (λ has. runs_in c.run_next.new.self.flow.words ≡ runs_in c.args.self.now.held.flow.words + one_if has)) (sym w.result-is)
           (elim (either w.in-Ok.has_run) [
             | inl ran_one ↦ (let r = ran g at (w.result-is ∙ ap Ok ran_one) in let a = runs-run r.0.receiver _ _ r.2.words in let b = ap one_if ran_one in omega arith)
-            | inr none_ran ↦ (let a = ap (λ (z : Flow). runs_in z.words) (w.in-Ok.ensures.still (λ j. Ok (none_ran j))).flow in let b = ap one_if none_ran in omega arith)
+            | inr none_ran ↦ (let a = ap (λ z. runs_in z.flow.words) (w.in-Ok.ensures.still (λ j. Ok (none_ran j))) in let b = ap one_if none_ran in omega arith)
           ])
       | in-Err-Exhausted w ↦ subst (λ z. IfOk z (λ has. runs_in c.run_next.new.self.flow.words ≡ runs_in c.args.self.now.held.flow.words + one_if has)) (sym w.result-is) tt
       | in-Err-OutOfMemory w ↦ subst (λ z. IfOk z (λ has. runs_in c.run_next.new.self.flow.words ≡ runs_in c.args.self.now.held.flow.words + one_if has)) (sym w.result-is) tt
