@@ -12,3 +12,4 @@ pub mod Undoing
 pub mod Sealing
 pub mod Trail
 pub mod Waiting
+pub mod Answered

@@ -37,17 +37,7 @@ impl<R: Actor> Hand<R> {
     /// was refused. Either leaves all as it was.
     pub fn run_in_order(&mut self, limit: Time) -> Result<InOrder, HandFault>
         ensures did { DoesTold (rules_of R.plain) R.is_value self.old self.new }
-        ensures idle { result ≡ Ok Idle → All (λ m. limit ≤ m.time) self.old.flow.queue }
-        ensures late { result ≡ Ok Late → (m : Message) × (is_after message_order (newest_of (messages_of self.old.done)) m ≡ false)
-            × Contains self.old.flow.queue m × All (λ x. is_before x m ≡ false) self.old.flow.queue }
-        ensures still { result ≡ Ok Late → IsAsBefore self.old self.new }
-        ensures idle_still { result ≡ Ok Idle → IsAsBefore self.old self.new }
-        ensures ran { result ≡ Ok Ran → (d : DoneEvent R.Record) × (self.new.done ≡ self.old.done ++ d ∷ [])
-            × Contains self.old.flow.queue d.message × All (λ x. is_before x d.message ≡ false) self.old.flow.queue × (d.message.time < limit) }
-        ensures first { result ≡ Ok Ran → (m : Message) × (m.time < limit) × RanFirst m self.old self.new }
-        ensures soon { result ≡ Ok Late → (m : Message) × Contains self.old.flow.queue m × (m.time < limit) }
-        ensures exhausted { result ≡ Err Exhausted → FirstLacksNumbers (λ s. R.plain.counter s) self.old }
-        ensures unchanged { OnErr result (IsAsBefore self.old self.new) }
+        ensures told { RunsInOrder (λ s. R.plain.counter s) limit self.old self.new result }
     {
         actor_rules_law::<R>();
         let Ok(()) = make_room(&mut self.done, &mut self.letters) else {
@@ -83,15 +73,7 @@ impl<R: Actor> Hand<R> {
     /// send. `OutOfMemory`: memory was refused. Either leaves all as it was.
     pub fn run_next(&mut self, limit: Time) -> Result<bool, HandFault>
         ensures did { DoesTold (rules_of R.plain) R.is_value self.old self.new }
-        ensures idle { result ≡ Ok false → All (λ m. limit ≤ m.time) self.old.flow.queue }
-        ensures still { result ≡ Ok false → IsAsBefore self.old self.new }
-        ensures ran { result ≡ Ok true → (x : Setting R) (v : World Message R) → StandsForGroup (rules_of R.plain) R.is_value x v self.old →
-            (m : Message) × Contains self.old.flow.queue m × (m.time < limit) × IsHandled m self.old self.new }
-        // where the first message of the queue is not done, it is handled
-        ensures first { result ≡ Ok true → (IsAscending message_order (messages_of self.old.done) → FirstWaits message_order self.old) →
-            (x : Setting R) (v : World Message R) → StandsForGroup (rules_of R.plain) R.is_value x v self.old → (m : Message) × (m.time < limit) × RanFirst m self.old self.new }
-        ensures exhausted { result ≡ Err Exhausted → FirstLacksNumbers (λ s. R.plain.counter s) self.old }
-        ensures unchanged { OnErr result (IsAsBefore self.old self.new) }
+        ensures told { RunsNext (rules_of R.plain) R.is_value (λ s. R.plain.counter s) limit self.old self.new result }
     {
         actor_rules_law::<R>();
         match self.run_in_order(limit)? {
@@ -112,12 +94,7 @@ impl<R: Actor> Hand<R> {
     pub(crate) fn run_out_of_order(&mut self) -> Result<(), HandFault>
         requires { (m : Message) × Contains self.old.flow.queue m }
         ensures did { DoesTold (rules_of R.plain) R.is_value self.old self.new }
-        ensures ran { OnOk result ((x : Setting R) (v : World Message R) → StandsForGroup (rules_of R.plain) R.is_value x v self.old →
-            (m : Message) × Contains self.old.flow.queue m × All (λ y. is_before y m ≡ false) self.old.flow.queue × IsHandled m self.old self.new) }
-        ensures first { OnOk result ((IsAscending message_order (messages_of self.old.done) → FirstWaits message_order self.old) →
-            (x : Setting R) (v : World Message R) → StandsForGroup (rules_of R.plain) R.is_value x v self.old → (m : Message) × RanFirst m self.old self.new) }
-        ensures exhausted { result ≡ Err Exhausted → FirstLacksNumbers (λ s. R.plain.counter s) self.old }
-        ensures unchanged { OnErr result (IsAsBefore self.old self.new) }
+        ensures told { RunsOutOfOrder (rules_of R.plain) R.is_value (λ s. R.plain.counter s) self.old self.new result }
     {
         actor_rules_law::<R>();
         let Some(message) = self.letters.first() else {
