@@ -9,7 +9,7 @@ use Rattle.virtual_time.specs.declared.step.Step.{Step}
 use Rattle.virtual_time.specs.declared.step.Step.TheVariants.{Take, Arrive, Run, Post, Gvt, Commit}
 use Rattle.journal.specs.declared.fault.PoolFault.{PoolFault}
 use Rattle.journal.specs.declared.fault.PoolFault.TheVariants.{OutOfMemory, Exhausted}
-use Rattle.group_hand.specs.declared.block.Did.{Did}
+use Rattle.group_hand.specs.declared.block.Word.{Word}
 use Rattle.group_hand.specs.Block.{commits_in, runs_in, steps_told}
 use Rattle.group_hand.specs.DoneEvents.{messages_of}
 use Rattle.group_hand.specs.Hands.{Held}
@@ -80,7 +80,7 @@ module _ {S K : Type 0} (f : Simulation Message S K Note) (owners : List ℕ) wh
     pub held : LeftBlock h.held k.held
 
   -- an empty block changes nothing
-  abbrev pub posts : List Did → Ledger → GroupState S K → Ledger → GroupState S K → Type 0
+  abbrev pub posts : List Word → Ledger → GroupState S K → Ledger → GroupState S K → Type 0
   posts [] x h y k = (y ≡ x) × IsGroupAsBefore h k
   posts (d ∷ ds) x h y k = PostsBlock x h y k
 
@@ -102,7 +102,7 @@ module _ {S K : Type 0} (f : Simulation Message S K Note) (owners : List ℕ) wh
       × publishes (t == (world_after f x.steps).gvt) x y
 
   -- the group did these words, which joined the block: each of their steps could be done, and is one of its own processes
-  pub record Went (did : List Did) (h k : GroupState S K) : Type 0 where
+  pub record Went (did : List Word) (h k : GroupState S K) : Type 0 where
     pub words : k.held.flow.words ≡ h.held.flow.words ++ did
     pub by : AreBy (is_of owners h.number) (steps_told did)
     pub enabled : AreDone f (steps_told did) (in_group f h)
@@ -111,14 +111,14 @@ module _ {S K : Type 0} (f : Simulation Message S K Note) (owners : List ℕ) wh
 
   -- some words joined the block: letters arrived, and messages were handled that are earlier than the limit, each where no letter waited
   pub record Goes (limit : ℕ) (h k : GroupState S K) : Type 0 where
-    pub did : List Did
+    pub did : List Word
     pub went : Went did h k
     pub timely : AreTimely f limit (is_of owners h.number) (steps_told did) (in_group f h)
     pub no_commit : commits_in did ≡ 0
 
   -- words of committed events joined the block
   pub record Ends (h k : GroupState S K) : Type 0 where
-    pub did : List Did
+    pub did : List Word
     pub went : Went did h k
     pub commits : commits_in did ≡ length did
 
@@ -129,11 +129,11 @@ module _ {S K : Type 0} (f : Simulation Message S K Note) (owners : List ℕ) wh
   -- all letters of the tray arrive; then messages are handled that are earlier than the GVT seen and the window, `most` at most, as long as there are
   -- any; then all done events below the GVT seen are committed
   pub record Works (most window : ℕ) (h k : GroupState S K) (count : ℕ) : Type 0 where
-    pub did : List Did
+    pub did : List Word
     pub went : Went did h k
     -- words of letters and of messages that were handled, and then those of committed events
-    pub worked : List Did
-    pub ended : List Did
+    pub worked : List Word
+    pub ended : List Word
     pub parts : did ≡ worked ++ ended
     pub no_commit : commits_in worked ≡ 0
     pub commits : commits_in ended ≡ length ended
@@ -156,7 +156,7 @@ module _ {S K : Type 0} (f : Simulation Message S K Note) (owners : List ℕ) wh
 
   -- a refusal leaves what was done before it. That numbers are wanting is told only where they are
   pub record WorksSome (window : ℕ) (h k : GroupState S K) (fault : PoolFault) : Type 0 where
-    pub did : List Did
+    pub did : List Word
     pub went : Went did h k
     -- each message that was handled is earlier than the GVT seen and the window, and no letter waited
     pub timely : AreTimely f (h.seen + window) (is_of owners h.number) (steps_told did) (in_group f h)

@@ -14,7 +14,7 @@ use Rattle.reverse.specs.Setting.{simulation_of}
 use Rattle.reverse.specs.declared.sends.Sends.{Sends}
 use Rattle.reverse.proofs.Members.{in-all}
 use Rattle.antimessages.specs.Counting.{signed_count}
-use Rattle.group_hand.specs.declared.block.Did.TheVariants.{Committed}
+use Rattle.group_hand.specs.declared.block.Word.TheVariants.{Committed}
 use Rattle.group_hand.specs.Block.{steps_told}
 use Rattle.group_hand.specs.DoneEvents.{DoneEvent}
 use Rattle.group_hand.specs.Flow.{Flow, IsFirst}

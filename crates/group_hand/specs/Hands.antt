@@ -7,7 +7,7 @@ use Rattle.virtual_time.specs.Law.{Order, Rules, Laws, World, Part, opened, reac
 use Rattle.reverse.specs.Setting.{Setting, simulation_of}
 use Rattle.antimessages.specs.Counting.{HaveSameCounts}
 use Rattle.reverse.specs.Rules.{AreValues}
-use Rattle.group_hand.specs.declared.block.Did.{Did}
+use Rattle.group_hand.specs.declared.block.Word.{Word}
 use Rattle.group_hand.specs.Block.{steps_told}
 use Rattle.group_hand.specs.DoneEvents.{DoneEvent, done_events_at, done_events_of, messages_of}
 use Rattle.group_hand.specs.Flow.{Flow}
@@ -34,7 +34,7 @@ abbrev pub is_ours : {S : Type 0} → List (Option S) → ℕ → Bool
 is_ours members p = is_held (slice_get members p)
 
 -- these words are all of members, which stay members
-pub record AreOfMembers {S : Type 0} (old new : List (Option S)) (did : List Did) : Type 0 where
+pub record AreOfMembers {S : Type 0} (old new : List (Option S)) (did : List Word) : Type 0 where
   pub by : AreBy (is_ours old) (steps_told did)
   pub same : (p : ℕ) → is_ours new p ≡ is_ours old p
 
@@ -84,7 +84,7 @@ module _ {S K : Type 0} (r : Rules Message S K Note) (is_value : S → Message �
   -- whatever group this stood for, the steps that joined the block could be done there, it stands for what they make of it, and they are all of
   -- members, which stay members
   pub record DoesSent (old : Held S K) (sent : List Letter) (new : Held S K) (left : List Letter) : Type 0 where
-    pub did : List Did
+    pub did : List Word
     pub block : new.flow.words ≡ old.flow.words ++ did
     pub keeps : new.flow.keeps ≡ old.flow.keeps
     pub rows : new.rows ≡ old.rows
@@ -137,7 +137,7 @@ IsAsBefore old new = new ≡ record old { flow = record old.flow { room = new.fl
 
 -- the same where GVT stands at this moment or later; GVT stays
 pub record CommitsTold {S K : Type 0} (r : Rules Message S K Note) (is_value : S → Message → Type 0) (moment : ℕ) (old new : Held S K) : Type 0 where
-  pub did : List Did
+  pub did : List Word
   pub block : new.flow.words ≡ old.flow.words ++ did
   pub keeps : new.flow.keeps ≡ old.flow.keeps
   pub stands : (x : Setting S) → Laws (simulation_of r x) → (v : World Message S) → moment ≤ v.gvt → StandsForGroup r is_value x v old →

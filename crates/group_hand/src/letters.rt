@@ -3,11 +3,11 @@ ghost use Rattle.std.specs.Prelude.{◌≡◌, ◌+◌, ◌<◌, ◌≤◌, ◌�
 ghost use Rattle.vlink.specs.declared.message.Message.{Message};
 ghost use Rattle.vlink.specs.Letters.{Letter};
 ghost use Rattle.reverse.specs.Rules.{is_before};
-ghost use Rattle.group_hand.specs.declared.block.Did.TheVariants.{Home, Taken};
+ghost use Rattle.group_hand.specs.declared.block.Word.TheVariants.{Home, Taken};
 ghost use Rattle.group_hand.specs.Flow.{WentAbroad, CameHome, WasTaken, TookFirst};
 ghost use Rattle.group_hand.specs.Waiting.{placed};
 
-use crate::block::{Did, Words};
+use crate::block::{Word, Words};
 use crate::queue::Queue;
 use antimessages::Tally;
 use std::alloc::{AllocError, Global};
@@ -157,7 +157,7 @@ impl Letters {
 
     /// Adds one word. The room for it was made before.
     #[inline(always)]
-    pub(crate) fn tell(&mut self, did: Did)
+    pub(crate) fn tell(&mut self, did: Word)
         requires { 0 < self.old.room }
         ensures told { self.new ≡ record self.old { words = self.old.words ++ did ∷ []; room = self.new.room } }
         ensures room { self.old.room ≤ self.new.room + 1 }
@@ -210,7 +210,7 @@ impl Letters {
             sign,
         };
         self.tray.push_back_reserved(letter);
-        self.block.push_reserved(Did::Taken {
+        self.block.push_reserved(Word::Taken {
             process: message.receiver,
         });
         self.room -= 1;
@@ -229,7 +229,7 @@ impl Letters {
         ensures room { self.old.room ≤ self.new.room + 1 }
     {
         self.queue.push_reserved(message);
-        self.block.push_reserved(Did::Home {
+        self.block.push_reserved(Word::Home {
             process: message.receiver,
         });
         self.room -= 1;

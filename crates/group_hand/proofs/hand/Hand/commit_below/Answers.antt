@@ -2,7 +2,7 @@ use Rattle.std.proofs.Common.{ℕ, ◌≡◌, ◌<◌, ◌++◌, All, List, take
 use Rattle.std.proofs.lemmas.List.{take-append-drop, take-map}
 use Rattle.std.proofs.lemmas.List.Elements.{All-weaker}
 use Rattle.reverse.specs.Rules.{rules_of}
-use Rattle.group_hand.specs.declared.block.Did.{Did}
+use Rattle.group_hand.specs.declared.block.Word.{Word}
 use Rattle.group_hand.specs.Flow.{Flow, IsFirst}
 use Rattle.group_hand.specs.Hands.{IsAsBefore}
 use Rattle.group_hand.specs.Undoing.{CameTo}
@@ -38,10 +38,10 @@ refused g c done rows flow d r e =
     (roomy-both c.self.inside.letters c.first-first.new.self flow c.first-first.ensures.unchanged e))
 
 -- what became of the letters, whatever joined the block
-changed : (g : Over) (c : After-first-first g) (now : Flow) (ws : List Did) → now ≡ record c.first-first.new.self { words = ws; room = now.room } →
+changed : (g : Over) (c : After-first-first g) (now : Flow) (ws : List Word) → now ≡ record c.first-first.new.self { words = ws; room = now.room } →
     now ≡ record c.args.self.now.flow { words = now.words; room = now.room }
 changed g c now ws e =
-    subst (λ (z : List Did). now ≡ record c.first-first.new.self { words = z; room = now.room }) (sym (ap (λ (z : Flow). z.words) e)) e ∙
+    subst (λ (z : List Word). now ≡ record c.first-first.new.self { words = z; room = now.room }) (sym (ap (λ (z : Flow). z.words) e)) e ∙
     ap (λ (z : Flow). record z { words = now.words; room = now.room }) (c.first-first.ensures.unchanged ∙ ap (λ h. record h.flow { room = c.first-first.new.self.room }) c.self.view_is)
 
 pub returns-clause-did : goal.returns-clause-did
