@@ -20,14 +20,15 @@ abbrev pub IsLateBefore : {S K : Type 0} → ℕ → Held S K → Type 0
 IsLateBefore limit h =
     (m : Message) × Contains h.flow.queue m × All (λ x. is_before x m ≡ false) h.flow.queue × (m.time < limit) × (is_after message_order (newest_of (messages_of h.done)) m ≡ false)
 
--- nothing changed where none was handled; the first message was, it was earlier than the limit, and its event is the newest
-abbrev pub RunsInOrder : {S K : Type 0} → (S → ℕ) → ℕ → Held S K → Held S K → Result InOrder HandFault → Type 0
-RunsInOrder {S} {K} counter limit old new (Ok Ran) =
-    (m : Message) × (m.time < limit) × RanFirst m old new × ((d : DoneEvent K) × (d.message ≡ m) × (new.done ≡ old.done ++ d ∷ []))
-RunsInOrder counter limit old new (Ok Idle) = IsAsBefore old new × All (λ m. limit ≤ m.time) old.flow.queue
-RunsInOrder counter limit old new (Ok Late) = IsAsBefore old new × IsLateBefore limit old
-RunsInOrder counter limit old new (Err OutOfMemory) = IsAsBefore old new
-RunsInOrder counter limit old new (Err Exhausted) = IsAsBefore old new × FirstLacksNumbers counter old
+module _ {S K : Type 0} where
+  -- nothing changed where none was handled; the first message was, it was earlier than the limit, and its event is the newest
+  abbrev pub RunsInOrder : (S → ℕ) → ℕ → Held S K → Held S K → Result InOrder HandFault → Type 0
+  RunsInOrder counter limit old new (Ok Ran) =
+      (m : Message) × (m.time < limit) × RanFirst m old new × ((d : DoneEvent K) × (d.message ≡ m) × (new.done ≡ old.done ++ d ∷ []))
+  RunsInOrder counter limit old new (Ok Idle) = IsAsBefore old new × All (λ m. limit ≤ m.time) old.flow.queue
+  RunsInOrder counter limit old new (Ok Late) = IsAsBefore old new × IsLateBefore limit old
+  RunsInOrder counter limit old new (Err OutOfMemory) = IsAsBefore old new
+  RunsInOrder counter limit old new (Err Exhausted) = IsAsBefore old new × FirstLacksNumbers counter old
 
 module _ {S K : Type 0} (r : Rules Message S K Note) (V : S → Message → Type 0) where
   -- a message of the queue of which this holds was handled, where it was not done; where that was the first of the queue, it is this one

@@ -185,10 +185,10 @@ returns-in_default-outcome-clause-told g c =
 -- the first message, which is not done, was handled
 pub returns-in-Ok-Ran-clause-told : goal.returns-in-Ok-Ran-clause-told
 returns-in-Ok-Ran-clause-told g c =
-    let at = goal.at.returns-in-Ok-Ran-clause-told g c in
-    let k = first g at.In-Some in
+    let here = goal.at.returns-in-Ok-Ran-clause-told g c in
+    let k = first g here.In-Some in
     let is : c.in_order_of-outcome.result ≡ Ok Ran = search rules in
-    let b = rw is at (becomes g at.After-in_order_of-outcome) in
+    let b = rw is at (becomes g here.After-in_order_of-outcome) in
     let d = c.handle_in_order.ensures.done in
     let words = ap (λ z. z.words) c.in-Some.ensures.taken.others ∙ (ap (λ z. z.words) c.make_room.ensures.letters ∙ ap (λ h. h.flow.words) c.self.view_is) in (
       c.in-Some.message,
