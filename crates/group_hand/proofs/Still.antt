@@ -1,5 +1,5 @@
 -- Where nothing changed but room, the group stands for what it stood for.
-use Rattle.std.proofs.Common.{◌≡◌, ◌≢◌, ℕ, ◌+◌, ◌<◌, inl, inr, false, Option, Some, None, IfSome, IfNone, List, [], ◌∷◌, ◌++◌, length, All, Contains, IsPermutation, Result, Ok, Err, OnErr, refl, sym, ap, ◌∙◌, subst, append-nil, arith}
+use Rattle.std.proofs.Common.{◌≡◌, ◌≢◌, ℕ, ◌<◌, false, Option, Some, None, IfSome, IfNone, List, [], ◌++◌, All, Contains, Result, Ok, Err, OnErr, refl, sym, ap, ◌∙◌, subst, append-nil, arith}
 use Rattle.std.proofs.lemmas.List.Elements.{All-contains, All-tail}
 use Rattle.vlink.specs.declared.message.Message.{Message}
 use Rattle.vlink.specs.Order.{message_order}
@@ -24,10 +24,10 @@ use Rattle.group_hand.proofs.Waiting.{placed-first}
 -- room was made, or the queue was looked at, for a group that is seen as h
 pub as-roomy : {S K : Type 0} (h : Held S K) (members : List (Option S)) (done later : List (DoneEvent K)) (rows : Sealed) (flow next : Flow) → held members done rows flow ≡ h → later ≡ done →
     next ≡ record flow { room = next.room } → IsAsBefore h (held members later rows next)
-as-roomy h members done later rows flow next v d e = (λ j. held members (d j) rows (e j)) ∙ ap (λ z. record z { flow = record z.flow { room = next.room } }) v
+as-roomy {S} {K} h members done later rows flow next v d e = (λ j. held members (d j) rows (e j)) ∙ ap (λ (z : Held S K). record z { flow = record z.flow { room = next.room } }) v
 
 pub as-both : {S K : Type 0} (h mid new : Held S K) → IsAsBefore h mid → IsAsBefore mid new → IsAsBefore h new
-as-both h mid new a b = b ∙ ap (λ z. record z { flow = record z.flow { room = new.flow.room } }) a
+as-both {S} {K} h mid new a b = b ∙ ap (λ (z : Held S K). record z { flow = record z.flow { room = new.flow.room } }) a
 
 -- room was made, and then again
 pub roomy-both : (flow mid next : Flow) → mid ≡ record flow { room = mid.room } → next ≡ record mid { room = next.room } → next ≡ record flow { room = next.room }

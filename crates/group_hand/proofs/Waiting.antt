@@ -1,5 +1,5 @@
 -- The same messages have one order.
-use Rattle.std.proofs.Common.{◌≡◌, ◌+◌, ◌∙◌, inl, inr, Bool, true, false, cond, List, [], ◌∷◌, Option, Some, None, IfSome, IfNone, All, Contains, IsPermutation, refl, sym, ap, subst, arith}
+use Rattle.std.proofs.Common.{◌≡◌, ◌∙◌, inl, inr, Bool, true, false, cond, List, [], ◌∷◌, Option, Some, None, IfSome, IfNone, All, Contains, IsPermutation, refl, sym, ap, subst, arith}
 use Rattle.std.proofs.lemmas.List.Elements.{All-head, All-tail}
 use Rattle.std.specs.Bool.{⊤}
 use Rattle.std.proofs.lemmas.Bool.{both_ways, false_from_ne_true}
@@ -44,10 +44,10 @@ module _ (O : IsOrder message_order) where
       go : (b : Bool) → message_order.less x m ≡ b → Rises (placed m xs) → Rises (cond b (x ∷ placed m xs) (m ∷ x ∷ xs))
       go true e ih = (
         (λ y i. let t = times-permutation message_order y (m ∷ xs) (placed m xs) (placed-permuted m xs) in
-        elim (in-cons message_order O y m xs (omega (arith, i, t))) [
-          | inl q ↦ subst (λ z. message_order.less z x ≡ false) (sym q) (less-asym message_order O x m e)
-          | inr j ↦ r.0 y j
-        ]),
+            elim (in-cons message_order O y m xs (omega (arith, i, t))) [
+              | inl q ↦ subst (λ z. message_order.less z x ≡ false) (sym q) (less-asym message_order O x m e)
+              | inr j ↦ r.0 y j
+            ]),
         ih,
       )
       go false e ih = (
@@ -121,4 +121,3 @@ out-ordered m xs ys p =
 pub in-ordered : (m : Message) (xs ys : List Message) → IsPermutation (m ∷ xs) ys → IsPermutation (m ∷ ordered xs) (ordered ys)
 in-ordered m xs ys p =
     IsPermutation-sym (ordered ys) (m ∷ ordered xs) (out-ordered m ys xs (IsPermutation-sym (m ∷ xs) ys p))
-

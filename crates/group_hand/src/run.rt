@@ -1,18 +1,11 @@
 //! Handles the first message of a group.
-ghost use Rattle.std.specs.Prelude.{◌≡◌, ◌≤◌, ◌<◌, ◌+◌, ◌++◌, ◌∷◌, [], false, true, All, Contains, Ok, Err, OnOk, OnErr};
+ghost use Rattle.std.specs.Prelude.{◌≡◌, ◌≤◌, ◌+◌, Contains, OnOk};
 ghost use Rattle.vlink.specs.declared.message.Message.{Message};
-ghost use Rattle.vlink.specs.Order.{message_order};
-ghost use Rattle.virtual_time.specs.Law.{World, IsAscending};
-ghost use Rattle.reverse.specs.Rules.{rules_of, is_before};
-ghost use Rattle.reverse.specs.Setting.{Setting};
-ghost use Rattle.antimessages.specs.Counting.{is_after, newest_of};
-ghost use Rattle.group_hand.specs.DoneEvents.{DoneEvent, messages_of};
-ghost use Rattle.group_hand.specs.Handling.{FirstLacksNumbers, IsHandled, RanFirst};
-ghost use Rattle.group_hand.specs.Hands.{DoesTold, FirstWaits, IsAsBefore, StandsForGroup};
-ghost use Rattle.group_hand.specs.Undoing.{HasRoomFor};
-ghost use Rattle.group_hand.specs.declared.fault.HandFault.TheVariants.{Exhausted};
-ghost use Rattle.group_hand.specs.declared.in_order.InOrder.TheVariants.{Ran, Idle, Late};
+ghost use Rattle.reverse.specs.Rules.{rules_of};
 ghost use Rattle.reverse.specs.declared.sends.TheConstants.{MOST_SENT};
+ghost use Rattle.group_hand.specs.Answered.{RunsInOrder, RunsNext, RunsOutOfOrder};
+ghost use Rattle.group_hand.specs.Hands.{DoesTold};
+ghost use Rattle.group_hand.specs.Undoing.{HasRoomFor};
 
 use crate::done_events::DoneEvents;
 use crate::fault::HandFault;

@@ -1,5 +1,4 @@
-use Rattle.std.proofs.Common.{◌≡◌, ◌<◌, ◌∙◌, ℕ, [], inl, Bool, Result, Ok, Err, IsErrAnd, All, Contains, false, ap, length, subst, sym}
-use Rattle.std.proofs.lemmas.List.{length-snoc}
+use Rattle.std.proofs.Common.{◌≡◌, ◌<◌, ◌∙◌, ◌∷◌, ℕ, [], inl, Bool, Result, Ok, Err, IsErrAnd, All, Contains, false, ap, length, length-append, subst, sym}
 use Rattle.vlink.specs.declared.message.Message.{Message}
 use Rattle.vlink.specs.declared.note.Note.{Note}
 use Rattle.vlink.specs.Order.{message_order}
@@ -7,7 +6,7 @@ use Rattle.virtual_time.specs.Law.{IsAscending, IsOrder, Rules}
 use Rattle.reverse.specs.Plain.{Plain}
 use Rattle.reverse.specs.Rules.{is_before, rules_of}
 use Rattle.reverse.specs.declared.sends.Sends.{Sends}
-use Rattle.group_hand.specs.Answered.{HandlesOne, IsLateBefore, RunsInOrder, RunsNext, RunsOutOfOrder}
+use Rattle.group_hand.specs.Answered.{HandlesOne, IsLateBefore, RefusesFirst, RunsInOrder, RunsNext}
 use Rattle.group_hand.specs.DoneEvents.{messages_of}
 use Rattle.group_hand.specs.Handling.{FirstLacksNumbers}
 use Rattle.group_hand.specs.Hands.{FirstWaits, Held, IsAsBefore}
@@ -21,18 +20,14 @@ use Rattle.group_hand.proofs.hand.Hand.run_next.Goals as goal
 
 -- a fault of the first call is passed on
 passed : {S K : Type 0} (r : Rules Message S K Note) (V : S → Message → Type 0) (counter : S → ℕ) (limit : ℕ) (old new : Held S K) (fault : HandFault) (told : Result Bool HandFault) →
-    IsErrAnd told (λ z. z ≡ fault) → RunsInOrder counter limit old new (Err fault) → RunsNext r V counter limit old new told
+    IsErrAnd told (λ z. z ≡ fault) → RefusesFirst counter old new fault → RunsNext r V counter limit old new told
 passed r V counter limit old new fault (Ok b) was t = absurd was
-passed r V counter limit old new OutOfMemory (Err f) was t = subst (λ z. RunsNext r V counter limit old new (Err z)) (sym was) t
-passed r V counter limit old new Exhausted (Err f) was t = subst (λ z. RunsNext r V counter limit old new (Err z)) (sym was) t
+passed r V counter limit old new fault (Err f) was t = subst (RefusesFirst counter old new) (sym was) t
 
 -- so is one of the second, since the first changed nothing but room
-passed-late : {S K X : Type 0} (r : Rules Message S K Note) (V : S → Message → Type 0) (counter : S → ℕ) (limit : ℕ) (old mid new : Held S K) → IsAsBefore old mid → (fault : HandFault) (told : Result Bool HandFault) →
-    IsErrAnd told (λ z. z ≡ fault) → RunsOutOfOrder {X = X} r V counter mid new (Err fault) → RunsNext r V counter limit old new told
-passed-late r V counter limit old mid new a fault (Ok b) was t = absurd was
-passed-late r V counter limit old mid new a OutOfMemory (Err f) was t = subst (λ z. RunsNext r V counter limit old new (Err z)) (sym was) (as-both old mid new a t)
-passed-late r V counter limit old mid new a Exhausted (Err f) was t =
-    subst (λ z. RunsNext r V counter limit old new (Err z)) (sym was) (as-both old mid new a t.0, subst (FirstLacksNumbers counter) a t.1)
+later : {S K : Type 0} (counter : S → ℕ) (old mid new : Held S K) → IsAsBefore old mid → (fault : HandFault) → RefusesFirst counter mid new fault → RefusesFirst counter old new fault
+later counter old mid new a OutOfMemory t = as-both old mid new a t
+later counter old mid new a Exhausted t = (as-both old mid new a t.0, subst (FirstLacksNumbers counter) a t.1)
 
 -- the message that it handled is earlier than the limit
 handled-late : {S K : Type 0} (plain : Plain S Message Sends K) (V : S → Message → Type 0) → IsOrder message_order → ((s : S) (e : Message) → plain.before (plain.after s e) e (plain.saves s e) ≡ s) →
@@ -74,7 +69,7 @@ returns-in_err-run_in_order-clause-told g c =
 pub returns-in-Ran-clause-told : goal.returns-in-Ran-clause-told
 returns-in-Ran-clause-told g c =
     let t = subst (λ z. RunsInOrder (λ s. g.R.Reversible.plain.counter s) c.args.limit c.args.self.now c.run_in_order.new.self (Ok z)) c.in-Ran.is c.in_ok-run_in_order.ensures.told in
-    λ x v stands. (t.0, t.1, t.2.among, inl (ap length t.3.2 ∙ length-snoc c.args.self.now.done t.3.0), λ waits. t.2)
+    λ x v stands. (t.0, t.1, t.2.among, inl (ap length t.3.2 ∙ length-append c.args.self.now.done (t.3.0 ∷ [])), λ waits. t.2)
 
 pub returns-in-Idle-clause-told : goal.returns-in-Idle-clause-told
 returns-in-Idle-clause-told g c = subst (λ z. RunsInOrder (λ s. g.R.Reversible.plain.counter s) c.args.limit c.args.self.now c.run_in_order.new.self (Ok z)) c.in-Idle.is c.in_ok-run_in_order.ensures.told
@@ -90,9 +85,10 @@ run_out_of_order-requires g c =
 
 pub returns-in_err-run_out_of_order-in-Late-clause-told : goal.returns-in_err-run_out_of_order-in-Late-clause-told
 returns-in_err-run_out_of_order-in-Late-clause-told g c =
-    passed-late (rules_of g.R.Reversible.plain) g.R.Reversible.is_value (λ s. g.R.Reversible.plain.counter s) c.args.limit c.args.self.now c.run_in_order.new.self c.run_out_of_order.new.self
-    (late g (goal.at.returns-in_err-run_out_of_order-in-Late-clause-told g c).In-Late).0 _ c.from_residual-in_err-run_out_of_order-in-Late.result c.from_residual-in_err-run_out_of_order-in-Late.ensures.1
-    c.in_err-run_out_of_order-in-Late.ensures.told
+    passed (rules_of g.R.Reversible.plain) g.R.Reversible.is_value (λ s. g.R.Reversible.plain.counter s) c.args.limit c.args.self.now c.run_out_of_order.new.self _
+    c.from_residual-in_err-run_out_of_order-in-Late.result c.from_residual-in_err-run_out_of_order-in-Late.ensures.1
+    (later (λ s. g.R.Reversible.plain.counter s) c.args.self.now c.run_in_order.new.self c.run_out_of_order.new.self (late g (goal.at.returns-in_err-run_out_of_order-in-Late-clause-told g c).In-Late).0 _
+    c.in_err-run_out_of_order-in-Late.ensures.told)
 
 pub returns-in_ok-run_out_of_order-in-Late-clause-told : goal.returns-in_ok-run_out_of_order-in-Late-clause-told
 returns-in_ok-run_out_of_order-in-Late-clause-told g c =

@@ -196,20 +196,19 @@ returns-then-has-clause-told g c =
     let at = goal.at.returns-then-has-clause-told g c in
     let r = rules_of g.R.Reversible.plain in
     let V = g.R.Reversible.is_value in
-    let counter = λ s. g.R.Reversible.plain.counter s in
     let k = first g at.In-Some in
     let m = c.in-Some.message in
     let there = subst (λ ds. Contains (messages_of ds) m) (ap (λ h. h.done) c.self.view_is) (c.if-has.ensures.yes refl) in
     let new = held c.self.inside.members.items c.self.inside.done.events c.self.inside.rows c.count_again.new.self in
     elim c.match-count_again.branch [
-      | in-Ok w ↦ subst (RunsOutOfOrder r V counter c.args.self.now new) (sym w.result-is) (λ x v stands. (
+      | in-Ok w ↦ subst (RunsOutOfOrder r V (λ s. g.R.Reversible.plain.counter s) c.args.self.now new) (sym w.result-is) (λ x v stands. (
         m,
         k.1,
         k.0,
         inr (subst (λ (q : List Message). IsPermutation q (m ∷ c.count_again.new.self.queue)) (ap (λ (z : Flow). z.queue) c.first.ensures.unchanged ∙ ap (λ h. h.flow.queue) c.self.view_is) w.in-Ok.ensures.queue),
         λ waits. absurd (not-waiting c.actor_rules_law.ensures.order c.args.self.now m k.0 k.1 there (waits stands.ascending)),
       ))
-      | in-Err w ↦ subst (RunsOutOfOrder r V counter c.args.self.now new) (sym w.result-is)
+      | in-Err w ↦ subst (RunsOutOfOrder r V (λ s. g.R.Reversible.plain.counter s) c.args.self.now new) (sym w.result-is)
           (subst (λ ls. IsAsBefore c.args.self.now (held c.self.inside.members.items c.self.inside.done.events c.self.inside.rows ls)) (sym w.in-Err.ensures.unchanged) (as-looked g at.After-first))
     ]
 

@@ -1,4 +1,4 @@
-use Rattle.std.proofs.Common.{◌≡◌, ◌-◌, false, List, [], ◌++◌, length, slice_get, Contains, IfSome, IfNone, IsPermutation, ◌∙◌, subst, sym, ap, option_copied}
+use Rattle.std.proofs.Common.{◌≡◌, ◌-◌, false, List, [], ◌++◌, length, slice_get, Contains, IfSome, IfNone, ◌∙◌, subst, sym, ap, option_copied}
 use Rattle.std.proofs.lemmas.List.Elements.{Contains-append_left}
 use Rattle.std.proofs.lemmas.List.Sorted.{All-permutation, Contains-permutation, IsPermutation-append_left}
 use Rattle.vlink.specs.declared.message.Message.{Message}

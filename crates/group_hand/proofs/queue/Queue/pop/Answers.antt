@@ -1,4 +1,4 @@
-use Rattle.std.proofs.Common.{◌≡◌, ◌-◌, false, List, [], ◌∷◌, ◌++◌, length, slice_get, IfSome, IfNone, IsPermutation, subst, ap, arith, option_copied, vec_len}
+use Rattle.std.proofs.Common.{◌≡◌, ◌-◌, false, List, [], ◌∷◌, ◌++◌, length, slice_get, IfSome, IfNone, subst, ap, arith, option_copied, vec_len}
 use Rattle.std.proofs.lemmas.List.Sorted.{All-permutation, IsPermutation-append_left}
 use Rattle.vlink.specs.declared.message.Message.{Message}
 use Rattle.reverse.specs.Rules.{is_before}

@@ -1,4 +1,4 @@
-use Rattle.std.proofs.Common.{◌++◌, ◌∙◌, List, IsPermutation, ap, arith, eqb-true, sym, vec_len}
+use Rattle.std.proofs.Common.{◌++◌, ◌∙◌, ap, arith, eqb-true, sym, vec_len}
 use Rattle.std.proofs.lemmas.List.{nil_from_length}
 use Rattle.group_hand.proofs.Offers.{put-beside}
 use Rattle.group_hand.proofs.Waiting.{same-ordered}
