@@ -20,7 +20,6 @@ use Rattle.reverse.proofs.Members.{in-all}
 use Rattle.antimessages.specs.Counting.{signed_count}
 use Rattle.group_hand.specs.Block.{steps_told}
 use Rattle.group_hand.specs.DoneEvents.{done_events_at, done_events_of, messages_of}
-use Rattle.group_hand.specs.Flow.{Flow}
 use Rattle.group_hand.specs.Handling.{FirstLacksNumbers}
 use Rattle.group_hand.specs.Hands.{Held, IsAsBefore, IsMember, StandsForGroup, StaysDone, counted, is_ours}
 use Rattle.group_hand.specs.Sealing.{Stays}

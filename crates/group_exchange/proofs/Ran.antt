@@ -9,7 +9,6 @@ use Rattle.reverse.specs.Plain.{Plain}
 use Rattle.reverse.specs.Rules.{rules_of}
 use Rattle.reverse.specs.Setting.{Setting, simulation_of}
 use Rattle.reverse.specs.declared.sends.Sends.{Sends}
-use Rattle.group_hand.specs.declared.block.Word.{Word}
 use Rattle.group_hand.specs.declared.block.Word.TheVariants as word
 use Rattle.group_hand.specs.Answered.{RunsInOrder, RunsNext}
 use Rattle.group_hand.specs.Block.{AddsCommits, AddsLetters, commits_in, runs_in, steps_told}

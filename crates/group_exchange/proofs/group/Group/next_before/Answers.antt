@@ -2,6 +2,7 @@ use Rattle.std.proofs.Common.{◌≤◌, All, IfNone, ap, sym, ◌∙◌, subst,
 use Rattle.std.proofs.lemmas.List.Elements.{All-nil}
 use Rattle.vlink.specs.declared.message.Message.{Message}
 use Rattle.group_exchange.proofs.Again.{group-as-before}
+use Rattle.group_exchange.proofs.Ends.{group_at}
 use Rattle.group_exchange.proofs.Going.{none-early, when-none}
 use Rattle.group_exchange.proofs.Holding.{holds-again}
 use Rattle.group_exchange.proofs.RowsKept.{rows-again}
@@ -21,7 +22,7 @@ invariant_of-self g c =
     )
 
 pub returns-clause-stood : goal.returns-clause-stood
-returns-clause-stood g c = rw (sym c.self.view_is) (group-as-before _ c.next.new.self c.next.ensures.same)
+returns-clause-stood g c = rw (sym c.self.view_is) (group-as-before (group_at c.self.inside.number c.self.inside.hand c.self.inside.standing c.self.inside.gone) c.next.new.self c.next.ensures.same)
 
 pub returns-clause-idle : goal.returns-clause-idle
 returns-clause-idle g c =

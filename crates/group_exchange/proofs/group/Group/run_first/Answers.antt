@@ -1,4 +1,4 @@
-use Rattle.std.proofs.Common.{true, false, inl, inr, Ok, refl, ap, ◌∙◌, arith}
+use Rattle.std.proofs.Common.{true, inl, inr, Ok, refl, ap, ◌∙◌, arith}
 use Rattle.group_hand.specs.Block.{runs_in}
 use Rattle.journal.proofs.Refused.{not-ok}
 use Rattle.group_hand.proofs.Answering.{not-both}

@@ -9,7 +9,7 @@ pub returns-in_err-count_done-clause-goes : goal.returns-in_err-count_done-claus
 returns-in_err-count_done-clause-goes g c = goes-same _ _ _ _ _ c.count_done.ensures.stood
 
 pub returns-in_default-clause-goes : goal.returns-in_default-clause-goes
-returns-in_default-clause-goes g c = goes-both _ _ _ _ _ _ (goes-same _ _ _ _ _ c.count_done.ensures.stood) (goes-same _ _ _ _ _ (counts-none _ _ c.next_before.ensures.stood))
+returns-in_default-clause-goes g c = goes-both _ _ _ _ _ _ (goes-same _ _ _ _ _ c.count_done.ensures.stood) (goes-same _ _ _ _ _ (counts-none c.count_done.new.self c.next_before.new.self c.next_before.ensures.stood))
 
 pub returns-in_default-clause-faults : goal.returns-in_default-clause-faults
 returns-in_default-clause-faults g c = tt
@@ -31,7 +31,7 @@ returns-in_default-clause-short g c = λ e. not-ok false _ _ refl e
 
 pub returns-in_err-has_run-clause-goes : goal.returns-in_err-has_run-clause-goes
 returns-in_err-has_run-clause-goes g c =
-    goes-both _ _ _ _ _ _ (goes-both _ _ _ _ _ _ (goes-same _ _ _ _ _ c.count_done.ensures.stood) (goes-same _ _ _ _ _ (counts-none _ _ c.next_before.ensures.stood))) c.run_first.ensures.goes
+    goes-both _ _ _ _ _ _ (goes-both _ _ _ _ _ _ (goes-same _ _ _ _ _ c.count_done.ensures.stood) (goes-same _ _ _ _ _ (counts-none c.count_done.new.self c.next_before.new.self c.next_before.ensures.stood))) c.run_first.ensures.goes
 
 pub returns-in_default-clause-counted : goal.returns-in_default-clause-counted
 returns-in_default-clause-counted g c =
