@@ -1,2 +1,1 @@
 mod Counts
-pub mod RowTimes

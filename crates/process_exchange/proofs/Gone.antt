@@ -1,5 +1,6 @@
 -- Rows of committed events that left a process: the first ones, so many, which are of moments before one.
-use Rattle.std.proofs.Common.{◌≡◌, ℕ, ◌<◌, ◌≤◌, Bool, true, false, cond, max, All, List, [], ◌∷◌, ◌++◌, take, Option, Some, None, refl, sym, ap, ◌∙◌, subst, arith, append-nil, append_assoc}
+use Rattle.std.proofs.Common.{◌≡◌, ℕ, ◌+◌, ◌<◌, ◌≤◌, Bool, true, false, cond, nat_lt, max, min, All, List, [], ◌∷◌, ◌++◌, take, drop, Option, Some, None, refl, sym, ap, ◌∙◌, subst, arith, append-nil, append_assoc}
+use Rattle.std.specs.List.Sorted.{IsPartitionPoint}
 use Rattle.std.proofs.lemmas.List.{take-append-le}
 use Rattle.std.proofs.lemmas.List.Elements.{All-nil}
 use Rattle.vlink.specs.declared.message.Message.{Message}
@@ -9,7 +10,16 @@ use Rattle.virtual_time.specs.Law.{Rules, rowed, reached, Part, next_of, handled
 use Rattle.virtual_time.proofs.Handling.{rowed-append}
 use Rattle.virtual_time.specs.declared.moved.Move.TheVariants.{Arrived, Ran, Committed}
 use Rattle.process_queues.specs.Queues.{Queues, StandsFor}
-use Rattle.row_times.specs.Within.{AreFirstBefore}
+use Rattle.row_times.specs.Within.{rows_within, AreFirstBefore}
+use Rattle.row_times.proofs.Between.{rows-kept, first-early}
+
+-- of more rows those leave that are earlier than a moment, or fewer
+pub gone-more : (moment left count : ℕ) (all there : List Row) → there ≡ drop left all →
+    IsPartitionPoint (λ row. nat_lt row.message.time moment ≡ true) (λ row. nat_lt row.message.time moment ≡ false) there count →
+    (n sealed most left' : ℕ) → n ≡ min (min count sealed) most → left' ≡ left + n → (limit : ℕ) → moment ≤ limit →
+    All (λ row. row.message.time < limit) (take left all) → All (λ row. row.message.time < limit) (take left' all)
+gone-more moment left count all there behind point n sealed most left' few more limit le early =
+    subst (λ k. All (λ (row : Row). row.message.time < limit) (take k all)) (sym more) (first-early moment left count there all behind point limit n le (omega arith) early)
 
 module _ {S K : Type 0} (r : Rules Message S K Note) where
   -- where no row has left, all that left are early
@@ -23,6 +33,11 @@ module _ {S K : Type 0} (r : Rules Message S K Note) where
   -- what left, and what is earlier than another moment, is earlier than the later one of both
   pub gone-max : (gone moment later : ℕ) → later ≡ max gone moment → (gone ≤ later) × (moment ≤ later)
   gone-max gone moment later is = (omega arith, omega arith)
+
+  -- where the rows that left are earlier than an interval, those that are there are all that it has
+  pub none-gone : (from to left : ℕ) (all there rows : List Row) → there ≡ drop left all → rows ≡ rows_within r from to there →
+      AreFirstBefore r from left all → rows ≡ rows_within r from to all
+  none-gone from to left all there rows behind is early = is ∙ (ap (rows_within r from to) behind ∙ rows-kept r from to left all early)
 
   module _ (o : S) where
     -- each act leaves the committed events or puts some behind them

@@ -9,7 +9,6 @@ use Rattle.virtual_time.specs.Law.{IsIn, pluses, minuses, Simulation, Laws, Part
 use Rattle.virtual_time.specs.declared.moved.Move.{Move}
 use Rattle.virtual_time.specs.declared.moved.Move.TheVariants.{Arrived, Ran, Committed}
 use Rattle.virtual_time.proofs.Lists.{in-head}
-use Rattle.fossil.specs.Committed.{is_moment_before}
 use Rattle.process_exchange.specs.Views.{HeldState}
 use Rattle.process_exchange.specs.Effects.{moved_by, mark_at, RanEarly}
 use Rattle.process_exchange.proofs.Holding.{moved-then}
@@ -86,15 +85,3 @@ module _ {S K : Type 0} (f : Simulation Message S K Note) where
   early-more limit k h h' is a next =
       subst (λ n. RanEarly f limit n h.part) (let e : suc k ≡ k + 1 = omega arith in e)
       (early-push limit k (f.opening h.number) h.part a next.0 (ap (λ (z : HeldState S). next_of f.rules.order z.part) (sym is) ∙ next.1) next.2)
-
-  -- an oldest done event that is earlier than g can be committed, since a process that is safe counts it just once
-  pub early-commits : Laws f → (p g : ℕ) (part : Part Message S) → IsSafePart f p g part →
-      (first : Option ℕ) → first ≡ option_map f.rules.order.time (slice_get part.done 0) → true ≡ is_moment_before g first → can_move f g Committed part ≡ true
-  early-commits L p g part s first e before = go part.done refl (before ∙ ap (is_moment_before g) e)
-    where
-      go : (ms : List Message) → part.done ≡ ms → true ≡ is_moment_before g (option_map f.rules.order.time (slice_get ms 0)) → (is_early f g ms && can_commit f.rules.order part ms) ≡ true
-      go [] d early = absurd (cc)
-      go (m ∷ ms) d early =
-          let one = s.counts_one m (subst (λ z. IsIn f.rules.order m z) (sym d) (in-head f.rules.order L.order m ms)) (ltb-true _ _ (sym early)) in
-          let once = eq-eqb (pluses f.rules.order m part.tally) (minuses f.rules.order m part.tally + 1) one in
-          λ i. sym early i && once i

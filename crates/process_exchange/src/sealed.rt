@@ -1,5 +1,5 @@
 //! The rows of a process in hand that can no longer change.
-ghost use Rattle.std.specs.Prelude.{◌≡◌, ◌≤◌, ◌↔◌, ℕ, [], map, max, IsTrue};
+ghost use Rattle.std.specs.Prelude.{◌≡◌, ◌≤◌, ◌↔◌, ℕ, [], map, max, IsTrue, IfSome};
 ghost use Rattle.vlink.specs.Order.{message_order};
 ghost use Rattle.virtual_time.specs.Law.{rowed, rows_at, earlier, one};
 ghost use Rattle.reverse.specs.Rules.{rules_of};
@@ -8,8 +8,8 @@ ghost use Rattle.row_times.specs.Within.{rows_within};
 
 use crate::held::Held;
 use crate::run_of::ActorRun;
-use fossil::{is_early, let_rows_go, rows_between};
 use reverse::{Actor, actor_law, actor_rules_law};
+use row_times::{count_before, rows_in_time};
 use vlink::{Row, Time};
 
 impl<R: Actor, J: ActorRun<R>> Held<R, J> {
@@ -19,7 +19,7 @@ impl<R: Actor, J: ActorRun<R>> Held<R, J> {
         ensures { IsTrue result ↔ ((moment ≤ self.now.mark.seen) × (earlier message_order moment self.now.part.done ≡ [])) }
     {
         actor_rules_law::<R>();
-        moment.ns() <= self.standing.seen.ns() && !is_early(self.process.oldest(), moment)
+        moment.ns() <= self.standing.seen.ns() && is_none_before(self.process.oldest(), moment)
     }
 
     /// Returns the rows of its committed events whose moments are at or after `from` and before `to`, in ns, in their order. None of these
@@ -38,7 +38,7 @@ impl<R: Actor, J: ActorRun<R>> Held<R, J> {
             (one (simulation_of (rules_of R.plain) J.setting) event_count).rows) }
     {
         actor_law::<R>();
-        rows_between(&self.process, from, to)
+        rows_in_time(self.process.sealed(), from, to)
     }
 
     /// Lets the rows of its committed events leave that are earlier than a moment, in ns. Takes no memory.
@@ -46,8 +46,19 @@ impl<R: Actor, J: ActorRun<R>> Held<R, J> {
         ensures { self.new ≡ record self.old { gone = max self.old.gone moment } }
     {
         actor_law::<R>();
-        let_rows_go(&mut self.process, moment);
+        let count = count_before(self.process.sealed(), moment);
+        let _gone = self.process.let_rows_go(count);
         self.gone = later_of(self.gone, moment);
+    }
+}
+
+/// Whether the oldest of some events, if any, is not before a moment.
+fn is_none_before(oldest: Option<Time>, moment: Time) -> bool
+    ensures { IsTrue result ↔ IfSome oldest (λ time. moment ≤ time) }
+{
+    match oldest {
+        Some(time) => moment <= time,
+        None => true,
     }
 }
 

@@ -7,7 +7,7 @@ use Rattle.nodes.specs.Words.{NodeState, simulation_of}
 use Rattle.process_exchange.specs.Views.{HeldState}
 use Rattle.trace_segments.specs.Words.{interval_width, cut, HasInterval, rows_within, SegmentRows, segment_of}
 use Rattle.trace_segments.proofs.IntervalLemmas.{cut-inside, cut-rises}
-use Rattle.seqsim.specs.Networks.{AreRowsOf}
+use Rattle.network_actors.specs.Networks.{AreRowsOf}
 use Rattle.network_runs.proofs.Beginnings.{begins-one}
 use Rattle.process_segments.specs.Segments.{IsIntervalSealed, IsSegmentOfRun}
 

@@ -6,7 +6,7 @@ use Rattle.network.specs.Words.{Plan}
 use Rattle.nodes.specs.Words.{NodeState, simulation_of}
 use Rattle.process_exchange.specs.Views.{HeldState}
 use Rattle.trace_segments.specs.Words.{cut, HasInterval, SegmentRows, segment_of}
-use Rattle.seqsim.specs.Networks.{AreRowsOf}
+use Rattle.network_actors.specs.Networks.{AreRowsOf}
 
 -- interval k is the next one at a process, and it is for good: there is such an interval, the rows before it have left and no others, its end
 -- is not later than the GVT that the process saw, and no done event of the process is earlier

@@ -10,7 +10,7 @@ pub struct Of<J: NetworkRun> {
 }
 
 impl<J: NetworkRun> ActorRun<Node> for Of<J> {
-    ghost use Rattle.seqsim.specs.Networks.{setting_of};
+    ghost use Rattle.network_actors.specs.Networks.{setting_of};
 
     ghost setting = { setting_of J.plan };
 

@@ -8,10 +8,10 @@ ghost use Rattle.process_exchange.specs.Views.{blank, opened_held};
 use crate::network_run::Of;
 use journal::{PoolFault, Table};
 use network::Network;
+use network_actors::{layout_law, nodes_of};
 use network_runs::NetworkRun;
 use nodes::Node;
 use process_exchange::{Exchange, Held, Pairs};
-use seqsim::{layout_law, nodes_of};
 use std::alloc::Global;
 use traffic::offers;
 

@@ -12,7 +12,7 @@ use network_runs::{NetworkRun, interval_at};
 use nodes::Node;
 use process_exchange::Held;
 use std::alloc::{AllocError, Global};
-use trace_tables::{Segment, cut};
+use trace_segments::{Segment, cut};
 use vlink::Time;
 
 /// Returns the next segment of the trace that a process gives, as a segment of run 0. Its interval begins where its last segment ended. Its

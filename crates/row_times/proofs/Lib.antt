@@ -1,2 +1,3 @@
 pub mod EarlyRows
 pub mod Between
+pub mod RowTimes

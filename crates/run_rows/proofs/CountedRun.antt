@@ -10,7 +10,7 @@ use Rattle.vlink.specs.Letters.{Row}
 use Rattle.network.specs.Words.{Plan}
 use Rattle.trace_segments.specs.Words.{rows_within, rows_before, BatchRows}
 use Rattle.trace_segments.proofs.TimeLemmas.{none-before}
-use Rattle.seqsim.specs.Networks.{AreRowsOf}
+use Rattle.network_actors.specs.Networks.{AreRowsOf}
 use Rattle.run_rows.specs.Counts.{moment_at, moment_in, moment_of, AreCountedBefore, IsPartOfGroup}
 use Rattle.run_rows.specs.Traces.{HasLawfulRows, IsBatchOfRun}
 use Rattle.run_rows.proofs.TraceText.{before-more}

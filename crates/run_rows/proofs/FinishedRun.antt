@@ -15,7 +15,7 @@ use Rattle.trace_segments.specs.declared.trace_fault.TraceFault.TheVariants.{Seg
 use Rattle.trace_segments.specs.Words.{rows_before, rows_from, IsBeginning, trace_line, trace_text}
 use Rattle.trace_writer.specs.WrittenTrace.{WrittenTrace, lacks_head, end_fault}
 use Rattle.trace_segments.proofs.TimeLemmas.{all-before}
-use Rattle.seqsim.specs.Networks.{AreRowsOf}
+use Rattle.network_actors.specs.Networks.{AreRowsOf}
 use Rattle.run_rows.specs.Traces.{AreLawfulRows, HasLawfulRows, IsTraceOfRun, text_before}
 use Rattle.run_rows.proofs.Nothing.{none-of}
 use Rattle.run_rows.proofs.TraceText.{known-none, begins-none, begins-first, begins-whole, text-splits}

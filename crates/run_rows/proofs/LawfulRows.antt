@@ -13,8 +13,8 @@ use Rattle.network.specs.Words.{Plan, process_count}
 use Rattle.nodes.specs.declared.node.NodeRecord.{NodeRecord}
 use Rattle.nodes.specs.Words.{NodeState, simulation_of}
 use Rattle.trace_segments.specs.Words.{AreInMessageOrder, AreAtReceivers}
-use Rattle.seqsim.specs.Networks.{AreRowsOf}
-use Rattle.seqsim.proofs.OneThreadRows.{one-here, one-ordered}
+use Rattle.network_actors.specs.Networks.{AreRowsOf}
+use Rattle.network_actors.proofs.OneThreadRows.{one-here, one-ordered}
 use Rattle.run_rows.specs.Traces.{HasLawfulRows}
 
 module _ (plan : Plan) (L : Laws (simulation_of plan)) where

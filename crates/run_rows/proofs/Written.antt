@@ -14,7 +14,7 @@ use Rattle.trace_segments.specs.declared.trace_fault.TraceFault.{TraceFault}
 use Rattle.trace_segments.specs.declared.trace_fault.TraceFault.TheVariants.{Segment, Out}
 use Rattle.trace_segments.specs.Words.{Gathering, segment_fault, SegmentRows, BatchRows, IsBeginning, trace_text}
 use Rattle.trace_writer.specs.WrittenTrace.{WrittenTrace, batch_fault, lacks_head, end_fault}
-use Rattle.seqsim.specs.Networks.{AreRowsOf}
+use Rattle.network_actors.specs.Networks.{AreRowsOf}
 use Rattle.run_rows.specs.Written.{outcome_of, IsPlaceFault, IsFaultOfTrace, IsWritten}
 
 -- whether a write failed at the end

@@ -10,7 +10,7 @@ use Rattle.trace_segments.specs.declared.trace_fault.TraceFault.{TraceFault}
 use Rattle.trace_segments.specs.declared.trace_fault.TraceFault.TheVariants.{Out}
 use Rattle.trace_segments.specs.Words.{rows_within, rows_before, rows_from, AreInMessageOrder, BatchRows, IsBeginning, trace_line, trace_text, next_text}
 use Rattle.trace_writer.specs.WrittenTrace.{WrittenTrace, batch_fault}
-use Rattle.seqsim.specs.Networks.{AreRowsOf}
+use Rattle.network_actors.specs.Networks.{AreRowsOf}
 use Rattle.run_rows.specs.Traces.{HasLawfulRows, IsBatchOfRun, IsTraceOfRun, text_before}
 use Rattle.run_rows.proofs.Nothing.{none-of}
 use Rattle.run_rows.proofs.TraceText.{known-none, known-twice, begins-longer, begins-behind, text-splits, text-next}

@@ -4,7 +4,7 @@ use Rattle.vlink.specs.Letters.{Row}
 use Rattle.virtual_time.specs.Law.{rows_at}
 use Rattle.network.specs.Words.{Plan}
 use Rattle.trace_segments.specs.Words.{rows_before, rows_within}
-use Rattle.seqsim.specs.Networks.{AreRowsOf}
+use Rattle.network_actors.specs.Networks.{AreRowsOf}
 
 -- of each group a moment: its own, where one is listed, and else the end of what is counted of all
 abbrev pub moment_of : List ℕ → ℕ → ℕ → ℕ

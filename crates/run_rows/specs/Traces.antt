@@ -7,7 +7,7 @@ use Rattle.vlink.specs.Letters.{Row}
 use Rattle.network.specs.Words.{Plan, process_count}
 use Rattle.trace_segments.specs.Words.{rows_within, rows_before, AreInMessageOrder, AreAtReceivers, BatchRows, IsBeginning, trace_text}
 use Rattle.trace_writer.specs.WrittenTrace.{WrittenTrace}
-use Rattle.seqsim.specs.Networks.{AreRowsOf}
+use Rattle.network_actors.specs.Networks.{AreRowsOf}
 
 -- rows in message order, each of the process that received its message, none of a process that the network lacks, and none later than the
 -- end of the run

@@ -9,7 +9,7 @@ use Rattle.trace_segments.specs.declared.segment_fault.SegmentFault.TheVariants.
 use Rattle.trace_segments.specs.declared.trace_fault.TraceFault.{TraceFault}
 use Rattle.trace_segments.specs.declared.trace_fault.TraceFault.TheVariants.{Segment, Out}
 use Rattle.trace_segments.specs.Words.{IsBeginning, trace_text}
-use Rattle.seqsim.specs.Networks.{AreRowsOf}
+use Rattle.network_actors.specs.Networks.{AreRowsOf}
 
 -- a segment or a batch is missing, or comes twice
 abbrev pub IsPlaceFault : SegmentFault → Type 0

@@ -3,7 +3,7 @@ ghost use Rattle.vlink.specs.Order.{message_order};
 ghost use Rattle.run_rows.specs.Traces.{HasLawfulRows};
 
 use network::Network;
-use seqsim::network_law;
+use network_actors::network_law;
 use vlink::message_order_law;
 
 /// The rows of the one-thread run of a network are in message order, each of the process that received its message, none of another process

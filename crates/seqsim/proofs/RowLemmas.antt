@@ -6,7 +6,7 @@ use Rattle.virtual_time.specs.Law.{Laws, one}
 use Rattle.virtual_time.proofs.OneThreadLater.{over-same}
 use Rattle.network.specs.Words.{Plan}
 use Rattle.nodes.specs.Words.{simulation_of}
-use Rattle.seqsim.specs.Networks.{AreRowsOf}
+use Rattle.network_actors.specs.Networks.{AreRowsOf}
 
 -- all runs of a network in which nothing waits any more have the same rows
 pub same-rows : (plan : Plan) → Laws (simulation_of plan) → (rows others : List Row) → AreRowsOf plan rows → AreRowsOf plan others → rows ≡ others

@@ -9,7 +9,7 @@ use Rattle.virtual_time.specs.Law.{rowed, rows_at, Simulation, Laws, one, start,
 use Rattle.virtual_time.specs.declared.step.Step.{Step}
 use Rattle.trace_segments.specs.Words.{AreInMessageOrder, AreAtReceivers, rows_of_event}
 use Rattle.seqsim.proofs.CommittedRows.{rows-whole}
-use Rattle.seqsim.proofs.OneThreadRows.{one-here, one-ordered}
+use Rattle.network_actors.proofs.OneThreadRows.{one-here, one-ordered}
 
 module _ {S K : Type 0} (f : Simulation Message S K Note) (L : Laws f) (O : IsTotalOrder message_cmp)
     (less_is : (a b : Message) → f.rules.order.less a b ≡ is_lt (message_cmp a b)) (receiver_is : (m : Message) → f.rules.order.receiver m ≡ m.receiver)

@@ -2,13 +2,12 @@
 #![tactic(auto)]
 
 mod counted;
-mod networks;
 mod rows;
 mod simulating;
 mod tables;
 
 pub use actor_run::{SimFault, Unwatched, Watch, run_actors};
-pub use networks::{layout_law, network_law};
+pub use network_actors::{layout_law, network_law, nodes_of};
 pub use rows::rows_by_process_law;
-pub use simulating::{Finished, nodes_of, run};
+pub use simulating::{Finished, run};
 pub use tables::run_tables;

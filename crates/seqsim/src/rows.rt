@@ -8,10 +8,10 @@ ghost use Rattle.network.specs.Words.{process_count};
 ghost use Rattle.nodes.specs.Words.{opening, simulation_of};
 ghost use Rattle.trace_segments.specs.Words.{gathered, AreInMessageOrder, rows_of_event};
 ghost use Rattle.seqsim.specs.Committed.{after, AreCommittedRows};
-ghost use Rattle.seqsim.specs.Networks.{AreRowsOf};
+ghost use Rattle.network_actors.specs.Networks.{AreRowsOf};
 
-use crate::networks::network_law;
 use network::Network;
+use network_actors::network_law;
 use nodes::{Node, NodeRecord};
 use trace_tables::rows_by_place_law;
 use virtual_time::headline_law;

@@ -1,18 +1,15 @@
 //! The run of a network.
 ghost use Rattle.std.specs.Prelude.{◌≡◌, ℕ, Err, OnOk, IfOk};
-ghost use Rattle.reverse.specs.Setting.{AreInStates};
-ghost use Rattle.network.specs.Words.{process_count};
-ghost use Rattle.nodes.specs.Words.{opening, simulation_of};
+ghost use Rattle.nodes.specs.Words.{simulation_of};
 ghost use Rattle.trace_tables.specs.Tables.{tables_of};
 ghost use Rattle.actor_run.specs.declared.fault.SimFault.TheVariants.{Exhausted};
 ghost use Rattle.actor_run.specs.Running.{IsExhaustedAt, HasNumbersFrom};
-ghost use Rattle.seqsim.specs.Networks.{AreRowsOf};
+ghost use Rattle.network_actors.specs.Networks.{AreRowsOf};
 
-use crate::networks::network_law;
 use actor_run::{SimFault, Watch, run_actors};
 use network::Network;
-use nodes::Node;
-use std::alloc::{AllocError, Global};
+use network_actors::{network_law, nodes_of};
+use std::alloc::Global;
 use trace_tables::Tables;
 use traffic::offers;
 use vlink::Row;
@@ -22,17 +19,6 @@ use vlink::Row;
 pub struct Finished {
     pub tables: Tables,
     pub rows: Vec<Row>,
-}
-
-/// Makes all processes of a network, each as it is before any message: process p is in place p. It fails only if memory is refused.
-pub fn nodes_of(alloc: Global, network: &Network) -> Result<Vec<Node>, AllocError>
-    ensures { IfOk result (λ nodes. AreInStates (process_count network.now) (opening network.now) nodes.items) }
-{
-    let mut nodes = Vec::new(alloc);
-    for process in 0..network.process_count() {
-        nodes.push(Node::new(alloc, network, process)?)?;
-    }
-    Ok(nodes)
 }
 
 /// Simulates a network on one thread: the receiver of the first waiting message handles it, until none waits. The rows are those of the

@@ -5,13 +5,12 @@ ghost use Rattle.nodes.specs.Words.{simulation_of};
 ghost use Rattle.trace_tables.specs.Tables.{tables_of};
 ghost use Rattle.actor_run.specs.declared.fault.SimFault.TheVariants.{Exhausted};
 ghost use Rattle.actor_run.specs.Running.{StandsAt, IsExhaustedAt, HasNumbersFrom};
-ghost use Rattle.seqsim.specs.Networks.{AreRowsOf};
+ghost use Rattle.network_actors.specs.Networks.{AreRowsOf};
 
 use crate::counted::Counted;
-use crate::networks::network_law;
-use crate::simulating::nodes_of;
 use actor_run::{SimFault, Waiting, Watch, handle_all};
 use network::Network;
+use network_actors::{network_law, nodes_of};
 use nodes::Node;
 use std::alloc::Global;
 use trace_tables::Tables;

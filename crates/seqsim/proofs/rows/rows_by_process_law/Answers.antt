@@ -2,7 +2,7 @@ use Rattle.std.proofs.Common.{refl, sym, subst, arith}
 use Rattle.nodes.specs.Words.{simulation_of}
 use Rattle.trace_segments.specs.Words.{gathered, AreInMessageOrder}
 use Rattle.seqsim.proofs.CommittedRows.{rows-gathered, rows-all}
-use Rattle.seqsim.proofs.OneThreadRows.{one-ordered}
+use Rattle.network_actors.proofs.OneThreadRows.{one-ordered}
 use Rattle.seqsim.proofs.RowsByProcess.{ordered-rows, ordered-committed}
 use Rattle.seqsim.proofs.rows.rows_by_process_law.Goals as goal
 

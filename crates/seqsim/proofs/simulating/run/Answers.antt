@@ -1,8 +1,8 @@
 use Rattle.std.proofs.Common.{◌≡◌, Err, refl}
 use Rattle.std.proofs.lemmas.Result.{err_from_is_err_and}
 use Rattle.actor_run.specs.declared.fault.SimFault.TheVariants.{Exhausted}
-use Rattle.seqsim.specs.Networks.{setting_of}
-use Rattle.seqsim.proofs.NetworkLemmas.{opened}
+use Rattle.network_actors.specs.Networks.{setting_of}
+use Rattle.network_actors.proofs.NetworkLemmas.{opened}
 use Rattle.actor_run.proofs.Errors.{err-on-ok, passed-short}
 use Rattle.seqsim.proofs.simulating.run.Goals as goal
 

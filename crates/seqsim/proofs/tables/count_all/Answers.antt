@@ -6,7 +6,7 @@ use Rattle.nodes.specs.Words.{NodeState, simulation_of}
 use Rattle.actor_run.specs.Running.{StandsAt}
 use Rattle.actor_run.specs.declared.fault.SimFault.TheVariants.{Exhausted}
 use Rattle.trace_tables.specs.Tables.{tables_of}
-use Rattle.seqsim.specs.Networks.{setting_of}
+use Rattle.network_actors.specs.Networks.{setting_of}
 use Rattle.actor_run.proofs.Errors.{err-on-ok, passed-short}
 use Rattle.seqsim.proofs.tables.count_all.Goals as goal
 

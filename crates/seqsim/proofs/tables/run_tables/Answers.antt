@@ -5,8 +5,8 @@ use Rattle.virtual_time.specs.Law.{Laws}
 use Rattle.network.specs.Words.{Plan}
 use Rattle.nodes.specs.Words.{simulation_of}
 use Rattle.trace_tables.specs.Tables.{TableLists, tables_of}
-use Rattle.seqsim.specs.Networks.{AreRowsOf, setting_of}
-use Rattle.seqsim.proofs.NetworkLemmas.{opened}
+use Rattle.network_actors.specs.Networks.{AreRowsOf, setting_of}
+use Rattle.network_actors.proofs.NetworkLemmas.{opened}
 use Rattle.seqsim.proofs.RowLemmas.{same-rows}
 use Rattle.actor_run.proofs.Handling.{started}
 use Rattle.actor_run.proofs.Errors.{err-on-ok, passed-short}

@@ -1,6 +1,6 @@
 use Rattle.nodes.specs.Words.{opening}
-use Rattle.seqsim.proofs.StatesLemmas.{states-more}
-use Rattle.seqsim.proofs.simulating.nodes_of.Goals as goal
+use Rattle.network_actors.proofs.StatesLemmas.{states-more}
+use Rattle.network_actors.proofs.opening.nodes_of.Goals as goal
 
 pub loop-process-preserved : goal.loop-process-preserved
 loop-process-preserved c =

@@ -2,7 +2,7 @@
 ghost use Rattle.virtual_time.specs.Law.{Laws};
 ghost use Rattle.reverse.specs.Setting.{IsLaidOut};
 ghost use Rattle.nodes.specs.Words.{IsPlaced, simulation_of};
-ghost use Rattle.seqsim.specs.Networks.{setting_of};
+ghost use Rattle.network_actors.specs.Networks.{setting_of};
 
 use network::Network;
 use nodes::{Node, NodeRecord};

@@ -1,5 +1,5 @@
-use Rattle.seqsim.proofs.NetworkLemmas.{of-network, laid-out}
-use Rattle.seqsim.proofs.networks.layout_law.Goals as goal
+use Rattle.network_actors.proofs.NetworkLemmas.{of-network, laid-out}
+use Rattle.network_actors.proofs.networks.layout_law.Goals as goal
 
 pub returns : goal.returns
 returns c =

@@ -10,7 +10,7 @@ use Rattle.traffic.specs.Offers.{offers_of}
 use Rattle.traffic.specs.Lawful.{IsOfNetwork, HasLawfulOffers}
 use Rattle.nodes.specs.Words.{NodeState, IsPlaced, IsWired, sends-near, wiring-stays, opening, simulation_of}
 use Rattle.nodes.proofs.OpeningLaws.{opening-placed, opening-wired}
-use Rattle.seqsim.specs.Networks.{setting_of}
+use Rattle.network_actors.specs.Networks.{setting_of}
 
 -- the processes of the network open its simulation, from its offers on
 pub opened : (plan : Plan) (made seen : List NodeState) (offered sent : List Message) → seen ≡ made → sent ≡ offered →

@@ -1,0 +1,3 @@
+pub mod NetworkLemmas
+pub mod StatesLemmas
+pub mod OneThreadRows

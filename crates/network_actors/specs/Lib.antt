@@ -1,0 +1,2 @@
+-- What a network simulates, and its one-thread run.
+pub mod Networks
