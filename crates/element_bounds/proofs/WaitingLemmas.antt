@@ -24,9 +24,7 @@ module _ (P : Frame → Type 0) where
 
   abbrev pub OfAnswer : ℕ → RegAnswer → Type 0
   OfAnswer t (Released frame) = (f : Frame) × P f × (frame ≡ record f { number = frame.number; released = t })
-  OfAnswer t Kept = ⊤
-  OfAnswer t Dropped = ⊤
-  OfAnswer t Nothing = ⊤
+  OfAnswer t _ = ⊤
 
   pub record Keeps (t : ℕ) (o : Outcome) : Type 0 where
     pub waiting : AllWait o.state

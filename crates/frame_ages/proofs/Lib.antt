@@ -7,6 +7,7 @@ pub mod PutLemmas
 pub mod GivenLemmas
 pub mod AgeLemmas
 pub mod NoteLemmas
+pub mod RowLemmas
 pub mod LatencyLemmas
 pub mod RegulatorSteps
 pub mod RegulatorTurns
@@ -14,6 +15,5 @@ pub mod ReleaseTimer
 pub mod WaitLemmas
 pub mod HeldLemmas
 pub mod RoomLemmas
-pub mod FullNotes
 pub mod KeptLemmas
 pub mod RoundRobin

@@ -21,9 +21,7 @@ IsReleaseOf was t frame = (frame.released ≡ t) × (frame.offered ≡ was.offer
 -- each frame that an answer releases has P
 abbrev pub OfReleased : (Frame → Type 0) → RegAnswer → Type 0
 OfReleased P (Released frame) = P frame
-OfReleased P Kept = ⊤
-OfReleased P Dropped = ⊤
-OfReleased P Nothing = ⊤
+OfReleased P _ = ⊤
 
 -- the frames that wait in a sub-virtual link
 abbrev pub frames_at : Regulator → ℕ → List Frame

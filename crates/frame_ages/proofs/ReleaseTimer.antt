@@ -1,6 +1,6 @@
 -- A Release comes at just the moment for which the regulator asks.
 use Rattle.std.proofs.Common.{◌≡◌, ℕ, ◌+◌, ◌<◌, ◌==◌, ◌⊎◌, inl, inr, Bool, true, false, cond, List, [], ◌∷◌, ◌++◌, filter, Option, Some, None, refl, sym, ap, ◌∙◌, subst, arith, eq-eqb, eqb-true}
-use Rattle.std.proofs.lemmas.Bool.{cases_lt, both_ways}
+use Rattle.std.proofs.lemmas.Bool.{cases_lt, both_ways, false≢true}
 use Rattle.vlink.specs.declared.frame.Frame.{Frame}
 use Rattle.vlink.specs.declared.frame.VlId.{VlId}
 use Rattle.vlink.specs.declared.message.Message.{Message}
@@ -26,37 +26,29 @@ use Rattle.nodes.specs.undoing.Node.{node}
 use Rattle.port_turns.specs.Nodes.{IsOfNodes}
 use Rattle.port_turns.specs.PortEvents.{asks}
 use Rattle.port_turns.specs.PortRuns.{AreOwnFrames}
+use Rattle.port_turns.proofs.Elsewhere.{all-sent}
 use Rattle.port_turns.proofs.Senders.{number-stays, until-stays}
 use Rattle.port_turns.proofs.SentKinds.{IsElsewhere, is_to, mine, mine-kind, none-elsewhere, offers-none, receiver-is, sent-late, sent-none, sent-one}
 use Rattle.port_turns.proofs.Sources.{IsOfferFit, source-keeps}
 use Rattle.frame_ages.specs.Waits.{is_offer_of}
 use Rattle.frame_ages.proofs.RegulatorSteps.{IsRight, Stepped, ask-next, ask-none, frames_at, kept-asks, kept-right, kept_ask, kept_by, passed-ask, passed-right, popped-right, step}
 use Rattle.frame_ages.proofs.RegulatorSteps.Stepped.{Drops, Keeps, Passes, Pops, Rests}
-use Rattle.frame_ages.proofs.RegulatorTurns.{IsSaid, OfPutAt, Turned, all-sent, is_release, node-turn, releases}
+use Rattle.frame_ages.proofs.RegulatorTurns.{IsSaid, OfPutAt, Turned, is_release, node-turn, releases}
 use Rattle.frame_ages.proofs.RegulatorTurns.Turned.{Does, Quiet}
-
-no : {X : Type 0} → false ≡ true → X
-no h = absurd (let z : ⊥ = cc in z)
 
 -- ---- each frame is of its own virtual link
 
 offer-own : (t : ℕ) (b : Body) → IsOfferFit (λ k frame. frame.vl.0 ≡ k) t b
 offer-own t (body.Offer vl size sub) = refl
-offer-own t (body.Release vl) = tt
-offer-own t (body.PortFree k) = tt
-offer-own t (body.Arrive k frame) = tt
-offer-own t (body.Enqueue k frame) = tt
-offer-own t (body.Carry frame) = tt
+offer-own t _ = tt
 
 pub put-own : (v q : ℕ) (m : Message) (e : Equipment) → AreOwnFrames e → OfPutAt v q m e
 put-own v q m (EndSystem s) h = (source-keeps (λ k frame. frame.vl.0 ≡ k) 0 m.time q m.body s (offer-own m.time m.body) h).put
-put-own v q m (Switch s) h = tt
-put-own v q m (Line s) h = tt
+put-own v q m _ h = tt
 
 pub own-stays : (n : ℕ) (m : Message) (e : Equipment) → AreOwnFrames e → AreOwnFrames (handled n m e).equipment
 own-stays n m (EndSystem s) h = (source-keeps (λ k frame. frame.vl.0 ≡ k) n m.time 0 m.body s (offer-own m.time m.body) h).waiting
-own-stays n m (Switch s) h = tt
-own-stays n m (Line s) h = tt
+own-stays n m _ h = tt
 
 -- ---- when the regulator asks
 
@@ -97,11 +89,7 @@ module _ (v room sub bag : ℕ) where
     where
       go : (b : Body) → is_offer_of v b ≡ true → is_release v b ≡ false
       go (body.Offer vl bytes sub) k = refl
-      go (body.Release vl) k = no k
-      go (body.PortFree i) k = no k
-      go (body.Arrive i f) k = no k
-      go (body.Enqueue i f) k = no k
-      go (body.Carry f) k = no k
+      go _ k = absurd (false≢true k)
 
   said-release : (t : ℕ) (b : Body) (e : RegEvent) (at : ℕ) → IsSaid v t b e → e ≡ Release at → (is_release v b ≡ true) × (at ≡ t)
   said-release t b e at h is = subst (IsSaid v t b) is h
@@ -206,8 +194,7 @@ module _ (v room sub bag : ℕ) where
 same_moment : Option ℕ → Option ℕ → Bool
 same_moment None None = true
 same_moment (Some a) (Some b) = a == b
-same_moment None (Some b) = false
-same_moment (Some a) None = false
+same_moment _ _ = false
 
 same-refl : (a : Option ℕ) → same_moment a a ≡ true
 unfolding same_moment
@@ -218,8 +205,7 @@ same-is : (a b : Option ℕ) → same_moment a b ≡ true → a ≡ b
 unfolding same_moment
 same-is None None h = refl
 same-is (Some a) (Some b) h = ap Some (eqb-true a b h)
-same-is None (Some b) h = no h
-same-is (Some a) None h = no h
+same-is _ _ h = absurd (false≢true h)
 
 module _ (x : Setting NodeState) (N : IsOfNodes x) (p v room sub bag : ℕ) (inside : p < x.processes) (opens : HasRegulator v room sub bag (x.opening p).equipment) (quiet : ask_in v room sub bag (x.opening p).equipment ≡ None) where
   abbrev f : Simulation Message NodeState NodeRecord Note
@@ -297,12 +283,12 @@ module _ (x : Setting NodeState) (N : IsOfNodes x) (p v room sub bag : ℕ) (ins
 
   -- another process releases none here
   none-by : (r : ℕ) → (r ≡ p → ⊥) → (s : NodeState) (m : Message) → s.sender.number ≡ r → filter is_due (sends s m) ≡ []
-  none-by r d s m n = sent-none (is_release v) p s.sender _ (none-elsewhere (is_release v) p (handled s.sender.number m s.equipment).reply.wishes (all-sent (IsElsewhere (is_release v) p) s.sender.number (record {
-    starts = λ t q ahead frame. (λ e. no e, λ e. no e);
+  none-by r d s m n = sent-none (is_release v) p s.sender _ (none-elsewhere (is_release v) p (handled s.sender.number m s.equipment).reply.wishes (all-sent (IsElsewhere (is_release v) p) s.sender.number m s.equipment (record {
+    starts = λ t q ahead frame. (λ e. absurd (false≢true e), λ e. absurd (false≢true e));
     releases = λ t vl e own. d (sym n ∙ own);
-    puts = λ t q frame e. no e;
-    arrivals = λ t to q frame e. no e;
-  }) m s.equipment))
+    puts = λ t q frame e. absurd (false≢true e);
+    arrivals = λ l is t frame e. absurd (false≢true e);
+  })))
 
   timer : IsTimer f p is_due alarm fits
   timer = record {

@@ -111,14 +111,11 @@ nearer-by n pointer k q h a b far = go (next-pointer n k a) (distance-cases n po
     go (inl m) (inr c) (inl d) (inr e) = let z1 = m.0 in let z2 = m.1 in let z3 = c.0 in let z4 = c.1 in let z5 = d.0 in let z6 = d.1 in let z7 = e.0 in let z8 = e.1 in omega arith
     go (inl m) (inr c) (inr d) (inl e) = let z1 = m.0 in let z2 = m.1 in let z3 = c.0 in let z4 = c.1 in let z5 = d.0 in let z6 = d.1 in let z7 = e.0 in let z8 = e.1 in omega arith
     go (inl m) (inr c) (inr d) (inr e) = let z1 = m.0 in let z2 = m.1 in let z3 = c.0 in let z4 = c.1 in let z5 = d.0 in let z6 = d.1 in let z7 = e.0 in let z8 = e.1 in omega arith
-    go (inr m) (inl c) (inl d) (inl e) = let z2 = m.1 in let z7 = e.0 in absurd (omega arith)
     go (inr m) (inl c) (inl d) (inr e) = let z1 = m.0 in let z2 = m.1 in let z3 = c.0 in let z4 = c.1 in let z5 = d.0 in let z6 = d.1 in let z7 = e.0 in let z8 = e.1 in omega arith
-    go (inr m) (inl c) (inr d) (inl e) = let z2 = m.1 in let z7 = e.0 in absurd (omega arith)
     go (inr m) (inl c) (inr d) (inr e) = let z1 = m.0 in let z2 = m.1 in let z3 = c.0 in let z4 = c.1 in let z5 = d.0 in let z6 = d.1 in let z7 = e.0 in let z8 = e.1 in omega arith
-    go (inr m) (inr c) (inl d) (inl e) = let z2 = m.1 in let z7 = e.0 in absurd (omega arith)
     go (inr m) (inr c) (inl d) (inr e) = let z1 = m.0 in let z2 = m.1 in let z3 = c.0 in let z4 = c.1 in let z5 = d.0 in let z6 = d.1 in let z7 = e.0 in let z8 = e.1 in omega arith
-    go (inr m) (inr c) (inr d) (inl e) = let z2 = m.1 in let z7 = e.0 in absurd (omega arith)
     go (inr m) (inr c) (inr d) (inr e) = let z1 = m.0 in let z2 = m.1 in let z3 = c.0 in let z4 = c.1 in let z5 = d.0 in let z6 = d.1 in let z7 = e.0 in let z8 = e.1 in omega arith
+    go (inr m) _ _ (inl e) = let z2 = m.1 in let z7 = e.0 in absurd (omega arith)
 
 -- and k itself then stands last
 pub last-then : (n k : ℕ) → k < n → distance n ((k + 1) % n) k + 1 ≤ n

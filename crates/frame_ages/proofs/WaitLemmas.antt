@@ -105,18 +105,14 @@ module _ (x : Setting NodeState) (N : IsOfNodes x) (p q v room sub bag : ℕ) (i
 
   none-released : (a : RegAnswer) (frame : Frame) → OfReleased (λ f. ⊥) a → LikeReleased v a frame → ⊥
   none-released (answer.Released f) frame h k = h
-  none-released answer.Kept frame h k = k
-  none-released answer.Dropped frame h k = k
-  none-released answer.Nothing frame h k = k
+  none-released _ frame h k = k
 
   held-none : (a : RegAnswer) (o : Option PortEvent) → OfReleased (λ f. ⊥) a → OfPutBy v (LikeReleased v a) o → HeldBy o
   held-none a o h k = put-weaker (LikeReleased v a) (λ frame. frame.released ≤ frame.offered + wait) (λ frame l. absurd (none-released a frame h l)) o k
 
   one-released : (was : Frame) (t : ℕ) (a : RegAnswer) (frame : Frame) → t ≤ was.offered + wait → OfReleased (IsReleaseOf was t) a → LikeReleased v a frame → frame.released ≤ frame.offered + wait
   one-released was t (answer.Released f) frame l h k = let a = h.0 in let b = h.1 in let c = k.0 in let d = k.1 in omega arith
-  one-released was t answer.Kept frame l h k = absurd k
-  one-released was t answer.Dropped frame l h k = absurd k
-  one-released was t answer.Nothing frame l h k = absurd k
+  one-released was t _ frame l h k = absurd k
 
   held-one : (was : Frame) (t : ℕ) (a : RegAnswer) (o : Option PortEvent) → t ≤ was.offered + wait → OfReleased (IsReleaseOf was t) a → OfPutBy v (LikeReleased v a) o → HeldBy o
   held-one was t a o l h k = put-weaker (LikeReleased v a) (λ frame. frame.released ≤ frame.offered + wait) (λ frame c. one-released was t a frame l h c) o k

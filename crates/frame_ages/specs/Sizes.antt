@@ -21,17 +21,15 @@ IsSizedFrame size frame = frame.size ≡ size frame.vl.0
 -- and so has the frame that a message offers or brings, if it does
 abbrev pub IsSized : (ℕ → ℕ) → Body → Type 0
 IsSized size (Offer vl bytes sub) = bytes ≡ size vl.0
-IsSized size (Release vl) = ⊤
-IsSized size (PortFree p) = ⊤
 IsSized size (Arrive p frame) = IsSizedFrame size frame
 IsSized size (Enqueue p frame) = IsSizedFrame size frame
 IsSized size (Carry frame) = IsSizedFrame size frame
+IsSized size _ = ⊤
 
 -- no frame waits in a regulator
 abbrev pub HaveEmptyRegulators : Equipment → Type 0
 HaveEmptyRegulators (EndSystem s) = All (λ source. All (λ list. list.frames ≡ []) source.regulator.lists) s.sources
-HaveEmptyRegulators (Switch s) = ⊤
-HaveEmptyRegulators (Line s) = ⊤
+HaveEmptyRegulators _ = ⊤
 
 -- each port is idle, and no frame waits there
 abbrev pub HaveIdlePorts : Equipment → Type 0

@@ -16,11 +16,7 @@ use Rattle.frame_ages.specs.Sizes.{OpensEmpty}
 -- the message offers a frame of virtual link v
 abbrev pub is_offer_of : ℕ → Body → Bool
 is_offer_of v (Offer vl bytes sub) = vl.0 == v
-is_offer_of v (Release vl) = false
-is_offer_of v (PortFree q) = false
-is_offer_of v (Arrive q frame) = false
-is_offer_of v (Enqueue q frame) = false
-is_offer_of v (Carry frame) = false
+is_offer_of v _ = false
 
 -- a regulator with `sub` lists, each for `depth` frames, holds none for more BAGs than these are frames, whatever is offered
 abbrev pub AreListsHeld : Type 0

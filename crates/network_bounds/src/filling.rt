@@ -1,4 +1,5 @@
-//! Chooses weights for what comes with one priority. Any weights give right bounds; these make the bounds small.
+//! Chooses weights for what comes with one priority. The contract of the caller (`PortBound::of`) holds for any weights; these make the
+//! bounds small.
 
 use crate::mixing::{WHOLE, mixed};
 use crate::port::Port;
@@ -12,11 +13,11 @@ pub struct Total {
     pub rate: u128,
 }
 
-/// Returns what comes by each port with one priority.
-pub fn shares_of(port: &Port, is_high: bool) -> [Share; GREATEST_PORTS] {
-    let mut shares = [share_at(port, 0, is_high); GREATEST_PORTS];
+/// Returns what comes by each port with one priority; virtual links count by their gaps if `by_gap`.
+pub fn shares_of(port: &Port, by_gap: bool, is_high: bool) -> [Share; GREATEST_PORTS] {
+    let mut shares = [share_at(port, by_gap, 0, is_high); GREATEST_PORTS];
     for input in 1..GREATEST_PORTS {
-        shares[input] = share_at(port, input as u16, is_high);
+        shares[input] = share_at(port, by_gap, input as u16, is_high);
     }
     shares
 }

@@ -63,9 +63,7 @@ module _ (n t q v : ℕ) where
       go : (b : Bool) → IsSublist (cond b (t ∷ []) []) (t ∷ [])
       go true = inl (refl, tt)
       go false = tt
-  copies end answer.Kept = tt
-  copies end answer.Dropped = tt
-  copies end answer.Nothing = tt
+  copies end _ = tt
 
   -- a frame of another virtual link
   other-put : (k : ℕ) (o : Option PortEvent) → OfPut IsOwn k t o → (k ≡ v → ⊥) → put_of v o ≡ false
@@ -110,8 +108,7 @@ module _ (n t q v : ℕ) where
       go true None = is
       go true (Some found) = is
       go false o = is
-  source-asked (body.Enqueue k frame) s g p is = Quiet is refl
-  source-asked (body.Carry frame) s g p is = Quiet is refl
+  source-asked _ s g p is = Quiet is refl
 
 -- a message to a node that has the regulator, and in whose regulators each frame is of its virtual link
 record IsAsked (n q v : ℕ) (m : Message) (e : Equipment) (g : Regulator) : Type 0 where
@@ -120,18 +117,13 @@ record IsAsked (n q v : ℕ) (m : Message) (e : Equipment) (g : Regulator) : Typ
 
 offer-own : (t : ℕ) (b : Body) → IsOfferFit IsOwn t b
 offer-own t (body.Offer vl size sub) = refl
-offer-own t (body.Release vl) = tt
-offer-own t (body.PortFree k) = tt
-offer-own t (body.Arrive k frame) = tt
-offer-own t (body.Enqueue k frame) = tt
-offer-own t (body.Carry frame) = tt
+offer-own t _ = tt
 
 node-asked : (n q v : ℕ) (m : Message) (e : Equipment) (g : Regulator) → AreOwnFrames e → regulator_in e (record { 0 = v }) ≡ Some g → IsAsked n q v m e g
 node-asked n q v m (EndSystem s) g own is =
     let k = source-keeps IsOwn n m.time q m.body s (offer-own m.time m.body) own in
     record { own = k.waiting; asked = source-asked n m.time q v m.body s g k.put is }
-node-asked n q v m (Switch s) g own is = absurd (none-some g is)
-node-asked n q v m (Line s) g own is = absurd (none-some g is)
+node-asked n q v m _ g own is = absurd (none-some g is)
 
 -- what the regulator was asked, and the moments of puts among its releases
 record AreReleased (g : Regulator) (times : List ℕ) : Type 0 where

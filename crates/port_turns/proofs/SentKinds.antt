@@ -39,12 +39,6 @@ sub-map f (x ∷ xs) [] h = absurd h
 sub-map f (x ∷ xs) (y ∷ ys) (inl e) = inl (ap f e.0, sub-map f xs ys e.1)
 sub-map f (x ∷ xs) (y ∷ ys) (inr k) = inr (sub-map f (x ∷ xs) ys k)
 
-pub every-sub : {X : Type 0} (P : X → Type 0) (xs ys : List X) → IsSublist xs ys → Every P ys → Every P xs
-every-sub P [] ys h k = tt
-every-sub P (x ∷ xs) [] h k = absurd h
-every-sub P (x ∷ xs) (y ∷ ys) (inl e) k = (subst P (sym e.0) k.0, every-sub P xs ys e.1 k.1)
-every-sub P (x ∷ xs) (y ∷ ys) (inr h) k = every-sub P (x ∷ xs) ys h k.1
-
 abbrev pub times_of : List Message → List ℕ
 times_of ms = map (λ m. m.time) ms
 
@@ -109,8 +103,7 @@ module _ (kind : Body → Bool) (to : ℕ) where
           cond (cond r c false) (w ∷ filter mine ws) (filter mine ws) ≡ filter (λ w. w.receiver == to) (cond c (w ∷ filter (λ w. kind w.body) ws) (filter (λ w. kind w.body) ws))
       go true true e h = rw e (ap (λ z. w ∷ z) h)
       go true false e h = rw e h
-      go false true e h = h
-      go false false e h = h
+      go false _ e h = h
 
   abbrev next : Sender → Sender
   next s = record s { counter = s.counter + 1 }
@@ -158,9 +151,8 @@ module _ (kind : Body → Bool) (to : ℕ) where
   none-elsewhere (w ∷ ws) h = go (kind w.body) refl (w.receiver == to) refl (none-elsewhere ws (All-tail IsElsewhere w ws h))
     where
       go : (c : Bool) → kind w.body ≡ c → (r : Bool) → (w.receiver == to) ≡ r → filter mine ws ≡ [] → cond (cond r c false) (w ∷ filter mine ws) (filter mine ws) ≡ []
-      go c ec false er k = k
-      go false ec true er k = k
       go true ec true er k = absurd (All-head IsElsewhere w ws h ec (eqb-true w.receiver to er))
+      go _ ec _ er k = k
 
   -- what a node has sent of the kind to the process, as wishes
   abbrev pub wished : NodeState → List Message → List Wish
@@ -195,11 +187,7 @@ module _ (kind : Body → Bool) (to : ℕ) where
     where
       none : (b : Body) → is_offer b ≡ true → kind b ≡ false
       none (body.Offer vl size sub) e = never vl size sub
-      none (body.Release vl) e = absurd (let z : ⊥ = cc in z)
-      none (body.PortFree k) e = absurd (let z : ⊥ = cc in z)
-      none (body.Arrive k frame) e = absurd (let z : ⊥ = cc in z)
-      none (body.Enqueue k frame) e = absurd (let z : ⊥ = cc in z)
-      none (body.Carry frame) e = absurd (let z : ⊥ = cc in z)
+      none _ e = absurd (let z : ⊥ = cc in z)
 
       go : (r : Bool) → kind m.body ≡ false → filter is_to ms ≡ [] → cond (cond r (kind m.body) false) (m ∷ filter is_to ms) (filter is_to ms) ≡ []
       go true e k = rw e k

@@ -24,12 +24,8 @@ use Rattle.port_turns.specs.Nodes.{IsOfNodes}
 
 -- the frame that comes to port j with a message, and what it costs on the line by which it comes
 abbrev pub arrival_in : ℕ → ℕ → ℕ → Body → List PutFrame
-arrival_in byte_ns j t (Offer vl size sub) = []
-arrival_in byte_ns j t (Release vl) = []
-arrival_in byte_ns j t (PortFree p) = []
 arrival_in byte_ns j t (Arrive p frame) = if p == j then put_at byte_ns t j frame ∷ [] else []
-arrival_in byte_ns j t (Enqueue p frame) = []
-arrival_in byte_ns j t (Carry frame) = []
+arrival_in byte_ns j t _ = []
 
 abbrev pub arrivals_in : ℕ → ℕ → List Message → List PutFrame
 arrivals_in byte_ns j [] = []

@@ -7,11 +7,7 @@ use Rattle.nodes.specs.rules.Node.{NodeState}
 
 abbrev pub is_offer : Body → Bool
 is_offer (Offer vl size sub) = true
-is_offer (Release vl) = false
-is_offer (PortFree p) = false
-is_offer (Arrive p frame) = false
-is_offer (Enqueue p frame) = false
-is_offer (Carry frame) = false
+is_offer _ = false
 
 -- each process has its number and runs to the end of the run, and the first messages are offers
 pub record IsOfNodes (x : Setting NodeState) : Type 0 where
