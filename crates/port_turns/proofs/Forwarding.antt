@@ -101,8 +101,8 @@ module _ (r q : ℕ) (input : ℕ → ℕ) where
 
       go : (b : Bool) (o : Option (Found Transit)) → transit_at s frame.vl ≡ o → IsSublist (puts (cond b (sw.taken_in r t i frame s o) (sw.unmoved s)).reply.wishes) (forward s.latency t (Arrive i frame))
       go true (Some found) is = entered-forwards found.entry (h frame.vl found is)
-  switch-forwards t _ s h = tt
       go _ _ is = tt
+  switch-forwards t _ s h = tt
 
   pub inputs-stay : (n t : ℕ) (b : Body) (s : SwitchState) → HaveInputs s → HaveInputs (switch n t b s).state
   inputs-stay n t b s h = transits-stay (λ v x. input v ≡ x.input) (λ v x a k. k) n t b s h

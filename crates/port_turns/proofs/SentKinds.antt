@@ -103,7 +103,8 @@ module _ (kind : Body → Bool) (to : ℕ) where
           cond (cond r c false) (w ∷ filter mine ws) (filter mine ws) ≡ filter (λ w. w.receiver == to) (cond c (w ∷ filter (λ w. kind w.body) ws) (filter (λ w. kind w.body) ws))
       go true true e h = rw e (ap (λ z. w ∷ z) h)
       go true false e h = rw e h
-      go false _ e h = h
+      go false true e h = h
+      go false false e h = h
 
   abbrev next : Sender → Sender
   next s = record s { counter = s.counter + 1 }
@@ -152,7 +153,8 @@ module _ (kind : Body → Bool) (to : ℕ) where
     where
       go : (c : Bool) → kind w.body ≡ c → (r : Bool) → (w.receiver == to) ≡ r → filter mine ws ≡ [] → cond (cond r c false) (w ∷ filter mine ws) (filter mine ws) ≡ []
       go true ec true er k = absurd (All-head IsElsewhere w ws h ec (eqb-true w.receiver to er))
-      go _ ec _ er k = k
+      go false ec true er k = k
+      go c ec false er k = k
 
   -- what a node has sent of the kind to the process, as wishes
   abbrev pub wished : NodeState → List Message → List Wish

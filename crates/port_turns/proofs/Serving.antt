@@ -26,7 +26,9 @@ AreCosted byte_ns xs = Every (λ x. x.cost ≡ busy_for x.frame.size byte_ns) xs
 -- from an earlier moment on
 pub served-sooner : (a : Port) (now t : ℕ) (es : List Event) → now ≤ t → IsServed a t es → IsServed a now es
 served-sooner a now t [] l h = tt
-served-sooner a now t _ l h = (omega (arith, h.0), h.1, h.2)
+served-sooner a now t (bounded.Event.High x ∷ es) l h = (omega (arith, h.0), h.1, h.2)
+served-sooner a now t (bounded.Event.Low x ∷ es) l h = (omega (arith, h.0), h.1, h.2)
+served-sooner a now t (bounded.Event.Free u ∷ es) l h = (omega (arith, h.0), h.1, h.2)
 
 module _ (n t q line : ℕ) (ahead : LineAhead) (g : Option ℕ) where
   -- an event with this outcome: the timer is set as the other port is busy, costs stay, and where the rest is served all is

@@ -34,11 +34,11 @@ module _ (K : ℕ → Transit → Type 0) (stays : (v : ℕ) (x : Transit) (a : 
       takes : (i : ℕ) (frame : Frame) (found : Found Transit) → transit_at s frame.vl ≡ Some found → AllTransits (record s { transits = slice_set s.transits found.place (entered t i frame found.entry) })
       takes i frame found is vl new here = elim (cases_eq vl.0 frame.vl.0) [
         | inl e ↦ (
-            let as = entered-as t i frame found.entry in
+            let form = entered-as t i frame found.entry in
             let now = subst (λ z. find transit_number (slice_set s.transits found.place (entered t i frame found.entry)) z ≡ Some (record { place = found.place; entry = entered t i frame found.entry })) (sym e)
             (found-set transit_number s.transits frame.vl.0 found is (entered t i frame found.entry) (entered-number t i frame found.entry)) in
             let entry : entered t i frame found.entry ≡ new.entry = ap (λ (z : Found Transit). z.entry) (same_Some (record { place = found.place; entry = entered t i frame found.entry }) new (sym now ∙ here)) in
-            subst (K vl.0) (sym as.1 ∙ entry) (stays vl.0 found.entry as.0 (subst (λ z. K z found.entry) (sym e) (h frame.vl found is)))
+            subst (K vl.0) (sym form.1 ∙ entry) (stays vl.0 found.entry form.0 (subst (λ z. K z found.entry) (sym e) (h frame.vl found is)))
             )
         | inr d ↦ h vl new (sym (found-other transit_number s.transits frame.vl.0 found is (entered t i frame found.entry) (entered-number t i frame found.entry) vl.0 d) ∙ here)
       ]
