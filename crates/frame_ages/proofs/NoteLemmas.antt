@@ -108,6 +108,7 @@ module _ (n : ℕ) (m : Message) (e : Equipment) where
     where
       by-answer : (outlet : Outlet) → outlet_at ports q ≡ Some outlet → (put : PortEvent) → event ≡ put → (a : PortAnswer) → port.out outlet.port event ≡ a → AllShow (answered n m.time q outlet.ahead put a)
       by-answer outlet is (Put frame r) at answer.Dropped k = loss-shows cause.PortFull frame (h outlet frame r is at k)
+      by-answer outlet is Free at answer.Dropped k = none
       by-answer outlet is _ at _ k = none
 
       go : (o : Option Outlet) → outlet_at ports q ≡ o → AllShow (reply_at n m.time q event o)
@@ -201,28 +202,28 @@ module _ (n : ℕ) (m : Message) (s : EndSystemState) where
   end-shows _ k = none n m e
 
 module _ (n : ℕ) (m : Message) (s : SwitchState) where
-  abbrev e : Equipment
-  e = Switch s
+  abbrev here : Equipment
+  here = Switch s
 
-  switch-shows : (b : Body) → m.body ≡ b → AllShow n m e (switch n m.time b s).reply
-  switch-shows (body.PortFree q) k = ports-show n m e q Free s.ports (none-free n m e q s.ports)
+  switch-shows : (b : Body) → m.body ≡ b → AllShow n m here (switch n m.time b s).reply
+  switch-shows (body.PortFree q) k = ports-show n m here q Free s.ports (none-free n m here q s.ports)
   switch-shows (body.Arrive q frame) k = go (exists s.ports q) (transit_at s frame.vl)
     where
-      entered : (x : Transit) (b c : Bool) (v : Verdict) → AllShow n m e (cond b (cond c (loss cause.TooLong frame) (judged n (m.time + s.latency) frame (outputs_of x) v)) (loss cause.Unknown frame))
-      entered x true true v = loss-shows n m e cause.TooLong frame tt
-      entered x true false verdict.Passed = none n m e
-      entered x true false verdict.Refused = loss-shows n m e cause.Policed frame tt
-      entered x false c v = loss-shows n m e cause.Unknown frame tt
+      entered : (x : Transit) (b c : Bool) (v : Verdict) → AllShow n m here (cond b (cond c (loss cause.TooLong frame) (judged n (m.time + s.latency) frame (outputs_of x) v)) (loss cause.Unknown frame))
+      entered x true true v = loss-shows n m here cause.TooLong frame tt
+      entered x true false verdict.Passed = none n m here
+      entered x true false verdict.Refused = loss-shows n m here cause.Policed frame tt
+      entered x false c v = loss-shows n m here cause.Unknown frame tt
 
-      go : (b : Bool) (o : Option (Found Transit)) → AllShow n m e (cond b (sw.taken_in n m.time q frame s o) (sw.unmoved s)).reply
-      go true None = loss-shows n m e cause.Unknown frame tt
+      go : (b : Bool) (o : Option (Found Transit)) → AllShow n m here (cond b (sw.taken_in n m.time q frame s o) (sw.unmoved s)).reply
+      go true None = loss-shows n m here cause.Unknown frame tt
       go true (Some found) = entered found.entry (found.entry.input == q) (nat_lt found.entry.smax frame.size) (account.out found.entry.account (record { at = m.time; size = frame.size }))
-      go false o = none n m e
+      go false o = none n m here
   switch-shows (body.Enqueue q frame) k = go (exists s.ports q) (transit_at s frame.vl) refl
     where
-      go : (b : Bool) (o : Option (Found Transit)) → transit_at s frame.vl ≡ o → AllShow n m e (cond b (sw.put n m.time q frame s o) (sw.unmoved s)).reply
-      go true None is = loss-shows n m e cause.Unknown frame tt
-      go true (Some found) is = ports-show n m e q (Put frame found.entry.priority) s.ports (λ outlet f r there put dropped. record {
+      go : (b : Bool) (o : Option (Found Transit)) → transit_at s frame.vl ≡ o → AllShow n m here (cond b (sw.put n m.time q frame s o) (sw.unmoved s)).reply
+      go true None is = loss-shows n m here cause.Unknown frame tt
+      go true (Some found) is = ports-show n m here q (Put frame found.entry.priority) s.ports (λ outlet f r there put dropped. record {
         at_port = q;
         outlet = outlet;
         frame = frame;
@@ -231,8 +232,8 @@ module _ (n : ℕ) (m : Message) (s : SwitchState) where
         asked = ap (λ b. switch_asks q b s) k ∙ (ap (λ z. cond z (option_map (λ (found : Found Transit). Put frame found.entry.priority) (transit_at s frame.vl)) None) (eq-eqb q q refl) ∙ ap (option_map (λ (found : Found Transit). Put frame found.entry.priority)) is);
         dropped = dropped;
       })
-      go false o is = none n m e
-  switch-shows _ k = none n m e
+      go false o is = none n m here
+  switch-shows _ k = none n m here
 
 line-shows : (n : ℕ) (m : Message) (e : Equipment) (b : Body) (l : LineState) → AllShow n m e (line m.time b l)
 line-shows n m e (body.Carry frame) l = go (list_any (is_within m.time) l.outages)
