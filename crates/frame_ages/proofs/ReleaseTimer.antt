@@ -31,7 +31,7 @@ use Rattle.port_turns.proofs.Senders.{number-stays, until-stays}
 use Rattle.port_turns.proofs.SentKinds.{IsElsewhere, is_to, mine, mine-kind, none-elsewhere, offers-none, receiver-is, sent-late, sent-none, sent-one}
 use Rattle.port_turns.proofs.Sources.{IsOfferFit, source-keeps}
 use Rattle.frame_ages.specs.Waits.{is_offer_of}
-use Rattle.frame_ages.proofs.RegulatorSteps.{IsRight, Stepped, ask-next, ask-none, frames_at, kept-asks, kept-right, kept_ask, kept_by, passed-ask, passed-right, popped-right, step}
+use Rattle.frame_ages.proofs.RegulatorSteps.{IsRight, Stepped, ask-next, ask-none, frames_at, kept-asks, kept_ask, kept_by, passed-ask, right-stays, step}
 use Rattle.frame_ages.proofs.RegulatorSteps.Stepped.{Drops, Keeps, Passes, Pops, Rests}
 use Rattle.frame_ages.proofs.RegulatorTurns.{IsSaid, OfPutAt, Turned, is_release, node-turn, releases}
 use Rattle.frame_ages.proofs.RegulatorTurns.Turned.{Does, Quiet}
@@ -135,59 +135,31 @@ module _ (v room sub bag : ℕ) where
           by (Some j) next = Same (now ∙ sym (ap (λ o. ask_of o (next_release r.regulator r.regulator.last)) next)) (ap (λ o. kept_by o (next_release r.regulator r.regulator.last)) next) k
 
       by : (a : RegEvent) → IsSaid v m.time m.body a → regulator_in (handled n m e).equipment (record { 0 = v }) ≡ Some (regulator.after r.regulator a) → (vl : VlId) →
-          releases v (handled n m e).reply.wishes ≡ (asked n vl (regulator.out r.regulator a).release_at).wishes → Stepped room sub bag r.regulator a (outcome r.regulator a) → Turns n m e
-      by a said now vl ws (Drops t q frame is state ask none) =
-          let at = now ∙ ap (λ z. Some z) state in
-          record {
+          releases v (handled n m e).reply.wishes ≡ (asked n vl (regulator.out r.regulator a).release_at).wishes → Turns n m e
+      by a said now vl ws = by-step (step room sub bag r.regulator r.right a)
+        where
+          done : (wish : Option ℕ) → (regulator.out r.regulator a).release_at ≡ wish → AskTurn (is_release v m.body) m.time (ask r.regulator) (ask (regulator.after r.regulator a)) wish → Turns n m e
+          done wish asks turn = record {
             vl = vl;
-            wish = None;
-            turn = asks-by None r.regulator at (Same refl refl (said-offer m.time m.body a t q frame said is));
-            wishes = ws ∙ ap (λ z. (asked n vl z).wishes) ask;
-            next = record { regulator = r.regulator; is = at; right = r.right; own = own };
+            wish = wish;
+            turn = asks-by wish (regulator.after r.regulator a) now turn;
+            wishes = ws ∙ ap (λ z. (asked n vl z).wishes) asks;
+            next = record { regulator = regulator.after r.regulator a; is = now; right = right-stays room sub bag r.regulator r.right a; own = own };
           }
-      by a said now vl ws (Passes t q frame is empty inside state ask released) =
-          let at = now ∙ ap (λ z. Some z) state in
-          record {
-            vl = vl;
-            wish = None;
-            turn = asks-by None (let_go r.regulator t q r.regulator.lists) at (Sets (ask-none room sub bag r.regulator r.right empty) (sym (passed-ask room sub bag r.regulator r.right t q empty)) (said-offer m.time m.body a t q frame said is));
-            wishes = ws ∙ ap (λ z. (asked n vl z).wishes) ask;
-            next = record { regulator = let_go r.regulator t q r.regulator.lists; is = at; right = passed-right room sub bag r.regulator r.right t q inside; own = own };
-          }
-      by a said now vl ws (Keeps t q frame is inside few state ask last none) =
-          let at = now ∙ ap (λ z. Some z) state in
-          record {
-            vl = vl;
-            wish = kept_ask r.regulator;
-            turn = asks-by (kept_ask r.regulator) (record r.regulator { lists = with_frames r.regulator.lists q (frames_at r.regulator q ++ frame ∷ []) }) at (keeps q frame inside last (said-offer m.time m.body a t q frame said is));
-            wishes = ws ∙ ap (λ z. (asked n vl z).wishes) ask;
-            next = record { regulator = record r.regulator { lists = with_frames r.regulator.lists q (frames_at r.regulator q ++ frame ∷ []) }; is = at; right = kept-right room sub bag r.regulator r.right q (frames_at r.regulator q ++ frame ∷ []) inside last; own = own };
-          }
-      by a said now vl ws (Rests t is why state ask none) =
-          let at = now ∙ ap (λ z. Some z) state in
-          let rel = said-release m.time m.body a t said is in
-          record {
-            vl = vl;
-            wish = None;
-            turn = asks-by None r.regulator at (Early (early r.regulator t m.time r.right rel.1 why) rel.0);
-            wishes = ws ∙ ap (λ z. (asked n vl z).wishes) ask;
-            next = record { regulator = r.regulator; is = at; right = r.right; own = own };
-          }
-      by a said now vl ws (Pops t is q f rest next inside are state asks released) =
-          let at = now ∙ ap (λ z. Some z) state in
-          let rel = said-release m.time m.body a t said is in
-          record {
-            vl = vl;
-            wish = ask (let_go r.regulator t q (with_frames r.regulator.lists q rest));
-            turn = asks-by (ask (let_go r.regulator t q (with_frames r.regulator.lists q rest))) (let_go r.regulator t q (with_frames r.regulator.lists q rest)) at (Again refl rel.0);
-            wishes = ws ∙ ap (λ z. (asked n vl z).wishes) (asks ∙ ap ask state);
-            next = record { regulator = let_go r.regulator t q (with_frames r.regulator.lists q rest); is = at; right = popped-right room sub bag r.regulator r.right t q rest inside; own = own };
-          }
+
+          by-step : Stepped room sub bag r.regulator a (outcome r.regulator a) → Turns n m e
+          by-step (Drops t q frame is state asks none) = done None asks (Same (ap ask state) refl (said-offer m.time m.body a t q frame said is))
+          by-step (Passes t q frame is empty inside state asks released) =
+              done None asks (Sets (ask-none room sub bag r.regulator r.right empty) (sym (ap ask state ∙ passed-ask room sub bag r.regulator r.right t q empty)) (said-offer m.time m.body a t q frame said is))
+          by-step (Keeps t q frame is inside few state asks last none) =
+              done (kept_ask r.regulator) asks (subst (λ g. AskTurn (is_release v m.body) m.time (ask r.regulator) (ask g) (kept_ask r.regulator)) (sym state) (keeps q frame inside last (said-offer m.time m.body a t q frame said is)))
+          by-step (Rests t is why state asks none) = let rel = said-release m.time m.body a t said is in done None asks (Early (early r.regulator t m.time r.right rel.1 why) rel.0)
+          by-step (Pops t is q f rest next inside are state asks released) = done (ask (regulator.after r.regulator a)) asks (Again refl (said-release m.time m.body a t said is).0)
 
       go : Turned v n m.time m.body r.regulator (regulator_in (handled n m e).equipment (record { 0 = v })) (releases v (handled n m e).reply.wishes) (asks 0 m e) → Turns n m e
       go (Quiet now none rel off put) =
           record { vl = record { 0 = v }; wish = None; turn = asks-by None r.regulator now (Same refl refl rel); wishes = none; next = record { regulator = r.regulator; is = now; right = r.right; own = own } }
-      go (Does a said now vl k ws put) = by a said now vl ws (step room sub bag r.regulator r.right a)
+      go (Does a said now vl k ws put) = by a said now vl ws
 
 -- ---- the timer
 
