@@ -9,7 +9,7 @@ use Rattle.output_port.specs.declared.event.Priority.TheVariants as priority
 use Rattle.output_port.specs.declared.event.PortEvent.{PortEvent}
 use Rattle.output_port.specs.declared.event.PortEvent.TheVariants as event
 use Rattle.output_port.specs.declared.event.PortAnswer.{PortAnswer}
-use Rattle.output_port.specs.declared.event.PortAnswer.TheVariants.{Started, Kept, Dropped, Idle, Nothing}
+use Rattle.output_port.specs.declared.event.PortAnswer.TheVariants.{Started, Kept, Idle}
 use Rattle.output_port.specs.Port as real
 use Rattle.output_port.specs.Port.{PortState, port, may_wait}
 use Rattle.port_bounds.specs.Frames.{PutFrame}

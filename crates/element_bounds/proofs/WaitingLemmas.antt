@@ -9,7 +9,7 @@ use Rattle.frame_ring.specs.Queue.{Queue}
 use Rattle.bag_regulator.specs.declared.event.RegEvent.{RegEvent}
 use Rattle.bag_regulator.specs.declared.event.RegEvent.TheVariants.{Offer, Release}
 use Rattle.bag_regulator.specs.declared.event.RegAnswer.{RegAnswer}
-use Rattle.bag_regulator.specs.declared.event.RegAnswer.TheVariants.{Dropped, Kept, Nothing, Released}
+use Rattle.bag_regulator.specs.declared.event.RegAnswer.TheVariants.{Dropped, Nothing, Released}
 use Rattle.bag_regulator.specs.Regulator.{Outcome, Regulator, admitted, appended, direct, due, idle, is_due, list_at, next_release, next_served, outcome, popped, queued, served, with_frames}
 use Rattle.bag_regulator.specs.Spacing.{moment_of}
 

@@ -7,7 +7,7 @@ use Rattle.output_port.specs.declared.event.Priority.TheVariants as priority
 use Rattle.output_port.specs.declared.event.PortEvent.{PortEvent}
 use Rattle.output_port.specs.declared.event.PortEvent.TheVariants as event
 use Rattle.output_port.specs.declared.event.PortAnswer.{PortAnswer}
-use Rattle.output_port.specs.declared.event.PortAnswer.TheVariants.{Started, Kept, Dropped, Idle, Nothing}
+use Rattle.output_port.specs.declared.event.PortAnswer.TheVariants.{Started, Kept, Idle}
 use Rattle.output_port.specs.Port.{PortState, port}
 use Rattle.port_bounds.specs.Frames.{PutFrame}
 use Rattle.port_bounds.specs.Port.{Event, Port, after, starts_of}

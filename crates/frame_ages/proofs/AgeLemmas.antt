@@ -1,5 +1,5 @@
 -- How old frames are that come to a node: at most as old as their way takes.
-use Rattle.std.proofs.Common.{◌≡◌, ℕ, ◌+◌, ◌≤◌, List, [], ◌∷◌, ◌++◌, Some, None, refl, sym, ap, ◌∙◌, subst, arith}
+use Rattle.std.proofs.Common.{◌≡◌, ℕ, ◌+◌, ◌≤◌, List, [], ◌∷◌, Some, refl, sym, ap, ◌∙◌, subst, arith}
 use Rattle.std.proofs.lemmas.Option.{same_Some}
 use Rattle.vlink.specs.Wire.{busy_for, last_bit_after}
 use Rattle.vlink.specs.declared.frame.Frame.{Frame}
@@ -11,7 +11,7 @@ use Rattle.reverse.specs.Rules.{rules_of}
 use Rattle.reverse.specs.Setting.{Setting, simulation_of}
 use Rattle.virtual_time.specs.Law.{Laws, Simulation, events}
 use Rattle.port_bounds.specs.Frames.{PutFrame, link_of}
-use Rattle.port_bounds.specs.Port.{Event, Port, Start, high_starts, idle, low_starts, outcome, starts_of}
+use Rattle.port_bounds.specs.Port.{Start, high_starts, idle, low_starts}
 use Rattle.port_bounds.specs.Sublists.{Every}
 use Rattle.port_bounds.proofs.StartLemmas.{high-put, low-put, starts-both}
 use Rattle.port_bounds.proofs.SublistLemmas.{every-both, every-weaker}

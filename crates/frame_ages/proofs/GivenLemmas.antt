@@ -2,7 +2,7 @@
 use Rattle.std.proofs.Common.{◌≡◌, ℕ, ◌+◌, ◌-◌, ◌*◌, ◌<◌, ◌≤◌, inl, inr, Bool, true, List, [], ◌∷◌, All, Some, None, refl, sym, ap, ◌∙◌, subst, arith, eqb-true}
 use Rattle.std.proofs.lemmas.Bool.{cases_lt}
 use Rattle.std.proofs.lemmas.Nat.{mul-le}
-use Rattle.std.proofs.lemmas.List.Elements.{All-head, All-nil, All-tail, All-weaker}
+use Rattle.std.proofs.lemmas.List.Elements.{All-nil, All-weaker}
 use Rattle.vlink.specs.Wire.{busy_for}
 use Rattle.vlink.specs.declared.frame.Frame.{Frame}
 use Rattle.vlink.specs.declared.message.Message.{Message}
@@ -21,7 +21,7 @@ use Rattle.port_bounds.specs.Pacing.{IsPaced}
 use Rattle.port_bounds.specs.Arrivals.{IsClassWithin, IsEachAtMost, is_by_line, is_of_link, moments_at}
 use Rattle.port_bounds.specs.Mixtures.{AreFlowsWithin, AreGroupsWithin, AreKeyed, Flow, Group, IsAmong, groups_burst, groups_rate, lines_of, links_of}
 use Rattle.port_bounds.specs.Delays.{AreSentWithin, IsHighInTime, IsLowInTime}
-use Rattle.port_bounds.specs.Port.{Event, IsServed, high_starts, highs_of, idle, low_starts, lows_of}
+use Rattle.port_bounds.specs.Port.{IsServed, high_starts, idle, low_starts}
 use Rattle.port_bounds.proofs.ArrivalLemmas.{paced, serial, spaced}
 use Rattle.port_bounds.proofs.HighLemmas as high
 use Rattle.port_bounds.proofs.LowLemmas as low

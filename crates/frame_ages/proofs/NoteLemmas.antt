@@ -1,6 +1,6 @@
 -- What a note shows. Of a delivery: a frame came to a port of the node that there is, so long after its offer. Of a frame dropped at a full
 -- port: a port was asked to take it, and dropped it.
-use Rattle.std.proofs.Common.{◌≡◌, ℕ, ◌+◌, ◌-◌, ◌==◌, Bool, true, false, cond, nat_lt, is_some, List, [], ◌∷◌, All, Option, Some, None, option_map, refl, sym, ap, ◌∙◌, eq-eqb}
+use Rattle.std.proofs.Common.{◌≡◌, ℕ, ◌+◌, ◌-◌, ◌==◌, Bool, true, false, cond, nat_lt, is_some, [], ◌∷◌, All, Option, Some, None, option_map, refl, sym, ap, ◌∙◌, eq-eqb}
 use Rattle.std.specs.Prelude.{⊤}
 use Rattle.std.specs.List.{list_any}
 use Rattle.std.proofs.lemmas.List.Elements.{All-append, All-cons, All-nil}

@@ -9,7 +9,7 @@ use Rattle.bag_regulator.specs.Regulator.{Outcome, Regulator, admitted, appended
 use Rattle.bag_regulator.specs.declared.event.RegEvent.{RegEvent}
 use Rattle.bag_regulator.specs.declared.event.RegEvent.TheVariants.{Offer, Release}
 use Rattle.bag_regulator.specs.declared.event.RegAnswer.{RegAnswer}
-use Rattle.bag_regulator.specs.declared.event.RegAnswer.TheVariants.{Dropped, Kept, Nothing, Released}
+use Rattle.bag_regulator.specs.declared.event.RegAnswer.TheVariants.{Dropped, Nothing, Released}
 use Rattle.bag_regulator.proofs.RoundRobinLemmas.{next-all, next-none, next-some, with_frames-other}
 use Rattle.bag_regulator.proofs.SpacingLemmas.{ask-some}
 use Rattle.frame_ages.proofs.RoundRobin.{next-within}

@@ -7,7 +7,7 @@ use Rattle.vlink.specs.declared.message.Message.{Message}
 use Rattle.vlink.specs.declared.message.Body.{Body}
 use Rattle.vlink.specs.declared.message.Body.TheVariants as body
 use Rattle.vlink.specs.declared.note.Note.{Note}
-use Rattle.bag_regulator.specs.Regulator.{Regulator, ask, ask_of, is_some_frame, let_go, next_release, next_served, outcome, regulator, with_frames}
+use Rattle.bag_regulator.specs.Regulator.{Regulator, ask, ask_of, is_some_frame, next_release, next_served, outcome, regulator, with_frames}
 use Rattle.bag_regulator.specs.declared.event.RegEvent.{RegEvent}
 use Rattle.bag_regulator.specs.declared.event.RegEvent.TheVariants.{Offer, Release}
 use Rattle.reverse.specs.Sending.{Wish}
@@ -18,7 +18,7 @@ use Rattle.timers.specs.Timer.{Alarm, AreOnTime, IsSet, IsTimer}
 use Rattle.timers.specs.Timer.IsSet.{Off, On, PastEnd}
 use Rattle.timers.proofs.TimerLemmas.{are_on_time}
 use Rattle.nodes.specs.declared.equipment.Equipment.{Equipment}
-use Rattle.nodes.specs.declared.equipment.Equipment.TheVariants.{EndSystem, Switch, Line}
+use Rattle.nodes.specs.declared.equipment.Equipment.TheVariants.{EndSystem}
 use Rattle.nodes.specs.declared.node.NodeRecord.{NodeRecord}
 use Rattle.nodes.specs.rules.EndSystem.{asked}
 use Rattle.nodes.specs.rules.Node.{NodeState, after, handled, regulator_in, sends}

@@ -14,7 +14,7 @@ use Rattle.output_port.specs.declared.event.Priority.TheVariants as priority
 use Rattle.output_port.specs.declared.event.PortEvent.{PortEvent}
 use Rattle.output_port.specs.declared.event.PortEvent.TheVariants.{Put, Free}
 use Rattle.output_port.specs.declared.event.PortAnswer.{PortAnswer}
-use Rattle.output_port.specs.declared.event.PortAnswer.TheVariants.{Dropped, Idle, Kept, Nothing, Started}
+use Rattle.output_port.specs.declared.event.PortAnswer.TheVariants.{Dropped, Idle, Kept, Started}
 use Rattle.port_bounds.specs.Frames.{IsWithin, PutFrame, cost_of}
 use Rattle.port_bounds.specs.Port.{Event, IsBy, IsServed, Port, after, highs_of, idle, lows_of}
 use Rattle.port_bounds.specs.Port as bounded

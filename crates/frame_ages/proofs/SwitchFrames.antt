@@ -3,7 +3,7 @@ use Rattle.std.proofs.Common.{◌≡◌, ℕ, ◌+◌, ◌==◌, inl, inr, Bool,
 use Rattle.std.proofs.lemmas.List.Elements.{All-cons, All-map, All-nil, All-weaker}
 use Rattle.vlink.specs.declared.frame.Frame.{Frame}
 use Rattle.vlink.specs.declared.message.Body.{Body}
-use Rattle.vlink.specs.declared.message.Body.TheVariants.{Offer, Release, PortFree, Arrive, Enqueue, Carry}
+use Rattle.vlink.specs.declared.message.Body.TheVariants.{PortFree, Arrive, Enqueue}
 use Rattle.vlink.specs.declared.note.Cause.TheVariants.{TooLong, Unknown}
 use Rattle.policer.specs.Account.{account}
 use Rattle.policer.specs.declared.account.Verdict.{Verdict}

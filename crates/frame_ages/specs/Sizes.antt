@@ -1,7 +1,7 @@
 -- Each frame of a virtual link has the size that its virtual link has.
 use Rattle.std.specs.Prelude.{◌≡◌, ℕ, ◌<◌, All, IfSome, [], ⊤}
 use Rattle.vlink.specs.declared.message.Body.{Body}
-use Rattle.vlink.specs.declared.message.Body.TheVariants.{Offer, Release, PortFree, Arrive, Enqueue, Carry}
+use Rattle.vlink.specs.declared.message.Body.TheVariants.{Offer, Arrive, Enqueue, Carry}
 use Rattle.vlink.specs.declared.frame.Frame.{Frame}
 use Rattle.reverse.specs.Rules.{rules_of}
 use Rattle.reverse.specs.Setting.{Setting, simulation_of}

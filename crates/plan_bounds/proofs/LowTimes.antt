@@ -12,7 +12,7 @@ use Rattle.seqsim.specs.Networks.{setting_of}
 use Rattle.plan_ports.specs.Links.{size_of}
 use Rattle.plan_ports.proofs.Linked.{are-sizes}
 use Rattle.network_bounds.specs.declared.mixing.Choice.{Choice}
-use Rattle.network_bounds.specs.declared.mixing.Choice.TheVariants.{By, Least}
+use Rattle.network_bounds.specs.declared.mixing.Choice.TheVariants.{By}
 use Rattle.network_bounds.specs.declared.mixing.Mixture.{Mixture}
 use Rattle.network_bounds.specs.declared.delays.Later.{Later}
 use Rattle.network_bounds.specs.declared.delays.Weights.{Weights}

@@ -9,13 +9,13 @@ use Rattle.output_port.specs.declared.event.Priority.TheVariants.{High, Low}
 use Rattle.seqsim.specs.Networks.{setting_of}
 use Rattle.plan_ports.specs.Links.{size_of}
 use Rattle.network_bounds.specs.declared.mixing.Choice.{Choice}
-use Rattle.network_bounds.specs.declared.mixing.Choice.TheVariants.{By, Least}
+use Rattle.network_bounds.specs.declared.mixing.Choice.TheVariants.{By}
 use Rattle.network_bounds.specs.declared.mixing.Mixture.{Mixture}
 use Rattle.network_bounds.specs.declared.delays.Weights.{Weights}
 use Rattle.network_bounds.specs.declared.reason.Reason.{Reason}
 use Rattle.network_bounds.specs.declared.reason.Reason.TheVariants.{Bytes, Number, Rate}
 use Rattle.network_bounds.specs.Delays.{bound_by, fits_both, only_if, waiting_bound, waiting_of}
-use Rattle.network_bounds.specs.Mixing.{PortPlan, groups_at, mixed_at, port_before}
+use Rattle.network_bounds.specs.Mixing.{groups_at, mixed_at, port_before}
 use Rattle.network_bounds.specs.Numbers.{SCALE, UNITS, WHOLE, capped}
 use Rattle.port_bounds.specs.Mixtures.{groups_burst, groups_rate}
 use Rattle.frame_ages.specs.Ports.{IsWaitingBound}

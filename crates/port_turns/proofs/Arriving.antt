@@ -7,7 +7,7 @@ use Rattle.vlink.specs.Wire.{busy_for, last_bit_after}
 use Rattle.vlink.specs.declared.frame.Frame.{Frame}
 use Rattle.vlink.specs.declared.message.Message.{Message}
 use Rattle.vlink.specs.declared.message.Body.{Body}
-use Rattle.vlink.specs.declared.message.Body.TheVariants.{Offer, Release, PortFree, Arrive, Enqueue, Carry}
+use Rattle.vlink.specs.declared.message.Body.TheVariants.{Arrive, Carry}
 use Rattle.vlink.specs.declared.note.Note.{Note}
 use Rattle.vlink.specs.declared.note.Cause.TheVariants as cause
 use Rattle.reverse.specs.Sending.{Wish, loss}
@@ -33,8 +33,6 @@ use Rattle.nodes.specs.rules.Line.{LineState, is_within, line}
 use Rattle.nodes.specs.rules.Node.{NodeState, after, handled}
 use Rattle.nodes.specs.undoing.Node.{node}
 use Rattle.output_port.specs.Port.{PortState}
-use Rattle.output_port.specs.declared.event.PortEvent.{PortEvent}
-use Rattle.output_port.specs.declared.event.PortEvent.TheVariants.{Put, Free}
 use Rattle.port_turns.specs.Nodes.{IsOfNodes}
 use Rattle.port_turns.specs.PortRuns.{port_events}
 use Rattle.port_turns.specs.Arrivals.{IsWay, arrival_in, arrivals_in}

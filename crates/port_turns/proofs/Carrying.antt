@@ -5,10 +5,10 @@ use Rattle.std.proofs.lemmas.List.{map-append}
 use Rattle.vlink.specs.Wire.{last_bit_after}
 use Rattle.vlink.specs.declared.message.Message.{Message}
 use Rattle.vlink.specs.declared.message.Body.{Body}
-use Rattle.vlink.specs.declared.message.Body.TheVariants.{Offer, Release, PortFree, Arrive, Enqueue, Carry}
+use Rattle.vlink.specs.declared.message.Body.TheVariants.{Carry}
 use Rattle.output_port.specs.Port.{port}
 use Rattle.output_port.specs.declared.event.PortEvent.{PortEvent}
-use Rattle.output_port.specs.declared.event.PortEvent.TheVariants.{Put, Free}
+use Rattle.output_port.specs.declared.event.PortEvent.TheVariants.{Put}
 use Rattle.output_port.specs.declared.event.PortAnswer.{PortAnswer}
 use Rattle.output_port.specs.declared.event.PortAnswer.TheVariants as answer
 use Rattle.reverse.specs.Sending.{Wish}
@@ -17,7 +17,7 @@ use Rattle.virtual_time.specs.Law.{reached}
 use Rattle.port_bounds.specs.Sublists.{IsSublist}
 use Rattle.element_bounds.specs.PortTrace.{FrameStart, started_by, started_of}
 use Rattle.nodes.specs.declared.equipment.Equipment.{Equipment}
-use Rattle.nodes.specs.declared.equipment.Equipment.TheVariants.{EndSystem, Switch, Line}
+use Rattle.nodes.specs.declared.equipment.Equipment.TheVariants.{Line}
 use Rattle.nodes.specs.declared.ports.LineAhead.{LineAhead}
 use Rattle.nodes.specs.declared.ports.Outlet.{Outlet}
 use Rattle.nodes.specs.rules.Ports.{answered}

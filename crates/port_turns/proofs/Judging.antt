@@ -5,7 +5,7 @@ use Rattle.std.proofs.lemmas.Option.{none-some, same_Some}
 use Rattle.vlink.specs.declared.frame.Frame.{Frame}
 use Rattle.vlink.specs.declared.message.Message.{Message}
 use Rattle.vlink.specs.declared.message.Body.{Body}
-use Rattle.vlink.specs.declared.message.Body.TheVariants.{Offer, Release, PortFree, Arrive, Enqueue, Carry}
+use Rattle.vlink.specs.declared.message.Body.TheVariants.{PortFree, Arrive, Enqueue}
 use Rattle.vlink.specs.declared.note.Cause.TheVariants.{Unknown, TooLong}
 use Rattle.policer.specs.declared.account.Arrival.{Arrival}
 use Rattle.policer.specs.declared.account.Verdict.{Verdict}
@@ -17,7 +17,7 @@ use Rattle.reverse.specs.Sending.{Wish, loss}
 use Rattle.port_bounds.specs.Sublists.{IsSublist}
 use Rattle.nodes.specs.declared.transit.Transit.{Transit}
 use Rattle.nodes.specs.declared.equipment.Equipment.{Equipment}
-use Rattle.nodes.specs.declared.equipment.Equipment.TheVariants.{EndSystem, Switch, Line}
+use Rattle.nodes.specs.declared.equipment.Equipment.TheVariants.{Switch}
 use Rattle.nodes.specs.rules.Finding.{Found, find}
 use Rattle.nodes.specs.rules.Outputs.{marked_from}
 use Rattle.nodes.specs.rules.Ports.{exists, reply}

@@ -10,7 +10,7 @@ use Rattle.reverse.specs.Rules.{rules_of}
 use Rattle.reverse.specs.Setting.{Setting, simulation_of}
 use Rattle.virtual_time.specs.Law.{Laws, Simulation, events, one}
 use Rattle.timers.specs.Timer as timer
-use Rattle.timers.specs.Timer.{AreOnTime, IsOnTime}
+use Rattle.timers.specs.Timer.{AreOnTime}
 use Rattle.port_bounds.specs.Pacing.{AreBetween}
 use Rattle.port_bounds.specs.Port.{IsBy, IsServed, Port, idle}
 use Rattle.port_bounds.specs.Port as bounded

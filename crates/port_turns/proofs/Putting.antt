@@ -12,7 +12,7 @@ use Rattle.port_bounds.proofs.PacingLemmas.{ends}
 use Rattle.port_bounds.proofs.SublistLemmas.{sub-trans}
 use Rattle.element_bounds.specs.Passages.{AreAtLeast, passages_of}
 use Rattle.nodes.specs.declared.equipment.Equipment.{Equipment}
-use Rattle.nodes.specs.declared.equipment.Equipment.TheVariants.{EndSystem, Switch, Line}
+use Rattle.nodes.specs.declared.equipment.Equipment.TheVariants.{Switch}
 use Rattle.nodes.specs.declared.transit.Transit.{Transit}
 use Rattle.nodes.specs.rules.Node.{NodeState, handled, after}
 use Rattle.nodes.specs.laws.SwitchSending.{switch-cases}

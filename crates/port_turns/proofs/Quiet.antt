@@ -3,7 +3,7 @@ use Rattle.std.proofs.Common.{ℕ, refl}
 use Rattle.vlink.specs.declared.frame.Frame.{Frame}
 use Rattle.vlink.specs.declared.note.Cause.TheVariants as cause
 use Rattle.bag_regulator.specs.declared.event.RegEvent.{RegEvent}
-use Rattle.bag_regulator.specs.declared.event.RegEvent.TheVariants.{Offer, Release}
+use Rattle.bag_regulator.specs.declared.event.RegEvent.TheVariants.{Offer}
 use Rattle.bag_regulator.specs.declared.event.RegAnswer.{RegAnswer}
 use Rattle.bag_regulator.specs.declared.event.RegAnswer.TheVariants as answer
 use Rattle.integrity.specs.Integrity.{integrity}

@@ -28,7 +28,7 @@ use Rattle.port_bounds.proofs.ArrivalLemmas.{fewer-paced}
 use Rattle.element_bounds.specs.PortTrace.{trace_of}
 use Rattle.element_bounds.proofs.ReleaseLemmas.{releases-paced}
 use Rattle.nodes.specs.declared.equipment.Equipment.{Equipment}
-use Rattle.nodes.specs.declared.equipment.Equipment.TheVariants.{EndSystem, Switch, Line}
+use Rattle.nodes.specs.declared.equipment.Equipment.TheVariants.{EndSystem}
 use Rattle.nodes.specs.declared.reception.Reception.{Reception}
 use Rattle.nodes.specs.declared.source.Source.{Source}
 use Rattle.nodes.specs.declared.vl_end.VlEnd.{VlEnd}

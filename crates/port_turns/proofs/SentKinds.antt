@@ -11,7 +11,7 @@ use Rattle.vlink.specs.declared.message.Body.TheVariants as body
 use Rattle.reverse.specs.Sending.{Sender, Wish, message_of, sent}
 use Rattle.reverse.specs.Rules.{rules_of}
 use Rattle.virtual_time.specs.Law as law
-use Rattle.port_bounds.specs.Sublists.{Every, IsSublist}
+use Rattle.port_bounds.specs.Sublists.{IsSublist}
 use Rattle.port_bounds.proofs.SublistLemmas.{sub-behind, sub-both, sub-trans}
 use Rattle.nodes.specs.rules.Node.{NodeState, after, handled, sends}
 use Rattle.nodes.specs.undoing.Node.{node}

@@ -9,7 +9,7 @@ use Rattle.vlink.specs.Wire.{busy_for}
 use Rattle.vlink.specs.declared.frame.Frame.{Frame}
 use Rattle.vlink.specs.declared.message.Message.{Message}
 use Rattle.vlink.specs.declared.message.Body.{Body}
-use Rattle.vlink.specs.declared.message.Body.TheVariants.{Offer, Release, PortFree, Arrive, Enqueue, Carry}
+use Rattle.vlink.specs.declared.message.Body.TheVariants.{PortFree, Arrive, Enqueue}
 use Rattle.vlink.specs.declared.note.Note.{Note}
 use Rattle.output_port.specs.Port.{PortState}
 use Rattle.output_port.specs.declared.event.Priority.{Priority}

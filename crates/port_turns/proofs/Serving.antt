@@ -7,7 +7,7 @@ use Rattle.output_port.specs.declared.event.Priority.TheVariants as priority
 use Rattle.output_port.specs.declared.event.PortEvent.{PortEvent}
 use Rattle.output_port.specs.declared.event.PortEvent.TheVariants.{Put, Free}
 use Rattle.output_port.specs.Port as real
-use Rattle.output_port.specs.Port.{PortState, port, may_wait}
+use Rattle.output_port.specs.Port.{PortState, may_wait}
 use Rattle.port_bounds.specs.Frames.{PutFrame}
 use Rattle.port_bounds.specs.Sublists.{Every}
 use Rattle.port_bounds.proofs.SublistLemmas.{every-push}

@@ -19,7 +19,7 @@ use Rattle.port_bounds.proofs.ArrivalLemmas.{fewer-paced}
 use Rattle.element_bounds.specs.Passages.{IsCounting}
 use Rattle.element_bounds.specs.PortTrace.{trace_of}
 use Rattle.nodes.specs.declared.equipment.Equipment.{Equipment}
-use Rattle.nodes.specs.declared.equipment.Equipment.TheVariants.{EndSystem, Switch, Line}
+use Rattle.nodes.specs.declared.equipment.Equipment.TheVariants.{Switch}
 use Rattle.nodes.specs.declared.transit.Transit.{Transit}
 use Rattle.nodes.specs.rules.Finding.{Found}
 use Rattle.nodes.specs.rules.Switch.{SwitchState, transit_at}

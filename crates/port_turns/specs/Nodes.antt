@@ -1,7 +1,7 @@
 -- A setting whose processes are nodes and lines.
 use Rattle.std.specs.Prelude.{◌≡◌, ℕ, ◌<◌, Bool, true, false, All}
 use Rattle.vlink.specs.declared.message.Body.{Body}
-use Rattle.vlink.specs.declared.message.Body.TheVariants.{Offer, Release, PortFree, Arrive, Enqueue, Carry}
+use Rattle.vlink.specs.declared.message.Body.TheVariants.{Offer}
 use Rattle.reverse.specs.Setting.{Setting}
 use Rattle.nodes.specs.rules.Node.{NodeState}
 

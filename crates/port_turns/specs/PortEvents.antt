@@ -9,7 +9,7 @@ use Rattle.bag_regulator.specs.Regulator.{regulator}
 use Rattle.bag_regulator.specs.declared.event.RegEvent.{RegEvent}
 use Rattle.bag_regulator.specs.declared.event.RegEvent.TheVariants.{Offer, Release}
 use Rattle.bag_regulator.specs.declared.event.RegAnswer.{RegAnswer}
-use Rattle.bag_regulator.specs.declared.event.RegAnswer.TheVariants.{Released, Kept, Dropped, Nothing}
+use Rattle.bag_regulator.specs.declared.event.RegAnswer.TheVariants.{Released}
 use Rattle.output_port.specs.Port.{port}
 use Rattle.output_port.specs.declared.event.PortEvent.{PortEvent}
 use Rattle.output_port.specs.declared.event.PortEvent.TheVariants.{Put, Free}

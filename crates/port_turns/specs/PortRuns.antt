@@ -3,7 +3,7 @@ use Rattle.std.specs.Prelude.{◌≡◌, ℕ, ◌<◌, ◌≤◌, All, List, [],
 use Rattle.std.specs.Option.{option_map_or}
 use Rattle.vlink.specs.declared.message.Message.{Message}
 use Rattle.vlink.specs.declared.message.Body.{Body}
-use Rattle.vlink.specs.declared.message.Body.TheVariants.{Offer, Release, PortFree, Arrive, Enqueue, Carry}
+use Rattle.vlink.specs.declared.message.Body.TheVariants.{Enqueue}
 use Rattle.output_port.specs.declared.event.PortEvent.{PortEvent}
 use Rattle.reverse.specs.Rules.{rules_of}
 use Rattle.reverse.specs.Setting.{Setting, simulation_of}
@@ -20,7 +20,7 @@ use Rattle.port_bounds.specs.Port.{Event, IsServed, highs_of, idle, lows_of}
 use Rattle.element_bounds.specs.Passages.{IsCounting}
 use Rattle.element_bounds.specs.PortTrace.{PortEventAt, IsSamePort, trace_of}
 use Rattle.nodes.specs.declared.equipment.Equipment.{Equipment}
-use Rattle.nodes.specs.declared.equipment.Equipment.TheVariants.{EndSystem, Switch, Line}
+use Rattle.nodes.specs.declared.equipment.Equipment.TheVariants.{EndSystem, Switch}
 use Rattle.nodes.specs.declared.ports.Outlet.{Outlet}
 use Rattle.nodes.specs.declared.transit.Transit.{Transit}
 use Rattle.nodes.specs.rules.Switch.{SwitchState, transit_at}
