@@ -25,13 +25,13 @@ use Rattle.nodes.specs.declared.node.NodeRecord.{NodeRecord}
 use Rattle.nodes.specs.rules.Node.{NodeState, handled, regulator_in}
 use Rattle.nodes.specs.undoing.Node.{node}
 use Rattle.nodes.specs.laws.Sent.{IsSentAs, sent-all}
-use Rattle.port_turns.specs.Nodes.{IsOfNodes}
+use Rattle.port_turns.specs.Nodes.{IsOfNodes, is_offer_of}
 use Rattle.port_turns.proofs.Elsewhere.{OfAllSent, all-sent}
 use Rattle.port_turns.proofs.Rising.{AreTo, before, events-from, events-to}
 use Rattle.port_turns.proofs.SentKinds.{AreFrom, from-sooner, times_of}
 use Rattle.frame_ages.specs.Latencies.{IsHeldWithin}
 use Rattle.frame_ages.specs.Sizes.{OpensEmpty}
-use Rattle.frame_ages.specs.Waits.{IsOfferedBy, is_offer_of}
+use Rattle.frame_ages.specs.Waits.{IsOfferedBy}
 use Rattle.port_bounds.proofs.SublistLemmas.{every-from-all}
 use Rattle.frame_ages.proofs.GivenLemmas.{own-frames}
 use Rattle.frame_ages.proofs.Invariants.{IsInvariant, all-events}

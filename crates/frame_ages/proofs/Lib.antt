@@ -10,7 +10,6 @@ pub mod NoteLemmas
 pub mod RowLemmas
 pub mod LatencyLemmas
 pub mod RegulatorSteps
-pub mod RegulatorTurns
 pub mod ReleaseTimer
 pub mod WaitLemmas
 pub mod HeldLemmas

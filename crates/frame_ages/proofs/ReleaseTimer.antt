@@ -23,18 +23,17 @@ use Rattle.nodes.specs.declared.node.NodeRecord.{NodeRecord}
 use Rattle.nodes.specs.rules.EndSystem.{asked}
 use Rattle.nodes.specs.rules.Node.{NodeState, after, handled, regulator_in, sends}
 use Rattle.nodes.specs.undoing.Node.{node}
-use Rattle.port_turns.specs.Nodes.{IsOfNodes}
+use Rattle.port_turns.specs.Nodes.{IsOfNodes, is_offer_of}
 use Rattle.port_turns.specs.PortEvents.{asks}
 use Rattle.port_turns.specs.PortRuns.{AreOwnFrames}
 use Rattle.port_turns.proofs.Elsewhere.{all-sent}
 use Rattle.port_turns.proofs.Senders.{number-stays, until-stays}
 use Rattle.port_turns.proofs.SentKinds.{IsElsewhere, is_to, mine, mine-kind, none-elsewhere, offers-none, receiver-is, sent-late, sent-none, sent-one}
 use Rattle.port_turns.proofs.Sources.{IsOfferFit, source-keeps}
-use Rattle.frame_ages.specs.Waits.{is_offer_of}
 use Rattle.frame_ages.proofs.RegulatorSteps.{IsRight, Stepped, ask-next, ask-none, frames_at, kept-asks, kept_ask, kept_by, passed-ask, right-stays, step}
 use Rattle.frame_ages.proofs.RegulatorSteps.Stepped.{Drops, Keeps, Passes, Pops, Rests}
-use Rattle.frame_ages.proofs.RegulatorTurns.{IsSaid, OfPutAt, Turned, is_release, node-turn, releases}
-use Rattle.frame_ages.proofs.RegulatorTurns.Turned.{Does, Quiet}
+use Rattle.port_turns.proofs.RegulatorTurns.{IsSaid, OfPutAt, Turned, is_release, node-turn, releases}
+use Rattle.port_turns.proofs.RegulatorTurns.Turned.{Does, Quiet}
 
 -- ---- each frame is of its own virtual link
 

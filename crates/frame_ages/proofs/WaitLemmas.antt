@@ -30,15 +30,14 @@ use Rattle.element_bounds.proofs.TraceLemmas.{AllPuts, OfAsked, trace-puts}
 use Rattle.nodes.specs.declared.node.NodeRecord.{NodeRecord}
 use Rattle.nodes.specs.rules.Node.{NodeState, after, handled, regulator_in}
 use Rattle.nodes.specs.undoing.Node.{node}
-use Rattle.port_turns.specs.Nodes.{IsOfNodes}
+use Rattle.port_turns.specs.Nodes.{IsOfNodes, is_offer_of}
 use Rattle.port_turns.specs.PortEvents.{asks}
 use Rattle.port_turns.specs.PortRuns.{AreOwnFrames, asked_at, input_of, port_events}
 use Rattle.port_turns.proofs.Rising.{AreTo, events-to}
-use Rattle.frame_ages.specs.Waits.{is_offer_of}
 use Rattle.frame_ages.proofs.RegulatorSteps.{IsReleaseOf, IsRight, OfReleased, Stepped, ask-next, frames_at, right-stays, step, with-same}
 use Rattle.frame_ages.proofs.RegulatorSteps.Stepped.{Drops, Keeps, Passes, Pops, Rests}
-use Rattle.frame_ages.proofs.RegulatorTurns.{IsSaid, LikeReleased, OfPutBy, Turned, is_release, node-turn, releases}
-use Rattle.frame_ages.proofs.RegulatorTurns.Turned.{Does, Quiet}
+use Rattle.port_turns.proofs.RegulatorTurns.{IsSaid, LikeReleased, OfPutBy, Turned, is_release, node-turn, releases}
+use Rattle.port_turns.proofs.RegulatorTurns.Turned.{Does, Quiet}
 use Rattle.frame_ages.proofs.RoundRobin.{distance, distance-below, last-then, nearer-by, nearest}
 use Rattle.frame_ages.proofs.ReleaseTimer.{HasRegulator, alarm, early, ask-is, ask_in, is_due, own-stays, put-own, releases-on-time}
 

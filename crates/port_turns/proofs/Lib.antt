@@ -17,6 +17,7 @@ pub mod Putting
 pub mod Puts
 pub mod Sources
 pub mod TracePuts
+pub mod RegulatorTurns
 pub mod Releasing
 pub mod Serving
 pub mod PortRuns

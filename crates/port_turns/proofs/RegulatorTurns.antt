@@ -35,7 +35,7 @@ use Rattle.port_turns.specs.PortEvents.{asks, copy_asks, end_system_asks, or_els
 use Rattle.port_turns.proofs.Found.{found-number, found-other, found-set}
 use Rattle.port_turns.proofs.Quiet.{full-quiet, received-quiet}
 use Rattle.port_turns.proofs.Sources.{OfPut, subject}
-use Rattle.frame_ages.specs.Waits.{is_offer_of}
+use Rattle.port_turns.specs.Nodes.{is_offer_of}
 
 module _ (v : ℕ) where
   -- the message releases a frame of it
