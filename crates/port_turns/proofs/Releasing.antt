@@ -29,7 +29,7 @@ use Rattle.nodes.specs.rules.Node.{NodeState, after, handled, regulator_in}
 use Rattle.port_turns.specs.PortEvents.{asks}
 use Rattle.port_turns.specs.PortRuns.{AreOwnFrames, port_events, puts_with}
 use Rattle.port_turns.proofs.RegulatorTurns.{IsSaid, LikeReleased, OfPutBy, Turned, node-turn}
-use Rattle.port_turns.proofs.RegulatorTurns.Turned as turned
+use Rattle.port_turns.proofs.RegulatorTurns.Turned.{Does, Quiet as Unmoved}
 use Rattle.port_turns.proofs.Sources.{IsOfferFit, source-keeps}
 use Rattle.port_turns.proofs.TracePuts.{put_of, puts_at, trace-sub}
 
@@ -64,8 +64,8 @@ module _ (v t : ℕ) where
   said-at b (Release at) said = said.1
 
   as-asked : (n : ℕ) (b : Body) (before : Regulator) (now : Option Regulator) (ws : List Wish) (o : Option PortEvent) → Turned v n t b before now ws o → Asked t before now (times o)
-  as-asked n b before now ws o (turned.Quiet is none release offer put) = Quiet is (none-put o put)
-  as-asked n b before now ws o (turned.Does e said is vl own wished put) = Asks e (said-at b e said) is (some-put (regulator.out before e).answer o put)
+  as-asked n b before now ws o (Unmoved is none release offer put) = Quiet is (none-put o put)
+  as-asked n b before now ws o (Does e said is vl own wished put) = Asks e (said-at b e said) is (some-put (regulator.out before e).answer o put)
 
 -- a message to a node that has the regulator, and in whose regulators each frame is of its virtual link
 record IsAsked (n q v : ℕ) (m : Message) (e : Equipment) (g : Regulator) : Type 0 where
