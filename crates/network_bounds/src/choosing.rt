@@ -1,4 +1,4 @@
-//! Chooses the mixtures of a port. The contract of the caller (`PortBound::of`) holds for any mixtures; these make the bounds small.
+//! Chooses the mixtures of a port, such that its bounds are small.
 
 use crate::delays::Weights;
 use crate::filling::{Total, filled, lowered, shares_of, weigh};
@@ -16,6 +16,7 @@ struct Side {
 }
 
 impl Side {
+    /// Returns what comes with this priority.
     fn of(port: &Port, by_gap: bool, is_high: bool) -> Self {
         Side {
             shares: shares_of(port, by_gap, is_high),
@@ -56,6 +57,7 @@ struct Best {
 }
 
 impl Best {
+    /// Returns none so far.
     fn none() -> Self {
         let parts = Parts {
             of_line: [0; GREATEST_PORTS],
@@ -142,7 +144,7 @@ fn first(by_bag: &Side, by_gap: &Side) -> Parts {
     }
 }
 
-/// Chooses the mixtures of a port.
+/// Chooses the mixtures of a port. No contract is needed: that of the caller, `PortBound::of`, holds for any mixtures.
 pub fn choose(port: &Port) -> Weights {
     let high = Side::of(port, false, true);
     let low = Side::of(port, false, false);
