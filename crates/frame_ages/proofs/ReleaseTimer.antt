@@ -27,7 +27,7 @@ use Rattle.port_turns.specs.Nodes.{IsOfNodes, is_offer_of}
 use Rattle.port_turns.specs.PortEvents.{asks}
 use Rattle.port_turns.specs.PortRuns.{AreOwnFrames}
 use Rattle.port_turns.proofs.Elsewhere.{all-sent}
-use Rattle.port_turns.proofs.Senders.{number-stays, until-stays}
+use Rattle.port_turns.proofs.Senders.{number-is, until-is}
 use Rattle.port_turns.proofs.SentKinds.{IsElsewhere, is_to, mine, mine-kind, none-elsewhere, offers-none, receiver-is, sent-late, sent-none, sent-one}
 use Rattle.port_turns.proofs.Sources.{IsOfferFit, source-keeps}
 use Rattle.frame_ages.proofs.RegulatorSteps.{IsRight, Stepped, ask-next, ask-none, frames_at, kept-asks, kept_ask, kept_by, passed-ask, right-stays, step}
@@ -198,12 +198,6 @@ module _ (x : Setting NodeState) (N : IsOfNodes x) (p v room sub bag : ℕ) (ins
   has : (s : NodeState) → IsReached f p s → HasRegulator v room sub bag s.equipment
   has s h = subst (λ (z : NodeState). HasRegulator v room sub bag z.equipment) (sym h.1) (has-stays (x.opening p) h.0 opens)
 
-  number-is : (r : ℕ) → r < x.processes → (s : NodeState) → IsReached f r s → s.sender.number ≡ r
-  number-is r i s h = ap (λ (z : NodeState). z.sender.number) h.1 ∙ (number-stays (x.opening r) h.0 ∙ N.number r i)
-
-  until-is : (s : NodeState) → IsReached f p s → s.sender.until ≡ x.until
-  until-is s h = ap (λ (z : NodeState). z.sender.until) h.1 ∙ (until-stays (x.opening p) h.0 ∙ N.until p inside)
-
   due-is : (m : Message) (b : Bool) → m.receiver ≡ p → is_due m ≡ b → is_release v m.body ≡ b
   due-is m b r h = sym (ap (λ c. cond c (is_release v m.body) false) (eq-eqb m.receiver p r)) ∙ h
 
@@ -267,10 +261,10 @@ module _ (x : Setting NodeState) (N : IsOfNodes x) (p v room sub bag : ℕ) (ins
     off = refl;
     keeps = λ s g m h i r on_time. same-refl (ask_in v room sub bag (after s m).equipment);
     goes_on = λ s g m u h i r free a. goes-on s m u (turns v room sub bag s.sender.number m s.equipment (has s h)) (due-is m false r free) (sym (same-is g (ask_in v room sub bag s.equipment) i) ∙ a);
-    begins = λ s g m h i r free a. begins s m (turns v room sub bag s.sender.number m s.equipment (has s h)) (number-is p inside s h) (until-is s h) (due-is m false r free) (sym (same-is g (ask_in v room sub bag s.equipment) i) ∙ a);
-    again = λ s g m h i r mine on_time. again s m (turns v room sub bag s.sender.number m s.equipment (has s h)) (number-is p inside s h) (until-is s h) (due-is m true r mine) (sym (same-is g (ask_in v room sub bag s.equipment) i) ∙ on_time.at_moment mine);
+    begins = λ s g m h i r free a. begins s m (turns v room sub bag s.sender.number m s.equipment (has s h)) (number-is x N p inside s h) (until-is x N p inside s h) (due-is m false r free) (sym (same-is g (ask_in v room sub bag s.equipment) i) ∙ a);
+    again = λ s g m h i r mine on_time. again s m (turns v room sub bag s.sender.number m s.equipment (has s h)) (number-is x N p inside s h) (until-is x N p inside s h) (due-is m true r mine) (sym (same-is g (ask_in v room sub bag s.equipment) i) ∙ on_time.at_moment mine);
     to_itself = receiver-is (is_release v) p;
-    by_none = λ r i d s h m. none-by r d s m (number-is r i s h);
+    by_none = λ r i d s h m. none-by r d s m (number-is x N r i s h);
     not_offered = offers-none (is_release v) p (λ vl size sub. refl) x.offers N.offered;
   }
 

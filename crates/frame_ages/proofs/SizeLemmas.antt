@@ -1,5 +1,5 @@
 -- Why each message that brings a frame brings one of its virtual link's size, and why one that puts a frame to an output of a switch does so by an output of its virtual link.
-use Rattle.std.proofs.Common.{◌≡◌, ℕ, ◌+◌, ◌<◌, true, List, [], ◌∷◌, All, IfSome, Option, Some, None, option_map, refl, sym, ap, ◌∙◌, subst}
+use Rattle.std.proofs.Common.{◌≡◌, ℕ, ◌+◌, true, List, [], ◌∷◌, All, IfSome, Option, Some, None, option_map, refl, sym, ap, subst}
 use Rattle.std.specs.Prelude.{⊤}
 use Rattle.std.proofs.lemmas.Option.{none-some}
 use Rattle.std.proofs.lemmas.List.Elements.{All-cons, All-head, All-nil, All-tail, All-weaker}
@@ -13,7 +13,7 @@ use Rattle.policer.specs.Account.{Policing}
 use Rattle.reverse.specs.Sending.{Wish}
 use Rattle.reverse.specs.Rules.{rules_of}
 use Rattle.reverse.specs.Setting.{Setting, simulation_of}
-use Rattle.virtual_time.specs.Law.{IsReached, Laws, Simulation, events, one}
+use Rattle.virtual_time.specs.Law.{Laws, Simulation, events, one}
 use Rattle.port_bounds.specs.Mixtures.{IsAmong}
 use Rattle.port_bounds.specs.Port.{idle}
 use Rattle.element_bounds.specs.PortTrace.{IsSamePort}
@@ -34,7 +34,7 @@ use Rattle.port_turns.specs.Nodes.{IsOfNodes, is_offer}
 use Rattle.port_turns.specs.PortEvents.{outlet_in}
 use Rattle.port_turns.specs.SwitchPuts.{transit_of}
 use Rattle.port_turns.proofs.Elsewhere.{line-all}
-use Rattle.port_turns.proofs.Senders.{number-stays}
+use Rattle.port_turns.proofs.Senders.{number-is}
 use Rattle.port_turns.proofs.Sources.{HasWaiting}
 use Rattle.frame_ages.specs.Sizes.{HaveEmptyRegulators, HaveIdlePorts, IsSized, IsSizedFrame, OpensEmpty}
 use Rattle.frame_ages.proofs.PortFrames.{there, AllWaitAt, AllWaitAtPorts, IsCarryOf, IsPortWish}
@@ -131,9 +131,6 @@ module _ (x : Setting NodeState) (L : Laws (simulation_of (rules_of node) x)) (N
   )
   handled-state p n m (Line s) k h q = tt
 
-  number : (p : ℕ) → p < x.processes → (s : NodeState) → IsReached f p s → s.sender.number ≡ p
-  number p i s h = ap (λ (z : NodeState). z.sender.number) h.1 ∙ (number-stays (x.opening p) h.0 ∙ N.number p i)
-
   opens : (p : ℕ) → (e : Equipment) → (x.opening p).equipment ≡ e → HaveEmptyRegulators e → HaveIdlePorts e → State p e
   opens p (EndSystem s) is h k = record { waiting = none-waits size s.sources h; ports = none-at-ports size s.ports k }
   opens p (Switch s) is h k = (none-at-ports size s.ports k, s, is, same-as-first s)
@@ -153,9 +150,9 @@ module _ (x : Setting NodeState) (L : Laws (simulation_of (rules_of node) x)) (N
   invariant = record {
     offered = offers-fit x.offers O.offers N.offered;
     opens = λ p i. opens p (x.opening p).equipment refl (O.regulators p i) (O.ports p i);
-    after = λ p i s m was to h q. handled-state p s.sender.number m s.equipment (number p i s was) h q;
+    after = λ p i s m was to h q. handled-state p s.sender.number m s.equipment (number-is x N p i s was) h q;
     sends = λ p i s m was to h q. sent-all IsFit s.sender (handled s.sender.number m s.equipment).reply.wishes
-        (All-weaker IsFitWish (IsSentAs IsFit s.sender) (λ w k n l. k) (handled s.sender.number m s.equipment).reply.wishes (handled-sends p s.sender.number m s.equipment (number p i s was) h q));
+        (All-weaker IsFitWish (IsSentAs IsFit s.sender) (λ w k n l. k) (handled s.sender.number m s.equipment).reply.wishes (handled-sends p s.sender.number m s.equipment (number-is x N p i s was) h q));
   }
 
   -- each message that a process handles is so
