@@ -481,11 +481,13 @@ class OfProgram(unittest.TestCase):
                 shares.append(proved.of[key] / (max(ways) + found.links[key[0]].wait))
         return sorted(shares)
 
-    def test_they_are_little_above_those_of_the_tool(self):
+    def test_they_are_near_those_of_the_tool(self):
+        """The tool counts whole frames, or what a line sends, and takes the lesser sum; the program mixes both line by line. So either may
+        be lower."""
         for path in sorted(glob.glob(os.path.join(EXAMPLES, "*.toml"))):
             with self.subTest(os.path.basename(path)), open(path, encoding="utf-8") as file:
                 shares = self.shares(file.read())
-                self.assertGreaterEqual(shares[0], 1)
+                self.assertGreaterEqual(shares[0], 0.95)
                 self.assertLessEqual(shares[-1], 1.05)
 
     def test_on_a_large_network_too(self):
@@ -494,7 +496,7 @@ class OfProgram(unittest.TestCase):
         shares = self.shares("".join(pieces))
         self.assertGreater(len(shares), 5000)
         self.assertLessEqual(shares[len(shares) // 2], 1.01)
-        self.assertLessEqual(shares[-1], 1.07)
+        self.assertLessEqual(shares[-1], 1.05)
 
     def test_no_drawn_run_is_above_them(self):
         said = io.StringIO()

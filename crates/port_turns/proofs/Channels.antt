@@ -23,7 +23,7 @@ use Rattle.nodes.specs.undoing.Node.{node}
 use Rattle.port_turns.specs.Nodes.{IsOfNodes}
 use Rattle.port_turns.proofs.SentKinds.{AreFrom, as_wish, is_to, mine, moments-times, moments_of, offers-none, receiver-is, sent-none, wished}
 use Rattle.port_turns.proofs.Rising.{kind-rises, rises-ascend}
-use Rattle.port_turns.proofs.Senders.{number-stays}
+use Rattle.port_turns.proofs.Senders.{number-is}
 
 sent-numbered : (s : NodeState) (ms : List Message) → IsNumbered (λ (m : Message). m.number) s.sender.counter (law.sent (rules_of node) s ms)
 sent-numbered s [] = tt
@@ -36,10 +36,6 @@ all-own s (m ∷ ms) = All-append (λ (m : Message). m.sender ≡ s.sender.numbe
 module _ (x : Setting NodeState) (L : Laws (simulation_of (rules_of node) x)) (N : IsOfNodes x) (p to : ℕ) (inside : p < x.processes) (kind : Body → Bool) where
   abbrev f : Simulation Message NodeState NodeRecord Note
   f = simulation_of (rules_of node) x
-
-  -- a state that process r can be in, with its number
-  pub number-is : (r : ℕ) → r < x.processes → (s : NodeState) → IsReached f r s → s.sender.number ≡ r
-  number-is r i s h = ap (λ (z : NodeState). z.sender.number) h.1 ∙ (number-stays (x.opening r) h.0 ∙ N.number r i)
 
   -- no other process sends such messages, and none is offered
   pub record IsAlone : Type 0 where
@@ -60,7 +56,7 @@ module _ (x : Setting NodeState) (L : Laws (simulation_of (rules_of node) x)) (N
       channel : IsChannel f p to (is_to kind to)
       channel = record {
         to = receiver-is kind to;
-        by_none = λ r i d s h m. sent-none kind to s.sender _ (subst (λ k. filter (mine kind to) (handled k m s.equipment).reply.wishes ≡ []) (sym (number-is r i s h)) (A.others r i d s h m));
+        by_none = λ r i d s h m. sent-none kind to s.sender _ (subst (λ k. filter (mine kind to) (handled k m s.equipment).reply.wishes ≡ []) (sym (number-is x N r i s h)) (A.others r i d s h m));
         not_offered = offers-none kind to A.not_offered x.offers N.offered;
         rises = λ n. rises-ascend p to L.order t (x.opening p).sender.counter _ (kind-rises p to kind t (x.opening p).sender.counter _ (sent-numbered (x.opening p) (events f n p)) (own n)
             (subst (AreFrom t) (moments-times (filter (is_to kind to) (law.sent (rules_of node) (x.opening p) (events f n p)))) (from n)));

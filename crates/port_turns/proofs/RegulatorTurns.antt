@@ -1,10 +1,9 @@
 -- What a message makes of the regulator of a virtual link at its end system: nothing, or the regulator is asked something, as the message says.
-use Rattle.std.proofs.Common.{◌≡◌, ℕ, ◌+◌, ◌==◌, ◌&&◌, inl, inr, Bool, true, false, cond, List, [], ◌∷◌, ◌++◌, filter, All, IfSome, Option, Some, None, option_map, refl, sym, ap, ◌∙◌, subst, append-nil, eq-eqb, ne_eqb}
+use Rattle.std.proofs.Common.{◌≡◌, ℕ, ◌+◌, ◌==◌, ◌&&◌, inl, inr, Bool, true, false, cond, List, [], ◌++◌, filter, Option, Some, None, option_map, refl, sym, ap, ◌∙◌, subst, append-nil, eq-eqb, ne_eqb}
 use Rattle.std.specs.Prelude.{⊤}
-use Rattle.std.specs.List.{list_any}
 use Rattle.std.proofs.lemmas.Bool.{cases_eq}
 use Rattle.std.proofs.lemmas.Option.{none-some, same_Some}
-use Rattle.std.proofs.lemmas.List.Elements.{All-cons, All-nil, filter-append}
+use Rattle.std.proofs.lemmas.List.Elements.{filter-append}
 use Rattle.vlink.specs.declared.frame.Frame.{Frame}
 use Rattle.vlink.specs.declared.frame.Net.{Net}
 use Rattle.vlink.specs.declared.frame.Net.TheVariants.{A, B}
@@ -20,81 +19,29 @@ use Rattle.bag_regulator.specs.declared.event.RegAnswer.{RegAnswer}
 use Rattle.bag_regulator.specs.declared.event.RegAnswer.TheVariants as answer
 use Rattle.output_port.specs.declared.event.PortEvent.{PortEvent}
 use Rattle.output_port.specs.declared.event.PortEvent.TheVariants.{Put, Free}
-use Rattle.integrity.specs.Integrity.{integrity}
-use Rattle.integrity.specs.declared.checking.Checked.{Checked}
-use Rattle.integrity.specs.declared.checking.Checked.TheVariants as check
-use Rattle.redundancy.specs.Redundancy.{redundancy}
-use Rattle.redundancy.specs.declared.delivery.Delivery.{Delivery}
-use Rattle.redundancy.specs.declared.delivery.Delivery.TheVariants as delivery
 use Rattle.reverse.specs.Sending.{Reply, Wish, loss, silent}
-use Rattle.nodes.specs.declared.receiving.Receiving.{Receiving}
 use Rattle.nodes.specs.declared.equipment.Equipment.{Equipment}
-use Rattle.nodes.specs.declared.equipment.Equipment.TheVariants.{EndSystem, Switch, Line}
-use Rattle.nodes.specs.declared.ports.LineAhead.{LineAhead}
-use Rattle.nodes.specs.declared.ports.Outlet.{Outlet}
+use Rattle.nodes.specs.declared.equipment.Equipment.TheVariants.{EndSystem}
 use Rattle.nodes.specs.declared.reception.Reception.{Reception}
 use Rattle.nodes.specs.declared.source.Source.{Source}
 use Rattle.nodes.specs.declared.vl_end.VlEnd.{VlEnd}
-use Rattle.nodes.specs.rules.EndSystem.{EndSystemState, asked, check_of, checked, copied, copied_reply, copy, delivered, end_system, full, is_on, offered_frame, port_of, reception_at, received_reply, regulated, released_reply, source_at, source_number}
+use Rattle.nodes.specs.rules.EndSystem.{EndSystemState, asked, copied, copied_reply, copy, end_system, full, is_on, offered_frame, port_of, reception_at, regulated, released_reply, source_at, source_number}
 use Rattle.nodes.specs.rules.EndSystem as es
 use Rattle.nodes.specs.rules.Finding.{Found, find}
-use Rattle.nodes.specs.rules.Line.{LineState, is_within, line}
 use Rattle.nodes.specs.rules.Ports.{PortsState, exists, reply}
 use Rattle.nodes.specs.rules.Node.{handled, regulator_in}
-use Rattle.nodes.specs.laws.EndSystemSending.{end_system-all}
-use Rattle.nodes.specs.laws.Ports.{AheadMeets, carrying, freeing, reply-cases}
-use Rattle.nodes.specs.laws.SwitchSending.{switch-all, wish_to}
+use Rattle.nodes.specs.laws.Ports.{reply-cases}
 use Rattle.port_turns.specs.PortEvents.{asks, copy_asks, end_system_asks, or_else, regulated_asks}
 use Rattle.port_turns.proofs.Found.{found-number, found-other, found-set}
+use Rattle.port_turns.proofs.Quiet.{full-quiet, received-quiet}
 use Rattle.port_turns.proofs.Sources.{OfPut, subject}
-use Rattle.frame_ages.specs.Waits.{is_offer_of}
-
--- what holds of all that a node can send holds of what it sends
-pub record OfAllSent (P : Wish → Type 0) (n : ℕ) : Type 0 where
-  pub starts : (t q : ℕ) (ahead : LineAhead) (frame : Frame) → P (carrying t ahead frame) × P (freeing n t q ahead frame)
-  pub releases : (t : ℕ) (vl : VlId) → P (record { time = t; receiver = n; body = body.Release vl })
-  pub puts : (t q : ℕ) (frame : Frame) → P (wish_to n t frame q)
-  pub arrivals : (t r q : ℕ) (frame : Frame) → P (record { time = t; receiver = r; body = body.Arrive q frame })
-
-pub all-sent : (P : Wish → Type 0) (n : ℕ) → OfAllSent P n → (m : Message) (e : Equipment) → All P (handled n m e).reply.wishes
-all-sent P n h m e = go e
-  where
-    ahead-meets : (t : ℕ) (o : Option Outlet) → IfSome o (λ outlet. AheadMeets P n t outlet.ahead)
-    ahead-meets t None = tt
-    ahead-meets t (Some outlet) = λ q frame. h.starts t q outlet.ahead frame
-
-    asks-meet : (o : Option ℕ) (vl : VlId) → IfSome o (λ at. P (record { time = at; receiver = n; body = body.Release vl }))
-    asks-meet None vl = tt
-    asks-meet (Some at) vl = h.releases at vl
-
-    line-meets : (t : ℕ) (b : Body) (l : LineState) → All P (line t b l).wishes
-    line-meets t (body.Offer vl bytes sub) l = All-nil P
-    line-meets t (body.Release vl) l = All-nil P
-    line-meets t (body.PortFree q) l = All-nil P
-    line-meets t (body.Arrive q frame) l = All-nil P
-    line-meets t (body.Enqueue q frame) l = All-nil P
-    line-meets t (body.Carry frame) l = by (list_any (is_within t) l.outages)
-      where
-        by : (b : Bool) → All P (cond b (loss cause.Outage frame) (record { wishes = record { time = t + l.propagation; receiver = l.to; body = body.Arrive l.to_port frame } ∷ []; notes = [] })).wishes
-        by true = All-nil P
-        by false = All-cons P _ [] (h.arrivals (t + l.propagation) l.to l.to_port frame) (All-nil P)
-
-    go : (e : Equipment) → All P (handled n m e).reply.wishes
-    go (EndSystem s) = end_system-all P n m.time m.body s (λ k d l. ahead-meets m.time _) (λ vl e found at is. asks-meet (regulator.out found.entry.regulator e).release_at found.entry.end.vl)
-    go (Switch s) = switch-all P n m.time m.body s (λ k d l. ahead-meets m.time _) (λ q frame. h.puts (m.time + s.latency) q frame)
-    go (Line l) = line-meets m.time m.body l
-
--- ---- one virtual link
+use Rattle.port_turns.specs.Nodes.{is_offer_of}
 
 module _ (v : ℕ) where
   -- the message releases a frame of it
   abbrev pub is_release : Body → Bool
-  is_release (body.Offer vl bytes sub) = false
   is_release (body.Release vl) = vl.0 == v
-  is_release (body.PortFree q) = false
-  is_release (body.Arrive q frame) = false
-  is_release (body.Enqueue q frame) = false
-  is_release (body.Carry frame) = false
+  is_release _ = false
 
   abbrev pub releases : List Wish → List Wish
   releases ws = filter (λ w. is_release w.body) ws
@@ -113,9 +60,7 @@ module _ (v : ℕ) where
   -- as the frame that the answer releases
   abbrev pub LikeReleased : RegAnswer → Frame → Type 0
   LikeReleased (answer.Released f) frame = (frame.released ≡ f.released) × (frame.offered ≡ f.offered)
-  LikeReleased answer.Kept frame = ⊥
-  LikeReleased answer.Dropped frame = ⊥
-  LikeReleased answer.Nothing frame = ⊥
+  LikeReleased _ frame = ⊥
 
   pub data Turned (n t : ℕ) (b : Body) (before : Regulator) (now : Option Regulator) (ws : List Wish) (put : Option PortEvent) : Type 0 where
     Quiet : now ≡ Some before → ws ≡ [] → is_release b ≡ false → is_offer_of v b ≡ false → OfPutBy (λ f. ⊥) put → Turned n t b before now ws put
@@ -137,16 +82,7 @@ module _ (v : ℕ) where
     none-released end (answer.Released frame) ports =
         filter-append (λ (w : Wish). is_release w.body) (copied_reply n t end A frame ports).wishes (copied_reply n t end B frame (copied end A frame ports)).wishes ∙
         (ap (λ z. z ++ releases (copied_reply n t end B frame (copied end A frame ports)).wishes) (none-copied end A frame ports) ∙ none-copied end B frame (copied end A frame ports))
-    none-released end answer.Kept ports = refl
-    none-released end answer.Dropped ports = refl
-    none-released end answer.Nothing ports = refl
-
-    full-none : (e : RegEvent) (a : RegAnswer) → (full e a).wishes ≡ []
-    full-none (Offer at sub frame) answer.Dropped = refl
-    full-none (Offer at sub frame) (answer.Released f) = refl
-    full-none (Offer at sub frame) answer.Kept = refl
-    full-none (Offer at sub frame) answer.Nothing = refl
-    full-none (Release at) a = refl
+    none-released end _ ports = refl
 
     -- of all that follows of an event of a regulator, the Release that it asks for
     regulated-wishes : (e : RegEvent) (otherwise : Reply) (s : EndSystemState) (found : Found Source) →
@@ -156,7 +92,7 @@ module _ (v : ℕ) where
         let ask : List Wish = (asked n found.entry.end.vl out.release_at).wishes in
         filter-append (λ (w : Wish). is_release w.body) ((full e out.answer).wishes ++ ask) (released_reply n t found.entry.end out.answer s.ports).wishes ∙
         (ap (λ z. releases ((full e out.answer).wishes ++ ask) ++ z) (none-released found.entry.end out.answer s.ports) ∙
-        (append-nil (releases ((full e out.answer).wishes ++ ask)) ∙ ap (λ z. releases (z ++ ask)) (full-none e out.answer)))
+        (append-nil (releases ((full e out.answer).wishes ++ ask)) ∙ ap (λ z. releases (z ++ ask)) (full-quiet e out.answer)))
 
     asked-own : (vl : VlId) (ask : Option ℕ) → vl.0 ≡ v → releases (asked n vl ask).wishes ≡ (asked n vl ask).wishes
     asked-own vl None e = refl
@@ -173,9 +109,7 @@ module _ (v : ℕ) where
         go true b = λ e. (refl, refl)
         go false true = λ e. (refl, refl)
         go false false = tt
-    copies-like end answer.Kept = tt
-    copies-like end answer.Dropped = tt
-    copies-like end answer.Nothing = tt
+    copies-like end _ = tt
 
     -- a frame of another virtual link
     other-put : (k : ℕ) (o : Option PortEvent) → OfPut (λ w frame. frame.vl.0 ≡ w) k t o → (k ≡ v → ⊥) → OfPutBy (λ f. ⊥) o
@@ -229,32 +163,18 @@ module _ (v : ℕ) where
         go false = tt
     source-turn (body.Arrive k frame) s g p is = go (exists s.ports k) (reception_at s frame.vl frame.net)
       where
-        by-delivery : (d : Delivery) → releases (delivered t frame d).wishes ≡ []
-        by-delivery delivery.Delivered = refl
-        by-delivery delivery.Duplicate = refl
-
-        by-check : (r : Receiving) (c : Checked) → releases (checked t frame r c).wishes ≡ []
-        by-check r check.Passed = by-delivery (redundancy.out r.redundancy (record { number = frame.number; at = t }))
-        by-check r check.Refused = refl
-
-        none-received : (r : Receiving) → releases (received_reply t frame r).wishes ≡ []
-        none-received r = by-check r (integrity.out (check_of frame.net r) frame.number)
-
         go : (b : Bool) (o : Option (Found Reception)) → Turned n t (body.Arrive k frame) g (regulator_of (cond b (es.taken_in t frame s o) (es.unmoved s)).state) (releases (cond b (es.taken_in t frame s o) (es.unmoved s)).reply.wishes) None
         go true None = Quiet is refl refl refl tt
-        go true (Some found) = Quiet is (none-received found.entry.receiving) refl refl tt
+        go true (Some found) = Quiet is (ap releases (received-quiet t frame found.entry.receiving)) refl refl tt
         go false o = Quiet is refl refl refl tt
-    source-turn (body.Enqueue k frame) s g p is = Quiet is refl refl refl tt
-    source-turn (body.Carry frame) s g p is = Quiet is refl refl refl tt
+    source-turn _ s g p is = Quiet is refl refl refl tt
 
   -- a frame that is put is of the virtual link that the message is about
   abbrev pub OfPutAt : ℕ → Message → Equipment → Type 0
   OfPutAt q m (EndSystem s) = OfPut (λ w frame. frame.vl.0 ≡ w) (subject m.body) m.time (end_system_asks q m.time m.body s)
-  OfPutAt q m (Switch s) = ⊤
-  OfPutAt q m (Line s) = ⊤
+  OfPutAt q m _ = ⊤
 
   pub node-turn : (n q : ℕ) (m : Message) (e : Equipment) (g : Regulator) → OfPutAt q m e → regulator_in e (record { 0 = v }) ≡ Some g →
       Turned n m.time m.body g (regulator_in (handled n m e).equipment (record { 0 = v })) (releases (handled n m e).reply.wishes) (asks q m e)
   node-turn n q m (EndSystem s) g p is = source-turn n m.time q m.body s g p is
-  node-turn n q m (Switch s) g p is = absurd (none-some g is)
-  node-turn n q m (Line s) g p is = absurd (none-some g is)
+  node-turn n q m _ g p is = absurd (none-some g is)
