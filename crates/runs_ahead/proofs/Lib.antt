@@ -1,0 +1,4 @@
+pub mod Passing
+pub mod Standing
+pub mod Running
+pub mod Answered

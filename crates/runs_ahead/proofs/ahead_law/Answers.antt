@@ -1,0 +1,11 @@
+use Rattle.runs_ahead.proofs.Running.{ends-alike, same-events}
+use Rattle.runs_ahead.proofs.Answered.{answers-events, good-alike}
+use Rattle.runs_ahead.proofs.ahead_law.Goals as goal
+
+pub returns : goal.returns
+returns g c = record {
+  events = λ f L ahead from R. same-events f L ahead from R;
+  answers = λ f L ahead from R. answers-events f L ahead from R;
+  ends = λ f L ahead from R. ends-alike f L ahead from R;
+  good = λ f L ahead from R. good-alike f L ahead from R;
+}
