@@ -1,19 +1,20 @@
 -- Each answer of a process that runs ahead is an event of the plain run. And if all events of the run were in good states, so were those of
 -- the plain run.
-use Rattle.std.proofs.Common.{◌≡◌, ℕ, zero, suc, ◌+◌, ◌<◌, ◌≤◌, ◌==◌, ◌⊎◌, inl, inr, Bool, true, false, cond, List, [], ◌∷◌, ◌++◌, filter, Option, Some, None, refl, sym, ap, ◌∙◌, subst, arith, append_assoc, eq-eqb}
+use Rattle.std.proofs.Common.{◌≡◌, ℕ, zero, suc, ◌+◌, ◌<◌, ◌==◌, ◌⊎◌, inl, inr, Bool, true, false, cond, List, [], ◌∷◌, ◌++◌, filter, Option, Some, None, refl, sym, ap, ◌∙◌, subst, arith, eq-eqb}
 use Rattle.std.proofs.lemmas.Bool.{cases_eq, cases_Bool}
 use Rattle.std.proofs.lemmas.List.Elements.{filter-append}
-use Rattle.virtual_time.specs.Law.{HoldsAlong, Laws, OneThread, Simulation, events, events_at, handle, least, one, reached, sent}
-use Rattle.virtual_time.proofs.Handling.{along-append, along-halves, reached-append, sent-append}
+use Rattle.virtual_time.specs.Law.{HoldsAlong, Laws, OneThread, Simulation, events, events_at, handle, least, one, reached}
+use Rattle.virtual_time.proofs.Handling.{along-append, along-halves}
 use Rattle.virtual_time.proofs.Least.{IsLeast, least-some}
 use Rattle.virtual_time.proofs.OneThread.{events-push, events-push_other, right}
 use Rattle.virtual_time.proofs.OneThreadLater.{over-same, stays_all}
 use Rattle.runs_ahead.specs.Ahead.{is_ahead, next_states, one_ahead, passed_all}
-use Rattle.runs_ahead.specs.Standing.{IsGoodEvent, IsNextAt, RunAhead, StandsFor, events_ahead, is_to, sent_to}
+use Rattle.runs_ahead.specs.Standing.{IsGoodEvent, IsNextAt, RunAhead, StandsFor, events_ahead, is_to}
 use Rattle.runs_ahead.specs.Laws.{IsSameEvent}
-use Rattle.runs_ahead.proofs.Passing.{answers-along, passed_all-ahead}
-use Rattle.runs_ahead.proofs.Standing.{ahead-is, behind-is, g-other, grown-ahead, grown-other, grown-own, state-is}
-use Rattle.runs_ahead.proofs.Running.{come-to, ends-after, events-over, none-yet, opens, over-at, rests, same-event, stands, step-ahead, step-is}
+use Rattle.runs_ahead.proofs.Passing.{answers-along}
+use Rattle.runs_ahead.proofs.Standing.{behind-is, g-other, grown-ahead, grown-other, grown-own, state-is}
+use Rattle.runs_ahead.proofs.Beginnings.{answers-are, handled-before}
+use Rattle.runs_ahead.proofs.Running.{come-to, ends-after, events-over, none-yet, opens, over-at, rests, same-event, stands, step-ahead}
 
 module _ {M : Type 0} where
   nothing-then : (cs : List M) (x : M) (b : List M) → [] ≡ cs ++ x ∷ b → ⊥
@@ -61,7 +62,7 @@ module _ {M S K N : Type 0} (f : Simulation M S K N) (L : Laws f) where
           mine (inr p) = r p.0 p.1
 
   module _ (ahead : ℕ → Bool) (from : ℕ → ℕ) (R : RunAhead f ahead from) where
-    module _ (n : ℕ) (m : M) (j : ℕ) (h : is_ahead f ahead m ≡ false) (E : IsSameEvent f ahead from n m j) where
+    module _ (n : ℕ) (m : M) (j : ℕ) (first : least f.rules.order (one_ahead f ahead n).waiting ≡ Some m) (h : is_ahead f ahead m ≡ false) (E : IsSameEvent f ahead from n m j) where
       abbrev t : OneThread M S N
       t = one_ahead f ahead n
 
@@ -90,46 +91,18 @@ module _ {M S K N : Type 0} (f : Simulation M S K N) (L : Laws f) where
         abbrev so-far : List M
         so-far = events_ahead f ahead from (one f j) (f.rules.order.receiver x) ++ filter (is_to f (f.rules.order.receiver x)) before
 
-        new : filter (is_to f k) out ≡ filter (is_to f k) before ++ x ∷ filter (is_to f k) behind
-        new = ap (filter (is_to f k)) s ∙ (filter-append (is_to f k) before (x ∷ behind) ∙
-            ap (λ b. filter (is_to f k) before ++ cond b (x ∷ filter (is_to f k) behind) (filter (is_to f k) behind)) (eq-eqb k k refl))
-
-        sent-next : sent_to f ahead from (one f (suc j)) k ≡ events_ahead f ahead from (one f j) k ++ (filter (is_to f k) before ++ x ∷ filter (is_to f k) behind)
-        sent-next = sym (ahead-is f L ahead from R (one f (suc j)) (right f L (suc j)) k hx) ∙ (ap (λ T. events_ahead f ahead from T k) (step-some j m E.next_at.first) ∙
-            (grown k hx ∙ ap (λ z. events_ahead f ahead from (one f j) k ++ z) new))
-
-        sent-later : (e : ℕ) → suc j ≤ e → (later : List M) × (sent_to f ahead from (one f e) k ≡ sent_to f ahead from (one f (suc j)) k ++ later)
-        sent-later e i =
-            let p = from k in
-            let stay = stays_all f L (suc j) e i in
-            let a = events f (suc j) p in
-            let b = events_at f.rules.order p stay.0 in
-            (filter (is_to f k) (sent f.rules (reached f.rules (f.opening p) a) b),
-            ap (λ hs. filter (is_to f k) (sent f.rules (f.opening p) (events_at f.rules.order p hs))) stay.1 ∙
-            (ap (λ ms. filter (is_to f k) (sent f.rules (f.opening p) ms)) (filter-append (λ y. f.rules.order.receiver y == p) (one f (suc j)).handled stay.0) ∙
-            (ap (filter (is_to f k)) (sent-append f.rules (f.opening p) a b) ∙ filter-append (is_to f k) (sent f.rules (f.opening p) a) (sent f.rules (reached f.rules (f.opening p) a) b))))
-
-        regroup : (a b : List M) (y : M) (c d : List M) → (a ++ (b ++ y ∷ c)) ++ d ≡ (a ++ b) ++ y ∷ (c ++ d)
-        regroup a b y c d = simp append_assoc
-
-        is-event : (e : ℕ) → suc j ≤ e → (one f e).waiting ≡ [] → (behind' : List M) × (events f e k ≡ so-far ++ x ∷ behind')
-        is-event e i over =
-            let later = sent-later e i in
-            (filter (is_to f k) behind ++ later.0,
-            sym (events-over f L ahead from R e over k) ∙ (ahead-is f L ahead from R (one f e) (right f L e) k hx ∙ (later.1 ∙ (ap (λ z. z ++ later.0) sent-next ∙
-            regroup (events_ahead f ahead from (one f j) k) (filter (is_to f k) before) x (filter (is_to f k) behind) later.0))))
-
         pub answer : (i : ℕ) × IsNextAt f i x (passed_all f ahead g before k)
         answer =
             let end = ends-after f L ahead from R (suc j) in
-            let e = is-event end.0 end.1 end.2 in
-            let i = event-of end.0 k so-far x e.0 e.1 in
-            (i.0, record {
-              first = i.1;
-              state = (right f L i.0).states_are k ∙ (ap (reached f.rules (f.opening k)) i.2 ∙
-                  (reached-append f.rules (f.opening k) (events_ahead f ahead from (one f j) k) (filter (is_to f k) before) ∙
-                  sym (passed_all-ahead f ahead g before k hx ∙ ap (λ z. reached f.rules z (filter (is_to f k) before)) (g-is k hx))));
-            })
+            let e = handled-before f L ahead from R n m j first h E before (x ∷ behind) s end.0 end.1 end.2 k hx in
+            let here : filter (is_to f k) (x ∷ behind) ≡ x ∷ filter (is_to f k) behind = ap (λ b. cond b (x ∷ filter (is_to f k) behind) (filter (is_to f k) behind)) (eq-eqb k k refl) in
+            let i = event-of end.0 k so-far x (filter (is_to f k) behind ++ e.0) (e.1 ∙ ap (λ z. so-far ++ (z ++ e.0)) here) in (
+              i.0,
+              record {
+                first = i.1;
+                state = (right f L i.0).states_are k ∙ (ap (reached f.rules (f.opening k)) i.2 ∙ sym (answers-are f L ahead from R n m j first h E before (x ∷ behind) s k hx));
+              },
+            )
 
       -- ---- good states
 
@@ -163,7 +136,7 @@ module _ {M S K N : Type 0} (f : Simulation M S K N) (L : Laws f) where
         let z = stands f L ahead from R n in
         let c = come-to f L ahead from R z.0 (one_ahead f ahead n) z.1 in
         let w = same-event f L ahead from R n m e z.0 c.0 c.1 in
-        answer n m c.0 w.0 w.1 before x behind s hx
+        answer n m c.0 e w.0 w.1 before x behind s hx
 
     abbrev AreGood : (S → Bool) → ℕ → Type 0
     AreGood good j = (q : ℕ) → HoldsAlong f.rules (λ s. good s ≡ true) (f.opening q) (events_ahead f ahead from (one f j) q)
@@ -179,9 +152,12 @@ module _ {M S K N : Type 0} (f : Simulation M S K N) (L : Laws f) where
         go (Some m) e z =
             let c = come-to f L ahead from R z.0 (one_ahead f ahead n) z.1 in
             let w = same-event f L ahead from R n m e z.0 c.0 c.1 in
-            let a : AreGood good c.0 = λ q. subst (HoldsAlong f.rules (λ s. good s ≡ true) (f.opening q)) (sym (c.1.same q)) (z.2 q) in
-            (suc c.0, w.1.stands_next, λ q. subst (λ T. HoldsAlong f.rules (λ s. good s ≡ true) (f.opening q) (events_ahead f ahead from T q)) (sym (step-some c.0 m w.1.next_at.first))
-            (good-next n m c.0 w.0 w.1 good a (G n m (omega arith) e) q))
+            let a : AreGood good c.0 = λ q. subst (HoldsAlong f.rules (λ s. good s ≡ true) (f.opening q)) (sym (c.1.same q)) (z.2 q) in (
+              suc c.0,
+              w.1.stands_next,
+              λ q. subst (λ T. HoldsAlong f.rules (λ s. good s ≡ true) (f.opening q) (events_ahead f ahead from T q)) (sym (step-some c.0 m w.1.next_at.first))
+                  (good-next n m c.0 e w.0 w.1 good a (G n m (omega arith) e) q),
+            )
 
     pub good-alike : (good : S → Bool) (n : ℕ) → (one_ahead f ahead n).waiting ≡ [] →
         ((i : ℕ) (m : M) → i < n → least f.rules.order (one_ahead f ahead i).waiting ≡ Some m → IsGoodEvent f ahead good (one_ahead f ahead i) m) →

@@ -1,5 +1,5 @@
 -- What messages do when processes that run ahead handle them at once: to the states, and to how many times each message waits.
-use Rattle.std.proofs.Common.{◌≡◌, ℕ, ◌+◌, ◌<◌, ◌==◌, ◌⊎◌, inl, inr, Bool, true, false, cond, List, [], ◌∷◌, ◌++◌, filter, refl, sym, ap, ◌∙◌, subst, arith, append-nil, eq-eqb, ne_eqb}
+use Rattle.std.proofs.Common.{◌≡◌, ℕ, ◌+◌, ◌<◌, ◌==◌, ◌⊎◌, inl, inr, Bool, true, false, cond, List, [], ◌∷◌, filter, refl, sym, ap, ◌∙◌, subst, arith, append-nil, eq-eqb, ne_eqb}
 use Rattle.std.proofs.lemmas.Bool.{cases_eq, cases_Bool, both_ways}
 use Rattle.std.proofs.lemmas.List.Elements.{filter-append}
 use Rattle.virtual_time.specs.Law.{HoldsAlong, IsIn, IsReached, Laws, Simulation, one_if, put, reached, same, sent, times_in}
@@ -57,9 +57,9 @@ module _ {M S K N : Type 0} (f : Simulation M S K N) (ahead : ℕ → Bool) wher
   answers-along good k h g [] a = tt
   answers-along good k h g (x ∷ xs) a = elim (cases_eq (f.rules.order.receiver x) k) [
     | inl e ↦ (let b : (f.rules.order.receiver x == k) ≡ true = eq-eqb _ _ e in
-      rw b (subst (λ q. good (g q) ≡ true) e (a.0 (ap ahead e ∙ h)), subst (λ s. HoldsAlong f.rules (λ s. good s ≡ true) s (filter (is_to f k) xs)) (passed-same g x k e (ap ahead e ∙ h)) (answers-along good k h (passed f ahead g x) xs a.1)))
+        rw b (subst (λ q. good (g q) ≡ true) e (a.0 (ap ahead e ∙ h)), subst (λ s. HoldsAlong f.rules (λ s. good s ≡ true) s (filter (is_to f k) xs)) (passed-same g x k e (ap ahead e ∙ h)) (answers-along good k h (passed f ahead g x) xs a.1)))
     | inr n ↦ (let b : (f.rules.order.receiver x == k) ≡ false = ne_eqb _ _ n in
-      rw b (subst (λ s. HoldsAlong f.rules (λ s. good s ≡ true) s (filter (is_to f k) xs)) (passed-other g x k n) (answers-along good k h (passed f ahead g x) xs a.1)))
+        rw b (subst (λ s. HoldsAlong f.rules (λ s. good s ≡ true) s (filter (is_to f k) xs)) (passed-other g x k n) (answers-along good k h (passed f ahead g x) xs a.1)))
   ]
 
   -- ---- what waits in their place
@@ -99,7 +99,7 @@ module _ {M S K N : Type 0} (f : Simulation M S K N) (ahead : ℕ → Bool) wher
           times_in f.rules.order y (in_place f ahead g x) ≡ times_in f.rules.order y (x ∷ [])
       plain-one h g r x = elim (cases_Bool (ahead (f.rules.order.receiver x))) [
         | inl k ↦ rw k (not-its (f.rules.order.receiver x) (inside (f.rules.order.receiver x) k) (g (f.rules.order.receiver x)) (r (f.rules.order.receiver x)) x y
-          (λ e. both_ways _ h (ap ahead e ∙ k)) ∙ sym (not-it x y k y_behind))
+            (λ e. both_ways _ h (ap ahead e ∙ k)) ∙ sym (not-it x y k y_behind))
         | inr k ↦ rw k refl
       ]
 

@@ -1,14 +1,14 @@
 -- The run with processes ahead, from its opening to its end: for which states of the plain run it stands.
-use Rattle.std.proofs.Common.{◌≡◌, ℕ, zero, suc, ◌+◌, ◌<◌, ◌≤◌, ◌⊎◌, inl, inr, Bool, true, false, cond, List, [], ◌∷◌, ◌++◌, Option, Some, None, refl, sym, ap, ◌∙◌, subst, arith, append-nil, eq-eqb}
+use Rattle.std.proofs.Common.{◌≡◌, ℕ, zero, suc, ◌+◌, ◌≤◌, ◌⊎◌, inl, inr, Bool, true, false, cond, List, [], ◌∷◌, ◌++◌, Option, Some, None, refl, sym, ap, ◌∙◌, subst, arith, append-nil, eq-eqb}
 use Rattle.std.proofs.lemmas.Bool.{cases_Bool}
-use Rattle.virtual_time.specs.Law.{IsIn, Laws, OneThread, Order, IsOrder, Simulation, events, events_at, handle, least, one, reached, sent, times_in}
+use Rattle.virtual_time.specs.Law.{IsIn, Laws, OneThread, Order, IsOrder, Simulation, events, handle, least, one, reached, sent, times_in}
 use Rattle.virtual_time.proofs.Lists.{in-filter_from, in-head}
 use Rattle.virtual_time.proofs.Least.{IsLeast, least-from, least-none, least-some}
 use Rattle.virtual_time.proofs.OneThread.{right}
 use Rattle.virtual_time.proofs.OneThreadLater.{none_waits_from, over-same}
 use Rattle.timers.proofs.ChannelLemmas.{are_received}
 use Rattle.runs_ahead.specs.Ahead.{handle_ahead, is_ahead, one_ahead}
-use Rattle.runs_ahead.specs.Standing.{IsNextAt, IsOverAt, RunAhead, StandsFor, events_ahead, is_to, sent_to}
+use Rattle.runs_ahead.specs.Standing.{IsOverAt, RunAhead, StandsFor, events_ahead, is_to}
 use Rattle.runs_ahead.specs.Laws.{IsSameEvent}
 use Rattle.runs_ahead.proofs.Standing.{Rest, ahead-is, behind-is, common, first-there, none-there, quiet, quiet-events, rest-of, same-state}
 
@@ -71,12 +71,14 @@ module _ {M S K N : Type 0} (f : Simulation M S K N) (L : Laws f) (ahead : ℕ �
 
           on : is_ahead f ahead m ≡ true → (j : ℕ) × HasCome t n j
           on h =
-              let c = r (subst (λ T. StandsFor f ahead from T t) (sym (step-is n m k)) (quiet f L ahead from R (one f n) (right f L n) (rests n) t Z m l h)) in
-              (c.0, record {
-                stands = c.1.stands;
-                same = λ q. c.1.same q ∙ (ap (λ T. events_ahead f ahead from T q) (step-is n m k) ∙ quiet-events f L ahead from R (one f n) (right f L n) (rests n) t Z m l h q);
-                next = c.1.next;
-              })
+              let c = r (subst (λ T. StandsFor f ahead from T t) (sym (step-is n m k)) (quiet f L ahead from R (one f n) (right f L n) (rests n) t Z m l h)) in (
+                c.0,
+                record {
+                  stands = c.1.stands;
+                  same = λ q. c.1.same q ∙ (ap (λ T. events_ahead f ahead from T q) (step-is n m k) ∙ quiet-events f L ahead from R (one f n) (right f L n) (rests n) t Z m l h q);
+                  next = c.1.next;
+                },
+              )
 
   -- the plain run comes to an end
   ends-at : (e : ℕ) × ((one f e).waiting ≡ [])
@@ -106,13 +108,15 @@ module _ {M S K N : Type 0} (f : Simulation M S K N) (L : Laws f) (ahead : ℕ �
         where
           at : least f.rules.order (one f j).waiting ≡ Some m → is_ahead f ahead m ≡ false → (is_ahead f ahead m ≡ false) × IsSameEvent f ahead from n m j
           at k h =
-              let l = least-some f.rules.order L.order (one f j).waiting m k in
-              (h, record {
-                stands = C.stands;
-                next_at = record { first = k; state = sym (same-state f L ahead from R (one f j) (right f L j) (rests j) (one_ahead f ahead n) C.stands m l h) };
-                stands_next = subst (λ T. StandsFor f ahead from T (one_ahead f ahead (suc n))) (sym (step-is j m k))
-                    (subst (λ z. StandsFor f ahead from (handle f (one f j) (Some m)) z) (sym (step-ahead n (Some m) e)) (common f L ahead from R (one f j) (right f L j) (rests j) (one_ahead f ahead n) C.stands m l h));
-              })
+              let l = least-some f.rules.order L.order (one f j).waiting m k in (
+                h,
+                record {
+                  stands = C.stands;
+                  next_at = record { first = k; state = sym (same-state f L ahead from R (one f j) (right f L j) (rests j) (one_ahead f ahead n) C.stands m l h) };
+                  stands_next = subst (λ T. StandsFor f ahead from T (one_ahead f ahead (suc n))) (sym (step-is j m k))
+                      (subst (λ z. StandsFor f ahead from (handle f (one f j) (Some m)) z) (sym (step-ahead n (Some m) e)) (common f L ahead from R (one f j) (right f L j) (rests j) (one_ahead f ahead n) C.stands m l h));
+                },
+              )
 
   pub stands : (n : ℕ) → (j : ℕ) × StandsFor f ahead from (one f j) (one_ahead f ahead n)
   stands zero = (0, opens)
@@ -131,8 +135,8 @@ module _ {M S K N : Type 0} (f : Simulation M S K N) (L : Laws f) (ahead : ℕ �
   pub events-over : (j : ℕ) → (one f j).waiting ≡ [] → (q : ℕ) → events_ahead f ahead from (one f j) q ≡ events f j q
   events-over j over q = elim (cases_Bool (ahead q)) [
     | inl h ↦ (let r = rests j q h in
-      let none : r.rest ≡ [] = list-none f.rules.order L.order r.rest (λ x i. let a = r.waits x i in let b = ap (times_in f.rules.order x) over in absurd (omega arith)) in
-      ahead-is f L ahead from R (one f j) (right f L j) q h ∙ (r.split ∙ (ap (λ z. events f j q ++ z) none ∙ append-nil _)))
+        let none : r.rest ≡ [] = list-none f.rules.order L.order r.rest (λ x i. let a = r.waits x i in let b = ap (times_in f.rules.order x) over in absurd (omega arith)) in
+        ahead-is f L ahead from R (one f j) (right f L j) q h ∙ (r.split ∙ (ap (λ z. events f j q ++ z) none ∙ append-nil _)))
     | inr h ↦ behind-is f L ahead from R (one f j) (right f L j) q h
   ]
 
@@ -151,9 +155,11 @@ module _ {M S K N : Type 0} (f : Simulation M S K N) (L : Laws f) (ahead : ℕ �
   ends-alike n over =
       let z = stands n in
       let c = come-to z.0 (one_ahead f ahead n) z.1 in
-      let e = over-at n z.0 c.0 over c.1 in
-      (c.0, record {
-        plain_over = e;
-        states_same = λ q. c.1.stands.states_are q ∙ (ap (reached f.rules (f.opening q)) (events-over c.0 e q) ∙ sym ((right f L c.0).states_are q));
-        rows_same = c.1.stands.rows_are;
-      })
+      let e = over-at n z.0 c.0 over c.1 in (
+        c.0,
+        record {
+          plain_over = e;
+          states_same = λ q. c.1.stands.states_are q ∙ (ap (reached f.rules (f.opening q)) (events-over c.0 e q) ∙ sym ((right f L c.0).states_are q));
+          rows_same = c.1.stands.rows_are;
+        },
+      )

@@ -1,10 +1,10 @@
 -- Each event keeps it that the run with processes ahead stands for the plain run.
-use Rattle.std.proofs.Common.{◌≡◌, ℕ, ◌+◌, ◌<◌, ◌≤◌, ◌==◌, ◌⊎◌, inl, inr, Bool, true, false, not, cond, List, [], ◌∷◌, ◌++◌, filter, Option, Some, None, refl, sym, ap, ◌∙◌, subst, arith, append-nil, append_assoc}
+use Rattle.std.proofs.Common.{◌≡◌, ℕ, ◌+◌, ◌<◌, ◌≤◌, ◌⊎◌, inl, inr, Bool, true, false, not, List, [], ◌∷◌, ◌++◌, filter, Some, refl, sym, ap, ◌∙◌, subst, arith, append-nil}
 use Rattle.std.proofs.lemmas.Bool.{cases_eq, cases_Bool, cases_lt, both_ways, not_from_true, not_from_false}
 use Rattle.std.proofs.lemmas.List.Elements.{filter-append}
-use Rattle.virtual_time.specs.Law.{Order, IsOrder, IsIn, IsReached, Laws, OneThread, Simulation, events_at, handle, made, one_if, put, reached, rows_of, same, sent, times_in, without}
+use Rattle.virtual_time.specs.Law.{Order, IsOrder, IsIn, IsReached, Laws, OneThread, Simulation, events_at, handle, made, one_if, reached, rows_of, same, sent, times_in, without}
 use Rattle.virtual_time.proofs.Order.{different, less-asym, not_less-time, same-refl, same_cases}
-use Rattle.virtual_time.proofs.Lists.{filter-all, in-append, in-cons, in-filter, times-append, times-filter, times-filter_out, times-none, times-one}
+use Rattle.virtual_time.proofs.Lists.{filter-all, in-append, in-cons, in-filter, times-append, times-filter, times-filter_out, times-none}
 use Rattle.virtual_time.proofs.Handling.{reached-append, sent-append}
 use Rattle.virtual_time.proofs.Least.{IsLeast}
 use Rattle.virtual_time.proofs.Sends.{IsReached-after, made-once, sends-later, sends-sender}

@@ -1,6 +1,6 @@
 -- What the run with processes ahead has in common with the plain one-thread run: at each event, for each answer, and at its end.
 use Rattle.std.specs.Prelude.{◌≡◌, ℕ, suc, ◌<◌, Bool, true, List, [], ◌∷◌, ◌++◌, Some}
-use Rattle.virtual_time.specs.Law.{Laws, Simulation, least, one}
+use Rattle.virtual_time.specs.Law.{IsLeft, Laws, Simulation, least, one}
 use Rattle.runs_ahead.specs.Ahead.{is_ahead, next_states, one_ahead, passed_all}
 use Rattle.runs_ahead.specs.Standing.{IsGoodEvent, IsNextAt, IsOverAt, RunAhead, StandsFor}
 
@@ -27,6 +27,16 @@ module _ {M S K N : Type 0} (f : Simulation M S K N) (ahead : ℕ → Bool) (fro
   -- where nothing waits, the plain run is over as well, with the same states and rows
   abbrev pub EndsAlike : Type 0
   EndsAlike = (n : ℕ) → (one_ahead f ahead n).waiting ≡ [] → (j : ℕ) × IsOverAt f j (one_ahead f ahead n)
+
+  -- each process is in the state after its first events of the plain run, however many, also within an event, when some of what the event
+  -- sends was handled and the rest was not
+  abbrev pub AreLeft : Type 0
+  AreLeft = (n q : ℕ) → (c : ℕ) × IsLeft f q c ((one_ahead f ahead n).states q)
+
+  abbrev pub AreLeftWithin : Type 0
+  AreLeftWithin = (n : ℕ) (m : M) → least f.rules.order (one_ahead f ahead n).waiting ≡ Some m →
+      (before behind : List M) → f.rules.sends ((one_ahead f ahead n).states (f.rules.order.receiver m)) m ≡ before ++ behind →
+      (q : ℕ) → (c : ℕ) × IsLeft f q c (passed_all f ahead (next_states f ahead (one_ahead f ahead n).states m) before q)
 
   -- if a run that is over had all its events in good states, so had the plain run
   abbrev pub AreGoodAlike : Type 0
