@@ -15,7 +15,7 @@ use Rattle.runs_ahead.proofs.Passing.{AllReached, answer-all, not-its, place-beh
 
 module _ {M : Type 0} (o : Order M) (O : IsOrder o) where
   -- a message that is in a list once, taken out
-  times-taken : (m : M) (ws : List M) → times_in o m ws ≡ 1 → (x : M) → times_in o x (without o m ws) + one_if (same o x m) ≡ times_in o x ws
+  pub times-taken : (m : M) (ws : List M) → times_in o m ws ≡ 1 → (x : M) → times_in o x (without o m ws) + one_if (same o x m) ≡ times_in o x ws
   times-taken m ws once x = go (same_cases o O x m)
     where
       go : (x ≡ m) ⊎ (same o x m ≡ false) → times_in o x (without o m ws) + one_if (same o x m) ≡ times_in o x ws
@@ -152,7 +152,7 @@ module _ {M S K N : Type 0} (f : Simulation M S K N) (L : Laws f) (ahead : ℕ �
             more : made f events m ≤ made f (events_ahead f ahead from T) m
             more = elim (cases_Bool (ahead (f.rules.order.sender m))) [ inl k ↦ (let a = made-ahead m k in omega arith) | inr k ↦ (let a = made-behind m k in omega arith) ]
 
-            waits-once : times_in f.rules.order m t.waiting ≡ 1
+            pub waits-once : times_in f.rules.order m t.waiting ≡ 1
             waits-once =
                 let a = made-once f L (events_ahead f ahead from T) outside m in
                 let b = Z.waits m h in
