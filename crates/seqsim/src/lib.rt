@@ -1,14 +1,11 @@
 //! The one-thread run of a network: the first of all waiting messages is handled, until none waits.
 #![tactic(auto)]
 
-mod counted;
 mod networks;
 mod rows;
 mod simulating;
-mod tables;
 
 pub use actor_run::{SimFault, Unwatched, Watch, run_actors};
 pub use networks::{layout_law, network_law};
 pub use rows::rows_by_process_law;
 pub use simulating::{Finished, nodes_of, run};
-pub use tables::run_tables;
