@@ -14,6 +14,7 @@ use Rattle.reverse.specs.Sending.{Wish, loss}
 use Rattle.reverse.specs.Rules.{rules_of}
 use Rattle.reverse.specs.Setting.{Setting, simulation_of}
 use Rattle.virtual_time.specs.Law.{Laws, Simulation, events, one, reached}
+use Rattle.timers.specs.Channel.{IsChannel}
 use Rattle.port_bounds.specs.Frames.{PutFrame}
 use Rattle.port_bounds.specs.Sublists.{Every, IsSublist}
 use Rattle.port_bounds.specs.Arrivals.{IsAfter, IsSerial}
@@ -37,7 +38,7 @@ use Rattle.port_turns.specs.Nodes.{IsOfNodes}
 use Rattle.port_turns.specs.PortRuns.{port_events}
 use Rattle.port_turns.specs.Arrivals.{IsWay, arrival_in, arrivals_in}
 use Rattle.port_turns.proofs.Carrying.{AllLead, carried, carries, is_carry, lead-reached, none-carries}
-use Rattle.port_turns.proofs.Channels.{come}
+use Rattle.port_turns.proofs.Channels.{IsAlone, channel, come}
 use Rattle.port_turns.proofs.Elsewhere.{all-elsewhere}
 use Rattle.port_turns.proofs.PortRuns.{are_ports_served}
 use Rattle.port_turns.proofs.Rising.{AreTo, events-from, events-to}
@@ -67,7 +68,7 @@ module _ (l : LineState) where
       go false = sub-filter test (through t (Carry frame))
   one-through test t _ = tt
 
-  line-stays : (s : NodeState) (ms : List Message) → s.equipment ≡ Line l → (reached (rules_of node) s ms).equipment ≡ Line l
+  pub line-stays : (s : NodeState) (ms : List Message) → s.equipment ≡ Line l → (reached (rules_of node) s ms).equipment ≡ Line l
   line-stays s [] e = e
   line-stays s (m ∷ ms) e = line-stays (after s m) ms (ap (λ z. (handled s.sender.number m z).equipment) e)
 
@@ -150,7 +151,7 @@ come-through byte_ns k l j e [] = refl
 come-through byte_ns k l j e (s ∷ ss) = rw (eq-eqb l.to_port j e) (ap (λ z. coming byte_ns j l.propagation s ∷ z) (come-through byte_ns k l j e ss))
 
 -- a line was always that line
-line-was : (l : LineState) (s : NodeState) (ms : List Message) → (reached (rules_of node) s ms).equipment ≡ Line l → s.equipment ≡ Line l
+pub line-was : (l : LineState) (s : NodeState) (ms : List Message) → (reached (rules_of node) s ms).equipment ≡ Line l → s.equipment ≡ Line l
 line-was l s [] e = e
 line-was l s (m ∷ ms) e = go s.equipment (line-was l (after s m) ms e)
   where
@@ -188,12 +189,18 @@ module _ (x : Setting NodeState) (L : Laws (simulation_of (rules_of node) x)) (p
       from-sub 0 _ _ (sub-map (λ (w : Wish). w.time) _ _ (carry-sub n))
       (subst (λ z. AreFrom 0 (moments_of (map (carried k outlet.ahead.byte_ns) z))) (sym (starts-are n)) (carried-from outlet.ahead.byte_ns k 0 (starts' n) (starts-apart n) (all-costed outlet.ahead.byte_ns outlet.port (asked n))))
 
-  carry-come : (n : ℕ) → IsSublist (map as_wish (filter (is_to is_carry k) (events f n k))) (wished is_carry k (x.opening p) (events f n p))
-  carry-come n = come x L N p k inside is_carry (record {
+  carry-alone : IsAlone x L N p k inside is_carry
+  carry-alone = record {
     others = λ i inside' d s h m. none-carries q k i m s.equipment (subst (λ z. AllLead (λ i ahead. ahead.line ≡ k → ⊥) z.equipment) (sym h.1)
         (lead-reached (λ i ahead. ahead.line ≡ k → ⊥) (x.opening i) h.0 (λ i' other is e. d (W.only_port i i' other inside' is e).0)));
     not_offered = λ vl size sub. refl;
-  }) 0 carry-from n
+  }
+
+  pub carry-channel : IsChannel f p k (is_to is_carry k)
+  carry-channel = channel x L N p k inside is_carry carry-alone 0 carry-from
+
+  carry-come : (n : ℕ) → IsSublist (map as_wish (filter (is_to is_carry k) (events f n k))) (wished is_carry k (x.opening p) (events f n p))
+  carry-come n = come x L N p k inside is_carry carry-alone 0 carry-from n
 
   -- and out of it
   arrive-sub : (n : ℕ) → IsSublist (wished (is_arrive j) r (x.opening k) (events f n k)) (flat (through l) (map as_wish (filter (is_to is_carry k) (events f n k))))

@@ -1,17 +1,19 @@
-//! The tables of the run of a network, if its rows are not asked for.
+//! The tables of the run of a network, if its rows are not asked for. Lines without outages run ahead: a frame that is sent into such a line
+//! waits as the frame that arrives at its end, and does not wait first as one that leaves its port.
 ghost use Rattle.std.specs.Prelude.{◌≡◌, ℕ, [], List, Err, OnOk, IfOk};
 ghost use Rattle.vlink.specs.Letters.{Row};
 ghost use Rattle.nodes.specs.Words.{simulation_of};
 ghost use Rattle.trace_tables.specs.Tables.{tables_of};
 ghost use Rattle.actor_run.specs.declared.fault.SimFault.TheVariants.{Exhausted};
 ghost use Rattle.actor_run.specs.Running.{StandsAt, IsExhaustedAt, HasNumbersFrom};
-ghost use Rattle.network_actors.specs.Networks.{AreRowsOf};
+ghost use Rattle.seqsim.specs.Networks.{AreRowsOf};
 
 use crate::counted::Counted;
-use actor_run::{SimFault, Waiting, Watch, handle_all};
+use crate::lines::{lines_ahead, lines_ahead_law};
+use actor_run::{SimFault, Waiting, Watch, handle_all_ahead};
 use network::Network;
-use network_actors::{network_law, nodes_of};
 use nodes::Node;
+use seqsim::{network_law, nodes_of};
 use std::alloc::Global;
 use trace_tables::Tables;
 use traffic::offers;
@@ -32,8 +34,10 @@ fn count_all<W: Watch>(
     ensures watched { W.becomes watch.old watch.new }
 {
     network_law(network);
+    lines_ahead_law(network);
+    let ahead = lines_ahead(alloc, network)?;
     let mut counted = Counted::none(alloc, network)?;
-    handle_all(&mut nodes, &mut waiting, &mut counted, watch)?;
+    handle_all_ahead(&mut nodes, &ahead, &mut waiting, &mut counted, watch)?;
     drop(nodes);
     drop(waiting);
     Ok(counted.into_tables()?)

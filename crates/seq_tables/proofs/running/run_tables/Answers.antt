@@ -5,12 +5,12 @@ use Rattle.virtual_time.specs.Law.{Laws}
 use Rattle.network.specs.Words.{Plan}
 use Rattle.nodes.specs.Words.{simulation_of}
 use Rattle.trace_tables.specs.Tables.{TableLists, tables_of}
-use Rattle.network_actors.specs.Networks.{AreRowsOf, setting_of}
+use Rattle.seqsim.specs.Networks.{AreRowsOf, setting_of}
 use Rattle.network_actors.proofs.NetworkLemmas.{opened}
-use Rattle.seqsim.proofs.RowLemmas.{same-rows}
+use Rattle.seq_tables.proofs.RowLemmas.{same-rows}
 use Rattle.actor_run.proofs.Handling.{started}
 use Rattle.actor_run.proofs.Errors.{err-on-ok, passed-short}
-use Rattle.seqsim.proofs.tables.run_tables.Goals as goal
+use Rattle.seq_tables.proofs.running.run_tables.Goals as goal
 
 pub count_all-requires : goal.count_all-requires
 count_all-requires g c =
