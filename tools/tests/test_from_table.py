@@ -291,9 +291,10 @@ id = 1
         """Each line has a reference and a message of its own, as an interface control document has them."""
         links = LINKS.replace("DU,SWB\n", "DU,SWB\nFWC,SWA\nFWC,SWB\n")
         head = "id,Reference,source,dest,bag_ms,smax,priority,Message\n"
-        tree, said = self.noted(NODES + links, head + "1,R-17,ADC,DU,8,100,High,Air data\n1,R-18,ADC,FWC,8.0,100,high,Air data 2\n")
-        self.assertEqual(said, ["table1.csv line 1: the column reference is passed over", "table1.csv line 1: the column message is passed over"])
-        self.assertEqual([vl["a"] for vl in tree["vl"]], [[["ADC", "SWA", "DU"], ["ADC", "SWA", "FWC"]]])
+        for alike in ("8,100,High", "8.0,100,high"):
+            tree, said = self.noted(NODES + links, head + f"1,R-17,ADC,DU,8,100,High,Air data\n1,R-18,ADC,FWC,{alike},Air data 2\n")
+            self.assertEqual(said, ["table1.csv line 1: the column reference is passed over", "table1.csv line 1: the column message is passed over"])
+            self.assertEqual([vl["a"] for vl in tree["vl"]], [[["ADC", "SWA", "DU"], ["ADC", "SWA", "FWC"]]])
 
     def test_lines_that_differ_in_more_are_a_fault(self):
         """It names each column with both values, and the lines, also those of two files."""
@@ -409,8 +410,8 @@ id = 1
         self.assertEqual(self.call("--back", self.output, "-o", tables), (0, "", ""))
         self.assertEqual(self.call(tables, "-o", again)[:2], (0, ""))
         said = [[line for line in read(it).split("\n") if line.startswith(("# limit", "# udp", "# remarks"))] for it in (self.output, again)]
-        self.assertEqual(len(said[0]), 8)
         self.assertEqual(said[1], said[0])
+        self.assertEqual(len(said[0]), 8)
         self.assertEqual(toml_lines.read(read(again)), toml_lines.read(read(self.output)))
 
     def test_a_fault_of_a_line_that_was_joined(self):

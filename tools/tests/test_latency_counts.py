@@ -95,7 +95,7 @@ class OfATrace(unittest.TestCase):
         self.addCleanup(setattr, latency_counts, "BLOCK", before)
         for block in (before, 100, 37):
             latency_counts.BLOCK = block
-            self.assertEqual([dict(zip(*it)) for it in self.of(self.trace)], list(wanted.values()))
+            self.assertEqual([dict(it) for it in self.of(self.trace).each()], list(wanted.values()))
 
     def test_one_of_another_run_is_refused(self):
         lines = self.trace.splitlines(keepends=True)

@@ -12,6 +12,7 @@ from collections import Counter
 
 from afdx import model
 from afdx.commands import pcap
+from afdx.files import program
 from afdx.runs import second_opinion
 from tests.places import EXAMPLES, TOOLS, tool_words
 
@@ -204,6 +205,18 @@ class Words(Here):
         self.assertEqual(self.call(path, self.trace, "-o", self.output), (0, "", ""))
         with open(self.output, "rb") as file:
             self.assertIn(b"a run of net\\xff.toml", file.read())
+
+    def test_a_capture_names_who_made_it(self):
+        """In the first block, by option 4, which is shb_userappl: the tool with its version and its commit."""
+        self.assertEqual(self.call(self.traced("n1"), self.trace, "-o", self.output), (0, "", ""))
+        with open(self.output, "rb") as file:
+            _, length = struct.unpack("<II", file.read(8))
+            options, found = file.read(length - 12)[16:], {}
+        while options:
+            code, size = struct.unpack("<HH", options[:4])
+            found[code], options = options[4 : 4 + size].decode(), options[4 + size + -size % 4 :]
+        self.assertEqual(found[4], program.tool("pcap").in_words())
+        self.assertTrue(found[4].startswith(f"afdx pcap {program.version()}, not proved"), found[4])
 
     def test_files(self):
         path = self.traced("n1")

@@ -49,6 +49,18 @@ class WhoReads(Here):
                 self.assertTrue(readers)
 
 
+class WithoutSharedMemory(Here):
+    def test_the_folder_is_named(self):
+        """Where /dev/shm cannot be written the system refuses semaphores, without a name. No run is made."""
+        self.stand_in("open(%r, 'w')" % os.path.join(self.folder, "ran"))
+        refused = PermissionError(13, "Permission denied")
+        with mock.patch("multiprocessing.synchronize.SemLock.__init__", side_effect=refused):
+            told = self.call(N1, "--seeds", "2")
+        begin = "afdx campaign: /dev/shm: holds no semaphore for processes side by side: Permission denied. `mount "
+        self.assertEqual((*told[:2], told[2].startswith(begin), told[2].count("\n")), (2, "no run was merged, and nothing is written\n", True, 1), told)
+        self.assertFalse(os.path.exists(os.path.join(self.folder, "ran")))
+
+
 class Plain(reading_processes.Reckoner):
     """Answers a run's key, which may also be what the process is to do."""
 

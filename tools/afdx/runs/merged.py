@@ -85,8 +85,8 @@ class Merged:
             if count:
                 over.add(greatest)
                 mine.add(seed, count, least, greatest, total)
-        for over, times in zip(self.over_seeds.values(), result.times or ()):
-            over.counts.add(zip(*times))
+        for over, times in zip(self.over_seeds.values(), result.times.each() if result.times else ()):
+            over.counts.add(times)
         for of, count in result.losses.items():
             if of not in self.losses:
                 self.losses[of] = MergedLoss()

@@ -129,7 +129,7 @@ def pool_of(jobs: int, forks: ForkContext, reckoner: Reckoner) -> concurrent.fut
     try:
         return concurrent.futures.ProcessPoolExecutor(jobs, forks, begin, (reckoner,))
     except OSError as fault:
-        text = f"holds no semaphore for processes side by side: {fault.strerror}. Mount it: mount -t tmpfs -o mode=1777 tmpfs {SHARED}"
+        text = f"holds no semaphore for processes side by side: {fault.strerror}. `mount -t tmpfs -o mode=1777 tmpfs {SHARED}` mounts it"
         raise files.Fault(SHARED, None, text) from None
 
 

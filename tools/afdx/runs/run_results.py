@@ -21,7 +21,7 @@ class RunResult(NamedTuple):
     least: list[int]
     greatest: list[int]
     total: list[int]
-    times: list[latency_counts.Bins] | None
+    times: latency_counts.Bins | None
     losses: dict[tuple[int, str, str], int]
 
 
@@ -53,7 +53,7 @@ class Reader(reading_processes.Reckoner):
         )
 
 
-def counted(tables: model.Tables, run: Run, path: str) -> list[latency_counts.Bins]:
+def counted(tables: model.Tables, run: Run, path: str) -> latency_counts.Bins:
     """How many frames of each virtual link and destination there are in each bin of latencies, by the trace of a run."""
     try:
         return latency_counts.of_trace(path, tables)
