@@ -39,7 +39,7 @@ Seconds = dict[str, dict[str, float]]
 INSTALL = ["apt-get", "install", "-y", "--no-install-recommends"]
 
 
-def tell(text: str) -> None:
+def report(text: str) -> None:
     print(f"test: {text}", flush=True)
 
 
@@ -82,7 +82,7 @@ def missing_for_few() -> list[str]:
 
 def install(packages: list[str], few: list[str]) -> None:
     """Installs what is needed at one go, and the rest one by one: what cannot be had keeps nothing else away."""
-    tell(f"installs {' '.join(packages + few)}")
+    report(f"installs {' '.join(packages + few)}")
     for words in (["apt-get", "update"], *([*INSTALL, *it] for it in (packages, *([name] for name in few)) if it)):
         subprocess.run(words, stdin=subprocess.DEVNULL, env=os.environ | {"DEBIAN_FRONTEND": "noninteractive"})
 
@@ -99,10 +99,10 @@ def set_up() -> str | None:
         install(packages, few)
         (packages, python), few = missing(), missing_for_few()
     if packages:
-        tell(f"missing: {as_root(packages + few)}")
+        report(f"missing: {as_root(packages + few)}")
         return None
     if few:
-        tell(f"tests are skipped that need {as_root(few)}")
+        report(f"tests are skipped that need {as_root(few)}")
     return python
 
 
@@ -154,7 +154,7 @@ class Progress:
         if not found or found[1] not in self.crates:
             return
         (self.edits if "must-fail" in found[0] else self.done).add(found[1])
-        tell(self.says())
+        report(self.says())
 
     def says(self) -> str:
         edits = f", edits of {len(self.edits)} of {len(self.with_edits)} crates" if self.with_edits else ""
@@ -195,7 +195,7 @@ def said_by(command: list[str], progress: Progress | None = None, times: Seconds
         return listen()
     says = progress.says
     with crate_times.CrateTimes(run.pid, os.getcwd()) as watched:
-        with by_rt.Meanwhile(lambda _: f"{says()}; {watched.at_work()}", EACH, tell):
+        with by_rt.Meanwhile(lambda _: f"{says()}; {watched.at_work()}", EACH, report):
             found = listen()
     times.update(watched.seconds())
     return found
@@ -249,7 +249,7 @@ def try_tools(counts: Counts, python: str) -> tuple[dict[str, float], list[str]]
     skipped: list[str] = []
     for number, file in enumerate(files, 1):
         name, begin = os.path.basename(file), now()
-        tell(f"tools: file {number} of {len(files)}, {name}")
+        report(f"tools: file {number} of {len(files)}, {name}")
         said, status = said_by([python, os.path.join("tools", "gate", "one_test_file.py"), name])
         counts.add(counts_of_unittest(said), status)
         took[name] = now() - begin
@@ -268,19 +268,19 @@ def main() -> int:
     times: Seconds = {}
     last, counts, begin = Last(), Counts(), now()
     if last.seconds:
-        tell(f"the last run on this machine took {minutes(last.seconds)} ({last.date}); what has not changed is not proved again")
+        report(f"the last run on this machine took {minutes(last.seconds)} ({last.date}); what has not changed is not proved again")
     prove(counts, last, times)
     proved = now() - begin
     took, skipped = try_tools(counts, python)
-    tell("seconds of processors that each crate took in this run:")
+    report("seconds of processors that each crate took in this run:")
     for line in crate_times.in_lines(times):
-        tell(f"  {line}")
-    tell("seconds that each file of the tests of the tools took:")
+        report(f"  {line}")
+    report("seconds that each file of the tests of the tools took:")
     for name, seconds in sorted(took.items(), key=lambda it: -it[1]):
-        tell(f"  {name:<26}{seconds:>6.0f}")
+        report(f"  {name:<26}{seconds:>6.0f}")
     for line in skipped:
-        tell(line)
-    tell(f"proofs and edits {minutes(proved)}, tools {minutes(now() - begin - proved)}, all {minutes(now() - begin)}")
+        report(line)
+    report(f"proofs and edits {minutes(proved)}, tools {minutes(now() - begin - proved)}, all {minutes(now() - begin)}")
     if not counts.failed:
         last.keep(now() - begin, {name: round(sum(mine.values())) for name, mine in times.items()})
     print(f"{counts.passed} passed, {counts.failed} failed", flush=True)

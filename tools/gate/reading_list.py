@@ -19,8 +19,8 @@ import functools
 import os
 import re
 import sys
-from collections import namedtuple
 from collections.abc import Collection, Iterable, Iterator
+from typing import NamedTuple
 
 from afdx import files
 
@@ -46,8 +46,15 @@ NAME = re.compile(r"(?<![\w)\]}.])([^\W\d][\w'-]*)((?:\.[^\W\d][\w'-]*)*)")
 MODIFIERS = ("abbrev ", "unfoldable ", "pub ", "record ", "data ")
 TYPE = r"^pub(?:\(\w+\))? (?:struct|enum|trait) {}\b"
 
-# Where a name is from: a crate, a path of modules under its specs/, and the name there.
-Source = namedtuple("Source", "crate path name")
+
+class Source(NamedTuple):
+    """Where a name is from: a crate, a path of modules under its specs/, and the name there; without one the module itself."""
+
+    crate: str
+    path: str
+    name: str
+
+
 # A name, with what stands behind a point of it.
 Name = tuple[str, str]
 # A crate, and the path of a file in it.
@@ -128,7 +135,7 @@ class Tree:
         for crate, path, names, alias in USE.findall(text):
             crate, path = self.home(crate, path)
             if alias:
-                found[alias] = Source(crate, path, None)
+                found[alias] = Source(crate, path, "")
             for item in filter(None, map(str.strip, names.split(","))):
                 name, _, called = item.partition(" as ")
                 found[called or name] = self.passed_on(Source(crate, path, name))
@@ -254,7 +261,7 @@ class Tree:
             rows.append(f"| `{crate}` | {names} | {types} |")
         return "\n".join(rows)
 
-    def told(self, files: Collection[File]) -> str:
+    def listed(self, files: Collection[File]) -> str:
         """A line for each file of specs/, and one for all files of a crate with types of the code."""
         rows = ["| Crate | File | What it says |", "|---|---|---|"]
         for crate, specs, types in self.by_crate(files):
@@ -266,7 +273,7 @@ class Tree:
     def lists(self, whole: bool = False) -> str:
         """What the document has: the two tables, each with a line that counts. With `whole` it is what the tool prints: what
         each file says of itself, and the names of the files that `run` does not need."""
-        table = self.told if whole else self.named
+        table = self.listed if whole else self.named
         replay, of_replay = self.rests_on(BEGINNINGS["replay"])
         run, of_run = self.rests_on(BEGINNINGS["run"])
         types = {name: sum(path.startswith("src/") for _, path in files) for name, files in (("replay", replay), ("run", run))}

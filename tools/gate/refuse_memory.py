@@ -30,8 +30,9 @@ import shutil
 import subprocess
 import sys
 import tempfile
-from collections import Counter, namedtuple
+from collections import Counter
 from collections.abc import Callable, Iterable
+from typing import NamedTuple
 
 from afdx import files
 
@@ -67,11 +68,11 @@ void *malloc(unsigned long size) { return is_refused() ? 0 : __libc_malloc(size)
 
 void *realloc(void *block, unsigned long size) { return is_refused() ? 0 : __libc_realloc(block, size); }
 
-__attribute__((destructor)) static void tell(void) { dprintf(2, "requests: %ld\n", requests); }
+__attribute__((destructor)) static void report(void) { dprintf(2, "requests: %ld\n", requests); }
 
 /* By this a program of Rattle ends, where no destructor is called. The number is that of `exit_group`. */
 void _exit(int status) {
-    tell();
+    report();
     for (;;) syscall(231, (long) status);
 }
 """
@@ -98,9 +99,18 @@ JOURNAL = re.compile(r"(?:(?:T \d+ \d+|[ARPC] \d+|G)\n)*(?:T(?: \d*(?: \d*)?)?|[
 NO_MEMORY = (5, "afdxsim: out of memory\n")
 NO_WORKER = (4, "afdxsim: cannot start a worker\n")
 
-# A command: its words, what it prints on both streams, the texts of its files (None for a journal), how it may be refused, and
-# the status that it ends with where it is not.
-Command = namedtuple("Command", "words output errors files refusals status", defaults=(0,))
+
+class Command(NamedTuple):
+    """A command: its words, what it prints on both streams, the texts of its files (None for a journal), how it may be refused
+    (status and error output), and the status that it ends with if it is not."""
+
+    words: str
+    output: str
+    errors: str
+    files: dict[str, str | None]
+    refusals: tuple[tuple[int, str], ...]
+    status: int = 0
+
 
 # Descriptions with a fault, by the names of their files.
 FAULTY = {"syntax.toml": "until_ns =", "missing.toml": "until_ns = 1", "unknown.toml": "until_ns = 1\nseed = 0\nx = 0"}
@@ -138,8 +148,14 @@ COMMANDS = (
     Command("seq unknown.toml", "", "afdxsim: description: 5 UnknownName at top\n", {}, (NO_MEMORY,), 3),
 )
 
-# A test: its program, its name, and how often each of these calls has to be refused in it, at least.
-Test = namedtuple("Test", "crate name calls")
+
+class Test(NamedTuple):
+    """A test: its program, its name, and how often each of these calls has to be refused in it, at least."""
+
+    crate: str
+    name: str
+    calls: dict[str, int]
+
 
 TESTS = (
     # Each of the six lines with an arrival `arrive?`, whose refusal is printed, is refused at least once.
@@ -155,9 +171,16 @@ TESTS = (
     ),
 )
 
-# How a run ended: its status, both streams, the files that are there, and how many requests it made (None where it was
-# killed).
-Ended = namedtuple("Ended", "status output errors files requests")
+
+class Ended(NamedTuple):
+    """How a run ended: its status, both streams, the files that are there, and how many requests it made (None if it was killed)."""
+
+    status: int
+    output: str
+    errors: str
+    files: dict[str, str]
+    requests: int | None
+
 
 # How many requests were refused, how the runs ended by their statuses, what calls they printed, and the faults.
 Refused = tuple[int, Counter[int], Counter[str], list[str]]
@@ -195,14 +218,14 @@ def ended(program: str, words: Iterable[str], folder: str, library: str, place: 
     env = os.environ | {"LD_PRELOAD": library, "REFUSED": str(place)}
     run = subprocess.run([program, *words], cwd=folder, env=env, capture_output=True, timeout=120)
     errors = run.stderr.decode("utf-8", "replace")
-    told = re.search(r"requests: (\d+)\n\Z", errors)
+    counted = re.search(r"requests: (\d+)\n\Z", errors)
     found = {name: text for name in files if (text := text_of(os.path.join(folder, name))) is not None}
     return Ended(
         run.returncode,
         run.stdout.decode("utf-8", "replace"),
-        errors[: told.start()] if told else errors,
+        errors[: counted.start()] if counted else errors,
         found,
-        int(told[1]) if told else None,
+        int(counted[1]) if counted else None,
     )
 
 
@@ -231,7 +254,8 @@ def fault_of_command(command: Command, found: Ended, is_replayed: Callable[[str]
     if found.output not in ("", command.output):
         return f"it was refused and printed {found.output!r}"
     for name, text in found.files.items():
-        if not (command.files[name].startswith(text) if command.files[name] is not None else JOURNAL.fullmatch(text)):
+        whole = command.files[name]
+        if not (whole.startswith(text) if whole is not None else JOURNAL.fullmatch(text)):
             return f"it was refused and {name} has {text!r}"
     return None
 
@@ -294,7 +318,7 @@ def refuse_command(program: str, command: Command, folder: str, library: str) ->
         command.status,
     )
     ways = ", ".join(f"{count} with status {status}" for status, count in sorted(statuses.items()))
-    return is_told(command.words, refused, f" (ended {ways})" if ways else "", faults)
+    return reported(command.words, refused, f" (ended {ways})" if ways else "", faults)
 
 
 def refuse_test(program: str, test: Test, folder: str, library: str) -> bool:
@@ -304,10 +328,10 @@ def refuse_test(program: str, test: Test, folder: str, library: str) -> bool:
     )
     faults += [f"{call} was refused {calls[call]} times" for call, least in test.calls.items() if calls[call] < least]
     ways = ", ".join(f"{call} {calls[call]}" for call in sorted(calls))
-    return is_told(f"{test.crate} {test.name}", refused, f" ({ways})" if ways else "", faults)
+    return reported(f"{test.crate} {test.name}", refused, f" ({ways})" if ways else "", faults)
 
 
-def is_told(name: str, refused: int, ways: str, faults: list[str]) -> bool:
+def reported(name: str, refused: int, ways: str, faults: list[str]) -> bool:
     """Says how refusing went. Whether it went well."""
     for fault in faults[:20]:
         files.say(f"{name}: {fault}")
@@ -340,7 +364,7 @@ def main(arguments: list[str] | None = None) -> int:
             ]
         return 0 if went and all(went) else 1
     except (OSError, subprocess.SubprocessError) as fault:
-        files.tell("refuse_memory", fault)
+        files.report("refuse_memory", fault)
         return 2
 
 

@@ -42,7 +42,7 @@ from afdx import files
 from afdx.commands import large_network
 from afdx.files import toml_lines
 from afdx.model import GREATEST_FRAME, GREATEST_SEED, LATEST_NS, PROGRAM, text_of_tree, whole
-from afdx.runs.second_opinion import Simulation
+from afdx.runs.plain_simulator import Simulation
 from gate import stopped_threads
 
 WELL_REPLAYED = re.compile(r"replay: \d+ did, 0 not enabled, 0 refused, gvt \d+, finished\n")
@@ -209,10 +209,10 @@ def hold(program: str, drawn: Drawn, folder: str, seconds: int) -> set[str]:
     tables, _ = ended(program, ["seq", "net.toml", "--trace", "seq.csv"], folder, seconds)
     journal = ["--journal", "steps.txt"] if drawn.has_journal else []
     words = ["run", "net.toml", *drawn.pace(), "--progress", "--trace", "run.csv", *journal]
-    printed, told = ended(program, words, folder, seconds)
+    printed, errors = ended(program, words, folder, seconds)
     same(printed, tables, "the tables of run")
     same(read(os.path.join(folder, "run.csv")), read(os.path.join(folder, "seq.csv")), "the rows of run's trace")
-    found = GROUPS_AND_WORKERS.search(told.decode(errors="replace"))
+    found = GROUPS_AND_WORKERS.search(errors.decode(errors="replace"))
     if not found:
         raise Difference("run did not report its groups and workers")
     groups, workers = map(int, found.groups())
@@ -224,10 +224,10 @@ def hold(program: str, drawn: Drawn, folder: str, seconds: int) -> set[str]:
     else:
         same(ended(program, words, folder, seconds)[0], tables, "the tables of run alone")
     if drawn.has_journal:
-        printed, told = ended(program, ["replay", "net.toml", "steps.txt"], folder, seconds)
+        printed, errors = ended(program, ["replay", "net.toml", "steps.txt"], folder, seconds)
         same(printed, tables, "the tables of replay")
-        if not WELL_REPLAYED.fullmatch(told.decode(errors="replace")):
-            raise Difference(f"replay told: {told.decode(errors='replace').strip()}")
+        if not WELL_REPLAYED.fullmatch(errors.decode(errors="replace")):
+            raise Difference(f"replay printed: {errors.decode(errors='replace').strip()}")
         if has_rolled_back(read(os.path.join(folder, "steps.txt"))):
             did.add(ROLLED_BACK)
     return did
@@ -246,13 +246,13 @@ def hold_with_stopped(program: str, words: list[str], folder: str, seconds: int,
         if thread is not None:
             stopped_threads.go_on(thread)
     try:
-        printed, told = run.communicate(timeout=seconds)
+        printed, errors = run.communicate(timeout=seconds)
     except subprocess.TimeoutExpired:
         run.kill()
         run.communicate()
         raise Difference(f"run with a worker that stood still took longer than {seconds} seconds") from None
     if run.returncode:
-        raise Difference(f"run with a worker that stood still ended with status {run.returncode}: {told.decode(errors='replace').strip()}")
+        raise Difference(f"run with a worker that stood still ended with status {run.returncode}: {errors.decode(errors='replace').strip()}")
     same(printed, tables, "the tables of run with a worker that stood still")
     return {SERVED} if is_served else set()
 
@@ -278,7 +278,7 @@ def hold_by_second_opinion(program: str, drawn: Drawn, folder: str, seconds: int
     return set()
 
 
-def one_run(words: argparse.Namespace, number: int, tell: Callable[[str], object]) -> set[str]:
+def one_run(words: argparse.Namespace, number: int, report: Callable[[str], object]) -> set[str]:
     """Makes one run, prints what it did and must not do, and returns what came out, each in a few words."""
     drawn = Drawn(number)
     folder = tempfile.mkdtemp(prefix=f"threaded-run-{number}-")
@@ -286,12 +286,12 @@ def one_run(words: argparse.Namespace, number: int, tell: Callable[[str], object
         found = (hold_by_second_opinion if words.second_opinion else hold)(words.program, drawn, folder, words.seconds) | {"well"}
     except Difference as fault:
         found = {"another way"}
-        tell(f"run {number} ({' '.join(drawn.pace())}): {fault}")
+        report(f"run {number} ({' '.join(drawn.pace())}): {fault}")
     finally:
         if not words.keep:
             shutil.rmtree(folder)
     if words.keep:
-        tell(f"run {number}: {folder}")
+        report(f"run {number}: {folder}")
     return found
 
 

@@ -1,5 +1,5 @@
 """A small network of events in groups, and what is done with a group: what `meet` and `handle` of a run do, as the exchange
-(`crates/group_exchange`) and the hand (`crates/group_hand`) do it. tools/gate/turn_model.py has the workers."""
+(`crates/group_exchange`) and the hand (`crates/group_hand`) do it. tools/gate/turn_steps.py has the workers."""
 import random
 from collections.abc import Sequence
 from typing import Any, Protocol

@@ -62,8 +62,8 @@ def network(name):
 
 
 def changed(row):
-    """The text that a row begins with, and what the row tells."""
-    name, *changes, told = row.split(" => ")
+    """The text that a row begins with, and what the row states."""
+    name, *changes, said = row.split(" => ")
     text = network(name)
     for change in changes:
         if change.startswith("+ "):
@@ -73,4 +73,4 @@ def changed(row):
             if old not in text:
                 raise ValueError(f"no such piece in {row}")
             text = text.replace(old, new, 1)
-    return text, told
+    return text, said

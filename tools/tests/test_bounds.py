@@ -17,7 +17,8 @@ from unittest import mock
 from afdx import model
 from afdx.commands import bounded_runs, large_network
 from afdx.files import program
-from afdx.reckon import network_calculus
+from afdx.reckon import network_calculus, output_ports, whole_frames
+from afdx.reckon.arrival_curves import PARTS
 from tests.places import EXAMPLES, tool_words
 
 MS = 10**6
@@ -145,7 +146,7 @@ class ByHand(unittest.TestCase):
         found = network([*of(priority="high"), virtual_link(5, way("E6", "A", "E3"), size=1518)])
         for vl in (1, 3):
             self.assertEqual(found.latencies[vl, "E3"], (busy(64) + last_bit(64) + TO_SWITCH + delay + busy(1518) + TO_END, ""))
-        with mock.patch.object(network_calculus, "peak_of_frames", lambda hops, speed, most: most):
+        with mock.patch.object(output_ports, "peak_of_frames", lambda hops, speed, most: most):
             self.assertEqual(network(of()).hops[1, "A>E3"].delay, delay + 45)
 
     def test_whole_frames_by_hand(self):
@@ -156,11 +157,11 @@ class ByHand(unittest.TestCase):
             hops = network([virtual_link(i, way("E1", "A", "E2"), size=1000) for i in range(count)]).ports["E1>A"].hops
             for hop in hops:
                 hop.spread = spread
-            speed = network_calculus.PARTS // BYTE
-            self.assertEqual(network_calculus.peak_of_frames(hops, speed, 10**18), excess * speed)
-            self.assertEqual(network_calculus.peak_of_frames(hops, speed, excess * speed - 1), excess * speed - 1)
+            speed = PARTS // BYTE
+            self.assertEqual(whole_frames.peak_of_frames(hops, speed, 10**18), excess * speed)
+            self.assertEqual(whole_frames.peak_of_frames(hops, speed, excess * speed - 1), excess * speed - 1)
             hops[0].spread = None
-            self.assertEqual(network_calculus.peak_of_frames(hops, speed, 5), 5)
+            self.assertEqual(whole_frames.peak_of_frames(hops, speed, 5), 5)
 
     def test_whole_low_frames_behind_high_ones_by_hand(self):
         """Low frames of 1000 bytes, 81,600 ns, behind high ones of 500, 41,600 ns, each in 1 ms. Twelve high ones with a
@@ -180,8 +181,8 @@ class ByHand(unittest.TestCase):
                 high, low = hops[:highs], hops[highs:]
                 for hop in hops:
                     hop.spread = high_spread if hop in high else low_spread
-                whole = network_calculus.WholeBehindHigh(high, low, network_calculus.PARTS // BYTE)
-                wait = lambda most: whole.longest(low_frame // BYTE * network_calculus.PARTS, most)
+                whole = whole_frames.WholeBehindHigh(high, low, PARTS // BYTE)
+                wait = lambda most: whole.longest(low_frame // BYTE * PARTS, most)
                 self.assertEqual((wait(10**9), wait(longest + 1), wait(longest)), (longest, longest, longest))
                 self.assertEqual(wait(longest - 1), longest - 1)
 
@@ -194,10 +195,10 @@ class ByHand(unittest.TestCase):
             hop.spread = draw.choice([0, 1, draw.randint(0, 3 * MS), 2 * hop.link.vl.bag_ns])
         moments = [draw.randint(0, 200 * MS) for _ in range(200)]
         moments += [turn * hop.link.vl.bag_ns - hop.spread + more for hop in hops for turn in (3, 4) for more in (-1, 0)]
-        whole = network_calculus.WholeFrames(hops)
+        whole = whole_frames.WholeFrames(hops)
         for t in (it for it in moments if it >= 0):
             count = lambda hop: 1 + (t + hop.spread) // hop.link.vl.bag_ns
-            self.assertEqual(whole.come(t), sum(count(hop) * hop.link.amount for hop in hops) * network_calculus.PARTS)
+            self.assertEqual(whole.come(t), sum(count(hop) * hop.link.amount for hop in hops) * PARTS)
 
     def test_a_slow_line_brings_less(self):
         """As above, but the first line has 10 Mbit/s: a byte takes ten times the time, so it brings one frame in 67,200
@@ -247,7 +248,7 @@ class ByHand(unittest.TestCase):
             (5000, {}, 5000),
             (0, {"policing": "frames"}, 0),
             (0, {"policing": "frames", "smax": 1500}, 0),
-            # What passes is counted in bytes of greater frames: the account does not tell how many come.
+            # What passes is counted in bytes of greater frames: the account does not show how many come.
             (0, {"smax": 1500}, frame),
         ):
             with self.subTest(jitter=jitter, **changes):
@@ -330,15 +331,15 @@ class ByHand(unittest.TestCase):
             with self.subTest(changes=changes, outages=outages):
                 row = virtual_link(1, way("E1", "A", "E2"), way("E1", "B", "E2")) | changes
                 found = network([row, virtual_link(2, way("E1", "A", "E2"))], {("B", "E1"): 10, ("B", "E2"): 10}, outages)
-                told = {(it.get("vl"), it["where"]): it for it in found.rows()}
-                self.assertEqual((told[1, "E2"]["sure"], told[1, "E2"]["warning"]), (sure, warning))
+                printed = {(it.get("vl"), it["where"]): it for it in found.rows()}
+                self.assertEqual((printed[1, "E2"]["sure"], printed[1, "E2"]["warning"]), (sure, warning))
                 if refuses is None:
-                    self.assertNotIn((1, "A"), told)
+                    self.assertNotIn((1, "A"), printed)
                     continue
-                self.assertEqual((told[1, "E2"]["skew_ns"], told[1, "E2"]["skew_max_ns"]), (str(greater - alone), row["skew_max_ns"]))
+                self.assertEqual((printed[1, "E2"]["skew_ns"], printed[1, "E2"]["skew_max_ns"]), (str(greater - alone), row["skew_max_ns"]))
                 account = {"vl": 1, "where": "A", "jitter_ns": str(busy(64)), "policing_jitter_ns": row["policing_jitter_ns"]}
-                self.assertEqual(told[1, "A"], account | {"warning": refuses})
-                self.assertEqual(told[1, "B"]["jitter_ns"], "0")
+                self.assertEqual(printed[1, "A"], account | {"warning": refuses})
+                self.assertEqual(printed[1, "B"]["jitter_ns"], "0")
         self.assertEqual(lesser, alone + busy(64))
         # Twenty frames are released together: nineteen of them may wait.
         vls = [virtual_link(i, way("E1", "A", "E2")) for i in range(20)]
@@ -445,8 +446,8 @@ class OfRuns(unittest.TestCase):
         self.assertEqual(status, 0, said)
         self.assertRegex(said, r"^60 networks, 600 runs: \d{5} latencies, \d{5} ports and \d{6} others held against bounds, 0 above; ")
 
-    def test_what_is_above_its_bound_is_told_and_can_be_run_again(self):
-        """With all bounds a hundredth lower, some latency is above its bound. The words that are told run it again."""
+    def test_what_is_above_its_bound_is_reported_and_can_be_run_again(self):
+        """With all bounds a hundredth lower, some latency is above its bound. The words that are printed run it again."""
         honest = network_calculus.Bounds.latency
 
         def lower(self, vl, where):
@@ -480,11 +481,13 @@ class OfProgram(unittest.TestCase):
                 shares.append(proved.of[key] / (max(ways) + found.links[key[0]].wait))
         return sorted(shares)
 
-    def test_they_are_little_above_those_of_the_tool(self):
+    def test_they_are_near_those_of_the_tool(self):
+        """The tool counts whole frames, or what a line sends, and takes the lesser sum; the program mixes both line by line. So either may
+        be lower."""
         for path in sorted(glob.glob(os.path.join(EXAMPLES, "*.toml"))):
             with self.subTest(os.path.basename(path)), open(path, encoding="utf-8") as file:
                 shares = self.shares(file.read())
-                self.assertGreaterEqual(shares[0], 1)
+                self.assertGreaterEqual(shares[0], 0.95)
                 self.assertLessEqual(shares[-1], 1.05)
 
     def test_on_a_large_network_too(self):
@@ -493,7 +496,7 @@ class OfProgram(unittest.TestCase):
         shares = self.shares("".join(pieces))
         self.assertGreater(len(shares), 5000)
         self.assertLessEqual(shares[len(shares) // 2], 1.01)
-        self.assertLessEqual(shares[-1], 1.07)
+        self.assertLessEqual(shares[-1], 1.05)
 
     def test_no_drawn_run_is_above_them(self):
         said = io.StringIO()
@@ -553,7 +556,7 @@ class Proved(unittest.TestCase):
         self.assertIn(",none,,", text.splitlines()[1])
 
     def test_another_file_is_refused(self):
-        for lines, told in (
+        for lines, printed in (
             ((), "begins with '' in place of kind,of,where,"),
             (("vl,where", *self.LINES[1:]), "line 1: begins with 'vl,where'"),
             ((self.LINES[0], "bound,2,ES2,1,0,1"), "line 2: virtual link 2 at 'ES2' is not in "),
@@ -563,10 +566,10 @@ class Proved(unittest.TestCase):
             (self.LINES[:-1], "the file ends without the port before ES2>SW1"),
             ((self.LINES[0], "bounds,1,ES2"), "line 2: is no line of bounds"),
         ):
-            with self.subTest(told):
+            with self.subTest(printed):
                 status, text, errors = self.call(lines)
                 self.assertEqual((status, text), (2, ""))
-                self.assertIn(told, errors)
+                self.assertIn(printed, errors)
                 self.assertEqual(errors.count("\n"), 1)
 
 
@@ -606,11 +609,11 @@ class Command(unittest.TestCase):
             ):
                 with open(path, "w", encoding="utf-8") as out:
                     out.write(text.replace(old, new))
-                status, out, told = self.call(path)
+                status, out, printed = self.call(path)
                 self.assertEqual((status, out), (2, ""))
-                self.assertTrue(told.startswith(f"afdx bounds: {path} {said}"), told)
-            status, _, told = self.call(os.path.join(folder, "none"))
-            self.assertEqual((status, told.count("\n")), (2, 1))
+                self.assertTrue(printed.startswith(f"afdx bounds: {path} {said}"), printed)
+            status, _, printed = self.call(os.path.join(folder, "none"))
+            self.assertEqual((status, printed.count("\n")), (2, 1))
 
     def test_984_virtual_links(self):
         """It takes a second or so of a processor that does nothing else, and may take three beside other work."""

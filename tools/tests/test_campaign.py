@@ -21,7 +21,7 @@ from afdx import model
 from afdx.commands import campaign, report
 from afdx.reckon import latency_counts
 from afdx.runs.merged import Merged
-from afdx.runs.second_opinion import CAUSES, Simulation
+from afdx.runs.plain_simulator import CAUSES, Simulation
 from tests.places import EXAMPLES, TOOLS, tool_words
 
 COCKPIT, SATURATED, FAILING, N1 = (
@@ -31,7 +31,7 @@ COCKPIT, SATURATED, FAILING, N1 = (
 # A program that prints what the plain simulator finds, after lines of a test's own.
 STAND_IN = """#!{python}
 import os, signal, sys, time, tomllib
-from afdx.runs.second_opinion import Simulation
+from afdx.runs.plain_simulator import Simulation
 if sys.argv[1] == "--version":
     sys.exit(print("stand-in 1"))
 with open(sys.argv[2], "rb") as file:
@@ -103,7 +103,7 @@ class Here(unittest.TestCase):
         self.folder = folder.name
         self.output = os.path.join(self.folder, "campaign")
         self.merged = os.path.join(self.output, "merged.csv")
-        self.program = campaign.PROGRAM
+        self.program = model.PROGRAM
 
     def file(self, name, text):
         path = os.path.join(self.folder, name)
@@ -247,9 +247,9 @@ class WithAStandIn(Here):
                 with self.subTest(lines, jobs=jobs):
                     self.stand_in(lines)
                     begin = time.monotonic()
-                    status, out, told = self.call(net, "--seeds", "9", "--jobs", jobs)
+                    status, out, printed = self.call(net, "--seeds", "9", "--jobs", jobs)
                     self.assertLess(time.monotonic() - begin, 90)
-                    self.assertEqual((status, told), (1, f"afdx campaign: seed 9: {said}\n"))
+                    self.assertEqual((status, printed), (1, f"afdx campaign: seed 9: {said}\n"))
                     self.assertIn("2 runs merged, seeds 7 to 8, in", out)
                     self.assertEqual(read(self.merged), merged)
 
@@ -258,9 +258,9 @@ class WithAStandIn(Here):
         self.stand_in("sys.exit('no')")
         os.mkdir(self.output)
         self.file("campaign/merged.csv", "earlier")
-        told = self.call(N1, "--seeds", "3")
+        printed = self.call(N1, "--seeds", "3")
         self.assertEqual(
-            told, (1, "no run was merged, and nothing is written\n", "afdx campaign: seed 42: no (status 1)\n")
+            printed, (1, "no run was merged, and nothing is written\n", "afdx campaign: seed 42: no (status 1)\n")
         )
         self.assertEqual(read(self.merged), "earlier")
 
@@ -299,9 +299,9 @@ class WithAStandIn(Here):
             time.sleep(0.05)
         time.sleep(0.5)
         run.send_signal(sent)
-        out, told = run.communicate(timeout=30)
+        out, printed = run.communicate(timeout=30)
         self.assertEqual(run.returncode, status)
-        self.assertEqual(told, f"afdx campaign: {said}, before the run of the seed 44 was merged\n")
+        self.assertEqual(printed, f"afdx campaign: {said}, before the run of the seed 44 was merged\n")
         self.assertEqual(os.listdir(kept), [])
         self.assertIn("2 runs merged, seeds 42 to 43, in", out)
         self.assertIn("latency,1,ES2,,2,27720,27720,55440,42\n", read(self.merged))
@@ -312,14 +312,14 @@ class WithAStandIn(Here):
         add, latency = Merged.add, "latency,1,ES2,,{0},27720,27720,{1},42\n"
         for last, said in (42, "before the run of the seed 43 was merged"), (43, "behind the last run"):
 
-            def interrupted(own, seed, told):
+            def interrupted(own, seed, printed):
                 if seed == last:
                     os.kill(os.getpid(), signal.SIGTERM)
-                add(own, seed, told)
+                add(own, seed, printed)
 
             with self.subTest(last), mock.patch.object(Merged, "add", interrupted):
-                status, out, told = self.call(N1, "--seeds", "2")
-                self.assertEqual((status, told), (143, f"afdx campaign: ended by SIGTERM, {said}\n"))
+                status, out, printed = self.call(N1, "--seeds", "2")
+                self.assertEqual((status, printed), (143, f"afdx campaign: ended by SIGTERM, {said}\n"))
                 count = last - 41
                 self.assertIn(f"{count} run{'s' if count > 1 else ''} merged", out)
                 self.assertIn(latency.format(count, count * 27720), read(self.merged))
@@ -345,29 +345,29 @@ class WithAStandIn(Here):
         head = "vl,where,runs,least_greatest_ns,mean_greatest_ns,greatest_ns,sum_greatest_ns,seed"
         for jobs in ("1", "3"):
             self.assertEqual(self.call(COCKPIT, "--seeds", "5", "--jobs", jobs, "--histograms")[0], 0)
-            told = read(os.path.join(self.output, "greatest.csv")).splitlines()
-            self.assertEqual(told, [head + ",percent_50_ns,percent_95_ns,percent_99_ns", *lines])
+            printed = read(os.path.join(self.output, "greatest.csv")).splitlines()
+            self.assertEqual(printed, [head + ",percent_50_ns,percent_95_ns,percent_99_ns", *lines])
             self.assertEqual(read(os.path.join(self.output, "histograms.csv")).splitlines(), counts)
         self.assertEqual(read(self.merged), merged_by_hand(runs))
         # Without --histograms no latency is counted by itself.
         self.output = os.path.join(self.folder, "plain")
         self.assertEqual(self.call(COCKPIT, "--seeds", "5")[0], 0)
         self.assertEqual(sorted(os.listdir(self.output)), ["campaign.json", "greatest.csv", "merged.csv"])
-        told = read(os.path.join(self.output, "greatest.csv")).splitlines()
-        self.assertEqual(told, [head, *(line.rsplit(",", 3)[0] for line in lines)])
+        printed = read(os.path.join(self.output, "greatest.csv")).splitlines()
+        self.assertEqual(printed, [head, *(line.rsplit(",", 3)[0] for line in lines)])
 
     def test_the_page_of_its_folder(self):
-        """The campaign says of which seeds it is. Told other seeds, the page of its tables alone is red: frames would be
+        """The record of a campaign names its seeds. With other seeds the page of its tables alone is red: frames would be
         under way for longer than any took."""
         self.stand_in()
         page = os.path.join(self.folder, "page.html")
         for words in ([], ["--offsets", "--first", "5"]):
             self.output = os.path.join(self.folder, f"campaign{len(words)}")
             self.assertEqual(self.call(COCKPIT, "--seeds", "3", *words)[0], 0)
-            told = json.loads(read(os.path.join(self.output, "campaign.json")))
-            self.assertEqual(told["description"], model.checksum(read(COCKPIT)))
+            printed = json.loads(read(os.path.join(self.output, "campaign.json")))
+            self.assertEqual(printed["description"], model.checksum(read(COCKPIT)))
             wanted = (512_000_000, 5 if words else 7, 3, bool(words), ["--seeds", "3"] + words[:1])
-            self.assertEqual(tuple(told[name] for name in ("until_ns", "first_seed", "seeds", "offsets", "words")), wanted)
+            self.assertEqual(tuple(printed[name] for name in ("until_ns", "first_seed", "seeds", "offsets", "words")), wanted)
             self.assertEqual(report.main([COCKPIT, self.output, "-o", page]), 0)
             self.assertIn('data-name="lost end to end"', read(page))
             self.assertNotIn('data-name="under way too long"', read(page))
@@ -380,12 +380,12 @@ class WithAStandIn(Here):
         self.stand_in()
         net = self.file("net.toml", read(N1).replace("offset_ns = 0", "offset_ns = 2000001"))
         self.assertEqual(self.call(net, "--seeds", "2", "--histograms")[0], 0)
-        told = read(os.path.join(self.output, "greatest.csv")).splitlines()
-        self.assertEqual(told[1:], ["1,ES2,0,0,0,0,0,,,,"])
+        printed = read(os.path.join(self.output, "greatest.csv")).splitlines()
+        self.assertEqual(printed[1:], ["1,ES2,0,0,0,0,0,,,,"])
         self.assertEqual(read(os.path.join(self.output, "histograms.csv")), "vl,where,from_ns,to_ns,count\n")
 
     def test_jobs_are_side_by_side(self):
-        """As many as asked, and no more: each run tells by a file when it begins and ends."""
+        """As many as asked, and no more: each run writes a file when it begins and when it ends."""
         self.stand_in(
             f"path = os.path.join({self.folder!r}, 'runs')\n"
             "with open(path, 'a') as out: out.write('+')\n"
@@ -418,7 +418,7 @@ class WithAStandIn(Here):
         self.assertTrue(shown.endswith(b"\r\x1b[K"))
 
     def test_a_long_run_is_watched(self):
-        """On a terminal the line tells how far a run is; what else it says is its fault. Elsewhere no run is asked."""
+        """On a terminal the line shows how far a run is; what else it says is its fault. Elsewhere no run is asked."""
         far = "if '--progress' in sys.argv:\n    sys.stderr.write('afdxsim: 1 of 2 ms, 50 %, 1 s left\\n'); sys.stderr.flush(); time.sleep(0.3)\n"
         command = [*tool_words("campaign"), N1, "--seeds", "1", "-o", self.output, "--replace"]
         for fails, status in ("", 0), ("sys.exit('afdxsim: out of memory')\n", 1):
@@ -446,8 +446,8 @@ class WithAStandIn(Here):
         ):
             with self.subTest(said):
                 limits = self.file("limits.csv", text)
-                told = self.call(N1, "--seeds", "2", "--limits", limits)
-                self.assertEqual(told, (2, "", f"afdx campaign: {limits} {said}\n"))
+                printed = self.call(N1, "--seeds", "2", "--limits", limits)
+                self.assertEqual(printed, (2, "", f"afdx campaign: {limits} {said}\n"))
                 self.assertFalse(os.path.exists(self.output))
 
     def test_other_bad_words(self):
@@ -627,14 +627,14 @@ class ThePage(Here):
         path = os.path.join(self.output, "greatest.csv")
         good = read(path)
         row = good.splitlines()[1]
-        for text, told in (
+        for text, printed in (
             (good.replace(row, row.replace(f",{wanted[0][0]},", ",1,", 1)), " line 2: is of another campaign than the merged tables beside it"),
             (good.replace(row + "\n", ""), f": is of another campaign than {self.merged}"),
             ("x\n", " line 1: the columns are not those of a campaign with --histograms: " + good.splitlines()[0]),
         ):
             with open(path, "w") as out:
                 out.write(text)
-            self.assertEqual(self.page(COCKPIT)[:2], (2, f"afdx report: {path}{told}\n"))
+            self.assertEqual(self.page(COCKPIT)[:2], (2, f"afdx report: {path}{printed}\n"))
 
     def test_without_histograms(self):
         self.stand_in()

@@ -15,7 +15,7 @@ from afdx.runs import cluster
 from tests.test_campaign import COCKPIT, Here, N1, read
 from tests.places import tool_words
 
-# Tells by a file for each run which process it was of, and takes a while.
+# Writes a file for each run, which names its process, and takes a while.
 SLOW = """
 with open({runs!r}, "a") as out:
     print(seed, os.getppid(), file=out)
@@ -127,8 +127,8 @@ class WithACluster(Here):
         out, said = run.communicate(timeout=600)
         self.assertEqual((run.returncode, out), (1, "no run was merged, and nothing is written\n"))
         sums = [hashlib.sha256(read(path).encode()).hexdigest()[:16] for path in (other, self.program)]
-        told = f"is another program: its SHA-256 is {sums[0]}.., and here it is {sums[1]}..; AFDXSIM in the environment of a worker names its program"
-        self.assertRegex(said, rf"^afdx campaign: seed 42: .*other of .* {re.escape(told)}\n$")
+        printed = f"is another program: its SHA-256 is {sums[0]}.., and here it is {sums[1]}..; AFDXSIM in the environment of a worker names its program"
+        self.assertRegex(said, rf"^afdx campaign: seed 42: .*other of .* {re.escape(printed)}\n$")
 
 
 class WithoutOne(Here):

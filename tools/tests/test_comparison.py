@@ -38,37 +38,37 @@ class Here(unittest.TestCase):
 
 
 class Differences(Here):
-    def told(self, before, now):
+    def differing(self, before, now):
         return comparison.differences(*map(model.Network, (before, now)))
 
     def test_each_section(self):
         """Keys that differ, by the names of their rows, whatever the order of rows is; and rows of one description alone."""
         net = self.network("net.toml")
         own = model.Network(net)
-        self.assertEqual(self.told(net, net), [])
+        self.assertEqual(self.differing(net, net), [])
         vl = own.description.rows("vl")[0]
         other = self.network(
             "other.toml", ("seed = 42", "seed = 43"), (f"bag_ms = {vl['bag_ms']}", "bag_ms = 128"), ('latency_ns = 16000', "latency_ns = 7"),
             ("mbit = 100", "mbit = 10"), more=OUTAGE.format(0, 5) + OUTAGE.format(7, 9),
         )
         self.assertEqual(
-            self.told(net, other),
+            self.differing(net, other),
             [
                 ("the run", "seed", "42", "43"), ("node SW1", "latency_ns", "16000", "7"), ("link ES1-SW1", "mbit", "100", "10"),
                 ("outage ES1>SW1", "", "not there", "there"), ("outage ES1>SW1, number 2", "", "not there", "there"),
                 ("virtual link 1", "bag_ms", str(vl["bag_ms"]), "128"),
             ],
         )
-        back = self.told(other, net)
-        self.assertEqual([(*it[:2], it[3], it[2]) for it in self.told(net, other)], back)
+        back = self.differing(other, net)
+        self.assertEqual([(*it[:2], it[3], it[2]) for it in self.differing(net, other)], back)
 
     def test_what_may_be_absent(self):
         """What a key means where it is absent is no difference; a link whose ends change places is none either."""
         net = self.network("net.toml")
         same = self.network("same.toml", ('a = "ES1"\nb = "SW1"', 'a = "SW1"\nb = "ES1"'), ("depth = ", "sub = 1\npolicing = \"bytes\"\ndepth = "))
-        self.assertEqual(self.told(net, same), [])
+        self.assertEqual(self.differing(net, same), [])
         frames = self.network("frames.toml", ("depth = ", "policing = \"frames\"\ndepth = "))
-        self.assertEqual(self.told(net, frames), [("virtual link 1", "policing", "bytes", "frames")])
+        self.assertEqual(self.differing(net, frames), [("virtual link 1", "policing", "bytes", "frames")])
 
     def test_long_paths_are_cut(self):
         net = self.network("net.toml")
@@ -77,7 +77,7 @@ class Differences(Here):
         ends = ["ES1", *names, "ES2"]
         links = "".join(f'[[link]]\na = "{a}"\nb = "{b}"\nmbit = 100\npropagation_ns = 1\n' for a, b in zip(ends, ends[1:]))
         other = self.network("other.toml", ('"ES1", "SW1", "ES2"', ", ".join(f'"{name}"' for name in ends)), more=nodes + links)
-        found = [it for it in self.told(net, other) if it[1] == "a"]
+        found = [it for it in self.differing(net, other) if it[1] == "a"]
         self.assertEqual(len(found), 1)
         self.assertEqual((found[0][2], len(found[0][3]), found[0][3][-3:]), ('[["ES1", "SW1", "ES2"]]', 79, " .."))
 

@@ -56,7 +56,7 @@ class Lists(unittest.TestCase):
                     self.assertTrue(os.path.isfile(os.path.join(folder, part, name)))
 
     def test_the_read_me_names_each_crate_once(self):
-        items = ITEM.findall(between(document("README.md"), "## What is proved", "## How to check it"))
+        items = ITEM.findall(between(document("README.md"), "## What is proved", "## Who checked it, and how you can"))
         self.assertEqual(sorted(name for item in items for name in named(item)), sorted(self.all))
 
     def test_what_is_proved_stands_for_each_crate_of_the_product(self):

@@ -268,15 +268,15 @@ class Used:
         with open(self.path(name)) as one, open(self.path(other)) as two:
             self.assertEqual(one.read(), two.read())
 
-    def test_it_tells_what_it_was_proved_of(self):
+    def test_it_names_what_it_was_proved_of(self):
         found = self.run_there("afdx", "--version")
         self.assertEqual(found.returncode, 0, found.stderr)
         version = found.stdout.splitlines()
         self.assertEqual(version[0], f"afdxsim {program.version(TOP)}")
-        self.assertRegex(version[1], "^program: .*, proved, commit [0-9a-f]{8}, " + re.escape(test_commands.TOLD))
+        self.assertRegex(version[1], "^program: .*, proved, commit [0-9a-f]{8}, " + re.escape(test_commands.KIT_IN_WORDS))
         found = self.run_there("afdx", "seq", f"{self.examples}/cockpit.toml")
         self.assertEqual(found.stdout, TABLES)
-        self.assertRegex(found.stderr, r"^afdx: afdxsim [0-9.]+, proved, commit [0-9a-f]{8}, " + re.escape(test_commands.TOLD) + "\n$")
+        self.assertRegex(found.stderr, r"^afdx: afdxsim [0-9.]+, proved, commit [0-9a-f]{8}, " + re.escape(test_commands.KIT_IN_WORDS) + "\n$")
 
     def test_all_that_a_user_does_goes_well(self):
         self.does(DONE)
@@ -293,7 +293,7 @@ class Used:
         found = self.run_there("afdx", "replay", f"{self.examples}/cockpit.toml", "steps.txt")
         self.assertRegex(found.stderr, r"\nreplay: \d+ did, \d+ not enabled, 0 refused, gvt \d+, finished\n$")
 
-    def test_each_command_and_each_tool_tells_its_words(self):
+    def test_each_command_and_each_tool_lists_its_words(self):
         calls = [("afdx", "--help"), ("afdxsim", "--help")]
         # Of an unpacked package nothing is at its place.
         calls += [("/usr/bin/python3", "-m", "afdx", "--help")] if type(self) is Installed else []

@@ -19,7 +19,7 @@ long write(int file, const void *bytes, unsigned long count) { return syscall(1,
 long __write(int file, const void *bytes, unsigned long count) { return write(file, bytes, count); }
 """
 
-# Two file systems in memory, in which the first file has the same number: a run reads the one and writes the other. 77 is told where
+# Two file systems in memory, in which the first file has the same number: a run reads the one and writes the other. 77 is printed where
 # there cannot be such.
 TWO_DEVICES = """
 mount -t tmpfs none one && mount -t tmpfs none other || exit 77
@@ -28,7 +28,7 @@ cp n1.toml one && : > other/trace.csv || exit 77
 "$0" seq one/n1.toml --trace other/trace.csv && cat other/trace.csv
 """
 
-# The words, a row each, then the status and what is told on error output; where the status is 0, the tables are on standard
+# The words, a row each, then the status and what error output has; where the status is 0, the tables are on standard
 # output, else nothing is. `folder` is a folder, `link.toml` a link to n1.toml, and no file is `absent`. Nobody can make a
 # file in /proc, and /dev/full takes nothing.
 ROWS = """
@@ -63,7 +63,7 @@ run link.toml --workers 2 --journal n1.toml => 2 afdxsim: named twice: n1.toml
 run n1.toml --workers 2 --trace new.csv --journal folder/../new.csv => 2 afdxsim: named twice: folder/../new.csv
 """
 
-# What is printed where standard output takes nothing: the status, the words, and what is told on error output.
+# What is printed where standard output takes nothing: the status, the words, and what error output has.
 NO_OUTPUT = """
 check n1.toml => 4 afdxsim: cannot write
 seq n1.toml => 4 afdxsim: cannot write
@@ -84,10 +84,10 @@ no words => 2
 
 
 def rows_of(text):
-    """The words of each row, its status and what it tells."""
+    """The words of each row, its status and what it prints."""
     for row in text.strip().splitlines():
-        words, told = row.split(" => ")
-        status, _, line = told.partition(" ")
+        words, said = row.split(" => ")
+        status, _, line = said.partition(" ")
         yield row, words.split(), int(status), line + "\n" if line else ""
 
 
@@ -110,7 +110,7 @@ class Devices(unittest.TestCase):
         streams = {"stdout": subprocess.PIPE, "stderr": subprocess.PIPE} | streams
         return subprocess.run([PROGRAM, *words], cwd=self.folder, env=env, text=True, timeout=60, **streams)
 
-    def are_told(self, env=None):
+    def are_reported(self, env=None):
         """Each row comes to what it says, and where it is well its files are whole."""
         for row, words, status, line in rows_of(ROWS):
             with self.subTest(row):
@@ -132,12 +132,12 @@ class Devices(unittest.TestCase):
         self.assertEqual(os.listdir(self.path("folder")), [])
         self.assertEqual(refuse_memory.text_of(self.path("steps.txt")), STEPS)
 
-    def test_files_are_written_or_their_fault_is_told(self):
-        self.are_told()
+    def test_files_are_written_or_their_fault_is_reported(self):
+        self.are_reported()
 
     def test_it_is_the_same_where_each_write_takes_one_byte(self):
         library = refuse_memory.library_in(self.folder, CUTS)
-        self.are_told(os.environ | {"LD_PRELOAD": library})
+        self.are_reported(os.environ | {"LD_PRELOAD": library})
 
     @unittest.skipUnless(shutil.which("unshare"), "there is no unshare")
     def test_files_with_one_number_on_two_devices_are_two(self):
@@ -149,7 +149,7 @@ class Devices(unittest.TestCase):
             self.skipTest("no file system can be made here")
         self.assertEqual((run.returncode, run.stdout, run.stderr), (0, TABLES + TRACE, ""))
 
-    def test_standard_output_that_takes_nothing_is_told(self):
+    def test_standard_output_that_takes_nothing_is_reported(self):
         for row, words, status, line in rows_of(NO_OUTPUT):
             with self.subTest(row), open("/dev/full", "w") as full:
                 run = self.ended(words, stdout=full)

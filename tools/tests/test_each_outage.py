@@ -6,7 +6,7 @@ import unittest
 
 from afdx.reckon.frames import Range
 from afdx.runs import each_outage
-from afdx.runs.second_opinion import Simulation
+from afdx.runs.plain_simulator import Simulation
 from tests.test_campaign import FAILING, Here, N1, read
 
 HEAD = (
@@ -136,8 +136,8 @@ class EachOutage(Here):
         self.assertEqual(
             lines, ["link FCC SWA,2,ACT,18,0,7,7,25,25,75080,0", "link FCC SWA,3,FCC,25,25,0,0,0,0,33480,33880"]
         )
-        told = "link FCC SWA: 18 frames more lost end to end at 1 destinations, 1 later, most virtual link 3 at FCC from 33480"
-        self.assertIn(told + " to 33880 ns\n", out)
+        printed = "link FCC SWA: 18 frames more lost end to end at 1 destinations, 1 later, most virtual link 3 at FCC from 33480"
+        self.assertIn(printed + " to 33880 ns\n", out)
         self.assertEqual(len(os.listdir(self.output)), 3 + 2 * 7)
         with open(os.path.join(self.output, "outage-5-seed-1.toml"), "rb") as file:
             outages = tomllib.load(file)["outage"]
@@ -193,7 +193,7 @@ class EachOutage(Here):
         self.assertEqual(self.call(FAILING, "--each-outage", "--limits", limits)[0], 0)
 
     def test_a_run_fails(self):
-        """What was told before it is kept."""
+        """What was found before it is kept."""
         self.stand_in("if sum(row['from'] == 'SWB' and row['from_ns'] == 0 for row in net['outage']): sys.exit('no')")
         for jobs in ("1", "3"):
             status, out, said = self.call(FAILING, "--each-outage", "--first", "1", "--jobs", jobs)
@@ -202,9 +202,9 @@ class EachOutage(Here):
             lines = expected(FAILING, ELEMENTS[:2], 0, (1,))
             self.assertEqual(self.lines_of_table(), [HEAD, *lines])
         self.stand_in("sys.exit('no')")
-        told = self.call(FAILING, "--each-outage", "--first", "1")
+        printed = self.call(FAILING, "--each-outage", "--first", "1")
         said = "no run without an outage was made, and nothing is written\n"
-        self.assertEqual(told, (1, said, "afdx campaign: seed 1: no (status 1)\n"))
+        self.assertEqual(printed, (1, said, "afdx campaign: seed 1: no (status 1)\n"))
 
     def test_bad_words(self):
         self.stand_in()
@@ -214,7 +214,7 @@ class EachOutage(Here):
             self.assertEqual(ended.exception.code, 2)
 
     def test_what_counts_as_later(self):
-        """In ns, or as a part of what it was; unless told, more than one percent."""
+        """In ns, or as a part of what it was; more than one percent if nothing is given."""
         for word, before, now, counts in (
             ("0", 1000, 1001, 1), ("0", 1000, 1000, 0), ("0", 1000, 900, 0), ("10", 1000, 1010, 0), ("10", 1000, 1011, 11),
             ("5%", 1000, 1050, 0), ("5%", 1000, 1051, 51), ("0.1%", 1000, 1001, 0), ("0.1%", 1000, 1002, 2), ("1%", 0, 5, 5),
@@ -228,7 +228,7 @@ class EachOutage(Here):
     def test_later_on_the_page(self):
         """Three outages make frames of virtual link 3 later by 400 ns, of 33,480."""
         self.stand_in()
-        for words, late, told in (
+        for words, late, printed in (
             ([], "3", "1 percent"), (["--later", "399"], "3", "399 ns"), (["--later", "400"], "0", "400 ns"),
             (["--later", "1.1%"], "3", "1.1 percent"), (["--later", "2%"], "0", "2 percent"),
         ):
@@ -238,7 +238,7 @@ class EachOutage(Here):
                 page = Rows(read(os.path.join(self.output, "outages.html")))
                 text = "".join(page.all)
                 self.assertIn(f"{late}outages that make frames later", text)
-                self.assertIn(f"grows by more than {told};", text)
+                self.assertIn(f"grows by more than {printed};", text)
                 self.assertEqual(out.count(", 1 later"), int(late))
                 # The table has each that grows, whatever counts.
                 self.assertEqual(read(os.path.join(self.output, "outages.csv")).count(",33480,33880"), 3)

@@ -38,7 +38,7 @@ def examples():
     return {os.path.basename(path)[:-5]: read(path) for path in sorted(glob.glob(os.path.join(EXAMPLES, "*.toml")))}
 
 
-def told_by_explain(text):
+def answered_by_explain(text):
     finding = judge.first_fault("net.toml", text)
     return "ok" if finding is None else judge.answer(finding)
 
@@ -53,7 +53,7 @@ class Program:
         atexit.register(shutil.rmtree, folder)
         self.path = os.path.join(folder, "net.toml")
 
-    def tells(self, text):
+    def answers(self, text):
         with open(self.path, "wb") as out:
             out.write(text if type(text) is bytes else text.encode("utf-8"))
         run = subprocess.run([model.PROGRAM, "check", self.path], capture_output=True, text=True)
@@ -151,17 +151,17 @@ def mutated(text, draw):
 
 
 def hold_mutated(count, seed):
-    """Holds afdx explain against the program on mutated examples, and answers how often each number was told, and what
-    was told in two ways."""
-    program, draw, told, differ = Program(), random.Random(seed), collections.Counter(), []
+    """Holds afdx explain against the program on mutated examples, and answers how often each number was printed, and what
+    was answered in two ways."""
+    program, draw, printed, differ = Program(), random.Random(seed), collections.Counter(), []
     texts = list(examples().values())
     for _ in range(count):
         text = mutated(draw.choice(texts), draw)
-        by_program, by_explain = program.tells(text), told_by_explain(text)
-        told[by_program.split(" at ")[0]] += 1
+        by_program, by_explain = program.answers(text), answered_by_explain(text)
+        printed[by_program.split(" at ")[0]] += 1
         if by_program != by_explain:
             differ.append((by_program, by_explain, text))
-    return told, differ
+    return printed, differ
 
 
 class WithTheProgram(unittest.TestCase):
@@ -171,21 +171,21 @@ class WithTheProgram(unittest.TestCase):
         for name, text in examples().items():
             texts = list(changes_of_each_key(text))
             for one in texts if name == "n1" else draw.sample(texts, 15):
-                self.assertEqual(told_by_explain(one), program.tells(one), one)
+                self.assertEqual(answered_by_explain(one), program.answers(one), one)
 
     @drawn.given(150)
     def test_mutated_texts(self, draw):
         text = mutated(draw.choice(list(examples().values())), draw)
-        self.assertEqual(told_by_explain(text), Program().tells(text), text)
+        self.assertEqual(answered_by_explain(text), Program().answers(text), text)
 
 
 class Rows(unittest.TestCase):
     def test_each_row_of_the_programs_tests(self):
         """The first fault is that of the row, by number and place."""
         for row in rows("descriptions"):
-            text, told = changed(row)
+            text, printed = changed(row)
             with self.subTest(row):
-                self.assertEqual(told_by_explain(text), "ok" if told.startswith("ok") else told)
+                self.assertEqual(answered_by_explain(text), "ok" if printed.startswith("ok") else printed)
         self.assertGreater(len(rows("descriptions")), 200)
 
 
@@ -241,7 +241,7 @@ b = 1
         self.assertEqual(tree["vl"][0].lines, {"a": 11, "t": 15, "b": 18})
         self.assertEqual(tree["vl"][0]["a"].lines, [11, 14])
 
-    def test_what_is_no_toml_is_told_with_its_line(self):
+    def test_what_is_no_toml_is_reported_with_its_line(self):
         for text, line, said in (
             ("a = 1\nb =\n", 2, "there is the end of the line where a value is wanted"),
             ("a = 1\nb = ES1\n", 2, 'ES1 is a text without quotes; it is written "ES1"'),
@@ -262,13 +262,13 @@ b = 1
             ("a = 1\r", 1, "there is '\\r' where a key is wanted"),
         ):
             with self.subTest(text):
-                with self.assertRaises(toml_lines.BadToml) as told:
+                with self.assertRaises(toml_lines.BadToml) as printed:
                     toml_lines.read(text)
-                self.assertEqual((told.exception.line, str(told.exception)), (line, said))
+                self.assertEqual((printed.exception.line, str(printed.exception)), (line, said))
 
 
 def repr_of(value):
-    """A value as a text that tells types apart, with dates and times as one type."""
+    """A value as a text that shows its type, with dates and times as one type."""
     if isinstance(value, dict):
         return {key: repr_of(one) for key, one in value.items()}
     if isinstance(value, list):
@@ -307,8 +307,8 @@ b = []
 
 
 class Explained(unittest.TestCase):
-    def told(self, *changes, text=BAD):
-        """What is told of a text with changes, each of a piece for another: the lines without the name of the file."""
+    def printed(self, *changes, text=BAD):
+        """What is printed of a text with changes, each of a piece for another: the lines without the name of the file."""
         for old, new in changes:
             self.assertIn(old, text)
             text = text.replace(old, new, 1)
@@ -353,7 +353,7 @@ class Explained(unittest.TestCase):
             ('["ADC", "SWA", "DU"]', '["ADC", "SWA", "SWA", "DU"]', 7, f"24: {vl}, a, path 1: there is no link from SWA to SWA; SWA is linked with ADC, DU"),
         ):
             with self.subTest(wanted):
-                status, lines = self.told((old, new))
+                status, lines = self.printed((old, new))
                 self.assertEqual(status, 1)
                 first, _, answer = lines[0].partition(" [afdxsim: description: ")
                 self.assertEqual((first, int(answer.split()[0])), (wanted, number))
@@ -379,7 +379,7 @@ class Explained(unittest.TestCase):
             ([("]\nlink", switch), more('a = "ADC", b = "SWB"', 'a = "DU", b = "SWB"'), ("b = []", 'b = [["DU", "SWB", "ADC"]]')], 8, "vl 1 b", f"28: {vl}, b: the paths on B begin at DU, and those on A at ADC: a virtual link has one source"),
         ):
             with self.subTest(wanted):
-                status, lines = self.told(*changes)
+                status, lines = self.printed(*changes)
                 self.assertEqual((status, lines[0]), (1, f"{wanted} [afdxsim: description: {number} {judge.NAMES[number]} at {place}]"))
 
     def test_too_many(self):
@@ -393,7 +393,7 @@ class Explained(unittest.TestCase):
             (outage * 1025, "outage 1025", "5164: outage ES1>SW1 (outage row 1025): there are 1025 outages, and may be 1024: take out the others"),
         ):
             with self.subTest(place):
-                status, lines = self.told(text=n1 + text)
+                status, lines = self.printed(text=n1 + text)
                 self.assertEqual((status, lines[0]), (1, f"{wanted} [afdxsim: description: 9 TooMany at {place}]"))
 
     def test_each_rule_of_a_path_is_named(self):
@@ -412,7 +412,7 @@ class Explained(unittest.TestCase):
             ('[["ADC", "SWA", "DU"], ["ADC", "SWB", "DU"]]', 6, "path 2: DU comes behind SWB, and behind SWA in path 1"),
         ):
             with self.subTest(rule):
-                status, lines = self.told(*two, ('[["ADC", "SWA", "DU"]]', paths))
+                status, lines = self.printed(*two, ('[["ADC", "SWA", "DU"]]', paths))
                 wanted = f", a, {said} (broken: rule {rule} of 6, {judge.RULES[rule]})"
                 self.assertEqual(status, 1)
                 self.assertTrue(any(wanted in line for line in lines), lines)
@@ -420,7 +420,7 @@ class Explained(unittest.TestCase):
 
     def test_all_faults_at_once(self):
         """Also those in lines that can be read, where others are no TOML."""
-        status, lines = self.told(("id = 120", "id = one"), ("bag_ms = 8", "bag_ms = 10"), ("depth = 4", 'depth = "4'), ('"SWA", "DU"]', '"SW", "DU"]'))
+        status, lines = self.printed(("id = 120", "id = one"), ("bag_ms = 8", "bag_ms = 10"), ("depth = 4", 'depth = "4'), ('"SWA", "DU"]', '"SW", "DU"]'))
         self.assertEqual(status, 1)
         self.assertEqual(
             lines,
@@ -432,27 +432,27 @@ class Explained(unittest.TestCase):
                 "4 faults, the first is what afdxsim answers",
             ],
         )
-        status, lines = self.told(("[[vl]]", "[[vl"), ("10_000_000", "0"))
+        status, lines = self.printed(("[[vl]]", "[[vl"), ("10_000_000", "0"))
         self.assertEqual(lines[-1], "1 fault, the first is what afdxsim answers; what is behind line 12 was not judged")
 
     def test_a_file_that_is_not_utf_8(self):
-        status, lines = self.told(text=BAD.encode() + b"# \xff\n")
+        status, lines = self.printed(text=BAD.encode() + b"# \xff\n")
         self.assertEqual((status, lines[0]), (1, "26: no TOML: the file is not UTF-8 [afdxsim: description: 1 Syntax]"))
 
     def test_many_warnings_of_one_kind(self):
-        """Of more than ten the first three are told, and how many more there are; of others each, and of all each with --all."""
+        """Of more than ten the first three are printed, and how many more there are; of others each, and of all each with --all."""
         head, link = BAD.split("[[vl]]")
         rows = [link.replace("id = 120\n", f"id = {i}\n").replace("period_ns = 8_000_000", "period_ns = 7_999_999") for i in range(1, 31)]
-        for count, told in ((10, 10), (11, 3), (30, 3)):
+        for count, printed in ((10, 10), (11, 3), (30, 3)):
             text = "[[vl]]".join([head, *rows[:count]]).replace("size = 128", "size = 129", 2)
             path = os.path.join(self.enterContext(tempfile.TemporaryDirectory()), "net.toml")
             with open(path, "w", encoding="utf-8") as out:
                 out.write(text)
             lines = explain.explain(path)[0].splitlines()
             of_kind = [line for line in lines if "below the BAG of" in line]
-            self.assertEqual(len(of_kind), told)
-            each = explain.explain(path, tells_all=True)[0].splitlines()
-            self.assertEqual([line for line in each if "below the BAG of" in line][:told], of_kind)
+            self.assertEqual(len(of_kind), printed)
+            each = explain.explain(path, prints_all=True)[0].splitlines()
+            self.assertEqual([line for line in each if "below the BAG of" in line][:printed], of_kind)
             self.assertEqual(len([line for line in each if ": warning: " in line]), int(each[-1].split(", ")[1].split(" ")[0]))
             rest = [line for line in lines if line.endswith(" more (--all)")]
             kind = f"{path}: warning: the period is below the BAG: {count - 3} more (--all)"
@@ -461,7 +461,7 @@ class Explained(unittest.TestCase):
 
     def test_warnings(self):
         vl = "virtual link 120 (vl row 1)"
-        self.assertEqual(self.told(), (0, ["accepted"]))
+        self.assertEqual(self.printed(), (0, ["accepted"]))
         other = '{ name = "SWB", kind = "switch", port_bytes = 1518, net = "B", latency_ns = 1 },\n  { name = "SWA"'
         links = '{ a = "ADC", b = "SWB", mbit = 100, propagation_ns = 1 },\n  { a = "FWC", b = "SWB", mbit = 100, propagation_ns = 1 },\n  { a = "FWC", b = "SWA", mbit = 100, propagation_ns = 1 },\n  { a = "ADC"'
         both = [('{ name = "SWA"', '{ name = "FWC", kind = "es", port_bytes = 1518 },\n  ' + other), ('{ a = "ADC"', links)]
@@ -480,7 +480,7 @@ class Explained(unittest.TestCase):
             ([("bag_ms = 8", "bag_ms = 1"), ("8_000_000", "15_000"), ("mbit = 100", "mbit = 10")], "22: warning: "),
         ):
             with self.subTest(wanted):
-                status, lines = self.told(*changes)
+                status, lines = self.printed(*changes)
                 self.assertEqual(status, 0, lines)
                 self.assertTrue(any(line.startswith(wanted) for line in lines), lines)
                 self.assertRegex(lines[-1], r"^accepted, \d warnings?$")
@@ -488,7 +488,7 @@ class Explained(unittest.TestCase):
     def test_loads(self):
         """One virtual link of 1518 bytes a ms is 12.3 percent of 100 Mbit/s, and 123 of 10; seven of them are 86."""
         full = [("bag_ms = 8", "bag_ms = 1"), ("8_000_000", "1_000_000"), ("smax = 128", "smax = 1518"), ("size = 128", "size = 1518")]
-        status, lines = self.told(*full, ("mbit = 100", "mbit = 10"))
+        status, lines = self.printed(*full, ("mbit = 100", "mbit = 10"))
         wanted = "9: warning: link ADC-SWA (link row 1): gets 123.0 percent of the 10 Mbit/s of ADC>SWA: frames are lost or late there, whatever the moments"
         # Of 10 Mbit/s one such frame takes 1,230,400 ns, and by the standard an end system may be 500,000 ns late.
         rule = "4: warning: end system ADC (node row 1) has 1 virtual link on ADC>SWA: 40 us and a frame of each take 1270400 ns, and ARINC 664 Part 7 allows 500000 ns of transmit jitter"
@@ -498,7 +498,7 @@ class Explained(unittest.TestCase):
             text = text.replace(old, new, 1)
         head, _, vl = text.partition("[[vl]]")
         seven = head + "".join("[[vl]]" + vl.replace("id = 120", f"id = {i}") for i in range(7))
-        status, lines = self.told(text=seven)
+        status, lines = self.printed(text=seven)
         wanted = "gets 86.1 percent of the 100 Mbit/s of {}: frames wait long there"
         self.assertEqual(status, 0)
         self.assertEqual([line.split(": ", 3)[-1] for line in lines[1:3]], [wanted.format(line) for line in ("ADC>SWA", "SWA>DU")])
@@ -517,7 +517,7 @@ class Explained(unittest.TestCase):
 if __name__ == "__main__":
     if len(sys.argv) == 2 and sys.argv[1].isdigit():
         found, differing = hold_mutated(int(sys.argv[1]), 2026)
-        print(f"{found.total()} mutated texts, {len(differing)} told in two ways: {dict(sorted(found.items()))}")
+        print(f"{found.total()} mutated texts, {len(differing)} answered in two ways: {dict(sorted(found.items()))}")
         for by_program, by_explain, text in differing[:10]:
             print("----", by_program, "----", by_explain, "----")
             print(text)
@@ -526,8 +526,8 @@ if __name__ == "__main__":
         for text in examples().values():
             for one in changes_of_each_key(text):
                 count += 1
-                if told_by_explain(one) != it.tells(one):
-                    differing.append((it.tells(one), told_by_explain(one)))
-        print(f"{count} texts with one key changed, {len(differing)} told in two ways: {differing[:10]}")
+                if answered_by_explain(one) != it.answers(one):
+                    differing.append((it.answers(one), answered_by_explain(one)))
+        print(f"{count} texts with one key changed, {len(differing)} answered in two ways: {differing[:10]}")
     else:
         unittest.main()

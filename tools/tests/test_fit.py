@@ -69,10 +69,10 @@ class ByHand(unittest.TestCase):
 
     def test_what_cannot_be_worked_out_stays(self):
         found = network([virtual_link(i, way(f"E{i}", "A", "AA", "E3"), size=1000) for i in (1, 2)], {("A", "AA"): 10})
-        told = {(it.name, it.key): it.why for it in fit.proposals(found.net) if it.after is None}
+        printed = {(it.name, it.key): it.why for it in fit.proposals(found.net) if it.after is None}
         why = "without it there is no bound of how frames come to AA"
         port = "there is no bound of what waits at A>AA: A>AA may be given more than it can send"
-        self.assertEqual(told, {("A", KEYS[1]): port, (1, KEYS[0]): why, (2, KEYS[0]): why})
+        self.assertEqual(printed, {("A", KEYS[1]): port, (1, KEYS[0]): why, (2, KEYS[0]): why})
 
 
 class Written(unittest.TestCase):
@@ -119,10 +119,10 @@ class Written(unittest.TestCase):
         wanted = head.replace("16_384", "1_518").replace("0x4000", "1518")
         fitted = vl.replace("500000     #", "7000       #")
         self.assertEqual((status, said, text), (0, "", wanted + fitted.format(1) + fitted.format(2)))
-        told = "node,E1,port_bytes,16384,1518,\nnode,A,port_bytes,16384,1518,\nvl,1,policing_jitter_ns,500000,7000,\nvl,2,policing_jitter_ns,500000,7000,\n"
-        self.assertEqual(out, "section,name,key,before,after,why\n" + told)
+        printed = "node,E1,port_bytes,16384,1518,\nnode,A,port_bytes,16384,1518,\nvl,1,policing_jitter_ns,500000,7000,\nvl,2,policing_jitter_ns,500000,7000,\n"
+        self.assertEqual(out, "section,name,key,before,after,why\n" + printed)
 
-    def test_what_stays_is_told(self):
+    def test_what_stays_is_reported(self):
         path = os.path.join(EXAMPLES, "saturated_port.toml")
         status, out, said, text = self.call(path)
         self.assertEqual(status, 1)

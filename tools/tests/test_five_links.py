@@ -16,7 +16,7 @@ from fractions import Fraction
 from afdx import model
 from afdx.reckon import network_calculus
 from afdx.runs import aim
-from afdx.runs.second_opinion import Simulation
+from afdx.runs.plain_simulator import Simulation
 from tests.places import EXAMPLES, TOP
 
 EXAMPLE = os.path.join(EXAMPLES, "five_links.toml")
@@ -87,7 +87,7 @@ class FiveLinks(unittest.TestCase):
         self.assertEqual((set(self.net.mbit.values()), set(self.net.propagation_ns.values())), ({SPEED}, {1}))
 
     def test_the_bounds_are_those_of_the_textbook_with_grouping(self):
-        """But for what is told in EARLIER, and for less than 1 ns at each hop, since moments are whole."""
+        """But for what EARLIER names, and for less than 1 ns at each hop, since moments are whole."""
         for vl, us in textbook(True, True).items():
             with self.subTest(vl):
                 apart = us * 1000 - self.hops(vl) * EARLIER - self.bound(vl)

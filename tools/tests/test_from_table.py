@@ -15,7 +15,7 @@ from afdx import model
 from afdx.commands import from_table
 from afdx.files import toml_lines, workbook
 from afdx.model import judge
-from afdx.runs.second_opinion import Simulation
+from afdx.runs.plain_simulator import Simulation
 from tests.places import EXAMPLES, tool_words
 
 
@@ -115,7 +115,7 @@ class Back(Here):
 
 
 class OfTables(Here):
-    def test_usual_values_are_told(self):
+    def test_usual_values_are_named(self):
         tree = self.made(NODES + LINKS + LINE)
         (vl,) = tree["vl"]
         usual = {"priority": "low", "policing_jitter_ns": 500000, "skew_max_ns": 4000000, "depth": 4, "offset_ns": 0}
@@ -181,7 +181,7 @@ class OfTables(Here):
         stated = self.ring(head + ",a\n1,ADC,DU FWC,8,100,ADC S1 S4 S3 DU | ADC>S1>S4>FWC\n")
         self.assertEqual((stated["a"], stated["b"]), ([["ADC", "S1", "S4", "S3", "DU"], ["ADC", "S1", "S4", "FWC"]], []))
 
-    def test_a_network_that_does_not_reach_a_destination_is_told(self):
+    def test_a_network_that_does_not_reach_a_destination_is_reported(self):
         tree = self.made(NODES + LINKS.replace("DU,SWB\n", "") + LINE)
         self.assertEqual(tree["vl"][0]["b"], [])
         self.assertIn("b = []                          # not reached: DU\n", read(self.output))
@@ -213,7 +213,7 @@ class OfTables(Here):
             with self.subTest(said):
                 self.assertEqual(self.faults_of(text), [line if line.startswith("note: ") else "table0.csv " + line for line in said])
 
-    def test_all_faults_are_told_at_once(self):
+    def test_all_faults_are_reported_at_once(self):
         said = self.faults(NODES + LINKS, LINE + "2,ADC,DU,8,x\n3,ADC,XX,8,y\n")
         self.assertEqual(said, [
             "table1.csv line 3: smax is 'x', and no whole number; so has 1 more line: 4",
@@ -222,8 +222,8 @@ class OfTables(Here):
 
     def test_words(self):
         none = os.path.join(self.folder, "none.csv")
-        told = f"afdx table: {none}: cannot be read: No such file or directory\n"
-        self.assertEqual(self.call(none), (2, "", told))
+        printed = f"afdx table: {none}: cannot be read: No such file or directory\n"
+        self.assertEqual(self.call(none), (2, "", printed))
         table = self.file("table.csv", NODES + LINKS + LINE)
         status, out, said = self.call(table, "-o", table)
         self.assertEqual((status, out, read(table)), (2, "", NODES + LINKS + LINE))
@@ -251,7 +251,7 @@ class AsItIs(Here):
     """What a table of a project has beside what this tool needs."""
 
     def noted(self, *texts):
-        """The description of tables, which must be accepted, and what is told on the way."""
+        """The description of tables, which must be accepted, and what is printed on the way."""
         paths = [self.file(f"table{i}.csv", text) for i, text in enumerate(texts)]
         status, out, said = self.call(*paths, "-o", self.output)
         self.assertEqual((status, out), (0, ""), said)
@@ -291,9 +291,10 @@ id = 1
         """Each line has a reference and a message of its own, as an interface control document has them."""
         links = LINKS.replace("DU,SWB\n", "DU,SWB\nFWC,SWA\nFWC,SWB\n")
         head = "id,Reference,source,dest,bag_ms,smax,priority,Message\n"
-        tree, said = self.noted(NODES + links, head + "1,R-17,ADC,DU,8,100,High,Air data\n1,R-18,ADC,FWC,8.0,100,high,Air data 2\n")
-        self.assertEqual(said, ["table1.csv line 1: the column reference is passed over", "table1.csv line 1: the column message is passed over"])
-        self.assertEqual([vl["a"] for vl in tree["vl"]], [[["ADC", "SWA", "DU"], ["ADC", "SWA", "FWC"]]])
+        for alike in ("8,100,High", "8.0,100,high"):
+            tree, said = self.noted(NODES + links, head + f"1,R-17,ADC,DU,8,100,High,Air data\n1,R-18,ADC,FWC,{alike},Air data 2\n")
+            self.assertEqual(said, ["table1.csv line 1: the column reference is passed over", "table1.csv line 1: the column message is passed over"])
+            self.assertEqual([vl["a"] for vl in tree["vl"]], [[["ADC", "SWA", "DU"], ["ADC", "SWA", "FWC"]]])
 
     def test_lines_that_differ_in_more_are_a_fault(self):
         """It names each column with both values, and the lines, also those of two files."""
@@ -383,7 +384,7 @@ id = 1
                 self.assertTrue(found[2].rstrip("\n").endswith(said), found[2])
         self.assertEqual(self.call("--back", table, "--column", "Box=source")[0], 2)
 
-    def test_a_fault_of_many_lines_is_told_once(self):
+    def test_a_fault_of_many_lines_is_reported_once(self):
         lines = "".join(f"{i},ADC,DU,10,100\n" for i in range(2, 70))
         (said,) = self.faults(NODES + LINKS + LINE + lines)
         wanted = "line 13: virtual link 2, bag_ms is 10, and must be 1, 2, 4, 8, 16, 32, 64 or 128. The next below 10 is 8; so have 67 more lines: 14, 15, 16, .."
@@ -409,8 +410,8 @@ id = 1
         self.assertEqual(self.call("--back", self.output, "-o", tables), (0, "", ""))
         self.assertEqual(self.call(tables, "-o", again)[:2], (0, ""))
         said = [[line for line in read(it).split("\n") if line.startswith(("# limit", "# udp", "# remarks"))] for it in (self.output, again)]
-        self.assertEqual(len(said[0]), 8)
         self.assertEqual(said[1], said[0])
+        self.assertEqual(len(said[0]), 8)
         self.assertEqual(toml_lines.read(read(again)), toml_lines.read(read(self.output)))
 
     def test_a_fault_of_a_line_that_was_joined(self):
@@ -448,8 +449,8 @@ class Workbooks(Here):
         path = os.path.join(EXAMPLES, "flight_deck.xlsx")
         status, out, said = self.call(path, "-o", self.output)
         self.assertEqual((status, out), (0, ""))
-        told = ["line 1: is a title, 'Flight deck, interface control document', and is passed over", "line 3: the column message is passed over"]
-        wanted = [f"afdx table: note: {path}, sheet Virtual links, {text}" for text in told]
+        printed = ["line 1: is a title, 'Flight deck, interface control document', and is passed over", "line 3: the column message is passed over"]
+        wanted = [f"afdx table: note: {path}, sheet Virtual links, {text}" for text in printed]
         wanted.append(f"afdx table: note: {path}, sheet History, line 1: names no columns of a table, but issue, author, change, and is passed over")
         self.assertEqual(said.splitlines(), wanted)
         found = read(self.output)
@@ -499,15 +500,15 @@ class Workbooks(Here):
         self.assertEqual(status, 0, said)
         self.assertEqual(said.splitlines(), [
             f"afdx table: note: {path}, sheet Sheet, line 9: is hidden, and is read all the same; so has 1 more line: 10",
-            f"afdx table: note: {path}, sheet Sheet,: has the column E, which is hidden, and is read all the same",
-            f"afdx table: note: {path}, sheet Old,: is hidden, and is read all the same",
+            f"afdx table: note: {path}, sheet Sheet: has the column E, which is hidden, and is read all the same",
+            f"afdx table: note: {path}, sheet Old: is hidden, and is read all the same",
         ])
         self.assertEqual(len(toml_lines.read(read(self.output))["vl"]), 2)
 
     def test_a_formula_without_a_value(self):
         path = self.of_rows(["id", "smax"], [1, "=64+36"])
-        told = f"afdx table: {path}: sheet Sheet, cell B2, is a formula without a value: open and save it in the program that has made it\n"
-        self.assertEqual(self.call(path), (2, "", told))
+        printed = f"afdx table: {path}: sheet Sheet, cell B2, is a formula without a value: open and save it in the program that has made it\n"
+        self.assertEqual(self.call(path), (2, "", printed))
 
     def test_a_workbook_without_a_table(self):
         path = self.of_rows(["Issue", "Author"], ["A", "B"])
@@ -528,11 +529,11 @@ class Workbooks(Here):
 
 
 class WithoutTheLibrary(Here):
-    def test_it_is_told_what_to_install(self):
+    def test_it_names_what_to_install(self):
         path = os.path.join(EXAMPLES, "flight_deck.xlsx")
-        told = f"afdx table: {path}: is a workbook, which needs a library: apt-get install -y python3-openpyxl; or save its sheets as CSV\n"
+        printed = f"afdx table: {path}: is a workbook, which needs a library: apt-get install -y python3-openpyxl; or save its sheets as CSV\n"
         with mock.patch.object(workbook, "DEBIAN", "/none/python3"), mock.patch("importlib.util.find_spec", lambda name: None):
-            self.assertEqual(self.call(path), (2, "", told))
+            self.assertEqual(self.call(path), (2, "", printed))
 
 
 class WithTheProgram(Here):

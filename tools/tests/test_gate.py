@@ -115,8 +115,8 @@ class Gate(unittest.TestCase):
                     os.unlink(os.path.join(self.folder, "rt"))
                 self.assertEqual(self.ended(rt, tests)[1:], (line, status))
 
-    def test_each_skipped_test_is_told_with_its_reason(self):
-        for tests, told in (
+    def test_each_skipped_test_is_listed_with_its_reason(self):
+        for tests, said in (
             (SKIPS, ["tests.test_it.It.test_three: there is no x: get it"]), (PASSES, []),
             (f"import unittest\n@unittest.skip('none')\nclass Other(unittest.TestCase):\n    def test_it(self): pass\n{SKIPS}",
              ["tests.test_it.Other.test_it: none", "tests.test_it.It.test_three: there is no x: get it"]),
@@ -124,7 +124,7 @@ class Gate(unittest.TestCase):
             lines, last, status = self.ended(GOOD, tests)
             self.assertEqual((last, status), ("53 passed, 0 failed", 0))
             found = [line.removeprefix("test: skipped: ") for line in lines if line.startswith("test: skipped: ")]
-            self.assertEqual(sorted(found), sorted(told))
+            self.assertEqual(sorted(found), sorted(said))
 
     @unittest.skipUnless(os.geteuid() == 0, "installs as root alone")
     def test_as_root_it_installs_what_is_missing(self):
@@ -152,7 +152,7 @@ class Gate(unittest.TestCase):
         self.assertEqual((last, status), ("53 passed, 0 failed", 0))
 
     @unittest.skipUnless(os.geteuid() == 0, "installs as root alone")
-    def test_what_cannot_be_installed_is_told_before_the_first_proof(self):
+    def test_what_cannot_be_installed_is_reported_before_the_first_proof(self):
         os.unlink(os.path.join(self.folder, "chromium"))
         self.script("apt-get", APT.format(folder=self.folder, has=""))
         lines, last, status = self.ended("echo PROVES\n" + GOOD, env={"PATH": self.folder})
@@ -187,12 +187,12 @@ class Gate(unittest.TestCase):
         self.write("crates/command_line/src/program.rt", 'const VERSION: &str = "1.2.3";\n')
         self.write("crates/afdxsim/out/none", "")
 
-    def test_it_tells_how_far_it_is(self):
+    def test_it_reports_how_far_it_is(self):
         self.sources()
         lines, last, status = self.ended(PROVES)
         self.assertEqual((last, status), ("53 passed, 0 failed", 0))
-        told = [re.sub(r"\d+ s.*", "0 s", line) for line in lines if line.startswith(("test: crate", "test: tools"))]
-        self.assertEqual(told, [
+        said = [re.sub(r"\d+ s.*", "0 s", line) for line in lines if line.startswith(("test: crate", "test: tools"))]
+        self.assertEqual(said, [
             "test: crate 1 of 2, edits of 0 of 1 crates, 0 s",
             "test: crate 2 of 2, edits of 0 of 1 crates, 0 s",
             "test: crate 2 of 2, edits of 1 of 1 crates, 0 s",
@@ -214,7 +214,7 @@ class Gate(unittest.TestCase):
         self.assertFalse([line for line in self.ended(PROVES, FAILS)[0] if "last run" in line])
         self.assertEqual(os.path.getsize(os.path.join(self.folder, "cache", "afdxsim", "last-test.json")), 1)
 
-    def test_it_tells_what_each_crate_took(self):
+    def test_it_reports_what_each_crate_took(self):
         self.sources()
         lines, last, status = self.ended(WORKS.replace("{python}", sys.executable))
         self.assertEqual((last, status), ("53 passed, 0 failed", 0))
@@ -225,12 +225,12 @@ class Gate(unittest.TestCase):
         self.assertTrue(any(re.match(r"test:   test_it.py +[0-9]+$", line) for line in lines))
         self.assertRegex(lines[lines.index(last) - 1], "^test: proofs and edits .*, tools .*, all .*$")
 
-    def test_it_tells_at_times_what_is_proved(self):
+    def test_it_reports_at_times_what_is_proved(self):
         self.sources()
         self.write("tools/gate/proofs_and_tests.py", self.text("tools/gate/proofs_and_tests.py").replace("\nEACH = 60\n", "\nEACH = 2\n"))
         lines = self.ended(WORKS.replace("{python}", sys.executable))[0]
-        told = [line for line in lines if re.match(r"test: crate 0 of 2, .*; low( \(tests\))? since \d s$", line)]
-        self.assertTrue(told, lines)
+        said = [line for line in lines if re.match(r"test: crate 0 of 2, .*; low( \(tests\))? since \d s$", line)]
+        self.assertTrue(said, lines)
 
     def test_the_program_gets_a_record_where_all_was_proved(self):
         self.sources()

@@ -64,7 +64,7 @@ class Process:
 
 
 class Group:
-    """Processes that do the steps that a group tells, and what was told of it."""
+    """Processes that do the steps that a group prints, and what was printed of it."""
 
     def __init__(self, members):
         self.processes = {number: Process(number) for number in range(members)}
@@ -76,18 +76,18 @@ class Group:
             self.mail[letter[0][1]].append(letter)
         process.outbox = []
 
-    def step(self, told):
-        process = self.processes[int(told[1:])]
-        if told[0] == "R":
+    def step(self, said):
+        process = self.processes[int(said[1:])]
+        if said[0] == "R":
             process.run()
             self.post(process)
-        elif told[0] == "H":
+        elif said[0] == "H":
             assert not process.tray, "a letter waits before one that arrives at once"
             process.tray.append(self.mail[process.number].popleft())
             assert process.arrive() == 0, "a letter that arrived at once undid something"
-        elif told[0] == "T":
+        elif said[0] == "T":
             process.tray.append(self.mail[process.number].popleft())
-        elif told[0] == "A":
+        elif said[0] == "A":
             process.arrive()
             self.post(process)
         else:
@@ -143,29 +143,29 @@ class Group:
             message = self.next()
             assert message is None or message[0] >= numbers[0], "a message is earlier than the limit"
 
-    def after(self, word, told):
+    def after(self, word, said):
         """What came of one word of a script."""
         if word[0] in "+-":
             message, sign = read_message(word[1:]), 1 if word[0] == "+" else -1
             if message[1] in self.processes:
                 self.processes[message[1]].tray.append((message, sign))
-        steps = [token for token in told if token[0] in STEPS]
+        steps = [token for token in said if token[0] in STEPS]
         self.steps += sum(STEPS[token[0]] for token in steps)
         for step in steps:
             self.step(step)
         for number in self.processes:
             assert not self.mail[number], "a letter home was not taken"
         call, *numbers = word.split(":")
-        self.look(call, [int(number) for number in numbers], [token for token in told if token[0] not in STEPS])
+        self.look(call, [int(number) for number in numbers], [token for token in said if token[0] not in STEPS])
 
 
-def follow(script, told):
-    """Plays on single processes what was told of the script."""
-    words, tokens = script.split(), iter(told.split())
+def follow(script, said):
+    """Plays on single processes what was printed of the script."""
+    words, tokens = script.split(), iter(said.split())
     group = Group(int(words[0].split(":")[1]))
     for word in words[1:]:
         group.after(word, list(iter(lambda: next(tokens), ".")))
-    assert next(tokens, None) is None, "more was told than asked"
+    assert next(tokens, None) is None, "more was printed than asked"
     return group
 
 
@@ -235,9 +235,9 @@ class Hands(unittest.TestCase):
         run = play([PLAYER], scripts)
         self.assertEqual(run.returncode, 0, run.stderr)
         lines = run.stdout.splitlines()
-        for script, told in zip(scripts, lines, strict=False):
-            with self.subTest(script, told=told):
-                follow(script, told)
+        for script, said in zip(scripts, lines, strict=False):
+            with self.subTest(script, said=said):
+                follow(script, said)
         self.assertGreaterEqual(len(lines), len(scripts))
 
 

@@ -12,6 +12,7 @@ from afdx.commands import bounds
 from afdx.files import Fault
 from afdx.reckon import hops, network_calculus
 from afdx.runs import second_opinion
+from afdx.runs.measured_hops import Measured
 from tests.test_bounds import MS, TO_END, TO_SWITCH, busy, last_bit, network, virtual_link, way
 from tests.test_report import Browser, UNFOLD, make, ns_of, number_of
 from tests.places import EXAMPLES
@@ -74,9 +75,9 @@ class Beside(unittest.TestCase):
         """Of the smallest example, with bounds of a test's own: one is above."""
         path = os.path.join(EXAMPLES, "n1.toml")
         net = model.Network(path)
-        run = second_opinion.Measured(net.description.tree)
+        run = Measured(net.description.tree)
         run.run()
-        greatest = {(kind, vl, run.names[place]): row[2] for (kind, vl, place), row in run.found.items()}
+        greatest = {(kind, vl, run.names[place]): tally.greatest for (kind, vl, place), tally in run.found.items()}
 
         class Found:
             def greatest(self, *key):
@@ -118,8 +119,8 @@ class Bounds(unittest.TestCase):
         text = found.text().splitlines()
         rows = [dict(zip(text[0].split(","), line.split(","))) for line in text[1:]]
         row = next(row for row in rows if (row["vl"], row["where"]) == ("1", "E2"))
-        told = [row[name] for name in ("bound_ns", "wait_ns", "network_ns", "network_a_ns", "network_b_ns", "skew_ns", "delay_ns")]
-        self.assertEqual(told, [str(by_a + 200_000), "200000", str(by_a), str(by_a), str(by_b), str(by_b - least_a), ""])
+        said = [row[name] for name in ("bound_ns", "wait_ns", "network_ns", "network_a_ns", "network_b_ns", "skew_ns", "delay_ns")]
+        self.assertEqual(said, [str(by_a + 200_000), "200000", str(by_a), str(by_a), str(by_b), str(by_b - least_a), ""])
         self.assertEqual([row["delay_ns"] for row in rows if (row["vl"], row["where"]) == ("1", "E1>A")], [str(busy(64) + last_bit(64))])
 
     def test_where_there_is_no_bound(self):
@@ -184,7 +185,7 @@ class InTheBrowser(unittest.TestCase):
         self.assertNotIn("above on the way", page.tiles)
 
     def test_what_is_above_its_bound(self):
-        """A delay of a bounds file that is too low is marked, told, and gives the status 1."""
+        """A delay of a bounds file that is too low is marked and reported, and the status is 1."""
         other = os.path.join(self.folder, "low.csv")
         with open(self.bounds, encoding="utf-8") as file:
             rows = list(csv.reader(file))

@@ -15,8 +15,8 @@ from tests.test_report import Browser, large_network, make, read
 
 # What the browser shows: each cell of each table, of a virtual link and of a line too.
 SHOWN = """
-    const told = [];
-    const take = () => told.push([...document.querySelectorAll("table")].map(it => [it.id, it.innerText, it.innerHTML.length]));
+    const said = [];
+    const take = () => said.push([...document.querySelectorAll("table")].map(it => [it.id, it.innerText, it.innerHTML.length]));
     document.querySelectorAll("button.all").forEach(it => it.click());
     dispatchEvent(new Event("beforeprint"));
     take();
@@ -25,7 +25,7 @@ SHOWN = """
       dispatchEvent(new Event("hashchange"));
       take();
     }
-    document.documentElement.dataset.told = JSON.stringify(told);
+    document.documentElement.dataset.said = JSON.stringify(said);
 """
 
 
@@ -70,7 +70,7 @@ class Large(unittest.TestCase):
         with open(tables, "w", encoding="ascii") as out:
             subprocess.run([*tool_words("second-opinion"), net, "--hops", hops], stdout=out, check=True)
         subprocess.run([*tool_words("bounds"), net, "-o", bounds], check=True)
-        told = []
+        said = []
         for most, name in ((html_page.MOST_PLAIN, "plain.html"), (0, "packed.html")):
             with mock.patch.object(html_page, "MOST_PLAIN", most):
                 found = make(net, tables, "--hops", hops, "--bounds", bounds, "-o", self.file(name))
@@ -78,8 +78,8 @@ class Large(unittest.TestCase):
             self.assertEqual('id="packed"' in read(self.file(name)), most == 0)
             script = f"(window.unpacking ?? Promise.resolve()).then(() => {{{SHOWN % (101, 'SW_A1>SW_A2')}}});"
             page = browser.open(self.file(name), script, more=["--virtual-time-budget=30000"])
-            told.append(json.loads(page.words["data-told"]))
-        plain, packed = told
+            said.append(json.loads(page.words["data-said"]))
+        plain, packed = said
         self.assertGreater(len(plain[0]), 8)
         self.assertGreater(len(plain[1]), len(plain[0]))
         self.assertEqual(packed, plain)

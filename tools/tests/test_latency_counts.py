@@ -8,7 +8,7 @@ import unittest
 from afdx import model
 from afdx.reckon import latency_counts
 from afdx.reckon.latency_counts import Counts, bin_of, ends_of
-from afdx.runs import second_opinion
+from afdx.runs.plain_simulator import Simulation
 from tests.places import EXAMPLES
 
 COCKPIT = os.path.join(EXAMPLES, "cockpit.toml")
@@ -47,9 +47,9 @@ class Counting(unittest.TestCase):
         self.assertEqual(found.total(), len(all_of))
         for percent in (1, 50, 95, 99, 100):
             exact = all_of[-(-percent * len(all_of) // 100) - 1]
-            (told,) = found.percentiles([percent], all_of[-1])
-            self.assertEqual(told, min(all_of[-1], ends_of(bin_of(exact))[1]))
-            self.assertTrue(0 <= told - exact <= exact / 1000)
+            (said,) = found.percentiles([percent], all_of[-1])
+            self.assertEqual(said, min(all_of[-1], ends_of(bin_of(exact))[1]))
+            self.assertTrue(0 <= said - exact <= exact / 1000)
 
     def test_counts_of_any_size(self):
         found = Counts()
@@ -73,7 +73,7 @@ class OfATrace(unittest.TestCase):
         self.addCleanup(folder.cleanup)
         self.path = os.path.join(folder.name, "trace.csv")
         self.net = model.Network(COCKPIT)
-        simulation = second_opinion.Simulation(self.net.description.tree)
+        simulation = Simulation(self.net.description.tree)
         simulation.run()
         self.trace = "".join(line + "\n" for line in simulation.trace())
         self.tables = model.Tables(COCKPIT.replace(".toml", ".tables.csv"), self.net)
@@ -95,7 +95,7 @@ class OfATrace(unittest.TestCase):
         self.addCleanup(setattr, latency_counts, "BLOCK", before)
         for block in (before, 100, 37):
             latency_counts.BLOCK = block
-            self.assertEqual([dict(zip(*it)) for it in self.of(self.trace)], list(wanted.values()))
+            self.assertEqual([dict(it) for it in self.of(self.trace).each()], list(wanted.values()))
 
     def test_one_of_another_run_is_refused(self):
         lines = self.trace.splitlines(keepends=True)

@@ -6,12 +6,20 @@ import glob
 import os
 import re
 import unittest
-from collections import namedtuple
+from typing import NamedTuple
 
 from tests.places import TOP
 
-# A library, what it is for, the crate that does this, and the names of the library that do it.
-Place = namedtuple("Place", "library purpose crate names")
+
+class Place(NamedTuple):
+    """A library, what it is for, the crate that does this, and the names of the library that do it."""
+
+    library: str
+    purpose: str
+    crate: str
+    names: tuple[str, ...]
+
+
 PLACES = (
     Place("toml", "descriptions are read", "network_rows", ("table_from_str", "Table")),
     Place("clap", "command lines are read", "command_line", ("Command", "ArgMatches")),
@@ -138,38 +146,38 @@ def changed(texts, path, old, new):
 
 
 class Taken(unittest.TestCase):
-    """A copy without one of them is told."""
+    """A copy without one of them is reported."""
 
     @classmethod
     def setUpClass(cls):
         cls.texts = sources()
         cls.before = faults_of(cls.texts)
 
-    def is_told(self, texts, beginning):
+    def reports(self, texts, beginning):
         self.assertTrue([it for it in faults_of(texts) if it not in self.before and it.startswith(beginning)], beginning)
 
-    def test_a_library_that_is_taken_out_is_told(self):
+    def test_a_library_that_is_taken_out_is_reported(self):
         for library, _, crate, names in PLACES:
             with self.subTest(library):
-                self.is_told(changed(self.texts, "crates.txt", rf"^({crate}:.*) {library}\b", r"\1"), library)
+                self.reports(changed(self.texts, "crates.txt", rf"^({crate}:.*) {library}\b", r"\1"), library)
                 folder = f"crates/{crate}/src/"
                 for name in names:
                     # What is left is a comment, a text, or the line that takes the name.
-                    self.is_told(changed(self.texts, folder, rf"\b{name}\b", f"Other /* {library}::{name} */"), library)
-                self.is_told(changed(self.texts, folder, rf"^(\s*)(use {library}\b)", r"\1// \2"), library)
+                    self.reports(changed(self.texts, folder, rf"\b{name}\b", f"Other /* {library}::{name} */"), library)
+                self.reports(changed(self.texts, folder, rf"^(\s*)(use {library}\b)", r"\1// \2"), library)
 
-    def test_an_enum_that_derives_less_is_told(self):
+    def test_an_enum_that_derives_less_is_reported(self):
         for path, _, _, name in enums_of(self.texts):
             with self.subTest(name):
-                for word, told in (("Error", "thiserror"), ("Debug", "Debug")):
+                for word, said in (("Error", "thiserror"), ("Debug", "Debug")):
                     old = rf"^(#\[derive\([^)]*)\b(?:thiserror::)?{word}\b([^)]*\)\]\s*(?:pub )?enum {name}\b)"
-                    self.is_told(changed(self.texts, path, old, r"\1Clone\2"), f"{told}: {name}")
-                self.is_told(changed(self.texts, "crates.txt", rf"^({path.split('/')[1]}:.*) thiserror\b", r"\1"), "thiserror")
+                    self.reports(changed(self.texts, path, old, r"\1Clone\2"), f"{said}: {name}")
+                self.reports(changed(self.texts, "crates.txt", rf"^({path.split('/')[1]}:.*) thiserror\b", r"\1"), "thiserror")
 
-    def test_an_enum_that_is_new_is_told(self):
+    def test_an_enum_that_is_new_is_reported(self):
         texts = self.texts | {"crates/turns/src/new.rt": "use thiserror::Error;\n#[derive(Clone, Copy)]\npub enum NewFault {\n}\n"}
-        self.is_told(texts, "thiserror: NewFault")
-        self.is_told(texts, "Debug: NewFault")
+        self.reports(texts, "thiserror: NewFault")
+        self.reports(texts, "Debug: NewFault")
 
 
 if __name__ == "__main__":

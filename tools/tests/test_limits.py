@@ -40,8 +40,8 @@ class Files(Here):
             with self.subTest(text):
                 self.assertEqual({key: ns for key, (ns, _) in self.of(text).items()}, wanted)
         # One limit for several destinations, and the line of each.
-        told = self.of("id,destinations,limit_us\n101,DU_R DU_L,500\n102,DU_L,7\n")
-        self.assertEqual(told, {(101, "DU_R"): (500_000, 2), (101, "DU_L"): (500_000, 2), (102, "DU_L"): (7000, 3)})
+        printed = self.of("id,destinations,limit_us\n101,DU_R DU_L,500\n102,DU_L,7\n")
+        self.assertEqual(printed, {(101, "DU_R"): (500_000, 2), (101, "DU_L"): (500_000, 2), (102, "DU_L"): (7000, 3)})
 
     def test_what_is_no_limit(self):
         for text, said in (
@@ -73,10 +73,10 @@ class Files(Here):
 
 class Margins(Here):
     def call(self, tool, *words):
-        said, told = io.StringIO(), io.StringIO()
-        with contextlib.redirect_stdout(said), contextlib.redirect_stderr(told):
+        said, printed = io.StringIO(), io.StringIO()
+        with contextlib.redirect_stdout(said), contextlib.redirect_stderr(printed):
             status = tool.main(list(words))
-        return status, said.getvalue(), told.getvalue()
+        return status, said.getvalue(), printed.getvalue()
 
     def test_margins_and_statuses(self):
         """By the greatest latency, by the bound where there are bounds, and by the bound alone; the least first."""
@@ -93,14 +93,14 @@ class Margins(Here):
             (bound, "kept", "kept"),
         ):
             # 102 has room for a second.
-            told = self.file("limits.csv", f"102,DU_L,1000000000\n101,DU_R,{ns}\n")
+            printed = self.file("limits.csv", f"102,DU_L,1000000000\n101,DU_R,{ns}\n")
             head, wide = limits.MARGINS_HEAD + "\n", 10**9 - 1000
-            found = self.call(report, COCKPIT, TABLES, "--limits", told, "-o", page)
+            found = self.call(report, COCKPIT, TABLES, "--limits", printed, "-o", page)
             self.assertEqual((found[0], found[2]), (int(by_latency == "broken"), ""))
             self.assertTrue(found[1].startswith(head + f"101,DU_R,{ns},{row.greatest},,{ns - row.greatest},{by_latency}\n102,DU_L,"))
             for strict in ([], ["--strict"]):
                 status = int(by_bound == "broken" or bool(strict) and by_bound != "kept")
-                words = ["--limits", told, "--bounds", path, "--junit", junit, *strict, "-o", page]
+                words = ["--limits", printed, "--bounds", path, "--junit", junit, *strict, "-o", page]
                 found = self.call(report, COCKPIT, TABLES, *words)
                 self.assertEqual((found[0], found[2]), (status, ""))
                 self.assertIn(f"101,DU_R,{ns},{row.greatest},{bound},{ns - bound},{by_bound}\n", found[1])
@@ -109,7 +109,7 @@ class Margins(Here):
                 first = suite[0]
                 self.assertEqual((first.get("classname"), first.get("name")), ("virtual link 101", "DU_R"))
                 self.assertEqual([it.tag for it in first], ["failure"] if status else ["system-out"])
-                found = self.call(bounds, COCKPIT, "--limits", told, *strict)
+                found = self.call(bounds, COCKPIT, "--limits", printed, *strict)
                 verdict = "kept" if ns >= bound else "below its bound"
                 text = head + f"101,DU_R,{ns},,{bound},{ns - bound},{verdict}\n102,DU_L,1000000000,,{other},{10**9 - other},kept\n"
                 self.assertEqual(found, (int(bool(strict) and verdict != "kept"), text, ""))
@@ -119,8 +119,8 @@ class Margins(Here):
         net = self.file("net.toml", read(COCKPIT).replace("until_ns = 512_000_000", "until_ns = 1000"))
         rows = [f"latency,{vl},{where},,0,0,0,0\n" for vl, where in sorted(NET.destinations, key=lambda it: (it[0], NET.process[it[1]]))]
         tables = self.file("tables.csv", model.TABLES_HEAD + "\n" + "".join(rows))
-        told, junit = self.file("limits.csv", "101,DU_R,5\n"), os.path.join(self.folder, "limits.xml")
-        words = ["--limits", told, "--junit", junit, "-o", os.path.join(self.folder, "page.html")]
+        printed, junit = self.file("limits.csv", "101,DU_R,5\n"), os.path.join(self.folder, "limits.xml")
+        words = ["--limits", printed, "--junit", junit, "-o", os.path.join(self.folder, "page.html")]
         found = self.call(report, net, tables, *words)
         self.assertEqual(found, (0, limits.MARGINS_HEAD + "\n101,DU_R,5,,,,not known\n", ""))
         self.assertEqual([it.tag for it in xml.parse(junit).getroot()[0]], ["skipped"])
@@ -146,7 +146,7 @@ class WorstCase(Here):
         net = self.file("net.toml", first.replace("port_bytes = 16_384", "port_bytes = 1_518") + "id = 101\n" + rest)
         path = os.path.join(self.folder, "bounds.csv")
         self.assertEqual(bounds.main([net, "-o", path]), 0)
-        told, status = explain.explain(net, path)
+        printed, status = explain.explain(net, path)
         self.assertEqual(status, 0)
         lines = read(net).split("\n")
         for who, key, said in (
@@ -156,10 +156,10 @@ class WorstCase(Here):
             ("node FMC1 (node row 2)", "port_bytes", "is 1518, and in the worst case 2446 bytes wait before FMC1>SWA1: frames may be lost there (port_full)"),
         ):
             begin = f"{who}{', ' + key if key else ''}"
-            found = [it for it in told.splitlines() if begin in it and said in it]
-            self.assertEqual(len(found), 1, (begin, said, told))
+            found = [it for it in printed.splitlines() if begin in it and said in it]
+            self.assertEqual(len(found), 1, (begin, said, printed))
             self.assertIn(key or "[[vl]]", lines[int(found[0].split(":")[1]) - 1])
-        self.assertIn(f"{net}: accepted, ", told)
+        self.assertIn(f"{net}: accepted, ", printed)
         self.assertNotIn("worst case", explain.explain(net)[0])
 
 

@@ -67,7 +67,7 @@ class LongForm(unittest.TestCase):
 
     @unittest.skipUnless(has_pandas(), "there is no pandas: apt-get install -y python3-pandas")
     def test_the_lines_of_the_document(self):
-        """They run, and tell what the tables have."""
+        """They run, and print what the tables have."""
         with open(os.path.join(TOP, "docs", "TOOLS.md"), encoding="utf-8") as file:
             lines = re.search(r"```python\n(.*?)```", file.read(), re.DOTALL)[1]
         self.assertLessEqual(len(lines.splitlines()), 10)

@@ -145,7 +145,7 @@ ROWS = [
     ("report net.toml tables.csv --hops huge_vl.csv -o new.html", 2, "huge_vl.csv line 2: the virtual link has 5,000 digits, and may have 100"),
     ("bounds long.toml -o new.csv", 2, "long.toml line 20: link 1 a names " + "x" * 60 + ".. of 5,000 characters, which is no node"),
     # Two outputs of one name, however it is spelled; and what cannot be written is said before the first run, which the program
-    # here would tell of by a file. HAS_A_FOLDER has one called merged.csv.
+    # here would show by a file. HAS_A_FOLDER has one called merged.csv.
     ("second-opinion net.toml --trace new.csv --hops new.csv", 2, "new.csv: " + TWICE.format("new.csv")),
     ("second-opinion net.toml --trace one.csv --hops DOUBLE/merged.csv", 2, "DOUBLE/merged.csv: " + TWICE.format("one.csv")),
     ("second-opinion net.toml --trace hard.csv --hops tables.csv", 2, "tables.csv: " + TWICE.format("hard.csv")),
@@ -181,7 +181,7 @@ ROWS = [
 ]
 
 
-def tool_tells(line):
+def lines_before(line):
     return 1 if line.startswith("large-network") else 0
 
 
@@ -282,9 +282,9 @@ class Rows(unittest.TestCase):
             with self.subTest(line):
                 name = f"afdx {line.split(' ')[0]}: "
                 found = self.call(line)
-                # What large_network tells of its network goes before.
-                told = found[2].splitlines()[tool_tells(line) :]
-                self.assertEqual((found[0], told), (status, [name + said.format(**self.sums)]))
+                # What large_network prints of its network goes before.
+                printed = found[2].splitlines()[lines_before(line) :]
+                self.assertEqual((found[0], printed), (status, [name + said.format(**self.sums)]))
                 self.assertEqual(found[1], "")
                 self.assertEqual(tree_of(self.folder), before)
 
@@ -379,8 +379,8 @@ class Ends(Rows):
                     run = self.started(*words.split(), preexec_fn=heed_signals)
                     with open(self.path("pipe"), "w"):
                         run.send_signal(number)
-                        out, told = run.communicate(timeout=60)
-                    self.assertEqual((run.returncode, out, told), (status, "", f"afdx {words.split()[0]}: {said}\n"))
+                        out, printed = run.communicate(timeout=60)
+                    self.assertEqual((run.returncode, out, printed), (status, "", f"afdx {words.split()[0]}: {said}\n"))
                     self.assertEqual(os.listdir(self.path("tmp")), [])
                     os.rmdir(self.path("tmp"))
                     self.assertEqual(tree_of(self.folder), before)
@@ -406,8 +406,8 @@ class Ends(Rows):
         before = tree_of(self.folder)
         for name in ("page.html", "also.html", "none.html"):
             run = self.started("report", "net.toml", "tables.csv", "-o", name, preexec_fn=small)
-            told = f"afdx report: {name}: cannot be written: File too large\n"
-            self.assertEqual((*run.communicate(timeout=60), run.returncode), ("", told, 2))
+            printed = f"afdx report: {name}: cannot be written: File too large\n"
+            self.assertEqual((*run.communicate(timeout=60), run.returncode), ("", printed, 2))
             os.rmdir(self.path("tmp"))
             self.assertEqual(tree_of(self.folder), before)
 
@@ -421,7 +421,7 @@ class Ends(Rows):
             self.assertEqual((*run.communicate(timeout=60), run.returncode), ("", f"afdx {words.split()[0]}: out of memory\n", 2))
 
     def test_a_closed_pipe(self):
-        """What comes behind `head` is told in one line."""
+        """What comes behind `head` is reported in one line."""
         for words in (
             "bounds net.toml", "explain net.toml", "second-opinion net.toml", "make-journal net.toml", "table --back net.toml",
             "long-form net.toml tables.csv", "report net.toml tables.csv --limits limits.csv -o /dev/null", "bounds net.toml --limits limits.csv",
@@ -452,10 +452,10 @@ class Writer(unittest.TestCase):
 
     def test_what_ends_it_leaves_nothing(self):
         for ended in (files.Interrupted(signal.SIGTERM), MemoryError(), OSError(28, "No space left on device")):
-            with tempfile.TemporaryDirectory() as folder, mock.patch.object(files.os, "O_TMPFILE", None):
+            with tempfile.TemporaryDirectory() as folder, mock.patch.object(os, "O_TMPFILE", None):
                 path = os.path.join(folder, "it")
                 files.write_whole(path, "before")
-                with mock.patch.object(files.os, "replace", side_effect=ended):
+                with mock.patch.object(os, "replace", side_effect=ended):
                     with self.assertRaises((type(ended), files.Fault)):
                         files.write_whole(path, "after")
                 self.assertEqual(os.listdir(folder), ["it"])

@@ -12,6 +12,7 @@ from collections import Counter
 
 from afdx import model
 from afdx.commands import pcap
+from afdx.files import program
 from afdx.runs import second_opinion
 from tests.places import EXAMPLES, TOOLS, tool_words
 
@@ -143,8 +144,8 @@ class ByTshark(Here):
         """Each frame of the smallest example on both lines, and what is lost on a line beside what came through."""
         self.capture_of("n1", "--each", "line")
         found = [(it["frame.interface_name"], it["frame.time_epoch"], it["frame.comment"]) for it in self.packets()]
-        told = "delivered at ES2: latency 27720 ns, 0 ns of it in the regulator"
-        self.assertEqual(found, [("ES1>SW1", "0.000005760", ""), ("SW1>ES2", "0.000027620", told)])
+        said = "delivered at ES2: latency 27720 ns, 0 ns of it in the regulator"
+        self.assertEqual(found, [("ES1>SW1", "0.000005760", ""), ("SW1>ES2", "0.000027620", said)])
         tables = self.capture_of("link_outage", "--each", "line")
         outages = Counter()
         for packet in self.packets("-Y", 'frame.comment contains "outage"'):
@@ -153,7 +154,7 @@ class ByTshark(Here):
         self.assertTrue(wanted)
         self.assertEqual(outages, wanted)
 
-    def test_what_is_lost_at_a_switch_is_told_on_the_line_to_it(self):
+    def test_what_is_lost_at_a_switch_is_noted_on_the_line_to_it(self):
         """And what is lost in the regulator stands at the source, with no network."""
         tables = self.capture_of("saturated_port", "--each", "line")
         lost = {key: row.count for key, row in tables.losses.items() if key[2] == "port_full"}
@@ -204,6 +205,18 @@ class Words(Here):
         self.assertEqual(self.call(path, self.trace, "-o", self.output), (0, "", ""))
         with open(self.output, "rb") as file:
             self.assertIn(b"a run of net\\xff.toml", file.read())
+
+    def test_a_capture_names_who_made_it(self):
+        """In the first block, by option 4, which is shb_userappl: the tool with its version and its commit."""
+        self.assertEqual(self.call(self.traced("n1"), self.trace, "-o", self.output), (0, "", ""))
+        with open(self.output, "rb") as file:
+            _, length = struct.unpack("<II", file.read(8))
+            options, found = file.read(length - 12)[16:], {}
+        while options:
+            code, size = struct.unpack("<HH", options[:4])
+            found[code], options = options[4 : 4 + size].decode(), options[4 + size + -size % 4 :]
+        self.assertEqual(found[4], program.tool("pcap").in_words())
+        self.assertTrue(found[4].startswith(f"afdx pcap {program.version()}, not proved"), found[4])
 
     def test_files(self):
         path = self.traced("n1")

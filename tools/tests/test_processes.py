@@ -102,23 +102,23 @@ class Process:
         return f"sum {self.sum} counter {self.counter}"
 
 
-def told_letter(letter):
+def letter_text(letter):
     """A letter of the outbox or the mail."""
     (moment, number), sign = letter
     return f"{'+' if sign > 0 else '-'}{moment}.{number}"
 
 
 class Stage:
-    """A process, the mail and the floors of three, and what each word of a script tells of them."""
+    """A process, the mail and the floors of three, and what each word of a script prints of them."""
 
     def __init__(self):
         self.process, self.mail, self.floors = Process(), [[] for _ in range(PROCESSES)], [END + 1] * PROCESSES
 
     def play(self, script):
-        told = [word for call in script.split() for word in self.told(call)]
-        return " ".join([*told, self.process.undo_all()])
+        said = [word for call in script.split() for word in self.said_by(call)]
+        return " ".join([*said, self.process.undo_all()])
 
-    def told(self, word):
+    def said_by(self, word):
         process = self.process
         if word[0] in "+-":
             process.tray.append(read_letter(word))
@@ -130,12 +130,12 @@ class Stage:
             (moment, _), sign = read_letter(rest[1])
             self.mail[int(rest[0])].append(((moment, 0), sign))
             return []
-        return self.told_of(call, [int(number) for number in rest])
+        return self.said_by_call(call, [int(number) for number in rest])
 
-    def told_of(self, call, numbers):
+    def said_by_call(self, call, numbers):
         process = self.process
         if call == "outbox":
-            return [told_letter(letter) for letter in process.outbox]
+            return [letter_text(letter) for letter in process.outbox]
         if call == "next":
             message = process.next()
             return [f"{message[0]}@{message[1]}" if message else "none"]
@@ -146,7 +146,7 @@ class Stage:
         if call == "take":
             process, place = numbers
             box = self.mail[process] if process < PROCESSES else []
-            return [told_letter(box.pop(place)) if place < len(box) else "none"]
+            return [letter_text(box.pop(place)) if place < len(box) else "none"]
         if call == "set":
             self.floors[numbers[0]] = numbers[1]
             return []
@@ -222,24 +222,24 @@ def drawn(random):
 
 
 def written():
-    """The scripts of src/tests.rt, but those with words for the player alone and those of groups (`test_hands.py`), and what they tell where no
+    """The scripts of src/tests.rt, but those with words for the player alone and those of groups (`test_hands.py`), and what they print where no
     memory is refused."""
     with open(os.path.join(os.path.dirname(PLAYER), "..", "src", "tests.rt"), encoding="utf-8") as file:
         text = file.read().split('const SCRIPTS: &str = "')[1].split('";')[0]
-    for script, _, told in (line.partition(" => ") for line in text.splitlines()):
-        if told and not script.startswith(("alone", "back", "hand")):
-            yield script.replace("arrive?", "arrive"), told.split(" | ")[0]
+    for script, _, said in (line.partition(" => ") for line in text.splitlines()):
+        if said and not script.startswith(("alone", "back", "hand")):
+            yield script.replace("arrive?", "arrive"), said.split(" | ")[0]
 
 
 class Processes(unittest.TestCase):
-    def test_the_second_process_tells_what_is_written(self):
+    def test_the_second_process_prints_what_is_written(self):
         scripts = list(written())
         self.assertGreater(len(scripts), 40)
-        for script, told in scripts:
+        for script, said in scripts:
             with self.subTest(script):
-                self.assertEqual(Stage().play(script), told)
+                self.assertEqual(Stage().play(script), said)
 
-    def test_ten_thousand_drawn_scripts_are_told_alike(self):
+    def test_ten_thousand_drawn_scripts_print_the_same(self):
         if not os.path.isfile(PLAYER):
             self.fail(f"there is no program at {PLAYER}: `rt ci` at the top builds it")
         source = random.Random(1)
@@ -253,8 +253,8 @@ class Processes(unittest.TestCase):
         )
         self.assertEqual(run.returncode, 0, run.stderr)
         lines = run.stdout.splitlines()
-        for script, told in zip(scripts, lines, strict=False):
-            self.assertEqual(told, Stage().play(script), script)
+        for script, said in zip(scripts, lines, strict=False):
+            self.assertEqual(said, Stage().play(script), script)
         self.assertGreaterEqual(len(lines), len(scripts))
 
 

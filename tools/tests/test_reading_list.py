@@ -112,7 +112,7 @@ class Lists(unittest.TestCase):
                 self.assertEqual(found, files)
                 self.assertEqual(libraries, {"std"} if ("low", "specs/Growth.antt") in files else set())
 
-    def test_a_file_is_told_by_its_first_sentence(self):
+    def test_a_file_is_listed_with_its_first_sentence(self):
         self.assertEqual(self.tree(FILES).head_of("low", "specs/Growth.antt"), "how a number grows")
 
     def test_the_document_has_the_lists(self):

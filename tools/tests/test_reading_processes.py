@@ -49,6 +49,18 @@ class WhoReads(Here):
                 self.assertTrue(readers)
 
 
+class WithoutSharedMemory(Here):
+    def test_the_folder_is_named(self):
+        """Where /dev/shm cannot be written the system refuses semaphores, without a name. No run is made."""
+        self.stand_in("open(%r, 'w')" % os.path.join(self.folder, "ran"))
+        refused = PermissionError(13, "Permission denied")
+        with mock.patch("multiprocessing.synchronize.SemLock.__init__", side_effect=refused):
+            told = self.call(N1, "--seeds", "2")
+        begin = "afdx campaign: /dev/shm: holds no semaphore for processes side by side: Permission denied. `mount "
+        self.assertEqual((*told[:2], told[2].startswith(begin), told[2].count("\n")), (2, "no run was merged, and nothing is written\n", True, 1), told)
+        self.assertFalse(os.path.exists(os.path.join(self.folder, "ran")))
+
+
 class Plain(reading_processes.Reckoner):
     """Answers a run's key, which may also be what the process is to do."""
 
@@ -73,8 +85,8 @@ def is_ended():
     os.kill(os.getpid(), signal.SIGKILL)
 
 
-class WhatIsTold(unittest.TestCase):
-    def told(self, keys, jobs, ended=None):
+class WhatIsAnswered(unittest.TestCase):
+    def answered(self, keys, jobs, ended=None):
         """The answers of runs with these keys, and what ended them; of processes and files nothing is left."""
 
         def runs():
@@ -97,22 +109,22 @@ class WhatIsTold(unittest.TestCase):
 
     def test_in_order(self):
         for jobs in (1, 3):
-            self.assertEqual(self.told(range(20), jobs), (list(range(20)), None))
+            self.assertEqual(self.answered(range(20), jobs), (list(range(20)), None))
 
-    def test_what_was_made_before_the_end_is_told(self):
+    def test_what_was_made_before_the_end_is_answered(self):
         """Where a run fails, or a signal comes while the next one is made."""
         for ended in (Failure("the next one"), ValueError("a fault"), Interrupted(signal.SIGTERM), Interrupted(signal.SIGINT)):
             with self.subTest(ended):
-                self.assertEqual(self.told(range(2), 2, ended), ([0, 1], str(ended)))
+                self.assertEqual(self.answered(range(2), 2, ended), ([0, 1], str(ended)))
 
     def test_a_run_that_cannot_be_read(self):
-        self.assertEqual(self.told([0, 1, fails, 3], 2), ([0, 1], "it fails"))
+        self.assertEqual(self.answered([0, 1, fails, 3], 2), ([0, 1], "it fails"))
 
     def test_a_signal_while_runs_are_read(self):
         """It waits a while for them."""
         begin = time.monotonic()
         with mock.patch.object(reading_processes, "PATIENCE", 1):
-            self.assertEqual(self.told([0, takes_long, takes_long], 2, Interrupted(signal.SIGTERM)), ([0], "ended by SIGTERM"))
+            self.assertEqual(self.answered([0, takes_long, takes_long], 2, Interrupted(signal.SIGTERM)), ([0], "ended by SIGTERM"))
         self.assertLess(time.monotonic() - begin, 40)
 
     def test_a_signal_while_the_last_run_is_read(self):
@@ -124,7 +136,7 @@ class WhatIsTold(unittest.TestCase):
         begin, before = time.monotonic(), signal.signal(signal.SIGALRM, interrupted)
         try:
             signal.setitimer(signal.ITIMER_REAL, 5)
-            self.assertEqual(self.told([0, takes_long], 1), ([0], "ended by SIGALRM"))
+            self.assertEqual(self.answered([0, takes_long], 1), ([0], "ended by SIGALRM"))
         finally:
             signal.setitimer(signal.ITIMER_REAL, 0)
             signal.signal(signal.SIGALRM, before)
@@ -135,12 +147,12 @@ class WhatIsTold(unittest.TestCase):
         begin = time.monotonic()
         with mock.patch.object(reading_processes, "PATIENCE", 0):
             for _ in range(5):
-                self.assertEqual(self.told([answers_much] * 8, 4, Interrupted(signal.SIGINT))[1], "interrupted")
+                self.assertEqual(self.answered([answers_much] * 8, 4, Interrupted(signal.SIGINT))[1], "interrupted")
         self.assertLess(time.monotonic() - begin, 60)
 
     def test_a_process_that_is_ended(self):
         """As by a system that is out of memory."""
-        found, said = self.told([0, is_ended, 2], 1)
+        found, said = self.answered([0, is_ended, 2], 1)
         self.assertEqual((found, said), ([0], "run 1: the process that reckons on it was ended"))
 
 

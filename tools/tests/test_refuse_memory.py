@@ -45,7 +45,7 @@ class Refused(unittest.TestCase):
 
 
 class Judged(unittest.TestCase):
-    """What is right, and what is told of what is wrong."""
+    """What is right, and what is reported of what is wrong."""
 
     def fault(self, command, status, output="", errors="", files=None, requests=9, is_replayed=True):
         found = Ended(status, output, errors, files or {}, requests)
@@ -101,8 +101,8 @@ class Judged(unittest.TestCase):
         for found, is_right in ((passed, True), (failed, False)):
             with self.subTest(found=found):
                 self.assertEqual(refuse_memory.fault_of_test(found) is None, is_right)
-        told = passed.errors + "+10@1 was refused memory\n-5 was refused memory\n"
-        self.assertEqual(refuse_memory.calls_in(told), {"commit": 1, "deliver": 2})
+        said = passed.errors + "+10@1 was refused memory\n-5 was refused memory\n"
+        self.assertEqual(refuse_memory.calls_in(said), {"commit": 1, "deliver": 2})
 
     def test_runs_end_once_no_request_is_refused(self):
         """Of seven requests six are refused in turn, since one run makes fewer; the third run is wrong."""
@@ -119,7 +119,7 @@ class Judged(unittest.TestCase):
         self.assertEqual((refused, statuses, calls), (6, {5: 6}, {"post": 1}))
         self.assertEqual(faults, ["request 3: wrong"])
 
-    def test_a_program_that_is_not_there_is_told(self):
+    def test_a_program_that_is_not_there_is_reported(self):
         said = io.StringIO()
         with contextlib.redirect_stderr(said):
             program, refuse_memory.PROGRAM = refuse_memory.PROGRAM, os.path.join(self.id(), "none")

@@ -17,14 +17,15 @@ from fractions import Fraction
 from html.parser import HTMLParser
 
 from afdx import model
-from afdx.commands import campaign, report
+from afdx.commands import report
 from afdx.files.page_text import span, two_places
 from afdx.model import traces
 from afdx.page import end_table
 from afdx.page.drawing import Drawing
 from afdx.reckon.frames import Ends, drawn_offsets
 from afdx.reckon.bounds_file import COLUMNS as BOUNDS_COLUMNS
-from afdx.runs.second_opinion import Simulation
+from afdx.runs.campaign_network import CampaignNetwork
+from afdx.runs.plain_simulator import Simulation
 from tests import drawn
 from tests.places import EXAMPLES, tool_words
 
@@ -51,7 +52,7 @@ class Followed(Simulation):
 
     def release(self, t, vl, q, frame):
         out = super().release(t, vl, q, frame)
-        self.released.setdefault(vl, []).append((out[3], out[4]))
+        self.released.setdefault(vl, []).append((out.offered, out.released))
         return out
 
     def put(self, t, p, q, frame, high):
@@ -60,8 +61,7 @@ class Followed(Simulation):
         self.line = None
 
     def lose(self, time, place, frame, cause):
-        side = frame[5] if len(frame) > 5 else None
-        self.died.append((frame[0], (frame[3], frame[4]), side, self.line or self.names[place], cause))
+        self.died.append((frame.vl, (frame.offered, frame.released), frame.net, self.line or self.names[place], cause))
         super().lose(time, place, frame, cause)
 
     def note(self, time, place, vl, what, value):
@@ -399,8 +399,8 @@ class InTheBrowser(unittest.TestCase):
         """What became of the frames, where the page leaves nothing open."""
         for row, marks in zip(page.columns("end-to-end"), page.marked("end-to-end")):
             offered, under_way, missing, lost = ends[int(row["VL"]), row["destination"]]
-            told = [number_of(row[name]) for name in ("offered", "under way", "missing")]
-            self.assertEqual(told, [offered, under_way, missing])
+            printed = [number_of(row[name]) for name in ("offered", "under way", "missing")]
+            self.assertEqual(printed, [offered, under_way, missing])
             self.assertEqual({side: number_of(row["lost on " + side]) for side in lost}, lost)
             self.assertEqual([row["lost on " + side] for side in "AB" if side not in lost], ["–"] * (2 - len(lost)))
             self.assertEqual(marks["missing"], "bad" if missing else "")
@@ -491,26 +491,26 @@ class InTheBrowser(unittest.TestCase):
         net = model.Network(path)
         limits, bounds = self.limits_and_bounds(net, tables)
         self.made(path, tables, "--trace", trace, "--limits", limits, "--bounds", bounds)
-        told = """
-            const told = document.documentElement.dataset, place = document.getElementById("grid-latencies");
+        printed = """
+            const said = document.documentElement.dataset, place = document.getElementById("grid-latencies");
             const body = () => place.querySelectorAll("tbody")[1], box = place.querySelector(".box");
             const shown = () => Array.from(body().rows).filter(row => row.offsetHeight > 0).length;
-            told.shown = shown();
+            said.shown = shown();
             const acts = [place.querySelector(".all"), ...place.querySelectorAll("th button")];
             acts.forEach(it => { it.click(); document.body.offsetHeight; });
-            told.acts = acts.length;
-            told.drawn = shown();
+            said.acts = acts.length;
+            said.drawn = shown();
             // Far below, other rows are drawn; and no column has moved.
             const wide = () => Array.from(place.querySelectorAll("th"), it => it.getBoundingClientRect().width).join();
             const before = wide(), first = body().rows[0].textContent;
             box.scrollTop = 100000;
             box.dispatchEvent(new Event("scroll"));
-            told.moved = first !== body().rows[0].textContent;
-            told.still = before === wide();
-            told.below = shown();
-            told.high = box.scrollHeight / body().rows[1].offsetHeight;
+            said.moved = first !== body().rows[0].textContent;
+            said.still = before === wide();
+            said.below = shown();
+            said.high = box.scrollHeight / body().rows[1].offsetHeight;
         """
-        worked = self.browser.open(self.page, told)
+        worked = self.browser.open(self.page, printed)
         count, words = len(net.destinations), worked.words
         self.assertEqual(words["data-shown"], "10")
         self.assertLess(max(int(words["data-drawn"]), int(words["data-below"])), 150)
@@ -543,7 +543,7 @@ class InTheBrowser(unittest.TestCase):
         self.assertGreater(len(all_rows) - len(few), count / 45)
 
     def compare_large(self, page, net, tables, rows, ends):
-        """A run of 20 ms brings nothing to many destinations, and that is not told as good."""
+        """A run of 20 ms brings nothing to many destinations, and that is not marked as good."""
         few = page.tiles["fewer than ten frames"]
         none = sum(line.split(",")[4] == "0" for line in read(tables).splitlines() if line.startswith("latency"))
         self.assertGreater(none, 100)
@@ -559,8 +559,8 @@ class InTheBrowser(unittest.TestCase):
         self.compare_loads(page, net)
         self.compare_trace(page, rows)
         for row in page.columns("end-to-end"):
-            told = [number_of(row[name]) for name in ("offered", "under way", "missing")]
-            self.assertEqual(told, list(ends[int(row["VL"]), row["destination"]][:3]))
+            printed = [number_of(row[name]) for name in ("offered", "under way", "missing")]
+            self.assertEqual(printed, list(ends[int(row["VL"]), row["destination"]][:3]))
 
     def limits_and_bounds(self, net, tables):
         """A limit and a bound for each destination that has got something: some limits are below the bound."""
@@ -581,20 +581,20 @@ class InTheBrowser(unittest.TestCase):
         # The range has no button.
         clicks = [([3], 4, ns_of, True), ([3, 3], 4, ns_of, False), ([1], 1, str, False), ([9], 10, number_of, True)]
         script = """
-            const grid = grids.find(it => it.name === "latencies"), told = [];
+            const grid = grids.find(it => it.name === "latencies"), said = [];
             const texts = at => Array.from(grid.body.rows, row => row.cells[at].textContent);
             for (const [buttons, at] of %s) {
               for (const it of buttons) grid.table.querySelectorAll("th button")[it].click();
               const few = texts(at);
               grid.button.click();
-              told.push([few, texts(at)]);
+              said.push([few, texts(at)]);
               grid.button.click();
               grid.sortBy(0, false);
             }
-            document.documentElement.dataset.told = JSON.stringify(told);
+            document.documentElement.dataset.said = JSON.stringify(said);
         """
         page = self.browser.open(self.page, script % json.dumps([it[:2] for it in clicks]))
-        for (buttons, at, parse, down), texts in zip(clicks, json.loads(page.words["data-told"])):
+        for (buttons, at, parse, down), texts in zip(clicks, json.loads(page.words["data-said"])):
             with self.subTest(column=at, down=down):
                 few, whole = ([parse(text) for text in found] for found in texts)
                 self.assertEqual(whole, sorted(whole, reverse=down))
@@ -604,18 +604,18 @@ class InTheBrowser(unittest.TestCase):
         path, tables = example("cockpit")
         self.made(path, tables)
         script = """
-            const found = [...drawing.querySelectorAll("[data-line]")], told = found.map(it => [it.tabIndex, it.getAttribute("role")]);
+            const found = [...drawing.querySelectorAll("[data-line]")], said = found.map(it => [it.tabIndex, it.getAttribute("role")]);
             const choices = ["Enter", " ", "x"].map((key, i) => {
               location.hash = "";
               found[i].focus();
               document.activeElement.dispatchEvent(new KeyboardEvent("keydown", {key, bubbles: true}));
               return decodeURIComponent(location.hash) === "#line-" + found[i].dataset.line;
             });
-            document.documentElement.dataset.told = JSON.stringify([told, choices]);
+            document.documentElement.dataset.said = JSON.stringify([said, choices]);
         """
-        told, choices = json.loads(self.browser.open(self.page, script).words["data-told"])
+        printed, choices = json.loads(self.browser.open(self.page, script).words["data-said"])
         net = model.Network(path)
-        self.assertEqual(told, [[0, "button"]] * len(net.mbit))
+        self.assertEqual(printed, [[0, "button"]] * len(net.mbit))
         self.assertEqual(choices, [True, True, False])
 
     def test_dark_where_the_system_is(self):
@@ -624,14 +624,14 @@ class InTheBrowser(unittest.TestCase):
         self.made(path, tables)
         script = """
             const of = (where, key) => getComputedStyle(document.querySelector(where))[key];
-            document.documentElement.dataset.told = JSON.stringify([of("body", "backgroundColor"), of("section", "backgroundColor"),
+            document.documentElement.dataset.said = JSON.stringify([of("body", "backgroundColor"), of("section", "backgroundColor"),
               of("#drawing .es rect", "fill"), of("th", "backgroundColor"), of("body", "color"), of("#drawing text.name", "fill")]);
         """
         other = Browser(self.folder)
         other.command.append("--blink-settings=preferredColorScheme=0")
         for browser, is_dark in ((self.browser, False), (other, True)):
-            told = json.loads(browser.open(self.page, script).words["data-told"])
-            light = [sum(map(int, re.findall(r"\d+", it)[:3])) > 380 for it in told]
+            printed = json.loads(browser.open(self.page, script).words["data-said"])
+            light = [sum(map(int, re.findall(r"\d+", it)[:3])) > 380 for it in printed]
             self.assertEqual(light[:4], [not is_dark] * 4)
             self.assertEqual(light[4], is_dark)
 
@@ -652,9 +652,9 @@ class InTheBrowser(unittest.TestCase):
               ends[key] = ends[key].map(ns => 1234567 + ns % 1000000);
             new Grid(data.grids.find(it => it.name === "latencies"), element("grid-latencies"));
             const table = element("latencies");
-            document.documentElement.dataset.told = JSON.stringify([table.scrollWidth, table.parentElement.clientWidth]);
+            document.documentElement.dataset.said = JSON.stringify([table.scrollWidth, table.parentElement.clientWidth]);
         """
-        wide, room = json.loads(self.browser.open(self.page, script, wide=1400).words["data-told"])
+        wide, room = json.loads(self.browser.open(self.page, script, wide=1400).words["data-said"])
         self.assertLessEqual(wide, room)
         self.assertGreater(room, 1200)
 
@@ -673,15 +673,15 @@ class InTheBrowser(unittest.TestCase):
             self.assertEqual(page.tiles["lost end to end"][0], "0 frames")
             self.assertEqual(page.tiles["copies lost"][0], f"{lost} frames")
             names = ("vl", "where", "offered", "under_way", "missing", "lostA", "lostB")
-            told = zip(*(page.data["ends"][name] for name in names))
-            self.assertEqual({row[:2]: row[2:] for row in told}, {
+            printed = zip(*(page.data["ends"][name] for name in names))
+            self.assertEqual({row[:2]: row[2:] for row in printed}, {
                 key: (*counts, dead.get("A"), dead.get("B")) for key, (*counts, dead) in ends.items()
             })
         page = self.browser.open(self.page, UNFOLD)
         for row in page.columns("end-to-end"):
             offered, under_way, missing, dead = ends[int(row["VL"]), row["destination"]]
-            told = [number_of(row[name]) for name in ("offered", "under way", "missing")]
-            self.assertEqual(told, [offered, under_way, missing])
+            printed = [number_of(row[name]) for name in ("offered", "under way", "missing")]
+            self.assertEqual(printed, [offered, under_way, missing])
             self.assertEqual([number_of(row["lost on " + side]) for side in dead], list(dead.values()))
 
     def test_limits_bounds_and_margins(self):
@@ -703,7 +703,7 @@ class InTheBrowser(unittest.TestCase):
             rows += [account | {"where": "SWA1", "warning": "may_refuse"}, account | {"where": "SWA2", "jitter_ns": 0}]
             rows += [{"where": "FMC1>SWA1", "waiting_bytes": 16385}, {"where": "SWA1>FMC1", "waiting_bytes": 5000}]
             out.write(bounds_text(path, *rows))
-        told = {
+        printed = {
             (101, "FMC1"): ("140.170", "140.170", "0.000", ""),
             (101, "DU_R"): ("169.759", "100,000.000", "-99,830.241", "bad"),
             (102, "DU_L"): ("300.000", "300.001", "-0.001", "warn"),
@@ -729,7 +729,7 @@ class InTheBrowser(unittest.TestCase):
         self.assertEqual(len(unsure), 2)
         for row, marks in zip(page.columns("latencies"), page.marked("latencies")):
             key = int(row["VL"]), row["destination"]
-            limit, bound, margin, mark = told.get(key, ("–", "100,000.000", "–", ""))
+            limit, bound, margin, mark = printed.get(key, ("–", "100,000.000", "–", ""))
             self.assertEqual((row["limit"], row["bound"], row["margin"]), (limit, bound, margin))
             self.assertEqual((marks["limit"], marks["margin"]), (mark, mark))
         drawn = Counter(found.get("class") for tag, found in page.elements if tag == "rect")
@@ -759,14 +759,14 @@ class InTheBrowser(unittest.TestCase):
         self.assertEqual(page.tiles["limits kept"], ["1 of 1", "none is broken"])
 
     def test_a_latency_above_its_bound(self):
-        """One of the two is wrong: it is told in red, and by the status."""
+        """One of the two is wrong: the page marks it red, and the status is 1."""
         path, tables = example("n1")
         bounds = os.path.join(self.folder, "bounds.csv")
         for bound, status in ((27720, 0), (27719, 1)):
             with open(bounds, "w", encoding="ascii") as out:
                 out.write(bounds_text(path, {"vl": 1, "where": "ES2", "bound_ns": bound, "sure": "A"}))
-            told = f"afdx report: virtual link 1 at ES2 took 27720 ns, and its bound is {bound} ns: one of the two is wrong\n"
-            self.assertEqual(make(path, tables, "--bounds", bounds, "-o", self.page), (status, told * status))
+            printed = f"afdx report: virtual link 1 at ES2 took 27720 ns, and its bound is {bound} ns: one of the two is wrong\n"
+            self.assertEqual(make(path, tables, "--bounds", bounds, "-o", self.page), (status, printed * status))
             page = self.browser.open(self.page, UNFOLD)
             self.assertEqual("above their bound" in page.tiles, bool(status))
             self.assertEqual(page.marked("latencies")[0]["bound"], "bad" * status)
@@ -783,8 +783,8 @@ class InTheBrowser(unittest.TestCase):
         lines = {">".join(line) for way in vl["a"] + vl["b"] for line in zip(way, way[1:])}
         page = self.browser.open(self.page, "", "#vl-101")
         self.assertEqual(page.lit, lines)
-        told = [self.fact(page, name) for name in ("policing", "depth", "sub-virtual links")]
-        self.assertEqual(told, ["by bytes, jitter 500 µs", f"{vl['depth']} frames", None])
+        printed = [self.fact(page, name) for name in ("policing", "depth", "sub-virtual links")]
+        self.assertEqual(printed, ["by bytes, jitter 500 µs", f"{vl['depth']} frames", None])
         hops = page.columns("vl-hops")
         self.assertEqual(sorted(row["line"] for row in hops), sorted(lines))
         loads = loads_of(net)
@@ -803,16 +803,16 @@ class InTheBrowser(unittest.TestCase):
             [(row["destination"], row["99th"]) for row in self.in_order(page, 101)],
         )
         line = "SWA1>DU_C"
-        script = "const told = document.documentElement.dataset;"
+        script = "const said = document.documentElement.dataset;"
         for name, text in (("fwc", "FWC"), ("twenty", "20")):
             script += f'find.value = "{text}"; search();'
-            script += f'told.{name} = Array.from(list.querySelectorAll("b"), it => it.textContent);'
-        script += 'find.value = "nobody"; search(); told.nobody = list.textContent.trim();'
+            script += f'said.{name} = Array.from(list.querySelectorAll("b"), it => it.textContent);'
+        script += 'find.value = "nobody"; search(); said.nobody = list.textContent.trim();'
         # By keys alone: down to the first that is found, and back; and Enter goes there.
         script += 'const press = (it, key) => it.dispatchEvent(new KeyboardEvent("keydown", {key, bubbles: true}));'
-        script += 'find.value = "FWC"; search(); press(find, "ArrowDown"); told.focus = document.activeElement.hash;'
-        script += 'press(document.activeElement, "ArrowUp"); told.back = document.activeElement.id;'
-        script += 'const was = location.hash; press(find, "Enter"); told.hash = location.hash; location.hash = was;'
+        script += 'find.value = "FWC"; search(); press(find, "ArrowDown"); said.focus = document.activeElement.hash;'
+        script += 'press(document.activeElement, "ArrowUp"); said.back = document.activeElement.id;'
+        script += 'const was = location.hash; press(find, "Enter"); said.hash = location.hash; location.hash = was;'
         page = self.browser.open(self.page, script, "#line-SWA1%3EDU_C")
         self.assertEqual(page.lit, {line})
         users = [vl["id"] for vl in net["vl"] if any(line in ">".join(way) for way in vl["a"] + vl["b"])]
@@ -826,11 +826,11 @@ class InTheBrowser(unittest.TestCase):
         self.assertEqual(page.words["data-twenty"], ",".join(twenty))
         self.assertEqual(page.words["data-nobody"], "0 virtual links")
         first = f"#vl-{begin[0]}"
-        told = [page.words["data-" + name] for name in ("focus", "back", "hash")]
-        self.assertEqual(told, [first, "find", first])
+        printed = [page.words["data-" + name] for name in ("focus", "back", "hash")]
+        self.assertEqual(printed, [first, "find", first])
 
     def test_what_a_virtual_link_is(self):
-        """Sub-virtual links and policing are told where a virtual link has them."""
+        """The page shows sub-virtual links and policing of a virtual link that has them."""
         path, tables = example("n1")
         net = os.path.join(self.folder, "keys.toml")
         with open(net, "w", encoding="utf-8") as out:
@@ -906,10 +906,10 @@ class InTheBrowser(unittest.TestCase):
         self.assertIn("the file ends without the latencies of virtual link 3 at FCC", said)
         self.made(path, tables, "--against", before, "--against-net", other)
         page = self.browser.open(self.page, UNFOLD)
-        told = "".join(page.texts)
-        self.assertIn("1 destination of one run alone: virtual link 3 at FCC.", told)
+        printed = "".join(page.texts)
+        self.assertIn("1 destination of one run alone: virtual link 3 at FCC.", printed)
         self.assertEqual({"slower", "faster", "more-lost", "fewer-lost"} & set(page.tables), set())
-        self.assertIn("Slower: the greatest latency grew (0)", told)
+        self.assertIn("Slower: the greatest latency grew (0)", printed)
 
     def test_a_printed_page(self):
         """The drawing is on page 1, and the rows that are asked for come behind it."""
@@ -931,10 +931,10 @@ class InTheBrowser(unittest.TestCase):
                 rule.media.mediaText = /print/.test(rule.media.mediaText) ? "all" : "not all";
             const shown = [...document.querySelectorAll("#latencies .axis i")].filter(it => it.getClientRects().length);
             const boxes = shown.map(it => it.getBoundingClientRect());
-            const told = document.documentElement.dataset;
-            told.marks = shown.map(it => it.textContent).join();
-            told.touch = boxes.slice(1).filter((box, i) => box.left < boxes[i].right + 2).length;
-            told.out = boxes.filter(it => it.right > shown[0].parentElement.getBoundingClientRect().right + 1).length;
+            const said = document.documentElement.dataset;
+            said.marks = shown.map(it => it.textContent).join();
+            said.touch = boxes.slice(1).filter((box, i) => box.left < boxes[i].right + 2).length;
+            said.out = boxes.filter(it => it.right > shown[0].parentElement.getBoundingClientRect().right + 1).length;
         """
         for ns in (10**6, 10**9, 10**12, 10**15):
             with open(limits, "w", encoding="ascii") as out:
@@ -981,7 +981,7 @@ class WithoutABrowser(unittest.TestCase):
         return path
 
     def test_loads(self):
-        """The loads that are told in the examples' own words, worked out by hand."""
+        """The loads that the examples' own words state, worked out by hand."""
         net = model.Network(example("saturated_port")[0])
         self.assertEqual(two_places(net.load["CAM1>SW"]), "6.15")
         self.assertEqual(two_places(net.load["SW>REC"]), "128.54")
@@ -1015,9 +1015,9 @@ class WithoutABrowser(unittest.TestCase):
                 end = found[key]
                 self.assertEqual(end.offered, offered)
                 again = sum(max(0, run.came[(*key, moment)] - 1) for moment, _ in run.released.get(key[0], []))
-                told = [(end.missing, missing), (end.under_way, under_way), (end.again, again)]
-                told += [(end.lost[side], count) for side, count in lost.items()]
-                for (least, most), count in told:
+                printed = [(end.missing, missing), (end.under_way, under_way), (end.again, again)]
+                printed += [(end.lost[side], count) for side, count in lost.items()]
+                for (least, most), count in printed:
                     self.assertLessEqual(least, count)
                     self.assertLessEqual(count, most)
                 self.assertEqual(bool(end.why), end.missing.least < end.missing.most)
@@ -1039,7 +1039,7 @@ class WithoutABrowser(unittest.TestCase):
         self.assertGreater(min(cases.values()), 10)
 
     def test_ends_of_merged_tables(self):
-        """Those of several seeds, with drawn offsets too, once it is told which seeds they are."""
+        """Those of several seeds, with drawn offsets too, once the words name the seeds."""
         path, _ = example("cockpit")
         with open(path, "rb") as file:
             net = tomllib.load(file)
@@ -1074,11 +1074,11 @@ class WithoutABrowser(unittest.TestCase):
 
     def test_drawn_offsets_are_those_of_a_campaign(self):
         path, _ = example("cockpit")
-        drawn = tomllib.loads(campaign.Network(path, "true").with_seed(7, True))["vl"]
+        drawn = tomllib.loads(CampaignNetwork(path, "true").with_seed(7, True))["vl"]
         self.assertEqual({vl["id"]: vl["offset_ns"] for vl in drawn}, drawn_offsets(model.Network(path), 7))
 
     def test_a_run_that_is_too_short_is_not_good(self):
-        """Nothing is lost, and nothing came: that is told as no good sign."""
+        """Nothing is lost, and nothing came: that is not marked as good."""
         path, _ = example("cockpit")
         net = self.file("short.toml", re.sub("until_ns = [0-9_]+", "until_ns = 30_000", read(path)))
         _, tables, _, _ = simulated(net, self.folder)
@@ -1099,10 +1099,10 @@ class WithoutABrowser(unittest.TestCase):
         self.assertEqual(status, 2)
         self.assertIn(f"afdx report: {bad} line 2: 1 frame of virtual link 1 would be sent to ES2, and the tables", said)
         bad = self.file("bad.csv", text + "dropped,1,ES1,queue_full,2,,,\n")
-        told = "0 frames of virtual link 1 would be lost as queue_full, and the tables have 2"
+        printed = "0 frames of virtual link 1 would be lost as queue_full, and the tables have 2"
         other = f"; so they are tables of another run than that of {path}"
         line = len(text.splitlines()) + 1
-        self.assertEqual(make(path, bad, "-o", self.page), (2, f"afdx report: {bad} line {line}: {told}{other}\n"))
+        self.assertEqual(make(path, bad, "-o", self.page), (2, f"afdx report: {bad} line {line}: {printed}{other}\n"))
 
     def test_bad_limits_and_bounds(self):
         path, tables = example("n1")
@@ -1140,13 +1140,13 @@ class WithoutABrowser(unittest.TestCase):
         self.assertEqual(re.findall(r"(?i)https?:|\bsrc=|@import|<link|url\((?!#)", text), [])
         self.assertEqual(os.listdir(self.folder), ["report.html"])
 
-    def test_outages_are_drawn_and_told(self):
+    def test_outages_are_drawn_and_listed(self):
         path, tables = example("link_outage")
         make(path, tables, "-o", self.page)
         (outages,) = (grid["rows"] for grid in Page(read(self.page)).data["grids"] if grid["name"] == "outages")
         moments = {"from": [20, 60], "to": [40, 61], "for": [20, 1]}
-        told = {name: [ms * 10**6 for ms in found] for name, found in moments.items()}
-        self.assertEqual(outages, told | {"line": ["FCC>SWA"] * 2})
+        printed = {name: [ms * 10**6 for ms in found] for name, found in moments.items()}
+        self.assertEqual(outages, printed | {"line": ["FCC>SWA"] * 2})
         drawing = re.search(r'<svg id="drawing".*?</svg>', read(self.page))[0]
         marked = [
             re.search('data-line="(.*?)"', part)[1]
@@ -1155,14 +1155,14 @@ class WithoutABrowser(unittest.TestCase):
         ]
         self.assertEqual(marked, ["FCC&gt;SWA"])
 
-    def test_merged_tables_tell_the_seed(self):
+    def test_merged_tables_show_the_seed(self):
         path, tables = example("link_outage")
         lines = read(tables).splitlines()
         merged = "\n".join([lines[0] + ",seed"] + [f"{line},{40 + i}" for i, line in enumerate(lines[1:])]) + "\n"
         self.assertEqual(make(path, self.file("merged.csv", merged), "-o", self.page), (0, ""))
         data = Page(read(self.page)).data
-        told = list(zip(*(data["ends"][name] for name in ("vl", "where", "seed"))))
-        self.assertEqual(told, [(1, "ACT", 40), (2, "ACT", 41), (3, "FCC", 42)])
+        printed = list(zip(*(data["ends"][name] for name in ("vl", "where", "seed"))))
+        self.assertEqual(printed, [(1, "ACT", 40), (2, "ACT", 41), (3, "FCC", 42)])
         (lost,) = (grid["rows"] for grid in data["grids"] if grid["name"] == "lost")
         self.assertEqual(lost["seed"], [43, 45, 46, 47])
 

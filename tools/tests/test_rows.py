@@ -7,7 +7,7 @@ import subprocess
 import tempfile
 import tty
 import unittest
-from collections import namedtuple
+from typing import NamedTuple
 
 from afdx.model import BOUNDS_HEAD, PROGRAM, TABLES_HEAD, TRACE_HEAD
 from gate.refuse_memory import library_in
@@ -50,8 +50,16 @@ int clock_gettime(int clock, long time[2]) {
 }
 """
 
-# How words end: the status, both streams, and the files that are left, each None where there is none.
-Ended = namedtuple("Ended", "status output errors trace journal")
+
+class Ended(NamedTuple):
+    """How words end: the status, both streams, and the files that are left, each None if there is none."""
+
+    status: int
+    output: bytes
+    errors: bytes
+    trace: bytes | None
+    journal: bytes | None
+
 
 # The words behind those that set the pace of a run, which ask for files.
 FILES = ("", " --trace trace.csv", " --journal journal.txt", " --journal journal.txt --trace trace.csv")
@@ -108,26 +116,26 @@ class Ends(unittest.TestCase):
 
 
 class Rows(Ends):
-    def is_told(self, net, told):
-        """`check` tells this of a description, and `seq` refuses what `check` refuses."""
-        if told.startswith("ok"):
-            self.says(self.ended("check net.toml", net), 0, told + "\n", "")
+    def is_answered(self, net, said):
+        """`check` prints this of a description, and `seq` refuses what `check` refuses."""
+        if said.startswith("ok"):
+            self.says(self.ended("check net.toml", net), 0, said + "\n", "")
             return
         for command in ("check", "seq"):
-            self.says(self.ended(command + " net.toml", net), 3, "", f"afdxsim: description: {told}\n")
+            self.says(self.ended(command + " net.toml", net), 3, "", f"afdxsim: description: {said}\n")
 
-    def test_a_description_is_accepted_or_its_first_fault_is_told(self):
+    def test_a_description_is_accepted_or_its_first_fault_is_printed(self):
         for row in rows("descriptions"):
             with self.subTest(row):
-                self.is_told(*changed(row))
+                self.is_answered(*changed(row))
 
     def test_each_beginning_of_a_description_is_answered(self):
         lines = [line for line in network("n1").splitlines(keepends=True) if line != "\n"]
-        told = rows("beginnings")
-        self.assertEqual(len(told), len(lines) + 1)
-        for count, line in enumerate(told):
+        said = rows("beginnings")
+        self.assertEqual(len(said), len(lines) + 1)
+        for count, line in enumerate(said):
             with self.subTest(count):
-                self.is_told("".join(lines[:count]), line)
+                self.is_answered("".join(lines[:count]), line)
         net = "".join(lines)
         for end in range(len(net) + 1):
             status = self.ended("check net.toml", net[:end]).status
@@ -148,11 +156,11 @@ class Rows(Ends):
                 name, words, status, pieces = row.split(" => ")
                 found = self.ended(words, network(name))
                 self.assertEqual(found.status, int(status))
-                told, other = (found.output, found.errors) if status == "0" else (found.errors, found.output)
+                said, other = (found.output, found.errors) if status == "0" else (found.errors, found.output)
                 self.assertEqual(other, b"")
-                self.has_all(told, pieces)
+                self.has_all(said, pieces)
 
-    def test_progress_is_told_on_error_output_alone(self):
+    def test_progress_is_printed_on_error_output_alone(self):
         for row in rows("watched"):
             with self.subTest(row):
                 name, words, output, errors = row.split(" => ")
@@ -164,14 +172,14 @@ class Rows(Ends):
                     deaf = self.ended(words, network(name), errors=full)
                 self.assertEqual((deaf.status, deaf.output), (0, found.output))
 
-    def test_a_run_is_told_by_its_tables_and_its_trace(self):
+    def test_a_run_is_checked_by_its_tables_and_its_trace(self):
         for row in blocks("tables"):
             with self.subTest(row):
-                net, told = changed(row)
-                if told.startswith("ok"):
-                    self.is_told(net, told)
+                net, said = changed(row)
+                if said.startswith("ok"):
+                    self.is_answered(net, said)
                     continue
-                tables, is_traced, trace = told.replace(" ", "").partition("trace")
+                tables, is_traced, trace = said.replace(" ", "").partition("trace")
                 tables = f"{TABLES_HEAD}\n{lines_of(tables)}"
                 self.says(self.ended("seq net.toml", net), 0, tables, "")
                 found = self.ended("seq net.toml --trace trace.csv", net)
@@ -182,23 +190,23 @@ class Rows(Ends):
     def test_bounds_are_those_worked_out_by_hand(self):
         for row in blocks("bounds"):
             with self.subTest(row):
-                net, told = changed(row)
-                bounds = f"{BOUNDS_HEAD}\n{lines_of(told.replace(' ', ''))}"
+                net, said = changed(row)
+                bounds = f"{BOUNDS_HEAD}\n{lines_of(said.replace(' ', ''))}"
                 self.says(self.ended("bounds net.toml", net), 0, bounds, "")
 
-    def test_a_journal_is_done_or_its_fault_is_told(self):
+    def test_a_journal_is_done_or_its_fault_is_printed(self):
         for row in rows("journals"):
             with self.subTest(row[:200]):
-                begin, told = row.rsplit(" => ", 1)
+                begin, said = row.rsplit(" => ", 1)
                 net, written = changed(begin)
                 times, found, pieces = written.partition(" times ")
                 times, pieces = (int(times), pieces) if found else (1, written)
                 steps = "".join(map(repeated, pieces.split(" + "))) * times
                 steps = steps.encode().decode("unicode_escape").encode("utf-8")
                 found = self.ended("replay net.toml steps.txt", net, steps)
-                line, is_done, tables = told.partition(";")
+                line, is_done, tables = said.partition(";")
                 if not is_done:
-                    self.says(found, 5 if told == "out of memory" else 3, "", f"afdxsim: {told}\n")
+                    self.says(found, 5 if said == "out of memory" else 3, "", f"afdxsim: {said}\n")
                     continue
                 if tables == "seq":
                     tables = self.ended("seq net.toml", net).output.decode()
@@ -237,8 +245,8 @@ class Cut(Ends):
 
     def test_what_was_written_before_a_failure_stays(self):
         for row in rows("devices"):
-            name, words, told = row.split(" => ")
-            status, _, line = told.partition(" ")
+            name, words, said = row.split(" => ")
+            status, _, line = said.partition(" ")
             net, steps = network(name), "G\n" if "replay" in words else None
             whole = self.ended(words, net, steps)
             with self.subTest(row):
@@ -270,7 +278,7 @@ class Cut(Ends):
                 found = self.cut(words, net, None, taken, is_once=True)
                 self.assertEqual((found.status, found.output, found.trace, found.journal), (4, b"", trace[:taken], None))
 
-    def test_nothing_is_told_where_error_output_fails(self):
+    def test_nothing_is_printed_where_error_output_fails(self):
         with open("/dev/full", "wb") as full:
             found = self.ended("replay net.toml steps.txt", network("n1"), "G\n", errors=full)
             self.assertEqual((found.status, found.output), (0, self.ended("replay net.toml steps.txt", network("n1"), "G\n").output))
@@ -278,7 +286,7 @@ class Cut(Ends):
 
 
 class Paced(Ends):
-    """What is told on the way of a run, by a clock of the test."""
+    """What is printed on the way of a run, by a clock of the test."""
 
     @classmethod
     def setUpClass(cls):
@@ -295,14 +303,14 @@ class Paced(Ends):
             os.close(slave)
             os.close(master)
 
-    def test_progress_tells_how_fast_a_run_is(self):
+    def test_progress_shows_how_fast_a_run_is(self):
         for row in rows("paced"):
             with self.subTest(row):
                 ms, is_terminal, row = row.split(" => ", 2)
-                net, told = changed(row)
+                net, said = changed(row)
                 ended = self.ended_at_a_terminal if is_terminal == "yes" else self.ended
                 found = ended("seq net.toml --progress", net, env={"LD_PRELOAD": self.library, "MS": ms})
-                self.assertEqual((found.status, found.errors.decode()), (0, lines_of(told).replace("^", "\x1b[1A\x1b[2K")))
+                self.assertEqual((found.status, found.errors.decode()), (0, lines_of(said).replace("^", "\x1b[1A\x1b[2K")))
 
 
 if __name__ == "__main__":

@@ -11,7 +11,8 @@ import unittest
 from afdx import model
 from afdx.files import toml_lines
 from afdx.runs import second_opinion
-from afdx.runs.second_opinion import Simulation
+from afdx.runs.measured_hops import Measured
+from afdx.runs.plain_simulator import Frame, Simulation
 from gate import threaded_runs
 from tests.places import EXAMPLES, tool_words
 
@@ -59,29 +60,29 @@ class Rules(unittest.TestCase):
         released since."""
         simulation = Simulation(toml_lines.read(changed(("depth = 16", f"depth = {depth}\nsub = {sub}"))))
         simulation.heap.clear()
-        told = []
-        simulation.send = lambda time, _sender, _to, variant, _fields: told.append((variant, time))
-        simulation.copies = lambda time, _at, _vl, out: told.append(("released", out[1], out[3]))
-        simulation.lose = lambda time, _at, _frame, cause: told.append((cause, time))
+        printed = []
+        simulation.send = lambda time, _sender, _to, variant, _fields: printed.append((variant, time))
+        simulation.copies = lambda time, _at, _vl, out: printed.append(("released", out.number, out.offered))
+        simulation.lose = lambda time, _at, _frame, cause: printed.append((cause, time))
         for moment, q in offers:
             simulation.offer(moment, 0, 1, 64, q)
-        return simulation, told
+        return simulation, printed
 
     def test_sub_virtual_links_take_turns(self):
-        simulation, told = self.regulator(2, 2, [(0, 0), (10, 1), (20, 0), (30, 0), (40, 0)])
-        self.assertEqual(told, [("released", 0, 0), ("Release", 10**6), ("queue_full", 40)])
-        told.clear()
+        simulation, printed = self.regulator(2, 2, [(0, 0), (10, 1), (20, 0), (30, 0), (40, 0)])
+        self.assertEqual(printed, [("released", 0, 0), ("Release", 10**6), ("queue_full", 40)])
+        printed.clear()
         for moment in (10**6, 2 * 10**6, 3 * 10**6):
             simulation.next_served(moment, 0, 1)
         # The frame of 10 is served next, then that of 20, and behind them that of 30, after which none waits.
         released = [("Release", 2 * 10**6), ("released", 1, 10), ("Release", 3 * 10**6), ("released", 2, 20)]
-        self.assertEqual(told, [*released, ("released", 3, 30)])
-        self.assertEqual(simulation.regulators[1]["pointer"], 1)
+        self.assertEqual(printed, [*released, ("released", 3, 30)])
+        self.assertEqual(simulation.regulators[1].pointer, 1)
 
     def test_an_offer_beyond_the_sub_virtual_links_is_lost_before_any_rule(self):
-        simulation, told = self.regulator(2, 2, [(0, 2)])
-        self.assertEqual(told, [("queue_full", 0)])
-        self.assertEqual(simulation.regulators[1]["last"], None)
+        simulation, printed = self.regulator(2, 2, [(0, 2)])
+        self.assertEqual(printed, [("queue_full", 0)])
+        self.assertEqual(simulation.regulators[1].last, None)
 
     def test_sub_virtual_links_do_not_move_what_is_released_in_the_same_order(self):
         more = [("period_ns = 1000000000000", "period_ns = 400000"), ("until_ns = 2000000", "until_ns = 1100000")]
@@ -97,7 +98,7 @@ class Rules(unittest.TestCase):
         found = []
         for moment in moments:
             simulation.rows.clear()
-            simulation.at_switch(moment, 2, "Arrive", (0, (1, 0, 64, 0, 0, "A")))
+            simulation.at_switch(moment, 2, "Arrive", (0, Frame(1, 0, 64, 0, 0, "A")))
             found.append((not simulation.rows, simulation.accounts[1, 2][0]))
         return found
 
@@ -121,7 +122,7 @@ class OnTheWay(unittest.TestCase):
     """What --hops measures."""
 
     def measured(self, text):
-        simulation = second_opinion.Measured(toml_lines.read(text))
+        simulation = Measured(toml_lines.read(text))
         simulation.run()
         return list(simulation.hops())[1:]
 
@@ -153,10 +154,11 @@ backlog,,SW1>ES2,1,0,0,0
 
     def test_jitter_at_a_switch(self):
         """Each frame 0.1 ms closer than a BAG of 1 ms, and then one that is late."""
-        simulation = second_opinion.Measured(toml_lines.read(N1))
+        simulation = Measured(toml_lines.read(N1))
         for moment in (0, 900_000, 1_800_000, 3_800_000, 4_799_999):
             simulation.comes_closer(moment, 2, 1)
-        self.assertEqual(simulation.found["jitter", 1, 2], [5, 0, 200_000, 300_001])
+        found = simulation.found["jitter", 1, 2]
+        self.assertEqual((found.count, found.least, found.greatest, found.total), (5, 0, 200_000, 300_001))
 
     def test_wait_and_network_are_the_latency(self):
         """Of each destination where all frames came, in sum. And by one network or the other."""
@@ -219,19 +221,19 @@ class Words(unittest.TestCase):
             (changed(('b = "ES2"', 'b = "ES3"')), "line 26: is refused: 5 UnknownName at link 2 b; ES3 is no node; ES2?"),
         ):
             path = self.file(text)
-            status, out, told = called(path)
+            status, out, printed = called(path)
             self.assertEqual((status, out), (2, ""))
-            self.assertTrue(told.startswith(f"afdx second-opinion: {path} {said}"), told)
+            self.assertTrue(printed.startswith(f"afdx second-opinion: {path} {said}"), printed)
 
     def test_more_offers_than_it_takes(self):
         path = self.file(changed(("until_ns = 2000000", f"until_ns = {10**15}"), (f"period_ns = {10**12}", "period_ns = 1000")))
-        told = f"{path} line 1: {10**12 + 1:,} frames would be offered until the end, and this simulator takes 20,000,000"
-        self.assertEqual(called(path), (2, "", f"afdx second-opinion: {told}\n"))
+        printed = f"{path} line 1: {10**12 + 1:,} frames would be offered until the end, and this simulator takes 20,000,000"
+        self.assertEqual(called(path), (2, "", f"afdx second-opinion: {printed}\n"))
 
     def test_a_trace_that_cannot_be_written(self):
-        status, out, told = called(self.file(N1), "--trace", self.folder)
+        status, out, printed = called(self.file(N1), "--trace", self.folder)
         self.assertEqual((status, out), (2, ""))
-        self.assertEqual(told, f"afdx second-opinion: {self.folder}: cannot be written: Is a directory\n")
+        self.assertEqual(printed, f"afdx second-opinion: {self.folder}: cannot be written: Is a directory\n")
 
     def test_help(self):
         run = subprocess.run(
@@ -245,8 +247,8 @@ class Words(unittest.TestCase):
         with open("/dev/full", "w") as full:
             command = [*tool_words("second-opinion"), self.file(N1)]
             run = subprocess.run(command, stdout=full, stderr=subprocess.PIPE, text=True)
-        told = "afdx second-opinion: standard output: cannot be written: No space left on device\n"
-        self.assertEqual((run.returncode, run.stderr), (2, told))
+        printed = "afdx second-opinion: standard output: cannot be written: No space left on device\n"
+        self.assertEqual((run.returncode, run.stderr), (2, printed))
 
 
 class WithTheProgram(unittest.TestCase):

@@ -81,8 +81,8 @@ class StandingStill(unittest.TestCase):
             for _, thread in runs:
                 stopped_threads.go_on(thread)
         for run, _ in runs:
-            printed, told = run.communicate(timeout=LONGEST)
-            self.assertEqual((run.returncode, told.decode()), (0, ""))
+            printed, said = run.communicate(timeout=LONGEST)
+            self.assertEqual((run.returncode, said.decode()), (0, ""))
             self.assertEqual(printed, self.tables)
 
 

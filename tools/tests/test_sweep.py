@@ -9,8 +9,8 @@ import unittest
 from afdx import model
 from afdx.commands import report
 from afdx.model import long_form
-from afdx.reckon import network_calculus
-from afdx.runs.second_opinion import Simulation
+from afdx.reckon import network_calculus, output_ports
+from afdx.runs.plain_simulator import Simulation
 from tests.test_campaign import COCKPIT, Here, N1, SATURATED, read
 
 
@@ -65,7 +65,7 @@ class Sweeps(Here):
         self.assertEqual(len(rows), 4 * len(model.Network(COCKPIT).destinations))
         self.assertIn("4 combinations, 8 runs", out)
 
-    def test_the_page_tells_effect_and_spread(self):
+    def test_the_page_shows_effect_and_spread(self):
         """A line that is ten times slower delays those on it, and the seeds move the regulator's wait."""
         status, out, _ = self.call(COCKPIT, "--set", "link.1.mbit=100,10", "--seeds", "3")
         self.assertEqual(status, 0)
@@ -76,8 +76,8 @@ class Sweeps(Here):
         found = re.search(r"<tr><td>103</td><td>FMC1</td><td[^>]*>([\d,.]+) (µs|ns|ms)</td><td>([\d,.]+) (µs|ns|ms)</td>", page)
         self.assertIsNotNone(found)
         size = {"ns": 1, "µs": 1000, "ms": 10**6}
-        told = [round(float(found[i].replace(",", "")) * size[found[i + 1]]) for i in (1, 3)]
-        self.assertEqual(told, [effect, spread])
+        printed = [round(float(found[i].replace(",", "")) * size[found[i + 1]]) for i in (1, 3)]
+        self.assertEqual(printed, [effect, spread])
         self.assertGreater(effect, 0)
         self.assertIn(f"virtual link 103 at FMC1: effect {effect} ns, seeds {spread} ns", out)
         self.assertEqual(page.count("<title>link.1.mbit=10:"), len(model.Network(COCKPIT).destinations))
@@ -97,7 +97,7 @@ class Sweeps(Here):
         self.assertIn("limits: 1; combinations that break one: 1\nlimit broken with vl.1.size=70 vl.1.smax=100: virtual link 1 at ES2\n", out)
 
     def test_what_cannot_be_set(self):
-        for words, told in (
+        for words, printed in (
             (["--set", "vl.2.bag_ms=4"], "line 30: --set vl.2.bag_ms: there is no such vl"),
             (["--set", "link.3.mbit=10"], "line 19: --set link.3.mbit: there is no such link: there are 2"),
             (["--set", "node.SW2.latency_ns=1"], "line 4: --set node.SW2.latency_ns: there is no such node; SW1?"),
@@ -110,7 +110,7 @@ class Sweeps(Here):
             with self.subTest(words):
                 status, out, said = self.call(N1, "--seeds", "1", *words)
                 self.assertEqual((status, out), (2, ""))
-                self.assertTrue(said.startswith(f"afdx campaign: {N1}{'' if told[0] == ':' else ' '}{told}"), said)
+                self.assertTrue(said.startswith(f"afdx campaign: {N1}{'' if printed[0] == ':' else ' '}{printed}"), said)
         for words in (
             ["--set", "vl.1.bag=4"], ["--set", "vl.1.a=4"], ["--set", "vl.x.bag_ms=4"], ["--set", "vl.1.bag_ms"],
             ["--set", "vl.1.bag_ms=4,,8"], ["--set", "vl.1.bag_ms=4,4"], ["--set", "vl.1.size=9", "--aim", "1"],
@@ -214,8 +214,8 @@ class Aims(Here):
 
     def test_a_limit_that_no_frame_can_break(self):
         path = self.file("net.toml", read(N1).replace("size = 64", "size = 65"))
-        told = f"afdx campaign: {path}: no frame of the aimed virtual links arrives: size is above smax\n"
-        self.assertEqual(self.call(path, "--aim", "all", "--limits", self.file("limits.csv", "1,ES2,5\n")), (2, "", told))
+        printed = f"afdx campaign: {path}: no frame of the aimed virtual links arrives: size is above smax\n"
+        self.assertEqual(self.call(path, "--aim", "all", "--limits", self.file("limits.csv", "1,ES2,5\n")), (2, "", printed))
 
     def test_a_run_that_is_too_short(self):
         status, _, said = self.call(COCKPIT, "--aim", "301", "--until", "100000")
@@ -223,20 +223,20 @@ class Aims(Here):
         self.assertRegex(said, rf"^afdx campaign: {re.escape(COCKPIT)} line \d+: the run ends before the aimed frame arrives: until_ns must be \d+ at the least\n$")
 
     def test_above_a_bound(self):
-        """What cannot be: it is told, and the status says so."""
-        honest = network_calculus.longest_wait
+        """What cannot be: it is reported, and the status is 1."""
+        honest = output_ports.longest_wait
         try:
-            network_calculus.longest_wait = lambda vl: -10**6
+            output_ports.longest_wait = lambda vl: -10**6
             status, out, _ = self.call(N1, "--aim", "1")
         finally:
-            network_calculus.longest_wait = honest
+            output_ports.longest_wait = honest
         self.assertEqual(status, 1)
         self.assertIn("above its bound, so one of the two is wrong: 1,ES2,A,42,27720,27720,27720,27720,", out)
 
     def test_no_frame_arrives(self):
         path = self.file("net.toml", read(N1).replace("size = 64", "size = 65"))
-        told = f"afdx campaign: {path}: no frame of the aimed virtual links arrives: size is above smax\n"
-        self.assertEqual(self.call(path, "--aim", "1"), (2, "", told))
+        printed = f"afdx campaign: {path}: no frame of the aimed virtual links arrives: size is above smax\n"
+        self.assertEqual(self.call(path, "--aim", "1"), (2, "", printed))
 
 
 class LongForm(Here):

@@ -13,7 +13,7 @@ from afdx import model
 from afdx.commands import benchmark, large_network
 from afdx.files import toml_lines
 from afdx.model import judge
-from afdx.runs.second_opinion import Simulation
+from afdx.runs.plain_simulator import Simulation
 from gate import stopped_threads, threaded_runs
 from tests.places import TOOLS
 
@@ -21,7 +21,7 @@ from tests.places import TOOLS
 STAND_IN = """#!{python}
 import sys
 command = sys.argv[1]
-tables, trace, told = "tables\\n", "trace\\n", "replay: 3 did, 0 not enabled, 0 refused, gvt 9, finished\\n"
+tables, trace, said = "tables\\n", "trace\\n", "replay: 3 did, 0 not enabled, 0 refused, gvt 9, finished\\n"
 journal, groups = "R 0\\nR 0\\nC 0\\n", "afdxsim: 2 groups, 2 workers\\n"
 {lines}
 for flag, text in (("--trace", trace), ("--journal", journal)):
@@ -30,7 +30,7 @@ for flag, text in (("--trace", trace), ("--journal", journal)):
             out.write(text)
 sys.stdout.write(tables)
 if command == "replay":
-    sys.stderr.write(told)
+    sys.stderr.write(said)
 if "--progress" in sys.argv:
     sys.stderr.write(groups)
 """
@@ -94,27 +94,27 @@ class ThreadedRuns(unittest.TestCase):
                     self.assertEqual(tuple(map(int, re.findall(r"\d+", found[1]))), did)
                     self.assertEqual(status, 0 if all(did) or enough > 1 else 1)
 
-    def test_each_difference_is_told(self):
-        for lines, told in (
+    def test_each_difference_is_reported(self):
+        for lines, said in (
             ("if command == 'run': tables = 'others'", "the tables of run differ from those of seq"),
             ("if command == 'run': trace = 'others'", "the rows of run's trace differ from those of seq"),
             ("if command == 'run' and '--trace' not in sys.argv: tables = ''", "the tables of run alone differ from those of seq"),
             ("if command == 'replay': tables = ''", "the tables of replay differ from those of seq"),
-            ("told = told.replace('finished', 'unfinished')", "replay told: replay: 3 did, 0 not enabled, 0 refused, gvt 9, unfinished"),
-            ("told = told.replace('0 refused', '1 refused')", "replay told: replay: 3 did, 0 not enabled, 1 refused, gvt 9, finished"),
+            ("said = said.replace('finished', 'unfinished')", "replay printed: replay: 3 did, 0 not enabled, 0 refused, gvt 9, unfinished"),
+            ("said = said.replace('0 refused', '1 refused')", "replay printed: replay: 3 did, 0 not enabled, 1 refused, gvt 9, finished"),
             ("if command == 'run': sys.exit('afdxsim: torn')", "run ended with status 1: afdxsim: torn"),
             ("groups = ''", "run did not report its groups and workers"),
         ):
             with self.subTest(lines=lines):
                 status, found = self.ended(lines, "--runs", "1")
                 self.assertEqual((status, len(found)), (1, 3))
-                self.assertTrue(found[0].startswith("run 0 (--workers ") and found[0].endswith("): " + told), found[0])
+                self.assertTrue(found[0].startswith("run 0 (--workers ") and found[0].endswith("): " + said), found[0])
                 self.assertEqual(found[1], "1 runs, 0 came out as seq, 1 did not")
 
-    def test_a_command_that_does_not_end_is_told(self):
-        with self.assertRaises(threaded_runs.Difference) as told:
+    def test_a_command_that_does_not_end_is_reported(self):
+        with self.assertRaises(threaded_runs.Difference) as said:
             threaded_runs.ended("/bin/sleep", ["60"], TOOLS, 0.1)
-        self.assertEqual(str(told.exception), "60 took longer than 0.1 seconds")
+        self.assertEqual(str(said.exception), "60 took longer than 0.1 seconds")
 
     def test_a_run_can_be_made_again(self):
         for number in range(20):
@@ -129,7 +129,7 @@ class ThreadedRuns(unittest.TestCase):
             self.assertTrue(all(1 <= value <= most for value in found))
             self.assertTrue(min(found) <= most**0.25 and max(found) > most / 4)
 
-    def test_networks_are_accepted_and_have_what_is_told(self):
+    def test_networks_are_accepted_and_have_what_is_reported(self):
         """Sub-virtual links and sorts of policing of each sort and none, moments at both ends, and frames that wait and
         are lost."""
         nets = [toml_lines.read(threaded_runs.Drawn(number).network) for number in range(100)]
@@ -162,9 +162,9 @@ class ThreadedRuns(unittest.TestCase):
         simulation = Simulation(toml_lines.read(threaded_runs.Drawn(0).network))
         simulation.run()
         tables, trace = ("".join(line + "\n" for line in lines) for lines in (simulation.tables(), simulation.trace()))
-        for trace, told in ((trace, ()), ("other", ("the rows of the second opinion's trace differ from those of seq",))):
+        for trace, said in ((trace, ()), ("other", ("the rows of the second opinion's trace differ from those of seq",))):
             status, lines = self.ended(f"tables, trace = {tables!r}, {trace!r}", "--runs", "1", "--second-opinion")
-            self.assertEqual((status, tuple(line.split("): ")[1] for line in lines[:-1])), (len(told), told))
+            self.assertEqual((status, tuple(line.split("): ")[1] for line in lines[:-1])), (len(said), said))
 
 
 if __name__ == "__main__":

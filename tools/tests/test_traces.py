@@ -97,15 +97,15 @@ class WhichFramesCame(unittest.TestCase):
         return found
 
     def test_by_number_and_by_moment(self):
-        """With offers that may change places too. What none of the frames can be is told."""
+        """With offers that may change places too. What none of the frames can be is reported."""
         for period, jitter in ((MS, 0), (MS, 500), (MS, 2 * MS)):
-            for moments, deliveries, told in (
+            for moments, deliveries, said in (
                 ([0, MS, 2 * MS], [0, 2 * MS], (2, 2)), ([0, MS, 2 * MS], [], (0, -1)), ([0, MS, 2 * MS], [0, 0, MS], (2, 1)),
                 ([0, MS], [0, 0] + [MS] * 300, (2, 1)), ([0, MS], [MS, 1], None), ([0, MS + 3], [MS + 2], None),
                 ([0, MS], [-1], None), ([0, MS], [0, 5 * MS], None), ([], [0], None), ([0, 2000 * MS * 100], [2000 * MS * 100], (1, 1)),
             ):
                 with self.subTest(period=period, jitter=jitter, moments=moments, deliveries=deliveries):
-                    self.assertEqual(self.came(period, jitter, *deliveries).among(moments), told)
+                    self.assertEqual(self.came(period, jitter, *deliveries).among(moments), said)
         # Two frames that were offered in one moment.
         self.assertEqual(self.came(MS, 2 * MS, 5, 5).among([5, 5]), (2, 1))
         self.assertEqual(self.came(MS, 2 * MS, 5).among([5, 5]), (1, 0))
@@ -117,8 +117,8 @@ class WhichFramesCame(unittest.TestCase):
         self.assertEqual(list(found.latencies), [5, 2**32 - 1, 2**32, 10**15])
 
 
-class WhatTwoRunsTell(unittest.TestCase):
-    """Of which virtual links two runs tell something else is found by blocks of their traces."""
+class WhereTwoRunsDiffer(unittest.TestCase):
+    """The virtual links of which two runs differ are found by blocks of their traces."""
 
     def test_differing(self):
         with tempfile.TemporaryDirectory() as folder:

@@ -12,6 +12,7 @@ from afdx.commands import report
 from afdx.reckon import description_warnings
 from afdx.reckon.transmit_jitter import TransmitJitter
 from afdx.runs import second_opinion
+from afdx.runs.measured_hops import Measured
 from tests.test_bounds import busy, network, virtual_link, way
 
 # How long a frame of 64 bytes takes of a line of 100 Mbit/s, in ns: 84 bytes of 80 ns.
@@ -50,8 +51,8 @@ class ByHand(unittest.TestCase):
             (many(10, size=1500), None, 40_000 + 10 * 1520 * 80, "too_small transmit_jitter"),
         ):
             (port,) = [row for row in found.rows() if row["where"] == "E1>A" and "vl" not in row]
-            told = "none" if jitter is None else str(jitter)
-            self.assertEqual((port["transmit_jitter_ns"], port["transmit_rule_ns"], port["warning"]), (told, rule, warning))
+            said = "none" if jitter is None else str(jitter)
+            self.assertEqual((port["transmit_jitter_ns"], port["transmit_rule_ns"], port["warning"]), (said, rule, warning))
             others = [row for row in found.rows() if row["where"] == "A>E2" and "vl" not in row]
             self.assertNotIn("transmit_jitter_ns", (others or [{}])[0])
 
@@ -71,7 +72,7 @@ class OnThePage(unittest.TestCase):
             found = many(count)
             with self.subTest(count), tempfile.TemporaryDirectory() as folder:
                 path = lambda name: os.path.join(folder, name)
-                run = second_opinion.Measured(found.net.description.tree)
+                run = Measured(found.net.description.tree)
                 run.run()
                 for name, text in (("net.toml", found.net.text), ("bounds.csv", found.text()), ("tables.csv", "".join(line + "\n" for line in run.tables()))):
                     with open(path(name), "w", encoding="utf-8") as out:

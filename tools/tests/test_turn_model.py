@@ -5,7 +5,9 @@ import unittest
 
 from gate import turn_model
 from gate.turn_groups import Groups, Network, Undone, drawn
-from gate.turn_model import Model, State, tried
+from gate.turn_search import tried
+from gate.turn_states import State, Worker
+from gate.turn_steps import WRONG, Model
 
 # One event, in group 0; and one that sends another to group 1.
 ONE = Network(2, [(0, 2, None, 0, None)])
@@ -42,7 +44,7 @@ class TurnModel(unittest.TestCase):
         self.assertEqual(self.found(ONE, 1, has_wake_up=False, gives_up=True).lost, 0)
 
     def test_what_is_left_out_is_found(self):
-        for wrong in turn_model.WRONG:
+        for wrong in WRONG:
             with self.subTest(wrong):
                 self.assertGreater(self.found(ONE_LETTER, 1, wrong=(wrong,)).lost, 0)
 
@@ -60,7 +62,7 @@ class TurnModel(unittest.TestCase):
         with self.assertRaises(Undone):
             groups.work(s, 1, 9, 9)
 
-    def test_states_are_told_apart(self):
+    def test_states_are_kept_apart(self):
         model = Model(drawn(2, 2, 3), 2, 1)
         s = model.beginning()
         other = s.copy(0)
@@ -70,7 +72,7 @@ class TurnModel(unittest.TestCase):
             value = getattr(other, name)
             setattr(other, name, value + 1 if isinstance(value, int) else ["other", *value[1:]])
             self.assertNotEqual(s.key(), other.key(), name)
-        for name in turn_model.Worker.OWN:
+        for name in Worker.OWN:
             other = s.copy(1)
             setattr(other.workers[1], name, "other")
             self.assertNotEqual(s.key(), other.key(), name)

@@ -58,12 +58,12 @@ class OnATerminal(unittest.TestCase):
     def test_a_quick_tool_and_one_without_a_terminal(self):
         """They say nothing."""
         script = "import time; from afdx import files; from afdx.files import watch\nwatch.PATIENCE, watch.EACH = %s, 0.1\n" \
-            "@files.tool('x')\ndef main(_): watch.stage('counts'); time.sleep(0.6); files.tell('x', 'told'); time.sleep(0.3)\nmain()"
-        self.assertEqual(self.shown(sys.executable, "-c", script % 30)[0], b"x: told\r\n")
+            "@files.tool('x')\ndef main(_): watch.stage('counts'); time.sleep(0.6); files.report('x', 'found'); time.sleep(0.3)\nmain()"
+        self.assertEqual(self.shown(sys.executable, "-c", script % 30)[0], b"x: found\r\n")
         shown = self.shown(sys.executable, "-c", script % 0.2)[0]
-        self.assertRegex(shown, rb"^(\r\x1b\[K[^:]*: counts, [01] s)+\r\x1b\[Kx: told\r\n(\r\x1b\[K[^:]*: counts, \d s)*\r\x1b\[K$")
+        self.assertRegex(shown, rb"^(\r\x1b\[K[^:]*: counts, [01] s)+\r\x1b\[Kx: found\r\n(\r\x1b\[K[^:]*: counts, \d s)*\r\x1b\[K$")
         run = subprocess.run([sys.executable, "-c", script % 0.2], capture_output=True)
-        self.assertEqual(run.stderr, b"x: told\n")
+        self.assertEqual(run.stderr, b"x: found\n")
 
 
 if __name__ == "__main__":

@@ -1,8 +1,8 @@
--- The first of a list that was taken out is its least.
-use Rattle.std.proofs.Common.{◌≡◌, ◌+◌, List, ◌∷◌, All, false, IsPermutation, arith}
-use Rattle.virtual_time.specs.Law.{Order, IsOrder}
+-- The first of a list that was taken out is its least, and that of each list with the same messages.
+use Rattle.std.proofs.Common.{◌≡◌, List, [], ◌∷◌, All, Some, false, IsPermutation, refl, ap, arith}
+use Rattle.virtual_time.specs.Law.{Order, IsOrder, least, times_in}
 use Rattle.virtual_time.proofs.Lists.{in-head}
-use Rattle.virtual_time.proofs.Least.{IsLeast}
+use Rattle.virtual_time.proofs.Least.{IsLeast, least-from}
 use Rattle.reverse.proofs.Members.{in-all}
 use Rattle.two_lists.proofs.Counting.{times-permutation}
 
@@ -14,3 +14,17 @@ module _ {M : Type 0} (order : Order M) where
         inside = let e = times-permutation order m xs (m ∷ rest) p in let i = in-head order O m rest in omega arith;
         lowest = λ x i. in-all order O (λ y. order.less y m ≡ false) x xs a i;
       }
+
+  -- of two lists with the same messages, each as often, the least is the same
+  pub least-same : (O : IsOrder order) (xs ys : List M) → ((x : M) → times_in order x xs ≡ times_in order x ys) → (m : M) → IsLeast order O m xs → least order ys ≡ Some m
+  least-same O xs ys same m l =
+      least-from order O ys m
+      (record {
+        inside = let a = same m in let b = l.inside in omega arith;
+        lowest = λ x i. l.lowest x (let a = same x in omega arith);
+      })
+
+  -- and where nothing is in the first, nothing is in the second
+  pub none-same : (O : IsOrder order) (xs ys : List M) → ((x : M) → times_in order x xs ≡ times_in order x ys) → xs ≡ [] → ys ≡ []
+  none-same O xs [] same e = refl
+  none-same O xs (y ∷ ys) same e = absurd (let a = same y in let b = ap (times_in order y) e in let i = in-head order O y ys in omega arith)

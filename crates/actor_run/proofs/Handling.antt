@@ -1,5 +1,5 @@
 -- One event of the one-thread run, over actors, a heap of messages and rows.
-use Rattle.std.proofs.Common.{◌≡◌, ℕ, zero, suc, ◌+◌, ◌≤◌, ◌<◌, ◌⊎◌, inl, inr, List, [], ◌∷◌, ◌++◌, ◌∙◌, Option, Some, length, slice_get, get_or, All, false, IsPermutation, refl, sym, ap, subst, arith, set, get_or-set_same, get_or-set_other, length-set}
+use Rattle.std.proofs.Common.{◌≡◌, ℕ, zero, suc, ◌+◌, ◌≤◌, ◌<◌, ◌⊎◌, inl, inr, List, [], ◌∷◌, ◌++◌, ◌∙◌, Option, Some, length, slice_get, get_or, All, false, IsPermutation, sym, ap, subst, arith, set, get_or-set_same, get_or-set_other, length-set}
 use Rattle.std.proofs.lemmas.Bool.{cases_eq, cases_lt}
 use Rattle.std.proofs.lemmas.Option.{slice_get-get_or, get_or_from_slice_get, same_Some, none-some}
 use Rattle.vlink.specs.declared.message.Message.{Message}
@@ -7,13 +7,13 @@ use Rattle.vlink.specs.declared.note.Note.{Note}
 use Rattle.vlink.specs.Numbering.{greatest_number}
 use Rattle.vlink.specs.Letters.{Row}
 use Rattle.virtual_time.specs.Law.{Rules, rows_of, times_in, least, without, Simulation, Laws, put, OneThread, handle, one}
-use Rattle.virtual_time.proofs.Lists.{in-head, times-append}
-use Rattle.virtual_time.proofs.Least.{IsLeast, least-some, least-from}
+use Rattle.virtual_time.proofs.Lists.{times-append}
+use Rattle.virtual_time.proofs.Least.{IsLeast, least-some}
 use Rattle.virtual_time.proofs.OneThread.{right, times-without, put_same, put_other}
 use Rattle.reverse.specs.Setting.{Setting, simulation_of, Opens, AreInStates}
 use Rattle.actor_run.specs.Running.{AreOnTheWay, HasNumbersFrom, IsExhaustedAt, StandsAt}
 use Rattle.two_lists.proofs.Counting.{times-permutation}
-use Rattle.actor_run.proofs.Counting.{taken-least}
+use Rattle.actor_run.proofs.Counting.{least-same, none-same, taken-least}
 use Rattle.reverse.specs.declared.sends.TheConstants.{MOST_SENT}
 
 -- one actor is in a new state
@@ -92,25 +92,11 @@ module _ {S K : Type 0} (f : Simulation Message S K Note) where
 module _ {S K : Type 0} (f : Simulation Message S K Note) (L : Laws f) (n : ℕ) (actors : List S) (heap : List Message) (rows : List Row) (h : StandsAt f n actors heap rows) where
   -- the least of the heap is handled next
   pub next-least : (m : Message) → IsLeast f.rules.order L.order m heap → least f.rules.order (one f n).waiting ≡ Some m
-  next-least m l =
-      least-from f.rules.order L.order (one f n).waiting m
-      (record {
-        inside = let a = h.waiting m in let b = l.inside in omega arith;
-        lowest = λ x i. l.lowest x (let a = h.waiting x in omega arith);
-      })
+  next-least m l = least-same f.rules.order L.order heap (one f n).waiting h.waiting m l
 
   -- an empty heap: nothing waits
   pub over : heap ≡ [] → (one f n).waiting ≡ []
-  over e = go (one f n).waiting refl
-    where
-      go : (ws : List Message) → (one f n).waiting ≡ ws → ws ≡ []
-      go [] d = refl
-      go (w ∷ ws) d = absurd (
-          let a = h.waiting w in
-          let b = ap (times_in f.rules.order w) e in
-          let c = ap (times_in f.rules.order w) d in
-          let i = in-head f.rules.order L.order w ws in
-          omega arith)
+  over e = none-same f.rules.order L.order heap (one f n).waiting h.waiting e
 
   -- so no numbers are used up
   pub over-numbers : heap ≡ [] → IsExhaustedAt f n → ⊥

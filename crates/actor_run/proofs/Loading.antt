@@ -18,7 +18,7 @@ power-more k zero e h = let a : e ≡ k = omega arith in let b = ap power a in o
 power-more k (suc d) zero h = absurd (omega arith)
 power-more k (suc d) (suc e) h = let a = power-more k d e (omega arith) in omega arith
 
-load-append : (limit : ℕ) (xs ys : List Message) → load limit (xs ++ ys) ≡ load limit xs + load limit ys
+pub load-append : (limit : ℕ) (xs ys : List Message) → load limit (xs ++ ys) ≡ load limit xs + load limit ys
 load-append limit [] ys = omega arith
 load-append limit (x ∷ xs) ys = let a = load-append limit xs ys in omega arith
 
@@ -26,7 +26,7 @@ load-sum : (limit : ℕ) (xs : List Message) → load limit xs ≡ sum_by (λ m.
 load-sum limit [] = refl
 load-sum limit (x ∷ xs) = ap (λ n. weight limit x.time + n) (load-sum limit xs) ∙ sym (sum_by-cons (λ m. weight limit m.time) x xs)
 
-load-permutation : (limit : ℕ) (xs ys : List Message) → IsPermutation xs ys → load limit ys ≡ load limit xs
+pub load-permutation : (limit : ℕ) (xs ys : List Message) → IsPermutation xs ys → load limit ys ≡ load limit xs
 load-permutation limit xs ys p =
     load-sum limit ys ∙ (sum_by-IsPermutation (λ m. weight limit m.time) xs ys p ∙ sym (load-sum limit xs))
 
@@ -52,14 +52,23 @@ load-later limit t (m ∷ ms) a b =
 at-most : (a b w : ℕ) → a ≤ b → a * w ≤ b * w
 at-most a b w h = grind arith
 
--- an event that sends at most `MOST_SENT` messages, all later, leaves less than there was
-pub load-falls : (limit : ℕ) (m : Message) (heap rest sends more : List Message) → IsPermutation heap (m ∷ rest) → IsPermutation (rest ++ sends) more →
-    All (λ x. m.time < x.time) sends → All (λ x. x.time ≤ limit) sends → length sends ≤ MOST_SENT → load limit more < load limit heap
-load-falls limit m heap rest sends more p q a b c =
-    let d = load-permutation limit heap (m ∷ rest) p in
-    let e = load-permutation limit (rest ++ sends) more q in
-    let g = load-append limit rest sends in
+-- what an event sends weighs less than its message: at most `MOST_SENT` messages, all later
+pub sends-lighter : (limit : ℕ) (m : Message) (sends : List Message) → All (λ x. m.time < x.time) sends → All (λ x. x.time ≤ limit) sends → length sends ≤ MOST_SENT →
+    load limit sends < weight limit m.time
+sends-lighter limit m sends a b c =
     let k = load-later limit m.time sends a b in
     let w = power-least (limit - m.time) in
     let z : length sends * weight limit m.time ≤ MOST_SENT * weight limit m.time = at-most (length sends) MOST_SENT (weight limit m.time) c in
     omega arith
+
+-- so where it waits in place of its message, the load falls
+pub load-replaced : (limit : ℕ) (m : Message) (heap rest sends more : List Message) → IsPermutation heap (m ∷ rest) → load limit more ≤ load limit rest + load limit sends →
+    load limit sends < weight limit m.time → load limit more < load limit heap
+load-replaced limit m heap rest sends more p q l = let d = load-permutation limit heap (m ∷ rest) p in omega arith
+
+pub load-falls : (limit : ℕ) (m : Message) (heap rest sends more : List Message) → IsPermutation heap (m ∷ rest) → IsPermutation (rest ++ sends) more →
+    All (λ x. m.time < x.time) sends → All (λ x. x.time ≤ limit) sends → length sends ≤ MOST_SENT → load limit more < load limit heap
+load-falls limit m heap rest sends more p q a b c =
+    let e = load-permutation limit (rest ++ sends) more q in
+    let g = load-append limit rest sends in
+    load-replaced limit m heap rest sends more p (omega arith) (sends-lighter limit m sends a b c)

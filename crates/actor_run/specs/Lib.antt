@@ -1,3 +1,4 @@
 pub mod Running
+pub mod RunningAhead
 pub mod Load
 pub mod Recording

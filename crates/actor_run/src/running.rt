@@ -14,7 +14,7 @@ ghost use Rattle.reverse.specs.declared.sends.TheConstants.{MOST_SENT};
 use crate::fault::SimFault;
 use crate::recorder::{AllRows, Recorder, record};
 use crate::waiting::Waiting;
-use crate::watch::{Watch, show_event};
+use crate::watch::{Watch, show_events};
 use reverse::{Actor, Outbound, actor_rules_law};
 use std::alloc::Global;
 use vlink::{GREATEST_NS, Message, Row, Time};
@@ -30,7 +30,7 @@ fn limits_law<A: Actor>(actor: &A)
 
 /// The receiver handles the message, if it has numbers left for all that it can send; then `out` has what it sends and notes. Returns
 /// whether it had them.
-fn act<A: Actor>(actors: &mut [A], message: &Message, out: &mut Outbound) -> bool
+pub(crate) fn act<A: Actor>(actors: &mut [A], message: &Message, out: &mut Outbound) -> bool
     requires { message.now.receiver < length actors.old }
     ensures messages { result ≡ true → (s : A) → slice_get actors.old message.now.receiver ≡ Some s →
         out.new.messages ≡ (A.plain.out s message.now).messages.items }
@@ -124,7 +124,7 @@ pub fn handle_all<A: Actor, R: Recorder, W: Watch>(
     let mut moment = Time::default();
     let mut unseen = 0;
     'events: while handle_first(actors, waiting, recorder, &mut out, &mut moment)? {
-        unseen = show_event(watch, moment, unseen);
+        unseen = show_events(watch, moment, unseen, 1);
     }
     watch.look(moment, unseen);
     Ok(())

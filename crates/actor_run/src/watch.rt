@@ -1,5 +1,6 @@
 //! A watch, which is shown how far a run is. A look gives the events since the last look, and not all: so its number cannot overflow.
-ghost use Rattle.std.specs.Prelude.{◌<◌};
+ghost use Rattle.std.specs.Prelude.{◌+◌, ◌<◌, ◌≤◌};
+ghost use Rattle.reverse.specs.declared.sends.TheConstants.{MOST_SENT};
 ghost use Rattle.actor_run.specs.declared.watch.TheConstants.{EVENTS_PER_LOOK};
 
 use vlink::Time;
@@ -23,14 +24,15 @@ pub trait Watch {
     ghost goes_on: { (first next last : Self) → becomes first next → becomes next last → becomes first last };
 }
 
-/// Counts one more event, at this moment, after `unseen` events that the watch has not seen. Returns how many it has not seen now.
+/// Counts these events more, at this moment, after `unseen` events that the watch has not seen. Returns how many it has not seen now.
 #[inline(always)]
-pub(crate) fn show_event<W: Watch>(watch: &mut W, moment: Time, unseen: u32) -> u32
-    requires { unseen < EVENTS_PER_LOOK }
+pub(crate) fn show_events<W: Watch>(watch: &mut W, moment: Time, unseen: u32, events: u32) -> u32
+    requires unseen { unseen < EVENTS_PER_LOOK }
+    requires events { events ≤ MOST_SENT + 1 }
     ensures few { result < EVENTS_PER_LOOK }
     ensures watched { W.becomes watch.old watch.new }
 {
-    let unseen = unseen + 1;
+    let unseen = unseen + events;
     if unseen < EVENTS_PER_LOOK {
         return unseen;
     }

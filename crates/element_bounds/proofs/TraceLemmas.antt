@@ -2,13 +2,14 @@
 use Rattle.std.proofs.Common.{◌≡◌, ℕ, Bool, true, false, cond, List, [], ◌∷◌, ◌++◌, map, Option, Some, None, is_some, append_assoc, refl, sym, ap, ◌∙◌, subst}
 use Rattle.std.specs.Prelude.{⊤}
 use Rattle.std.proofs.lemmas.List.{map-append}
+use Rattle.vlink.specs.Wire.{busy_for}
 use Rattle.vlink.specs.declared.frame.Frame.{Frame}
 use Rattle.output_port.specs.declared.event.Priority.{Priority}
 use Rattle.output_port.specs.declared.event.Priority.TheVariants as priority
 use Rattle.output_port.specs.declared.event.PortEvent.{PortEvent}
 use Rattle.output_port.specs.declared.event.PortEvent.TheVariants as event
 use Rattle.output_port.specs.declared.event.PortAnswer.{PortAnswer}
-use Rattle.output_port.specs.declared.event.PortAnswer.TheVariants.{Started, Kept, Dropped, Idle, Nothing}
+use Rattle.output_port.specs.declared.event.PortAnswer.TheVariants.{Started, Kept, Idle}
 use Rattle.output_port.specs.Port as real
 use Rattle.output_port.specs.Port.{PortState, port, may_wait}
 use Rattle.port_bounds.specs.Frames.{PutFrame}
@@ -64,10 +65,7 @@ module _ (byte_ns t line : ℕ) where
       let rest : gs ≡ frames_of ls = cc in
       record { same = record { busy = b; high = ph; low = rest }; starts_same = rw head refl }
   next-step p u [] [] [] [] b ph pl h l = record { same = record { busy = refl; high = ph; low = pl }; starts_same = refl }
-  next-step p u [] ls (f ∷ fs) gs b ph pl h l = absurd (let z : ⊥ = cc in z)
-  next-step p u (x ∷ hs) ls [] gs b ph pl h l = absurd (let z : ⊥ = cc in z)
-  next-step p u [] [] [] (g ∷ gs) b ph pl h l = absurd (let z : ⊥ = cc in z)
-  next-step p u [] (x ∷ ls) [] [] b ph pl h l = absurd (let z : ⊥ = cc in z)
+  next-step p u _ _ _ _ b ph pl h l = absurd (let z : ⊥ = cc in z)
 
   free-step : (p : PortState) (until : Option ℕ) (hs ls : List PutFrame) → p.busy ≡ is_some until → p.high ≡ frames_of hs → p.low ≡ frames_of ls →
       Steps (record { until = until; high = hs; low = ls }) event.Free (real.free p)
@@ -81,7 +79,7 @@ module _ (byte_ns t line : ℕ) where
   step p a event.Free s = free-step p a.until a.high a.low s.busy s.high s.low
 
 -- the other port over events of which some come first
-after-append : (a : Port) (xs ys : List Event) → after a (xs ++ ys) ≡ after (after a xs) ys
+pub after-append : (a : Port) (xs ys : List Event) → after a (xs ++ ys) ≡ after (after a xs) ys
 after-append a [] ys = refl
 after-append a (x ∷ xs) ys = after-append (outcome a x).port xs ys
 
@@ -123,15 +121,22 @@ module _ (P : Priority → PutFrame → Type 0) (byte_ns : ℕ) where
   seen-puts : (t line : ℕ) (e : PortEvent) (a : PortAnswer) (es : List Event) → OfAsked t line e → AllPuts es → AllPuts (seen_as byte_ns t line e a ++ es)
   seen-puts t line (event.Put frame q) (Started f) es p h = put-puts q (put_at byte_ns t line frame) es p h
   seen-puts t line (event.Put frame q) Kept es p h = put-puts q (put_at byte_ns t line frame) es p h
-  seen-puts t line (event.Put frame q) Dropped es p h = h
-  seen-puts t line (event.Put frame q) Idle es p h = h
-  seen-puts t line (event.Put frame q) Nothing es p h = h
   seen-puts t line event.Free (Started f) es p h = record { high = h.high; low = h.low }
   seen-puts t line event.Free Idle es p h = record { high = h.high; low = h.low }
-  seen-puts t line event.Free Kept es p h = h
-  seen-puts t line event.Free Dropped es p h = h
-  seen-puts t line event.Free Nothing es p h = h
+  seen-puts t line _ _ es p h = h
 
   pub trace-puts : (p : PortState) (es : List PortEventAt) → Every (λ e. OfAsked e.at e.line e.event) es → AllPuts (trace_of byte_ns p es)
   trace-puts p [] h = record { high = tt; low = tt }
   trace-puts p (e ∷ es) h = seen-puts e.at e.line e.event (port.out p e.event) (trace_of byte_ns (port.after p e.event) es) h.0 (trace-puts (port.after p e.event) es h.1)
+
+-- each frame costs the time for which it keeps the line busy
+pub costed : (byte_ns : ℕ) (p : PortState) (es : List PortEventAt) → AllPuts (λ r x. x.cost ≡ busy_for x.frame.size byte_ns) byte_ns (trace_of byte_ns p es)
+costed byte_ns p es = trace-puts (λ r x. x.cost ≡ busy_for x.frame.size byte_ns) byte_ns p es (each es)
+  where
+    one : (t line : ℕ) (e : PortEvent) → OfAsked (λ r x. x.cost ≡ busy_for x.frame.size byte_ns) byte_ns t line e
+    one t line (event.Put frame r) = refl
+    one t line event.Free = tt
+
+    each : (es : List PortEventAt) → Every (λ e. OfAsked (λ r x. x.cost ≡ busy_for x.frame.size byte_ns) byte_ns e.at e.line e.event) es
+    each [] = tt
+    each (e ∷ es) = (one e.at e.line e.event, each es)

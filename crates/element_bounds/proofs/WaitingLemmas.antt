@@ -9,7 +9,7 @@ use Rattle.frame_ring.specs.Queue.{Queue}
 use Rattle.bag_regulator.specs.declared.event.RegEvent.{RegEvent}
 use Rattle.bag_regulator.specs.declared.event.RegEvent.TheVariants.{Offer, Release}
 use Rattle.bag_regulator.specs.declared.event.RegAnswer.{RegAnswer}
-use Rattle.bag_regulator.specs.declared.event.RegAnswer.TheVariants.{Dropped, Kept, Nothing, Released}
+use Rattle.bag_regulator.specs.declared.event.RegAnswer.TheVariants.{Dropped, Nothing, Released}
 use Rattle.bag_regulator.specs.Regulator.{Outcome, Regulator, admitted, appended, direct, due, idle, is_due, list_at, next_release, next_served, outcome, popped, queued, served, with_frames}
 use Rattle.bag_regulator.specs.Spacing.{moment_of}
 
@@ -24,9 +24,7 @@ module _ (P : Frame → Type 0) where
 
   abbrev pub OfAnswer : ℕ → RegAnswer → Type 0
   OfAnswer t (Released frame) = (f : Frame) × P f × (frame ≡ record f { number = frame.number; released = t })
-  OfAnswer t Kept = ⊤
-  OfAnswer t Dropped = ⊤
-  OfAnswer t Nothing = ⊤
+  OfAnswer t _ = ⊤
 
   pub record Keeps (t : ℕ) (o : Outcome) : Type 0 where
     pub waiting : AllWait o.state

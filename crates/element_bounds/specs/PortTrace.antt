@@ -7,7 +7,7 @@ use Rattle.output_port.specs.declared.event.Priority.TheVariants as priority
 use Rattle.output_port.specs.declared.event.PortEvent.{PortEvent}
 use Rattle.output_port.specs.declared.event.PortEvent.TheVariants as event
 use Rattle.output_port.specs.declared.event.PortAnswer.{PortAnswer}
-use Rattle.output_port.specs.declared.event.PortAnswer.TheVariants.{Started, Kept, Dropped, Idle, Nothing}
+use Rattle.output_port.specs.declared.event.PortAnswer.TheVariants.{Started, Kept, Idle}
 use Rattle.output_port.specs.Port.{PortState, port}
 use Rattle.port_bounds.specs.Frames.{PutFrame}
 use Rattle.port_bounds.specs.Port.{Event, Port, after, starts_of}
@@ -29,16 +29,11 @@ put_event priority.Low x = Low x
 
 -- what an event with this answer is for the port of which bounds are known
 abbrev pub seen_as : ℕ → ℕ → ℕ → PortEvent → PortAnswer → List Event
-seen_as byte_ns t line (event.Put frame priority) Dropped = []
 seen_as byte_ns t line (event.Put frame priority) (Started f) = put_event priority (put_at byte_ns t line frame) ∷ []
 seen_as byte_ns t line (event.Put frame priority) Kept = put_event priority (put_at byte_ns t line frame) ∷ []
-seen_as byte_ns t line (event.Put frame priority) Idle = []
-seen_as byte_ns t line (event.Put frame priority) Nothing = []
 seen_as byte_ns t line event.Free (Started f) = Free t ∷ []
 seen_as byte_ns t line event.Free Idle = Free t ∷ []
-seen_as byte_ns t line event.Free Kept = []
-seen_as byte_ns t line event.Free Dropped = []
-seen_as byte_ns t line event.Free Nothing = []
+seen_as byte_ns t line _ _ = []
 
 -- what these events are for it, from the state p on
 abbrev pub trace_of : ℕ → PortState → List PortEventAt → List Event
@@ -57,10 +52,7 @@ pub record FrameStart : Type 0 where
 
 abbrev pub started_by : ℕ → PortAnswer → List FrameStart
 started_by t (Started frame) = record { frame = frame; at = t } ∷ []
-started_by t Kept = []
-started_by t Dropped = []
-started_by t Idle = []
-started_by t Nothing = []
+started_by t _ = []
 
 -- the frames that these events start
 abbrev pub started_of : PortState → List PortEventAt → List FrameStart

@@ -1,5 +1,5 @@
 -- How old frames are that come to a node: at most as old as their way takes.
-use Rattle.std.proofs.Common.{◌≡◌, ℕ, ◌+◌, ◌≤◌, List, [], ◌∷◌, ◌++◌, Some, None, refl, sym, ap, ◌∙◌, subst, arith}
+use Rattle.std.proofs.Common.{◌≡◌, ℕ, ◌+◌, ◌≤◌, List, [], ◌∷◌, Some, refl, sym, ap, ◌∙◌, subst, arith}
 use Rattle.std.proofs.lemmas.Option.{same_Some}
 use Rattle.vlink.specs.Wire.{busy_for, last_bit_after}
 use Rattle.vlink.specs.declared.frame.Frame.{Frame}
@@ -11,9 +11,10 @@ use Rattle.reverse.specs.Rules.{rules_of}
 use Rattle.reverse.specs.Setting.{Setting, simulation_of}
 use Rattle.virtual_time.specs.Law.{Laws, Simulation, events}
 use Rattle.port_bounds.specs.Frames.{PutFrame, link_of}
-use Rattle.port_bounds.specs.Port.{Event, Port, Start, high_starts, idle, low_starts, outcome, starts_of}
+use Rattle.port_bounds.specs.Port.{Start, high_starts, idle, low_starts}
 use Rattle.port_bounds.specs.Sublists.{Every}
-use Rattle.port_bounds.proofs.StartLemmas.{high-put, low-put}
+use Rattle.port_bounds.proofs.StartLemmas.{high-put, low-put, starts-both}
+use Rattle.port_bounds.proofs.SublistLemmas.{every-both, every-weaker}
 use Rattle.nodes.specs.declared.equipment.Equipment.TheVariants.{Switch}
 use Rattle.nodes.specs.declared.node.NodeRecord.{NodeRecord}
 use Rattle.nodes.specs.declared.ports.Outlet.{Outlet}
@@ -29,24 +30,8 @@ use Rattle.port_turns.proofs.SerialPuts.{puts-have}
 use Rattle.frame_ages.specs.Ports.{IsSentBy, IsThrough, IsThroughSwitch, trace_at}
 use Rattle.frame_ages.specs.Sizes.{OpensEmpty}
 use Rattle.frame_ages.specs.Ways.{Hop, IsFirstHop, IsHop, IsInTime, IsNextHop, IsRoute, source_of, way_time}
-use Rattle.frame_ages.proofs.GivenLemmas.{every-both, every-weaker, fits, highs-in-time, lows-in-time}
+use Rattle.frame_ages.proofs.GivenLemmas.{fits, highs-in-time, lows-in-time}
 use Rattle.frame_ages.proofs.PutLemmas.{IsFresh, IsPutFit}
-
-every-append : {X : Type 0} (P : X → Type 0) (xs ys : List X) → Every P xs → Every P ys → Every P (xs ++ ys)
-every-append P [] ys h k = k
-every-append P (x ∷ xs) ys h k = (h.0, every-append P xs ys h.1 k)
-
-pub every-split : {X : Type 0} (P : X → Type 0) (xs ys : List X) → Every P (xs ++ ys) → Every P xs × Every P ys
-every-split P [] ys h = (tt, h)
-every-split P (x ∷ xs) ys h = let rest = every-split P xs ys h.1 in ((h.0, rest.0), rest.1)
-
--- what holds of each high start and of each low one holds of all
-pub starts-both : (P : Start → Type 0) (a : Port) (es : List Event) → Every P (high_starts a es) → Every P (low_starts a es) → Every P (starts_of a es)
-starts-both P a [] h l = tt
-starts-both P a (e ∷ es) h l =
-    let highs = every-split P (outcome a e).high (high_starts (outcome a e).port es) h in
-    let lows = every-split P (outcome a e).low (low_starts (outcome a e).port es) l in
-    every-append P ((outcome a e).high ++ (outcome a e).low) (starts_of (outcome a e).port es) (every-append P (outcome a e).high (outcome a e).low highs.0 lows.0) (starts-both P (outcome a e).port es highs.1 lows.1)
 
 module _ (x : Setting NodeState) (L : Laws (simulation_of (rules_of node) x)) (N : IsOfNodes x) (size : ℕ → ℕ) (O : OpensEmpty x size) (v : ℕ) (K : Frame → Type 0) (n : ℕ) where
   abbrev f : Simulation Message NodeState NodeRecord Note
@@ -88,10 +73,10 @@ module _ (x : Setting NodeState) (L : Laws (simulation_of (rules_of node) x)) (N
     no-starts r ss d k = every-weaker (λ s. Fit r s.put) Leaves (λ s fit e. absurd (d (prio s.put.line r (subst (λ z. IsThrough (x.opening h.from).equipment h.from_port z s.put.line r) e fit.through)))) ss k
 
     high-fit : Every (λ s. Fit High s.put) (high_starts idle (trace_at x h.from h.from_port h.outlet n))
-    high-fit = high-put (Fit High) (trace_at x h.from h.from_port h.outlet n) None [] [] tt (fits x L N size O h.from h.from_port h.outlet H.from_inside n High)
+    high-fit = high-put (Fit High) (trace_at x h.from h.from_port h.outlet n) (fits x L N size O h.from h.from_port h.outlet H.from_inside n High)
 
     low-fit : Every (λ s. Fit Low s.put) (low_starts idle (trace_at x h.from h.from_port h.outlet n))
-    low-fit = low-put (Fit Low) (trace_at x h.from h.from_port h.outlet n) None [] [] tt (fits x L N size O h.from h.from_port h.outlet H.from_inside n Low)
+    low-fit = low-put (Fit Low) (trace_at x h.from h.from_port h.outlet n) (fits x L N size O h.from h.from_port h.outlet H.from_inside n Low)
 
     cost-at : (r : Priority) (put : PutFrame) → Fit r put → put.cost ≡ busy_for put.frame.size byte_ns
     cost-at r put fit = fit.cost
@@ -124,8 +109,8 @@ module _ (x : Setting NodeState) (L : Laws (simulation_of (rules_of node) x)) (N
     over-hop a =
         arrivals-have x L h.from h.from_port h.by h.to h.port H.from_inside H.by_inside N h.outlet h.line H.way (IsAged (age + (h.delay + h.line.propagation))) n
         (starts-both Comes idle (trace_at x h.from h.from_port h.outlet n)
-        (come (high_starts idle (trace_at x h.from h.from_port h.outlet n)) (high-put (λ put. IsAged age put.at put.frame) (trace_at x h.from h.from_port h.outlet n) None [] [] tt a.high) (high-leaves h.priority refl H.in_time))
-        (come (low_starts idle (trace_at x h.from h.from_port h.outlet n)) (low-put (λ put. IsAged age put.at put.frame) (trace_at x h.from h.from_port h.outlet n) None [] [] tt a.low) (low-leaves h.priority refl H.in_time)))
+        (come (high_starts idle (trace_at x h.from h.from_port h.outlet n)) (high-put (λ put. IsAged age put.at put.frame) (trace_at x h.from h.from_port h.outlet n) a.high) (high-leaves h.priority refl H.in_time))
+        (come (low_starts idle (trace_at x h.from h.from_port h.outlet n)) (low-put (λ put. IsAged age put.at put.frame) (trace_at x h.from h.from_port h.outlet n) a.low) (low-leaves h.priority refl H.in_time)))
 
   -- ---- over a way
 

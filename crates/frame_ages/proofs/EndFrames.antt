@@ -15,24 +15,18 @@ use Rattle.bag_regulator.specs.declared.event.RegEvent.TheVariants.{Offer, Relea
 use Rattle.bag_regulator.specs.declared.event.RegAnswer.{RegAnswer}
 use Rattle.bag_regulator.specs.declared.event.RegAnswer.TheVariants as answer
 use Rattle.output_port.specs.declared.event.PortEvent.TheVariants.{Free}
-use Rattle.integrity.specs.Integrity.{integrity}
-use Rattle.integrity.specs.declared.checking.Checked.{Checked}
-use Rattle.integrity.specs.declared.checking.Checked.TheVariants as check
-use Rattle.redundancy.specs.Redundancy.{redundancy}
-use Rattle.redundancy.specs.declared.delivery.Delivery.{Delivery}
-use Rattle.redundancy.specs.declared.delivery.Delivery.TheVariants as delivery
 use Rattle.reverse.specs.Sending.{Reply, Wish, joined, loss, silent}
-use Rattle.nodes.specs.declared.receiving.Receiving.{Receiving}
 use Rattle.nodes.specs.declared.reception.Reception.{Reception}
 use Rattle.nodes.specs.declared.source.Source.{Source}
 use Rattle.nodes.specs.declared.vl_end.VlEnd.{VlEnd}
 use Rattle.nodes.specs.rules.Finding.{Found}
 use Rattle.nodes.specs.rules.Ports.{PortsState, changed, exists, reply}
-use Rattle.nodes.specs.rules.EndSystem.{EndSystemOutcome, EndSystemState, asked, check_of, checked, copied, copied_reply, copy, delivered, end_system, full, is_on, offered_frame, port_of, received_reply, reception_at, regulated, released_out, released_reply, source_at, source_number}
+use Rattle.nodes.specs.rules.EndSystem.{EndSystemOutcome, EndSystemState, asked, copied, copied_reply, copy, end_system, full, is_on, offered_frame, port_of, received_reply, reception_at, regulated, released_out, released_reply, source_at, source_number}
 use Rattle.nodes.specs.rules.EndSystem as es
 use Rattle.nodes.specs.laws.Places.{All-there, found-there}
 use Rattle.nodes.specs.laws.Replies.{IsQuiet, joined-all, loss-quiet, quiet-all, silent-quiet}
 use Rattle.port_turns.proofs.Found.{found-number}
+use Rattle.port_turns.proofs.Quiet.{full-quiet, received-quiet}
 use Rattle.port_turns.proofs.Sources.{AllWaitIn, HasWaiting}
 use Rattle.element_bounds.proofs.WaitingLemmas.{OfAnswer, OfOffer, keeps}
 use Rattle.frame_ages.specs.Sizes.{IsSized, IsSizedFrame}
@@ -77,16 +71,7 @@ module _ (size : ℕ → ℕ) where
           let a = copied-step end A frame ports sized h in
           let b = copied-step end B frame (copied end A frame ports) sized a.waits in
           record { waits = b.waits; sends = joined-all P (copied_reply n t end A frame ports) (copied_reply n t end B frame (copied end A frame ports)) a.sends b.sends }
-      released-step end answer.Kept ports v u p h = record { waits = h; sends = All-nil P }
-      released-step end answer.Dropped ports v u p h = record { waits = h; sends = All-nil P }
-      released-step end answer.Nothing ports v u p h = record { waits = h; sends = All-nil P }
-
-      full-none : (e : RegEvent) (a : RegAnswer) → All P (full e a).wishes
-      full-none (Offer at sub frame) answer.Dropped = All-nil P
-      full-none (Offer at sub frame) (answer.Released f) = All-nil P
-      full-none (Offer at sub frame) answer.Kept = All-nil P
-      full-none (Offer at sub frame) answer.Nothing = All-nil P
-      full-none (Release at) a = All-nil P
+      released-step end _ ports v u p h = record { waits = h; sends = All-nil P }
 
       asked-all : (vl : VlId) (ask : Option ℕ) → All P (asked n vl ask).wishes
       asked-all vl None = All-nil P
@@ -109,19 +94,8 @@ module _ (size : ℕ → ℕ) where
                   ports = r.waits;
                 };
                 sends = joined-all P (joined (full e out.answer) (asked n found.entry.end.vl out.release_at)) (released_reply n t found.entry.end out.answer s.ports)
-                    (joined-all P (full e out.answer) (asked n found.entry.end.vl out.release_at) (full-none e out.answer) (asked-all found.entry.end.vl out.release_at)) r.sends;
+                    (joined-all P (full e out.answer) (asked n found.entry.end.vl out.release_at) (quiet-all P (full e out.answer) (full-quiet e out.answer)) (asked-all found.entry.end.vl out.release_at)) r.sends;
               }
-
-      received-none : (frame : Frame) (r : Receiving) → All P (received_reply t frame r).wishes
-      received-none frame r = go (integrity.out (check_of frame.net r) frame.number)
-        where
-          by-delivery : (d : Delivery) → All P (delivered t frame d).wishes
-          by-delivery delivery.Delivered = All-nil P
-          by-delivery delivery.Duplicate = All-nil P
-
-          go : (c : Checked) → All P (checked t frame r c).wishes
-          go check.Passed = by-delivery (redundancy.out r.redundancy (record { number = frame.number; at = t }))
-          go check.Refused = All-nil P
 
       end-step : (b : Body) (s : EndSystemState) → IsSized size b → IsFitEnd s → Step (end_system n t b s)
       end-step (body.Offer vl bytes sub) s f h = regulated-step vl (Offer t sub (offered_frame t vl bytes)) (loss Unknown (offered_frame t vl bytes)) s (loss-quiet Unknown (offered_frame t vl bytes)) (refl, f) h
@@ -134,10 +108,9 @@ module _ (size : ℕ → ℕ) where
         where
           go : (b : Bool) (o : Option (Found Reception)) → Step (cond b (es.taken_in t frame s o) (es.unmoved s))
           go true None = record { state = h; sends = All-nil P }
-          go true (Some found) = record { state = record { waiting = h.waiting; ports = h.ports }; sends = received-none frame found.entry.receiving }
+          go true (Some found) = record { state = record { waiting = h.waiting; ports = h.ports }; sends = quiet-all P (received_reply t frame found.entry.receiving) (received-quiet t frame found.entry.receiving) }
           go false o = record { state = h; sends = All-nil P }
-      end-step (body.Enqueue q frame) s f h = record { state = h; sends = All-nil P }
-      end-step (body.Carry frame) s f h = record { state = h; sends = All-nil P }
+      end-step _ s f h = record { state = h; sends = All-nil P }
 
       pub end-state : (b : Body) (s : EndSystemState) → IsSized size b → IsFitEnd s → IsFitEnd (end_system n t b s).state
       end-state b s f h = (end-step b s f h).state

@@ -2,7 +2,7 @@
 use Rattle.std.proofs.Common.{◌≡◌, ℕ, ◌+◌, ◌-◌, ◌*◌, ◌<◌, ◌≤◌, inl, inr, Bool, true, List, [], ◌∷◌, All, Some, None, refl, sym, ap, ◌∙◌, subst, arith, eqb-true}
 use Rattle.std.proofs.lemmas.Bool.{cases_lt}
 use Rattle.std.proofs.lemmas.Nat.{mul-le}
-use Rattle.std.proofs.lemmas.List.Elements.{All-head, All-nil, All-tail, All-weaker}
+use Rattle.std.proofs.lemmas.List.Elements.{All-nil, All-weaker}
 use Rattle.vlink.specs.Wire.{busy_for}
 use Rattle.vlink.specs.declared.frame.Frame.{Frame}
 use Rattle.vlink.specs.declared.message.Message.{Message}
@@ -20,14 +20,14 @@ use Rattle.port_bounds.specs.Sublists.{Every}
 use Rattle.port_bounds.specs.Pacing.{IsPaced}
 use Rattle.port_bounds.specs.Arrivals.{IsClassWithin, IsEachAtMost, is_by_line, is_of_link, moments_at}
 use Rattle.port_bounds.specs.Mixtures.{AreFlowsWithin, AreGroupsWithin, AreKeyed, Flow, Group, IsAmong, groups_burst, groups_rate, lines_of, links_of}
-use Rattle.port_bounds.specs.Certificate.{AreSentWithin}
-use Rattle.port_bounds.specs.Delays.{AreAtMost, AreHighInTime, AreLowInTime, IsHighInTime, IsLowInTime}
-use Rattle.port_bounds.specs.Port.{Event, IsServed, high_starts, highs_of, idle, low_starts, lows_of}
-use Rattle.port_bounds.proofs.ArrivalLemmas.{paced, serial}
+use Rattle.port_bounds.specs.Delays.{AreSentWithin, IsHighInTime, IsLowInTime}
+use Rattle.port_bounds.specs.Port.{IsServed, high_starts, idle, low_starts}
+use Rattle.port_bounds.proofs.ArrivalLemmas.{paced, serial, spaced}
 use Rattle.port_bounds.proofs.HighLemmas as high
 use Rattle.port_bounds.proofs.LowLemmas as low
 use Rattle.port_bounds.proofs.MixtureLemmas.{mixture}
 use Rattle.port_bounds.proofs.StartLemmas.{low-put}
+use Rattle.port_bounds.proofs.SublistLemmas.{every-both, every-from-all, every-weaker}
 use Rattle.element_bounds.proofs.TraceLemmas.{AllPuts}
 use Rattle.nodes.specs.declared.equipment.Equipment.{Equipment}
 use Rattle.nodes.specs.declared.equipment.Equipment.TheVariants.{EndSystem, Switch, Line}
@@ -44,20 +44,13 @@ use Rattle.port_turns.proofs.PortRuns.{are_ports_served}
 use Rattle.port_turns.proofs.Releasing.{source-traces-paced}
 use Rattle.port_turns.proofs.SerialPuts.{traces-serial}
 use Rattle.port_turns.proofs.Traces.{traces-paced}
-use Rattle.frame_ages.specs.Ports.{AreApartBy, AreGroups, IsByLine, IsFlow, IsGroup, IsHighBound, IsLowBound, trace_at}
+use Rattle.frame_ages.specs.Ports.{AreApartBy, AreGroups, IsByLine, IsCurve, IsFlow, IsGroup, IsHighBound, IsLowBound, trace_at}
+use Rattle.frame_ages.specs.Ports.IsCurve.{ByBag, ByGap}
 use Rattle.frame_ages.specs.Sizes.{HaveEmptyRegulators, IsSized, OpensEmpty}
 use Rattle.frame_ages.proofs.PutLemmas.{IsPutFit, puts-fit}
 use Rattle.frame_ages.proofs.SizeLemmas.{IsFit, all-fit, idle-at}
 
 -- ---- lists
-
-pub every-weaker : {X : Type 0} (P Q : X → Type 0) → ((x : X) → P x → Q x) → (xs : List X) → Every P xs → Every Q xs
-every-weaker P Q h [] k = tt
-every-weaker P Q h (x ∷ xs) k = (h x k.0, every-weaker P Q h xs k.1)
-
-pub every-from-all : {X : Type 0} (P : X → Type 0) (xs : List X) → All P xs → Every P xs
-every-from-all P [] h = tt
-every-from-all P (x ∷ xs) h = (All-head P x xs h, every-from-all P xs (All-tail P x xs h))
 
 at-most : (most : ℕ) (test : PutFrame → Bool) (xs : List PutFrame) → Every (λ x. test x ≡ true → x.cost ≤ most) xs → IsEachAtMost most test xs
 at-most most test [] h = tt
@@ -77,12 +70,7 @@ pub own-frames : (e : Equipment) → HaveEmptyRegulators e → AreOwnFrames e
 own-frames (EndSystem s) h = All-weaker (λ source. All (λ (list : Queue). list.frames ≡ []) source.regulator.lists) (λ (source : Source). All (λ (list : Queue). All (λ (frame : Frame). frame.vl.0 ≡ source.end.vl.0) list.frames) source.regulator.lists)
     (λ source k. All-weaker (λ (list : Queue). list.frames ≡ []) (λ (list : Queue). All (λ (frame : Frame). frame.vl.0 ≡ source.end.vl.0) list.frames)
     (λ list e. subst (All (λ (frame : Frame). frame.vl.0 ≡ source.end.vl.0)) (sym e) (All-nil (λ (frame : Frame). frame.vl.0 ≡ source.end.vl.0))) source.regulator.lists k) s.sources h
-own-frames (Switch s) h = tt
-own-frames (Line s) h = tt
-
-pub every-both : {X : Type 0} (P Q : X → Type 0) (xs : List X) → Every P xs → Every Q xs → Every (λ x. P x × Q x) xs
-every-both P Q [] h k = tt
-every-both P Q (x ∷ xs) h k = ((h.0, k.0), every-both P Q xs h.1 k.1)
+own-frames _ h = tt
 
 -- ---- numbers: what is below so many units and one more ns is no more ns
 
@@ -101,14 +89,6 @@ started-by u r w burst delay cost start at e h k =
 
 start-by : (u r burst delay cost start at : ℕ) → r < u → u * (start + cost) + r * at ≤ u * at + (r * start + burst) → burst < (u - r) * (delay + 1) + u * cost → start ≤ at + delay
 start-by u r burst delay cost start at some h k = started-by u r (u - r) burst delay cost start at (omega arith) h k
-
--- ---- a port in the run of its bounds
-
-high-bounded : (scale burst rate most : ℕ) (es : List Event) → rate ≤ scale → IsServed idle 0 es → IsWithin scale burst rate (highs_of es) → AreAtMost most (lows_of es) → AreHighInTime scale (burst + scale * most) (high_starts idle es)
-high-bounded scale burst rate most es slow h within at_most = high.are_in_time scale burst rate most slow (highs_of es) within es 0 None [] [] (refl, refl, high.opening es) tt at_most h
-
-low-bounded : (scale bh rh bl rl : ℕ) (es : List Event) → rh + rl ≤ scale → IsServed idle 0 es → IsWithin scale bh rh (highs_of es) → IsWithin scale bl rl (lows_of es) → AreLowInTime scale (bh + bl) rh (low_starts idle es)
-low-bounded scale bh rh bl rl es slow h high_within low_within = (low.are_bounded (highs_of es) (lows_of es) scale bh rh bl rl slow high_within low_within es 0 None [] [] (low.opening es) h).0
 
 -- ---- a port
 
@@ -139,12 +119,8 @@ module _ (x : Setting NodeState) (L : Laws (simulation_of (rules_of node) x)) (N
   brings v m h bytes brought = go m.body h.0 brought
     where
       go : (b : Body) → IsSized size b → IsBrought v bytes b → size v ≤ bytes
-      go (body.Offer vl k sub) s i = absurd i
-      go (body.Release vl) s i = absurd i
-      go (body.PortFree k) s i = absurd i
       go (body.Arrive k frame) s i = let e : size v ≡ bytes = ap size (sym i.0) ∙ (sym s ∙ sym i.1) in omega arith
-      go (body.Enqueue k frame) s i = absurd i
-      go (body.Carry frame) s i = absurd i
+      go _ s i = absurd i
 
   module _ (r : Priority) where
     -- frames of a virtual link are so far apart
@@ -160,19 +136,29 @@ module _ (x : Setting NodeState) (L : Laws (simulation_of (rules_of node) x)) (N
 
     module _ (scale whole : ℕ) where
       flow-within : (flow : Flow) → IsFlow (x.opening p).equipment size byte_ns scale flow → IsClassWithin scale flow.burst flow.rate (is_of_link flow.link) (puts r)
-      flow-within flow h =
-          let cost : ℕ = busy_for (size flow.link) byte_ns in
-          subst (λ k. IsClassWithin k flow.burst flow.rate (is_of_link flow.link) (puts r)) h.units
-          (subst (λ k. IsClassWithin (h.parts * h.bag) k flow.rate (is_of_link flow.link) (puts r)) (sym h.burst)
-          (subst (λ k. IsClassWithin (h.parts * h.bag) ((h.parts * cost) * (h.bag + h.slack)) k (is_of_link flow.link) (puts r)) (sym h.rate)
-          (paced h.parts h.bag h.slack cost (is_of_link flow.link) (puts r)
-          (link-paced flow.link h.bag h.slack (x.opening p).equipment refl (O.regulators p inside) h.apart)
-          (at-most cost (is_of_link flow.link) (puts r) (every-weaker (Fit r) (λ put. is_of_link flow.link put ≡ true → put.cost ≤ cost) (λ put k e. one put k e) (puts r) (fits r))))))
+      flow-within flow h = by h.curve
         where
+          pace : IsPaced h.bag h.slack (moments_at (is_of_link flow.link) (puts r))
+          pace = link-paced flow.link h.bag h.slack (x.opening p).equipment refl (O.regulators p inside) h.apart
+
           one : (put : PutFrame) → Fit r put → is_of_link flow.link put ≡ true → put.cost ≤ busy_for (size flow.link) byte_ns
           one put k e =
               let same : put.cost ≡ busy_for (size flow.link) byte_ns = cost-is r put k ∙ ap (λ z. busy_for (size z) byte_ns) (eqb-true (link_of put) flow.link e) in
               omega arith
+
+          few : IsEachAtMost (busy_for (size flow.link) byte_ns) (is_of_link flow.link) (puts r)
+          few = at-most (busy_for (size flow.link) byte_ns) (is_of_link flow.link) (puts r)
+              (every-weaker (Fit r) (λ put. is_of_link flow.link put ≡ true → put.cost ≤ busy_for (size flow.link) byte_ns) (λ put k e. one put k e) (puts r) (fits r))
+
+          by : IsCurve h.parts h.bag h.slack scale (busy_for (size flow.link) byte_ns) flow → IsClassWithin scale flow.burst flow.rate (is_of_link flow.link) (puts r)
+          by (ByBag burst rate) =
+              subst (λ k. IsClassWithin k flow.burst flow.rate (is_of_link flow.link) (puts r)) h.units
+              (subst (λ k. IsClassWithin (h.parts * h.bag) k flow.rate (is_of_link flow.link) (puts r)) (sym burst)
+              (subst (λ k. IsClassWithin (h.parts * h.bag) ((h.parts * busy_for (size flow.link) byte_ns) * (h.bag + h.slack)) k (is_of_link flow.link) (puts r)) (sym rate)
+              (paced h.parts h.bag h.slack (busy_for (size flow.link) byte_ns) (is_of_link flow.link) (puts r) pace few)))
+          by (ByGap burst rate) =
+              subst (λ k. IsClassWithin scale k flow.rate (is_of_link flow.link) (puts r)) (sym burst)
+              (spaced scale flow.rate h.bag h.slack (busy_for (size flow.link) byte_ns) (is_of_link flow.link) (puts r) pace few rate)
 
       flows-within : (flows : List Flow) → Every (IsFlow (x.opening p).equipment size byte_ns scale) flows → AreFlowsWithin scale flows (puts r)
       flows-within [] h = tt
@@ -237,7 +223,7 @@ module _ (x : Setting NodeState) (L : Laws (simulation_of (rules_of node) x)) (N
       every-weaker (IsHighInTime (h.whole * h.scale) (groups_burst h.whole h.high + (h.whole * h.scale) * h.most)) (λ s. s.at + s.put.cost ≤ s.put.at + delay)
       (λ s k. sent-by (h.whole * h.scale) (groups_burst h.whole h.high + (h.whole * h.scale) * h.most) delay (s.at + s.put.cost) s.put.at k h.within)
       (high_starts idle (trace_at x p q outlet n))
-      (high-bounded (h.whole * h.scale) (groups_burst h.whole h.high) (groups_rate h.whole h.high) h.most (trace_at x p q outlet n) h.rate served (all-within x L N size O p q outlet inside n High h.scale h.whole h.high h.high_are)
+      (high.bounded (h.whole * h.scale) (groups_burst h.whole h.high) (groups_rate h.whole h.high) h.most (trace_at x p q outlet n) h.rate served (all-within x L N size O p q outlet inside n High h.scale h.whole h.high h.high_are)
       (every-weaker (Fit x L N size O p q outlet inside n Low) (λ put. put.cost ≤ h.most) (λ put k. let low = h.low_costs (link_of put) put.line k.through in let same = cost-is x L N size O p q outlet inside n Low put k in omega arith) (puts x L N size O p q outlet inside n Low) (fits x L N size O p q outlet inside n Low)))
 
   pub lows-in-time : (v delay : ℕ) → IsLowBound x size p q outlet v delay → Every (λ s. link_of s.put ≡ v → s.at ≤ s.put.at + delay) (low_starts idle (trace_at x p q outlet n))
@@ -248,6 +234,6 @@ module _ (x : Setting NodeState) (L : Laws (simulation_of (rules_of node) x)) (N
       (cost-is x L N size O p q outlet inside n Low s.put k.0 ∙ ap (λ z. busy_for (size z) outlet.ahead.byte_ns) e) k.1) h.within)
       (low_starts idle (trace_at x p q outlet n))
       (every-both (λ s. Fit x L N size O p q outlet inside n Low s.put) (IsLowInTime (h.whole * h.scale) (groups_burst h.whole h.high + groups_burst h.whole h.low) (groups_rate h.whole h.high)) (low_starts idle (trace_at x p q outlet n))
-      (low-put (Fit x L N size O p q outlet inside n Low) (trace_at x p q outlet n) None [] [] tt (fits x L N size O p q outlet inside n Low))
-      (low-bounded (h.whole * h.scale) (groups_burst h.whole h.high) (groups_rate h.whole h.high) (groups_burst h.whole h.low) (groups_rate h.whole h.low) (trace_at x p q outlet n) h.rates served
+      (low-put (Fit x L N size O p q outlet inside n Low) (trace_at x p q outlet n) (fits x L N size O p q outlet inside n Low))
+      (low.bounded (h.whole * h.scale) (groups_burst h.whole h.high) (groups_rate h.whole h.high) (groups_burst h.whole h.low) (groups_rate h.whole h.low) (trace_at x p q outlet n) h.rates served
       (all-within x L N size O p q outlet inside n High h.scale h.whole h.high h.high_are) (all-within x L N size O p q outlet inside n Low h.scale h.whole h.low h.low_are)))

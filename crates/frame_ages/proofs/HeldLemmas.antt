@@ -1,7 +1,7 @@
 -- Which offers come to an end system, in which order, and how long its regulator then holds them.
-use Rattle.std.proofs.Common.{◌≡◌, ℕ, ◌+◌, ◌-◌, ◌*◌, ◌<◌, ◌≤◌, ◌==◌, inl, inr, refl, true, false, List, [], ◌∷◌, Some, None, sym, ap, ◌∙◌, subst, arith}
+use Rattle.std.proofs.Common.{◌≡◌, ℕ, ◌+◌, ◌-◌, ◌*◌, ◌<◌, ◌≤◌, ◌==◌, inl, inr, refl, true, List, [], ◌∷◌, Some, None, sym, ap, ◌∙◌, subst, arith}
 use Rattle.std.specs.Prelude.{⊤}
-use Rattle.std.proofs.lemmas.Bool.{cases_eq, cases_lt, both_ways}
+use Rattle.std.proofs.lemmas.Bool.{cases_eq, cases_lt, both_ways, false≢true}
 use Rattle.std.proofs.lemmas.Nat.{mul-le}
 use Rattle.std.proofs.lemmas.List.{get_or-replicate, length-replicate}
 use Rattle.std.proofs.lemmas.List.Elements.{All-weaker}
@@ -20,25 +20,24 @@ use Rattle.virtual_time.proofs.Ascending.{ascending-filter}
 use Rattle.virtual_time.proofs.Lists.{in-head}
 use Rattle.virtual_time.proofs.OneThread.{right}
 use Rattle.port_bounds.specs.Sublists.{Every}
+use Rattle.nodes.specs.declared.equipment.Equipment.{Equipment}
 use Rattle.nodes.specs.declared.node.NodeRecord.{NodeRecord}
 use Rattle.nodes.specs.rules.Node.{NodeState, handled, regulator_in}
 use Rattle.nodes.specs.undoing.Node.{node}
 use Rattle.nodes.specs.laws.Sent.{IsSentAs, sent-all}
-use Rattle.port_turns.specs.Nodes.{IsOfNodes}
+use Rattle.port_turns.specs.Nodes.{IsOfNodes, is_offer_of}
+use Rattle.port_turns.proofs.Elsewhere.{OfAllSent, all-sent}
 use Rattle.port_turns.proofs.Rising.{AreTo, before, events-from, events-to}
 use Rattle.port_turns.proofs.SentKinds.{AreFrom, from-sooner, times_of}
 use Rattle.frame_ages.specs.Latencies.{IsHeldWithin}
 use Rattle.frame_ages.specs.Sizes.{OpensEmpty}
-use Rattle.frame_ages.specs.Waits.{IsOfferedBy, is_offer_of}
-use Rattle.frame_ages.proofs.GivenLemmas.{every-from-all, own-frames}
+use Rattle.frame_ages.specs.Waits.{IsOfferedBy}
+use Rattle.port_bounds.proofs.SublistLemmas.{every-from-all}
+use Rattle.frame_ages.proofs.GivenLemmas.{own-frames}
 use Rattle.frame_ages.proofs.Invariants.{IsInvariant, all-events}
 use Rattle.frame_ages.proofs.RegulatorSteps.{IsRight}
-use Rattle.frame_ages.proofs.RegulatorTurns.{OfAllSent, all-sent}
 use Rattle.frame_ages.proofs.ReleaseTimer.{HasRegulator, ask_by, ask_in}
 use Rattle.frame_ages.proofs.WaitLemmas.{AreOffered, by-period, full-lists, held}
-
-no : {X : Type 0} → false ≡ true → X
-no h = absurd (let z : ⊥ = cc in z)
 
 period-later : (period a b : ℕ) → a < b → a * period + period ≤ b * period
 period-later period a b h = let k : (a + 1) * period ≤ b * period = mul-le (a + 1) period b period (omega arith) (omega arith) in omega arith
@@ -95,12 +94,12 @@ module _ (x : Setting NodeState) (L : Laws (simulation_of (rules_of node) x)) (N
     abbrev IsFit : Message → Type 0
     IsFit m = is_offer_of v m.body ≡ true → m ≡ I.offer m.number
 
-    none-offered : (n : ℕ) → OfAllSent (λ w. is_offer_of v w.body ≡ true → ⊥) n
-    none-offered n = record {
-      starts = λ t q ahead frame. (λ e. no e, λ e. no e);
-      releases = λ t vl e. no e;
-      puts = λ t q frame e. no e;
-      arrivals = λ t r q frame e. no e;
+    none-offered : (n : ℕ) (e : Equipment) → OfAllSent (λ w. is_offer_of v w.body ≡ true → ⊥) n e
+    none-offered n e = record {
+      starts = λ t q ahead frame. (λ k. absurd (false≢true k), λ k. absurd (false≢true k));
+      releases = λ t vl k. absurd (false≢true k);
+      puts = λ t q frame k. absurd (false≢true k);
+      arrivals = λ l is t frame k. absurd (false≢true k);
     }
 
     invariant : IsInvariant f L IsFit (λ p s. ⊤)
@@ -110,7 +109,7 @@ module _ (x : Setting NodeState) (L : Laws (simulation_of (rules_of node) x)) (N
       after = λ p i s m was to h q. tt;
       sends = λ p i s m was to h q. sent-all IsFit s.sender (handled s.sender.number m s.equipment).reply.wishes
           (All-weaker (λ (w : Wish). is_offer_of v w.body ≡ true → ⊥) (IsSentAs IsFit s.sender) (λ w k n l e. absurd (k e)) (handled s.sender.number m s.equipment).reply.wishes
-          (all-sent (λ w. is_offer_of v w.body ≡ true → ⊥) s.sender.number (none-offered s.sender.number) m s.equipment));
+          (all-sent (λ w. is_offer_of v w.body ≡ true → ⊥) s.sender.number m s.equipment (none-offered s.sender.number s.equipment)));
     }
 
     all-fit : (n : ℕ) → Every IsFit (events f n p)

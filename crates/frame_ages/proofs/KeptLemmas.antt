@@ -1,8 +1,7 @@
 -- Why no frame of a node is dropped at a full port, where each port of the node has room for what waits.
-use Rattle.std.proofs.Common.{◌≡◌, ℕ, ◌*◌, ◌<◌, ◌==◌, true, List, [], ◌∷◌, ◌++◌, All, Option, Some, None, option_map, sym, ap, ◌∙◌, subst, eq-eqb}
+use Rattle.std.proofs.Common.{◌≡◌, ℕ, ◌*◌, ◌<◌, List, ◌∷◌, ◌++◌, Option, Some, None, option_map, sym, ap, ◌∙◌, subst}
 use Rattle.std.specs.Prelude.{Contains}
 use Rattle.std.proofs.lemmas.Option.{same_Some}
-use Rattle.std.proofs.lemmas.List.Elements.{All-append, All-contains, All-map, All-nil, All-weaker}
 use Rattle.vlink.specs.declared.frame.VlId.{VlId}
 use Rattle.vlink.specs.declared.message.Message.{Message}
 use Rattle.vlink.specs.declared.note.Note.{Note}
@@ -15,13 +14,12 @@ use Rattle.output_port.specs.declared.event.Priority.TheVariants.{High, Low}
 use Rattle.output_port.specs.declared.event.PortEvent.{PortEvent}
 use Rattle.reverse.specs.Rules.{rules_of}
 use Rattle.reverse.specs.Setting.{Setting, simulation_of}
-use Rattle.virtual_time.specs.Law.{Laws, Simulation, events, one, rowed, rows_of}
-use Rattle.virtual_time.proofs.OneThread.{right}
+use Rattle.virtual_time.specs.Law.{Laws, Simulation, events, one}
 use Rattle.port_bounds.specs.Mixtures.{Group, groups_burst, groups_rate}
 use Rattle.nodes.specs.declared.equipment.Equipment.{Equipment}
 use Rattle.nodes.specs.declared.node.NodeRecord.{NodeRecord}
 use Rattle.nodes.specs.declared.ports.Outlet.{Outlet}
-use Rattle.nodes.specs.rules.Node.{NodeState, after, notes}
+use Rattle.nodes.specs.rules.Node.{NodeState, after}
 use Rattle.nodes.specs.undoing.Node.{node}
 use Rattle.port_turns.specs.Nodes.{IsOfNodes}
 use Rattle.port_turns.specs.PortEvents.{asks, done_at, outlet_in}
@@ -31,9 +29,10 @@ use Rattle.port_turns.proofs.PortRuns.{ports-run-well}
 use Rattle.frame_ages.specs.Ports.{AreGroups}
 use Rattle.frame_ages.specs.Rooms.{HasRoomAt}
 use Rattle.frame_ages.specs.Sizes.{OpensEmpty}
-use Rattle.frame_ages.proofs.FullNotes.{DropsAt, full-drops}
 use Rattle.frame_ages.proofs.GivenLemmas.{all-within}
-use Rattle.frame_ages.proofs.LatencyLemmas.{kept-in, some-before}
+use Rattle.frame_ages.proofs.LatencyLemmas.{some-before}
+use Rattle.frame_ages.proofs.NoteLemmas.{DropsAt, Shows}
+use Rattle.frame_ages.proofs.RowLemmas.{row-fits}
 use Rattle.frame_ages.proofs.RoomLemmas.{NoneDropped, none-dropped}
 use Rattle.frame_ages.proofs.SizeLemmas.{idle-at}
 
@@ -44,8 +43,8 @@ AllTaken e P = (q : ℕ) (outlet : Outlet) → outlet_in e q ≡ Some outlet →
 abbrev Takes : NodeState → List Message → Type 0
 Takes s ms = AllTaken s.equipment (λ q outlet. NoneDropped outlet.port (port_events q s ms))
 
-abbrev IsOtherRow : Row → Type 0
-IsOtherRow row = (vl : VlId) (bytes : ℕ) → row.note ≡ Dropped vl PortFull bytes → ⊥
+abbrev IsOther : Note → Type 0
+IsOther note = (vl : VlId) (bytes : ℕ) → note ≡ Dropped vl PortFull bytes → ⊥
 
 takes-later : (s : NodeState) (m : Message) (ms : List Message) → Takes s (m ∷ ms) → Takes (after s m) ms
 takes-later s m ms h q outlet is =
@@ -62,14 +61,8 @@ none-drops : (s : NodeState) (m : Message) (ms : List Message) → Takes s (m �
 none-drops s m ms h d =
     (subst (λ o. NoneDropped d.outlet.port (asked_at m.time (input_of m.body s.equipment) o ++ port_events d.at_port (after s m) ms)) d.asked (h d.at_port d.outlet d.there)).0 d.dropped
 
-rows-other : (s : NodeState) (ms : List Message) → Takes s ms → All IsOtherRow (rowed (rules_of node) s ms)
-rows-other s [] h = All-nil IsOtherRow
-rows-other s (m ∷ ms) h =
-    All-append IsOtherRow (rows_of (rules_of node).order m (notes s m)) (rowed (rules_of node) (after s m) ms)
-    (All-map IsOtherRow (λ note. record { message = m; place = m.receiver; note = note }) (notes s m)
-    (All-weaker (λ note. (vl : VlId) (bytes : ℕ) → note ≡ Dropped vl PortFull bytes → DropsAt m s.equipment) (λ note. (vl : VlId) (bytes : ℕ) → note ≡ Dropped vl PortFull bytes → ⊥)
-    (λ note d vl bytes e. none-drops s m ms h (d vl bytes e)) (notes s m) (full-drops s.sender.number m s.equipment)))
-    (rows-other (after s m) ms (takes-later s m ms h))
+note-other : (s : NodeState) (m : Message) (ms : List Message) → Takes s (m ∷ ms) → (note : Note) → Shows m s.equipment note → IsOther note
+note-other s m ms h note d vl bytes e = none-drops s m ms h (subst (Shows m s.equipment) e d)
 
 module _ (x : Setting NodeState) (L : Laws (simulation_of (rules_of node) x)) (N : IsOfNodes x) (size : ℕ → ℕ) (O : OpensEmpty x size) (p : ℕ) (inside : p < x.processes) (n : ℕ) where
   abbrev f : Simulation Message NodeState NodeRecord Note
@@ -90,8 +83,4 @@ module _ (x : Setting NodeState) (L : Laws (simulation_of (rules_of node) x)) (N
 
   pub frames-kept : ((q : ℕ) (outlet : Outlet) → outlet_in (x.opening p).equipment q ≡ Some outlet → HasRoomAt x size p q outlet) →
       (row : Row) → Contains (one f n).rows row → row.place ≡ p → (vl : VlId) (bytes : ℕ) → row.note ≡ Dropped vl PortFull bytes → ⊥
-  frames-kept room row inside place =
-      All-contains (λ row. (row.place == p) ≡ true → IsOtherRow row) (one f n).rows row
-      (kept-in IsOtherRow (λ row. row.place == p) (one f n).rows
-      (subst (All IsOtherRow) (sym ((right f L n).rows_are p)) (rows-other (x.opening p) (events f n p) (λ q outlet is. none-at q outlet is (room q outlet is)))))
-      inside (eq-eqb row.place p place)
+  frames-kept room row inside place = row-fits IsOther Takes takes-later note-other x L p n (λ q outlet is. none-at q outlet is (room q outlet is)) row inside place

@@ -1,7 +1,6 @@
 -- Why no frame is delivered later than its wait at the end system and its way take.
-use Rattle.std.proofs.Common.{◌≡◌, ℕ, ◌+◌, ◌≤◌, ◌==◌, ◌⊎◌, inl, inr, Bool, true, false, cond, List, [], ◌∷◌, filter, All, Option, Some, None, option_map, refl, sym, ap, ◌∙◌, subst, arith, eq-eqb}
+use Rattle.std.proofs.Common.{◌≡◌, ℕ, ◌+◌, ◌≤◌, ◌⊎◌, inl, inr, cond, List, [], ◌∷◌, Option, Some, None, option_map, refl, sym, ap, ◌∙◌, subst, arith, eq-eqb}
 use Rattle.std.specs.Prelude.{Contains}
-use Rattle.std.proofs.lemmas.List.Elements.{All-append, All-cons, All-contains, All-head, All-map, All-nil, All-tail, All-weaker}
 use Rattle.vlink.specs.declared.frame.VlId.{VlId}
 use Rattle.vlink.specs.declared.message.Message.{Message}
 use Rattle.vlink.specs.declared.note.Note.{Note}
@@ -12,17 +11,17 @@ use Rattle.output_port.specs.declared.event.Priority.TheVariants.{High, Low}
 use Rattle.output_port.specs.declared.event.PortEvent.{PortEvent}
 use Rattle.reverse.specs.Rules.{rules_of}
 use Rattle.reverse.specs.Setting.{Setting, simulation_of}
-use Rattle.virtual_time.specs.Law.{Laws, Simulation, events, one, rowed, rows_of}
-use Rattle.virtual_time.proofs.OneThread.{right}
+use Rattle.virtual_time.specs.Law.{Laws, Simulation, events, one}
 use Rattle.port_bounds.specs.Frames.{PutFrame, link_of}
 use Rattle.port_bounds.specs.Port.{idle}
 use Rattle.port_bounds.specs.Sublists.{Every}
-use Rattle.port_bounds.proofs.StartLemmas.{high-put, low-put}
+use Rattle.port_bounds.proofs.StartLemmas.{high-put, low-put, starts-both}
+use Rattle.port_bounds.proofs.SublistLemmas.{every-split, every-weaker}
 use Rattle.element_bounds.specs.PortTrace.{put_at}
 use Rattle.nodes.specs.declared.equipment.Equipment.{Equipment}
 use Rattle.nodes.specs.declared.node.NodeRecord.{NodeRecord}
 use Rattle.nodes.specs.declared.ports.Outlet.{Outlet}
-use Rattle.nodes.specs.rules.Node.{NodeState, after, notes}
+use Rattle.nodes.specs.rules.Node.{NodeState, after}
 use Rattle.nodes.specs.undoing.Node.{node}
 use Rattle.port_turns.specs.Arrivals.{arrival_in, arrivals_in}
 use Rattle.port_turns.specs.Nodes.{IsOfNodes}
@@ -34,18 +33,11 @@ use Rattle.frame_ages.specs.Latencies.{ComesWithin, IsHeldWithin}
 use Rattle.frame_ages.specs.Ports.{IsThrough, trace_at}
 use Rattle.frame_ages.specs.Sizes.{OpensEmpty}
 use Rattle.frame_ages.specs.Ways.{ComesBy, ComesNot, way_time}
-use Rattle.frame_ages.proofs.AgeLemmas.{IsAged, ages, every-split, starts-both}
-use Rattle.frame_ages.proofs.GivenLemmas.{every-weaker, fits}
-use Rattle.frame_ages.proofs.NoteLemmas.{IsDelivery, delivered-come}
+use Rattle.frame_ages.proofs.AgeLemmas.{IsAged, ages}
+use Rattle.frame_ages.proofs.GivenLemmas.{fits}
+use Rattle.frame_ages.proofs.NoteLemmas.{IsDelivery, Shows}
+use Rattle.frame_ages.proofs.RowLemmas.{row-fits}
 use Rattle.frame_ages.proofs.PutLemmas.{IsPutFit}
-
-pub kept-in : {X : Type 0} (P : X → Type 0) (test : X → Bool) (xs : List X) → All P (filter test xs) → All (λ x. test x ≡ true → P x) xs
-kept-in P test [] h = All-nil (λ x. test x ≡ true → P x)
-kept-in P test (x ∷ xs) h = go (test x) refl h (λ k. kept-in P test xs k)
-  where
-    go : (b : Bool) → test x ≡ b → All P (cond b (x ∷ filter test xs) (filter test xs)) → (All P (filter test xs) → All (λ x. test x ≡ true → P x) xs) → All (λ x. test x ≡ true → P x) (x ∷ xs)
-    go true e k rest = All-cons (λ x. test x ≡ true → P x) x xs (λ t. All-head P x (filter test xs) k) (rest (All-tail P x (filter test xs) k))
-    go false e k rest = All-cons (λ x. test x ≡ true → P x) x xs (λ t. absurd (let z : ⊥ = cc in z)) (rest k)
 
 pub some-before : (a : Option PortEvent) (o : Option Outlet) (outlet : Outlet) → option_map (done_at a) o ≡ Some outlet → (before : Outlet) × (o ≡ Some before)
 some-before a None outlet h = absurd (let z : ⊥ = cc in z)
@@ -60,8 +52,8 @@ module _ (v bound : ℕ) where
   abbrev AllComeTimely : Equipment → List Message → Type 0
   AllComeTimely e ms = (k : ℕ) (outlet : Outlet) → outlet_in e k ≡ Some outlet → (byte_ns : ℕ) × Every IsTimely (arrivals_in byte_ns k ms)
 
-  abbrev IsTimelyRow : Row → Type 0
-  IsTimelyRow row = (vl : VlId) (latency : ℕ) → vl.0 ≡ v → row.note ≡ Delivered vl latency → latency ≤ bound
+  abbrev IsTimelyNote : Note → Type 0
+  IsTimelyNote note = (vl : VlId) (latency : ℕ) → vl.0 ≡ v → note ≡ Delivered vl latency → latency ≤ bound
 
   one-timely : (m : Message) (ms : List Message) (e : Equipment) → AllComeTimely e (m ∷ ms) → (vl : VlId) (latency : ℕ) → vl.0 ≡ v → IsDelivery m e vl latency → latency ≤ bound
   one-timely m ms e h vl latency is d =
@@ -72,20 +64,14 @@ module _ (v bound : ℕ) where
       let since = d.since in
       omega arith
 
-  ports-later : (m : Message) (ms : List Message) (s : NodeState) → AllComeTimely s.equipment (m ∷ ms) → AllComeTimely (after s m).equipment ms
-  ports-later m ms s h k outlet is =
+  ports-later : (s : NodeState) (m : Message) (ms : List Message) → AllComeTimely s.equipment (m ∷ ms) → AllComeTimely (after s m).equipment ms
+  ports-later s m ms h k outlet is =
       let before = some-before (asks k m s.equipment) (outlet_in s.equipment k) outlet (sym (node-asks s.sender.number k m s.equipment) ∙ is) in
       let come = h k before.0 before.1 in
       (come.0, (every-split IsTimely (arrival_in come.0 k m.time m.body) (arrivals_in come.0 k ms) come.1).1)
 
-  rows-timely : (s : NodeState) (ms : List Message) → AllComeTimely s.equipment ms → All IsTimelyRow (rowed (rules_of node) s ms)
-  rows-timely s [] h = All-nil IsTimelyRow
-  rows-timely s (m ∷ ms) h =
-      All-append IsTimelyRow (rows_of (rules_of node).order m (notes s m)) (rowed (rules_of node) (after s m) ms)
-      (All-map IsTimelyRow (λ note. record { message = m; place = m.receiver; note = note }) (notes s m)
-      (All-weaker (λ note. (vl : VlId) (latency : ℕ) → note ≡ Delivered vl latency → IsDelivery m s.equipment vl latency) (λ note. (vl : VlId) (latency : ℕ) → vl.0 ≡ v → note ≡ Delivered vl latency → latency ≤ bound)
-      (λ note d vl latency is e. one-timely m ms s.equipment h vl latency is (d vl latency e)) (notes s m) (delivered-come s.sender.number m s.equipment)))
-      (rows-timely (after s m) ms (ports-later m ms s h))
+  note-timely : (s : NodeState) (m : Message) (ms : List Message) → AllComeTimely s.equipment (m ∷ ms) → (note : Note) → Shows m s.equipment note → IsTimelyNote note
+  note-timely s m ms h note d vl latency is e = one-timely m ms s.equipment h vl latency is (subst (Shows m s.equipment) e d)
 
 module _ (x : Setting NodeState) (L : Laws (simulation_of (rules_of node) x)) (N : IsOfNodes x) (size : ℕ → ℕ) (O : OpensEmpty x size) (v : ℕ) (n : ℕ) where
   abbrev f : Simulation Message NodeState NodeRecord Note
@@ -96,8 +82,8 @@ module _ (x : Setting NodeState) (L : Laws (simulation_of (rules_of node) x)) (N
   none-come to port C =
       arrivals-have x L C.from C.from_port C.by to port C.from_inside C.by_inside N C.outlet C.line C.way (λ t frame. frame.vl.0 ≡ v → ⊥) n
       (starts-both (λ s. link_of s.put ≡ v → ⊥) idle (trace_at x C.from C.from_port C.outlet n)
-      (high-put (λ put. link_of put ≡ v → ⊥) (trace_at x C.from C.from_port C.outlet n) None [] [] tt (none High))
-      (low-put (λ put. link_of put ≡ v → ⊥) (trace_at x C.from C.from_port C.outlet n) None [] [] tt (none Low)))
+      (high-put (λ put. link_of put ≡ v → ⊥) (trace_at x C.from C.from_port C.outlet n) (none High))
+      (low-put (λ put. link_of put ≡ v → ⊥) (trace_at x C.from C.from_port C.outlet n) (none Low)))
     where
       none : (r : Priority) → Every (λ put. link_of put ≡ v → ⊥) (puts_with r (trace_at x C.from C.from_port C.outlet n))
       none r = every-weaker (λ put. IsPutFit x L N size O C.from C.from_port C.from_inside C.outlet.ahead.byte_ns r put) (λ put. link_of put ≡ v → ⊥)
@@ -124,8 +110,4 @@ module _ (x : Setting NodeState) (L : Laws (simulation_of (rules_of node) x)) (N
             )
 
     pub latency-bounded : (row : Row) → Contains (one f n).rows row → row.place ≡ to → (vl : VlId) (latency : ℕ) → vl.0 ≡ v → row.note ≡ Delivered vl latency → latency ≤ wait + most
-    latency-bounded row inside place =
-        All-contains (λ row. (row.place == to) ≡ true → IsTimelyRow v (wait + most) row) (one f n).rows row
-        (kept-in (IsTimelyRow v (wait + most)) (λ row. row.place == to) (one f n).rows
-        (subst (All (IsTimelyRow v (wait + most))) (sym ((right f L n).rows_are to)) (rows-timely v (wait + most) (x.opening to) (events f n to) all-come)))
-        inside (eq-eqb row.place to place)
+    latency-bounded row inside place = row-fits (IsTimelyNote v (wait + most)) (λ s ms. AllComeTimely v (wait + most) s.equipment ms) (ports-later v (wait + most)) (note-timely v (wait + most)) x L to n all-come row inside place

@@ -7,13 +7,12 @@ pub mod PutLemmas
 pub mod GivenLemmas
 pub mod AgeLemmas
 pub mod NoteLemmas
+pub mod RowLemmas
 pub mod LatencyLemmas
 pub mod RegulatorSteps
-pub mod RegulatorTurns
 pub mod ReleaseTimer
 pub mod WaitLemmas
 pub mod HeldLemmas
 pub mod RoomLemmas
-pub mod FullNotes
 pub mod KeptLemmas
 pub mod RoundRobin

@@ -1,7 +1,9 @@
--- A delivery is noted where a frame comes to a port of an end system, with the time since its offer.
-use Rattle.std.proofs.Common.{◌≡◌, ℕ, ◌+◌, ◌-◌, ◌==◌, Bool, true, false, cond, nat_lt, is_some, List, [], ◌∷◌, All, Option, Some, None, refl}
-use Rattle.std.proofs.lemmas.List.Elements.{All-append, All-cons, All-nil, All-weaker}
+-- What a note shows. Of a delivery: a frame came to a port of the node that there is, so long after its offer. Of a frame dropped at a full
+-- port: a port was asked to take it, and dropped it.
+use Rattle.std.proofs.Common.{◌≡◌, ℕ, ◌+◌, ◌-◌, ◌==◌, Bool, true, false, cond, nat_lt, is_some, [], ◌∷◌, All, Option, Some, None, option_map, refl, sym, ap, ◌∙◌, eq-eqb}
+use Rattle.std.specs.Prelude.{⊤}
 use Rattle.std.specs.List.{list_any}
+use Rattle.std.proofs.lemmas.List.Elements.{All-append, All-cons, All-nil}
 use Rattle.vlink.specs.declared.frame.Frame.{Frame}
 use Rattle.vlink.specs.declared.frame.Net.{Net}
 use Rattle.vlink.specs.declared.frame.Net.TheVariants.{A, B}
@@ -10,7 +12,7 @@ use Rattle.vlink.specs.declared.message.Message.{Message}
 use Rattle.vlink.specs.declared.message.Body.{Body}
 use Rattle.vlink.specs.declared.message.Body.TheVariants as body
 use Rattle.vlink.specs.declared.note.Note.{Note}
-use Rattle.vlink.specs.declared.note.Note.TheVariants.{Delivered}
+use Rattle.vlink.specs.declared.note.Note.TheVariants.{Delivered, Dropped}
 use Rattle.vlink.specs.declared.note.Cause.{Cause}
 use Rattle.vlink.specs.declared.note.Cause.TheVariants as cause
 use Rattle.bag_regulator.specs.Regulator.{regulator}
@@ -22,6 +24,8 @@ use Rattle.policer.specs.Account.{account}
 use Rattle.policer.specs.declared.account.Verdict.{Verdict}
 use Rattle.policer.specs.declared.account.Verdict.TheVariants as verdict
 use Rattle.output_port.specs.Port.{port}
+use Rattle.output_port.specs.declared.event.Priority.{Priority}
+use Rattle.output_port.specs.declared.event.Priority.TheVariants.{Low}
 use Rattle.output_port.specs.declared.event.PortEvent.{PortEvent}
 use Rattle.output_port.specs.declared.event.PortEvent.TheVariants.{Put, Free}
 use Rattle.output_port.specs.declared.event.PortAnswer.{PortAnswer}
@@ -35,7 +39,6 @@ use Rattle.redundancy.specs.declared.delivery.Delivery.TheVariants as delivery
 use Rattle.reverse.specs.Sending.{Reply, joined, loss, silent}
 use Rattle.nodes.specs.declared.equipment.Equipment.{Equipment}
 use Rattle.nodes.specs.declared.equipment.Equipment.TheVariants.{EndSystem, Switch, Line}
-use Rattle.nodes.specs.declared.ports.LineAhead.{LineAhead}
 use Rattle.nodes.specs.declared.ports.Outlet.{Outlet}
 use Rattle.nodes.specs.declared.receiving.Receiving.{Receiving}
 use Rattle.nodes.specs.declared.reception.Reception.{Reception}
@@ -47,137 +50,11 @@ use Rattle.nodes.specs.rules.EndSystem as es
 use Rattle.nodes.specs.rules.Finding.{Found}
 use Rattle.nodes.specs.rules.Line.{LineState, is_within, line}
 use Rattle.nodes.specs.rules.Ports.{PortsState, answered, exists, outlet_at, reply, reply_at}
-use Rattle.nodes.specs.rules.Switch.{SwitchState, entered_reply, judged, outputs_of, switch, transit_at}
+use Rattle.nodes.specs.rules.Switch.{SwitchState, judged, outputs_of, switch, transit_at}
 use Rattle.nodes.specs.rules.Switch as sw
 use Rattle.nodes.specs.rules.Node.{handled}
-use Rattle.port_turns.specs.PortEvents.{outlet_in}
-
--- the note is of no delivery
-abbrev IsOther : Note → Type 0
-IsOther note = (vl : VlId) (latency : ℕ) → note ≡ Delivered vl latency → ⊥
-
-loss-other : (c : Cause) (frame : Frame) → All IsOther (loss c frame).notes
-loss-other c frame = All-cons IsOther _ [] (λ vl latency e. let z : ⊥ = cc in z) (All-nil IsOther)
-
-module _ (n t : ℕ) where
-  ports-other : (q : ℕ) (e : PortEvent) (ports : PortsState) → All IsOther (reply n t q e ports).notes
-  ports-other q e ports = go (outlet_at ports q)
-    where
-      by-answer : (ahead : LineAhead) (e : PortEvent) (a : PortAnswer) → All IsOther (answered n t q ahead e a).notes
-      by-answer ahead e (answer.Started frame) = All-nil IsOther
-      by-answer ahead (Put frame r) answer.Dropped = loss-other cause.PortFull frame
-      by-answer ahead Free answer.Dropped = All-nil IsOther
-      by-answer ahead e answer.Kept = All-nil IsOther
-      by-answer ahead e answer.Idle = All-nil IsOther
-      by-answer ahead e answer.Nothing = All-nil IsOther
-
-      go : (o : Option Outlet) → All IsOther (reply_at n t q e o).notes
-      go None = All-nil IsOther
-      go (Some outlet) = by-answer outlet.ahead e (port.out outlet.port e)
-
-  joined-other : (a b : Reply) → All IsOther a.notes → All IsOther b.notes → All IsOther (joined a b).notes
-  joined-other a b h k = All-append IsOther a.notes b.notes h k
-
-  copied-other : (end : VlEnd) (net : Net) (frame : Frame) (ports : PortsState) → All IsOther (copied_reply n t end net frame ports).notes
-  copied-other end net frame ports = go (is_on end net)
-    where
-      go : (b : Bool) → All IsOther (cond b (reply n t (port_of net) (copy net frame) ports) silent).notes
-      go true = ports-other (port_of net) (copy net frame) ports
-      go false = All-nil IsOther
-
-  released-other : (end : VlEnd) (a : RegAnswer) (ports : PortsState) → All IsOther (released_reply n t end a ports).notes
-  released-other end (reg.Released frame) ports = joined-other (copied_reply n t end A frame ports) (copied_reply n t end B frame (copied end A frame ports)) (copied-other end A frame ports) (copied-other end B frame (copied end A frame ports))
-  released-other end reg.Kept ports = All-nil IsOther
-  released-other end reg.Dropped ports = All-nil IsOther
-  released-other end reg.Nothing ports = All-nil IsOther
-
-  full-other : (e : RegEvent) (a : RegAnswer) → All IsOther (full e a).notes
-  full-other (Offer at sub frame) reg.Dropped = loss-other cause.QueueFull frame
-  full-other (Offer at sub frame) (reg.Released f) = All-nil IsOther
-  full-other (Offer at sub frame) reg.Kept = All-nil IsOther
-  full-other (Offer at sub frame) reg.Nothing = All-nil IsOther
-  full-other (Release at) a = All-nil IsOther
-
-  asked-other : (vl : VlId) (ask : Option ℕ) → All IsOther (asked n vl ask).notes
-  asked-other vl None = All-nil IsOther
-  asked-other vl (Some at) = All-nil IsOther
-
-  regulated-other : (e : RegEvent) (otherwise : Reply) (s : EndSystemState) (o : Option (Found Source)) → All IsOther otherwise.notes → All IsOther (regulated n t e otherwise s o).reply.notes
-  regulated-other e otherwise s None h = h
-  regulated-other e otherwise s (Some found) h =
-      let out = regulator.out found.entry.regulator e in
-      joined-other (joined (full e out.answer) (asked n found.entry.end.vl out.release_at)) (released_reply n t found.entry.end out.answer s.ports)
-      (joined-other (full e out.answer) (asked n found.entry.end.vl out.release_at) (full-other e out.answer) (asked-other found.entry.end.vl out.release_at)) (released-other found.entry.end out.answer s.ports)
-
-  -- a frame came to a port of the end system that there is, so long after its offer
-  abbrev HasCome : EndSystemState → Body → VlId → ℕ → Type 0
-  HasCome s b vl latency = (k : ℕ) × (frame : Frame) × (b ≡ body.Arrive k frame) × (exists s.ports k ≡ true) × (frame.vl ≡ vl) × (t - frame.offered ≡ latency)
-
-  abbrev OfCome : EndSystemState → Body → Note → Type 0
-  OfCome s b note = (vl : VlId) (latency : ℕ) → note ≡ Delivered vl latency → HasCome s b vl latency
-
-  other-come : (s : EndSystemState) (b : Body) (notes : List Note) → All IsOther notes → All (OfCome s b) notes
-  other-come s b notes h = All-weaker IsOther (OfCome s b) (λ note k vl latency e. absurd (k vl latency e)) notes h
-
-  received-come : (s : EndSystemState) (k : ℕ) (frame : Frame) (r : Receiving) → exists s.ports k ≡ true → All (OfCome s (body.Arrive k frame)) (received_reply t frame r).notes
-  received-come s k frame r there = go (integrity.out (check_of frame.net r) frame.number)
-    where
-      by-delivery : (d : Delivery) → All (OfCome s (body.Arrive k frame)) (delivered t frame d).notes
-      by-delivery delivery.Delivered = All-cons (OfCome s (body.Arrive k frame)) (Delivered frame.vl (t - frame.offered)) [] (λ vl latency e. (k, frame, refl, there, let z : frame.vl ≡ vl = cc in z, let z : t - frame.offered ≡ latency = cc in z)) (All-nil (OfCome s (body.Arrive k frame)))
-      by-delivery delivery.Duplicate = other-come s (body.Arrive k frame) (loss cause.Duplicate frame).notes (loss-other cause.Duplicate frame)
-
-      go : (c : Checked) → All (OfCome s (body.Arrive k frame)) (checked t frame r c).notes
-      go check.Passed = by-delivery (redundancy.out r.redundancy (record { number = frame.number; at = t }))
-      go check.Refused = other-come s (body.Arrive k frame) (loss cause.Integrity frame).notes (loss-other cause.Integrity frame)
-
-  end-come : (s : EndSystemState) (b : Body) → All (OfCome s b) (end_system n t b s).reply.notes
-  end-come s (body.Offer vl bytes sub) = other-come s (body.Offer vl bytes sub) _ (regulated-other (Offer t sub (offered_frame t vl bytes)) (loss cause.Unknown (offered_frame t vl bytes)) s (source_at s vl) (loss-other cause.Unknown (offered_frame t vl bytes)))
-  end-come s (body.Release vl) = other-come s (body.Release vl) _ (regulated-other (Release t) silent s (source_at s vl) (All-nil IsOther))
-  end-come s (body.PortFree q) = other-come s (body.PortFree q) _ (ports-other q Free s.ports)
-  end-come s (body.Arrive k frame) = go (exists s.ports k) refl (reception_at s frame.vl frame.net)
-    where
-      go : (b : Bool) → exists s.ports k ≡ b → (o : Option (Found Reception)) → All (OfCome s (body.Arrive k frame)) (cond b (es.taken_in t frame s o) (es.unmoved s)).reply.notes
-      go true there None = other-come s (body.Arrive k frame) (loss cause.Unknown frame).notes (loss-other cause.Unknown frame)
-      go true there (Some found) = received-come s k frame found.entry.receiving there
-      go false there o = All-nil (OfCome s (body.Arrive k frame))
-  end-come s (body.Enqueue k frame) = All-nil (OfCome s (body.Enqueue k frame))
-  end-come s (body.Carry frame) = All-nil (OfCome s (body.Carry frame))
-
-  switch-other : (b : Body) (s : SwitchState) → All IsOther (switch n t b s).reply.notes
-  switch-other (body.Offer vl bytes sub) s = All-nil IsOther
-  switch-other (body.Release vl) s = All-nil IsOther
-  switch-other (body.PortFree q) s = ports-other q Free s.ports
-  switch-other (body.Arrive k frame) s = go (exists s.ports k) (transit_at s frame.vl)
-    where
-      entered : (x : Transit) (b c : Bool) (v : Verdict) → All IsOther (cond b (cond c (loss cause.TooLong frame) (judged n (t + s.latency) frame (outputs_of x) v)) (loss cause.Unknown frame)).notes
-      entered x true true v = loss-other cause.TooLong frame
-      entered x true false verdict.Passed = All-nil IsOther
-      entered x true false verdict.Refused = loss-other cause.Policed frame
-      entered x false c v = loss-other cause.Unknown frame
-
-      go : (b : Bool) (o : Option (Found Transit)) → All IsOther (cond b (sw.taken_in n t k frame s o) (sw.unmoved s)).reply.notes
-      go true None = loss-other cause.Unknown frame
-      go true (Some found) = entered found.entry (found.entry.input == k) (nat_lt found.entry.smax frame.size) (account.out found.entry.account (record { at = t; size = frame.size }))
-      go false o = All-nil IsOther
-  switch-other (body.Enqueue k frame) s = go (exists s.ports k) (transit_at s frame.vl)
-    where
-      go : (b : Bool) (o : Option (Found Transit)) → All IsOther (cond b (sw.put n t k frame s o) (sw.unmoved s)).reply.notes
-      go true None = loss-other cause.Unknown frame
-      go true (Some found) = ports-other k (Put frame found.entry.priority) s.ports
-      go false o = All-nil IsOther
-  switch-other (body.Carry frame) s = All-nil IsOther
-
-  line-other : (b : Body) (l : LineState) → All IsOther (line t b l).notes
-  line-other (body.Offer vl bytes sub) l = All-nil IsOther
-  line-other (body.Release vl) l = All-nil IsOther
-  line-other (body.PortFree q) l = All-nil IsOther
-  line-other (body.Arrive k frame) l = All-nil IsOther
-  line-other (body.Enqueue k frame) l = All-nil IsOther
-  line-other (body.Carry frame) l = go (list_any (is_within t) l.outages)
-    where
-      go : (b : Bool) → All IsOther (cond b (loss cause.Outage frame) (record { wishes = record { time = t + l.propagation; receiver = l.to; body = body.Arrive l.to_port frame } ∷ []; notes = [] })).notes
-      go true = loss-other cause.Outage frame
-      go false = All-nil IsOther
+use Rattle.port_turns.specs.PortEvents.{asks, copy_asks, end_system_asks, or_else, outlet_in, regulated_asks, switch_asks}
+use Rattle.port_turns.proofs.Asking.{copied-asks, same}
 
 -- a frame came to a port of the node that there is, so long after its offer
 pub record IsDelivery (m : Message) (e : Equipment) (vl : VlId) (latency : ℕ) : Type 0 where
@@ -189,18 +66,184 @@ pub record IsDelivery (m : Message) (e : Equipment) (vl : VlId) (latency : ℕ) 
   pub link : frame.vl ≡ vl
   pub since : m.time - frame.offered ≡ latency
 
-pub delivered-come : (n : ℕ) (m : Message) (e : Equipment) → All (λ note. (vl : VlId) (latency : ℕ) → note ≡ Delivered vl latency → IsDelivery m e vl latency) (handled n m e).reply.notes
-delivered-come n m (EndSystem s) =
-    All-weaker (OfCome n m.time s m.body) (λ note. (vl : VlId) (latency : ℕ) → note ≡ Delivered vl latency → IsDelivery m (EndSystem s) vl latency)
-    (λ note k vl latency e. let c = k vl latency e in come c.0 c.1 vl latency c.2 c.3 c.4 c.5) (end_system n m.time m.body s).reply.notes (end-come n m.time s m.body)
+-- a port of the node is asked to take a frame, and drops it
+pub record DropsAt (m : Message) (e : Equipment) : Type 0 where
+  pub at_port : ℕ
+  pub outlet : Outlet
+  pub frame : Frame
+  pub priority : Priority
+  pub there : outlet_in e at_port ≡ Some outlet
+  pub asked : asks at_port m e ≡ Some (Put frame priority)
+  pub dropped : port.out outlet.port (Put frame priority) ≡ answer.Dropped
+
+abbrev pub ShowsDrop : Message → Equipment → Cause → Type 0
+ShowsDrop m e cause.PortFull = DropsAt m e
+ShowsDrop m e _ = ⊤
+
+abbrev pub Shows : Message → Equipment → Note → Type 0
+Shows m e (Delivered vl latency) = IsDelivery m e vl latency
+Shows m e (Dropped vl c bytes) = ShowsDrop m e c
+
+module _ (n : ℕ) (m : Message) (e : Equipment) where
+  abbrev AllShow : Reply → Type 0
+  AllShow r = All (Shows m e) r.notes
+
+  none : All (Shows m e) []
+  none = All-nil (Shows m e)
+
+  loss-shows : (c : Cause) (frame : Frame) → ShowsDrop m e c → AllShow (loss c frame)
+  loss-shows c frame h = All-cons (Shows m e) (Dropped frame.vl c frame.size) [] h none
+
+  joined-show : (a b : Reply) → AllShow a → AllShow b → AllShow (joined a b)
+  joined-show a b h k = All-append (Shows m e) a.notes b.notes h k
+
+  abbrev Drops : ℕ → PortEvent → PortsState → Type 0
+  Drops q event ports = (outlet : Outlet) (frame : Frame) (r : Priority) → outlet_at ports q ≡ Some outlet → event ≡ Put frame r → port.out outlet.port event ≡ answer.Dropped → DropsAt m e
+
+  none-free : (q : ℕ) (ports : PortsState) → Drops q Free ports
+  none-free q ports outlet frame r is e = let z : ⊥ = cc in absurd z
+
+  ports-show : (q : ℕ) (event : PortEvent) (ports : PortsState) → Drops q event ports → AllShow (reply n m.time q event ports)
+  ports-show q event ports h = go (outlet_at ports q) refl
+    where
+      by-answer : (outlet : Outlet) → outlet_at ports q ≡ Some outlet → (put : PortEvent) → event ≡ put → (a : PortAnswer) → port.out outlet.port event ≡ a → AllShow (answered n m.time q outlet.ahead put a)
+      by-answer outlet is (Put frame r) at answer.Dropped k = loss-shows cause.PortFull frame (h outlet frame r is at k)
+      by-answer outlet is Free at answer.Dropped k = none
+      by-answer outlet is _ at _ k = none
+
+      go : (o : Option Outlet) → outlet_at ports q ≡ o → AllShow (reply_at n m.time q event o)
+      go None is = none
+      go (Some outlet) is = by-answer outlet is event refl (port.out outlet.port event) refl
+
+  copied-shows : (end : VlEnd) (net : Net) (frame : Frame) (ports : PortsState) → (is_on end net ≡ true → Drops (port_of net) (copy net frame) ports) → AllShow (copied_reply n m.time end net frame ports)
+  copied-shows end net frame ports h = go (is_on end net) refl
+    where
+      go : (b : Bool) → is_on end net ≡ b → AllShow (cond b (reply n m.time (port_of net) (copy net frame) ports) silent)
+      go true on = ports-show (port_of net) (copy net frame) ports (h on)
+      go false on = none
+
+  full-shows : (event : RegEvent) (a : RegAnswer) → AllShow (full event a)
+  full-shows (Offer at sub frame) reg.Dropped = loss-shows cause.QueueFull frame tt
+  full-shows _ _ = none
+
+  asked-shows : (vl : VlId) (ask : Option ℕ) → AllShow (asked n vl ask)
+  asked-shows vl None = none
+  asked-shows vl (Some at) = none
+
+-- the port of network B is as it was before the copy for A was put
+b-stays : (end : VlEnd) (frame : Frame) (ports : PortsState) (outlet : Outlet) → outlet_at (copied end A frame ports) (port_of B) ≡ Some outlet → outlet_at ports (port_of B) ≡ Some outlet
+b-stays end frame ports outlet is = same (outlet_at ports (port_of B)) ∙ (sym (copied-asks (port_of B) end A frame ports) ∙ is)
+
+module _ (n : ℕ) (m : Message) (s : EndSystemState) where
+  abbrev e : Equipment
+  e = EndSystem s
+
+  -- what a regulator that is asked makes follow
+  released-shows : (vl : VlId) (event : RegEvent) (found : Found Source) → source_at s vl ≡ Some found → ((q : ℕ) → end_system_asks q m.time m.body s ≡ regulated_asks q event (source_at s vl)) → (a : RegAnswer) → (regulator.out found.entry.regulator event).answer ≡ a →
+      AllShow n m e (released_reply n m.time found.entry.end a s.ports)
+  released-shows vl event found is says (reg.Released frame) at =
+      joined-show n m e (copied_reply n m.time found.entry.end A frame s.ports) (copied_reply n m.time found.entry.end B frame (copied found.entry.end A frame s.ports))
+      (copied-shows n m e found.entry.end A frame s.ports (λ on outlet f r there put dropped. record {
+        at_port = port_of A;
+        outlet = outlet;
+        frame = record frame { net = A };
+        priority = Low;
+        there = there;
+        asked = asks-is (port_of A) ∙ rw on refl;
+        dropped = dropped;
+      }))
+      (copied-shows n m e found.entry.end B frame (copied found.entry.end A frame s.ports) (λ on outlet f r there put dropped. record {
+        at_port = port_of B;
+        outlet = outlet;
+        frame = record frame { net = B };
+        priority = Low;
+        there = b-stays found.entry.end frame s.ports outlet there;
+        asked = asks-is (port_of B) ∙ rw on refl;
+        dropped = dropped;
+      }))
+    where
+      asks-is : (q : ℕ) → end_system_asks q m.time m.body s ≡ or_else (copy_asks q found.entry.end A (reg.Released frame)) (copy_asks q found.entry.end B (reg.Released frame))
+      asks-is q = says q ∙ (ap (regulated_asks q event) is ∙ ap (λ z. or_else (copy_asks q found.entry.end A z) (copy_asks q found.entry.end B z)) at)
+  released-shows vl event found is says _ at = none n m e
+
+  regulated-shows : (vl : VlId) (event : RegEvent) (otherwise : Reply) → ((q : ℕ) → end_system_asks q m.time m.body s ≡ regulated_asks q event (source_at s vl)) → AllShow n m e otherwise → AllShow n m e (regulated n m.time event otherwise s (source_at s vl)).reply
+  regulated-shows vl event otherwise says h = go (source_at s vl) refl
+    where
+      go : (o : Option (Found Source)) → source_at s vl ≡ o → AllShow n m e (regulated n m.time event otherwise s o).reply
+      go None is = h
+      go (Some found) is =
+          let out = regulator.out found.entry.regulator event in
+          joined-show n m e (joined (full event out.answer) (asked n found.entry.end.vl out.release_at)) (released_reply n m.time found.entry.end out.answer s.ports)
+          (joined-show n m e (full event out.answer) (asked n found.entry.end.vl out.release_at) (full-shows n m e event out.answer) (asked-shows n m e found.entry.end.vl out.release_at))
+          (released-shows vl event found is says out.answer refl)
+
+  received-shows : (frame : Frame) (r : Receiving) → IsDelivery m e frame.vl (m.time - frame.offered) → AllShow n m e (received_reply m.time frame r)
+  received-shows frame r come = go (integrity.out (check_of frame.net r) frame.number)
+    where
+      by-delivery : (d : Delivery) → AllShow n m e (delivered m.time frame d)
+      by-delivery delivery.Delivered = All-cons (Shows m e) (Delivered frame.vl (m.time - frame.offered)) [] come (none n m e)
+      by-delivery delivery.Duplicate = loss-shows n m e cause.Duplicate frame tt
+
+      go : (c : Checked) → AllShow n m e (checked m.time frame r c)
+      go check.Passed = by-delivery (redundancy.out r.redundancy (record { number = frame.number; at = m.time }))
+      go check.Refused = loss-shows n m e cause.Integrity frame tt
+
+  end-shows : (b : Body) → m.body ≡ b → AllShow n m e (end_system n m.time b s).reply
+  end-shows (body.Offer vl bytes sub) k =
+      regulated-shows vl (Offer m.time sub (offered_frame m.time vl bytes)) (loss cause.Unknown (offered_frame m.time vl bytes)) (λ q. ap (λ b. end_system_asks q m.time b s) k) (loss-shows n m e cause.Unknown (offered_frame m.time vl bytes) tt)
+  end-shows (body.Release vl) k = regulated-shows vl (Release m.time) silent (λ q. ap (λ b. end_system_asks q m.time b s) k) (none n m e)
+  end-shows (body.PortFree q) k = ports-show n m e q Free s.ports (none-free n m e q s.ports)
+  end-shows (body.Arrive q frame) k = go (outlet_at s.ports q) refl (reception_at s frame.vl frame.net)
+    where
+      go : (o : Option Outlet) → outlet_at s.ports q ≡ o → (r : Option (Found Reception)) → AllShow n m e (cond (is_some o) (es.taken_in m.time frame s r) (es.unmoved s)).reply
+      go None is r = none n m e
+      go (Some outlet) is None = loss-shows n m e cause.Unknown frame tt
+      go (Some outlet) is (Some found) = received-shows frame found.entry.receiving (record { at_port = q; outlet = outlet; frame = frame; there = is; body_is = k; link = refl; since = refl })
+  end-shows _ k = none n m e
+
+module _ (n : ℕ) (m : Message) (s : SwitchState) where
+  abbrev here : Equipment
+  here = Switch s
+
+  switch-shows : (b : Body) → m.body ≡ b → AllShow n m here (switch n m.time b s).reply
+  switch-shows (body.PortFree q) k = ports-show n m here q Free s.ports (none-free n m here q s.ports)
+  switch-shows (body.Arrive q frame) k = go (exists s.ports q) (transit_at s frame.vl)
+    where
+      entered : (x : Transit) (b c : Bool) (v : Verdict) → AllShow n m here (cond b (cond c (loss cause.TooLong frame) (judged n (m.time + s.latency) frame (outputs_of x) v)) (loss cause.Unknown frame))
+      entered x true true v = loss-shows n m here cause.TooLong frame tt
+      entered x true false verdict.Passed = none n m here
+      entered x true false verdict.Refused = loss-shows n m here cause.Policed frame tt
+      entered x false c v = loss-shows n m here cause.Unknown frame tt
+
+      go : (b : Bool) (o : Option (Found Transit)) → AllShow n m here (cond b (sw.taken_in n m.time q frame s o) (sw.unmoved s)).reply
+      go true None = loss-shows n m here cause.Unknown frame tt
+      go true (Some found) = entered found.entry (found.entry.input == q) (nat_lt found.entry.smax frame.size) (account.out found.entry.account (record { at = m.time; size = frame.size }))
+      go false o = none n m here
+  switch-shows (body.Enqueue q frame) k = go (exists s.ports q) (transit_at s frame.vl) refl
+    where
+      go : (b : Bool) (o : Option (Found Transit)) → transit_at s frame.vl ≡ o → AllShow n m here (cond b (sw.put n m.time q frame s o) (sw.unmoved s)).reply
+      go true None is = loss-shows n m here cause.Unknown frame tt
+      go true (Some found) is = ports-show n m here q (Put frame found.entry.priority) s.ports (λ outlet f r there put dropped. record {
+        at_port = q;
+        outlet = outlet;
+        frame = frame;
+        priority = found.entry.priority;
+        there = there;
+        asked = ap (λ b. switch_asks q b s) k ∙ (ap (λ z. cond z (option_map (λ (found : Found Transit). Put frame found.entry.priority) (transit_at s frame.vl)) None) (eq-eqb q q refl) ∙ ap (option_map (λ (found : Found Transit). Put frame found.entry.priority)) is);
+        dropped = dropped;
+      })
+      go false o is = none n m here
+  switch-shows _ k = none n m here
+
+line-shows : (n : ℕ) (m : Message) (e : Equipment) (b : Body) (l : LineState) → AllShow n m e (line m.time b l)
+line-shows n m e (body.Carry frame) l = go (list_any (is_within m.time) l.outages)
   where
-    come : (k : ℕ) (frame : Frame) (vl : VlId) (latency : ℕ) → m.body ≡ body.Arrive k frame → exists s.ports k ≡ true → frame.vl ≡ vl → m.time - frame.offered ≡ latency → IsDelivery m (EndSystem s) vl latency
-    come k frame vl latency b there l since = go (outlet_at s.ports k) refl there
-      where
-        go : (o : Option Outlet) → outlet_at s.ports k ≡ o → is_some o ≡ true → IsDelivery m (EndSystem s) vl latency
-        go None is h = absurd (let z : ⊥ = cc in z)
-        go (Some outlet) is h = record { at_port = k; outlet = outlet; frame = frame; there = is; body_is = b; link = l; since = since }
-delivered-come n m (Switch s) =
-    All-weaker IsOther (λ note. (vl : VlId) (latency : ℕ) → note ≡ Delivered vl latency → IsDelivery m (Switch s) vl latency) (λ note k vl latency e. absurd (k vl latency e)) (switch n m.time m.body s).reply.notes (switch-other n m.time m.body s)
-delivered-come n m (Line l) =
-    All-weaker IsOther (λ note. (vl : VlId) (latency : ℕ) → note ≡ Delivered vl latency → IsDelivery m (Line l) vl latency) (λ note k vl latency e. absurd (k vl latency e)) (line m.time m.body l).notes (line-other n m.time m.body l)
+    go : (b : Bool) → AllShow n m e (cond b (loss cause.Outage frame) (record { wishes = record { time = m.time + l.propagation; receiver = l.to; body = body.Arrive l.to_port frame } ∷ []; notes = [] }))
+    go true = loss-shows n m e cause.Outage frame tt
+    go false = none n m e
+line-shows n m e _ l = none n m e
+
+pub notes-show : (n : ℕ) (m : Message) (e : Equipment) → All (Shows m e) (handled n m e).reply.notes
+notes-show n m (EndSystem s) = end-shows n m s m.body refl
+notes-show n m (Switch s) = switch-shows n m s m.body refl
+notes-show n m (Line l) = line-shows n m (Line l) m.body l

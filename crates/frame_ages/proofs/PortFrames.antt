@@ -36,10 +36,7 @@ module _ (P : Frame → Type 0) where
 
   abbrev OfStart : PortAnswer → Type 0
   OfStart (answer.Started frame) = P frame
-  OfStart answer.Kept = ⊤
-  OfStart answer.Dropped = ⊤
-  OfStart answer.Idle = ⊤
-  OfStart answer.Nothing = ⊤
+  OfStart _ = ⊤
 
   record Keeps (o : real.Outcome) : Type 0 where
     waiting : AllWaitAt o.state
@@ -74,10 +71,7 @@ module _ (P : Frame → Type 0) where
   abbrev pub IsCarryOf : Body → Type 0
   IsCarryOf (body.Carry frame) = P frame
   IsCarryOf (body.PortFree p) = ⊤
-  IsCarryOf (body.Offer vl size sub) = ⊥
-  IsCarryOf (body.Release vl) = ⊥
-  IsCarryOf (body.Arrive p frame) = ⊥
-  IsCarryOf (body.Enqueue p frame) = ⊥
+  IsCarryOf _ = ⊥
 
   abbrev pub IsPortWish : Wish → Type 0
   IsPortWish w = IsCarryOf w.body
@@ -100,10 +94,7 @@ module _ (P : Frame → Type 0) where
       by-answer : (ahead : LineAhead) (e : PortEvent) (a : PortAnswer) → OfStart a → All IsPortWish (answered n t q ahead e a).wishes
       by-answer ahead e (answer.Started frame) s = All-cons IsPortWish (carrying t ahead frame) (freeing n t q ahead frame ∷ []) s (All-cons IsPortWish (freeing n t q ahead frame) [] tt (All-nil IsPortWish))
       by-answer ahead (Put frame r) answer.Dropped s = All-nil IsPortWish
-      by-answer ahead Free answer.Dropped s = All-nil IsPortWish
-      by-answer ahead e answer.Kept s = All-nil IsPortWish
-      by-answer ahead e answer.Idle s = All-nil IsPortWish
-      by-answer ahead e answer.Nothing s = All-nil IsPortWish
+      by-answer ahead _ _ s = All-nil IsPortWish
 
       go : (o : Option Outlet) → outlet_at ports q ≡ o → All IsPortWish (reply_at n t q e o).wishes
       go None is = All-nil IsPortWish

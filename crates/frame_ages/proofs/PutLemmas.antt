@@ -13,7 +13,6 @@ use Rattle.vlink.specs.declared.message.Message.{Message}
 use Rattle.vlink.specs.declared.message.Body.{Body}
 use Rattle.vlink.specs.declared.message.Body.TheVariants as body
 use Rattle.vlink.specs.declared.note.Note.{Note}
-use Rattle.vlink.specs.declared.note.Cause.TheVariants.{Unknown}
 use Rattle.bag_regulator.specs.Regulator.{regulator}
 use Rattle.bag_regulator.specs.declared.event.RegEvent.{RegEvent}
 use Rattle.bag_regulator.specs.declared.event.RegEvent.TheVariants.{Offer, Release}
@@ -23,7 +22,6 @@ use Rattle.output_port.specs.declared.event.Priority.{Priority}
 use Rattle.output_port.specs.declared.event.PortEvent.{PortEvent}
 use Rattle.output_port.specs.declared.event.PortEvent.TheVariants.{Put, Free}
 use Rattle.output_port.specs.Port.{PortState}
-use Rattle.reverse.specs.Sending.{Reply, loss, silent}
 use Rattle.reverse.specs.Rules.{rules_of}
 use Rattle.reverse.specs.Setting.{Setting, simulation_of}
 use Rattle.virtual_time.specs.Law.{Laws, Simulation, events, one}
@@ -35,17 +33,15 @@ use Rattle.element_bounds.proofs.TraceLemmas.{AllPuts, OfAsked, trace-puts}
 use Rattle.nodes.specs.declared.equipment.Equipment.{Equipment}
 use Rattle.nodes.specs.declared.equipment.Equipment.TheVariants.{EndSystem, Switch, Line}
 use Rattle.nodes.specs.declared.node.NodeRecord.{NodeRecord}
-use Rattle.nodes.specs.declared.reception.Reception.{Reception}
 use Rattle.nodes.specs.declared.source.Source.{Source}
 use Rattle.nodes.specs.declared.transit.Transit.{Transit}
 use Rattle.nodes.specs.declared.vl_end.VlEnd.{VlEnd}
-use Rattle.nodes.specs.rules.EndSystem.{EndSystemState, copy, end_system, is_on, offered_frame, port_of, reception_at, regulated, source_at, source_number}
-use Rattle.nodes.specs.rules.EndSystem as es
+use Rattle.nodes.specs.rules.EndSystem.{EndSystemState, copy, end_system, is_on, offered_frame, port_of, source_at, source_number}
 use Rattle.nodes.specs.rules.Finding.{Found, find}
-use Rattle.nodes.specs.rules.Ports.{exists}
 use Rattle.nodes.specs.rules.Switch.{SwitchState, outputs_of, transit_at}
 use Rattle.nodes.specs.rules.Node.{NodeState, after, handled}
 use Rattle.nodes.specs.undoing.Node.{node}
+use Rattle.nodes.specs.laws.EndSystemSending.{end_system-cases}
 use Rattle.port_turns.specs.Nodes.{IsOfNodes}
 use Rattle.port_turns.specs.PortEvents.{asks, copy_asks, end_system_asks, or_else, regulated_asks, switch_asks}
 use Rattle.port_turns.specs.PortRuns.{asked_at, input_of, port_events}
@@ -56,7 +52,7 @@ use Rattle.frame_ages.specs.Ports.{IsSentBy, IsThrough}
 use Rattle.frame_ages.specs.Sizes.{HaveEmptyRegulators, IsSized, OpensEmpty}
 use Rattle.frame_ages.proofs.EndFrames.{OfLink}
 use Rattle.frame_ages.proofs.SizeLemmas.{GoesOut, IsFit, IsOut, SameAs, all-fit, none-waits, same-as-first, same-as-stays}
-use Rattle.frame_ages.proofs.SwitchFrames.{AllTransits, transits-stay}
+use Rattle.port_turns.proofs.Transits.{AllTransits, transits-stay}
 
 -- ---- at an end system
 
@@ -65,34 +61,26 @@ module _ (K : ℕ → Source → Type 0) (stays : (v : ℕ) (x y : Source) → y
   abbrev pub AllSources : EndSystemState → Type 0
   AllSources s = (v : ℕ) (found : Found Source) → find source_number s.sources v ≡ Some found → K v found.entry
 
-  regulated-stays : (n t : ℕ) (vl : VlId) (e : RegEvent) (otherwise : Reply) (s : EndSystemState) → AllSources s → AllSources (regulated n t e otherwise s (source_at s vl)).state
-  regulated-stays n t vl e otherwise s h = go (source_at s vl) refl
-    where
-      go : (o : Option (Found Source)) → source_at s vl ≡ o → AllSources (regulated n t e otherwise s o).state
-      go None is v new here = h v new here
-      go (Some found) is v new here =
-          let now : Source = record found.entry { regulator = regulator.after found.entry.regulator e } in
-          elim (cases_eq v vl.0) [
-            | inl same ↦ (
-                let put = subst (λ z. find source_number (slice_set s.sources found.place now) z ≡ Some (record { place = found.place; entry = now })) (sym same) (found-set source_number s.sources vl.0 found is now refl) in
-                let entry : now ≡ new.entry = ap (λ (z : Found Source). z.entry) (same_Some (record { place = found.place; entry = now }) new (sym put ∙ here)) in
-                stays v found.entry new.entry (ap (λ (z : Source). z.end) (sym entry)) (h v found (subst (λ z. find source_number s.sources z ≡ Some found) (sym same) is))
-                )
-            | inr d ↦ h v new (sym (found-other source_number s.sources vl.0 found is now refl v d) ∙ here)
-          ]
+  asked-stays : (vl : VlId) (e : RegEvent) (s : EndSystemState) (found : Found Source) → AllSources s → source_at s vl ≡ Some found → (v : ℕ) (new : Found Source) →
+      find source_number (slice_set s.sources found.place (record found.entry { regulator = regulator.after found.entry.regulator e })) v ≡ Some new → K v new.entry
+  asked-stays vl e s found h is v new here =
+      let now : Source = record found.entry { regulator = regulator.after found.entry.regulator e } in
+      elim (cases_eq v vl.0) [
+        | inl same ↦ (
+            let put = subst (λ z. find source_number (slice_set s.sources found.place now) z ≡ Some (record { place = found.place; entry = now })) (sym same) (found-set source_number s.sources vl.0 found is now refl) in
+            let entry : now ≡ new.entry = ap (λ (z : Found Source). z.entry) (same_Some (record { place = found.place; entry = now }) new (sym put ∙ here)) in
+            stays v found.entry new.entry (ap (λ (z : Source). z.end) (sym entry)) (h v found (subst (λ z. find source_number s.sources z ≡ Some found) (sym same) is))
+            )
+        | inr d ↦ h v new (sym (found-other source_number s.sources vl.0 found is now refl v d) ∙ here)
+      ]
 
   pub sources-stay : (n t : ℕ) (b : Body) (s : EndSystemState) → AllSources s → AllSources (end_system n t b s).state
-  sources-stay n t (body.Offer vl bytes sub) s h = regulated-stays n t vl (Offer t sub (offered_frame t vl bytes)) (loss Unknown (offered_frame t vl bytes)) s h
-  sources-stay n t (body.Release vl) s h = regulated-stays n t vl (Release t) silent s h
-  sources-stay n t (body.PortFree q) s h = h
-  sources-stay n t (body.Arrive q frame) s h = go (exists s.ports q) (reception_at s frame.vl frame.net)
-    where
-      go : (b : Bool) (o : Option (Found Reception)) → AllSources (cond b (es.taken_in t frame s o) (es.unmoved s)).state
-      go true None = h
-      go true (Some found) = h
-      go false o = h
-  sources-stay n t (body.Enqueue q frame) s h = h
-  sources-stay n t (body.Carry frame) s h = h
+  sources-stay n t b s h = end_system-cases (λ o. AllSources o.state) n t s (record {
+    quiet = λ r q. h;
+    receives = λ frame found is. h;
+    frees = λ q. h;
+    asks = λ vl e otherwise found at is. asked-stays vl e s found h is;
+  }) b
 
 -- the virtual link as the end system sends it at first, but for the regulator
 abbrev SameEnd : EndSystemState → ℕ → Source → Type 0
@@ -121,9 +109,7 @@ module _ (q : ℕ) (w : EndSystemState) where
       go false ea true eb c ec true ed = record { found = was; is = is; on = inr (sym (eqb-true (port_of B) q eb), subst (λ z. is_on z B ≡ true) same ed); line_is = refl; low = refl }
       go false ea true eb c ec false ed = tt
       go false ea false eb c ec d ed = tt
-  copies-sent v end was answer.Kept is same = tt
-  copies-sent v end was answer.Dropped is same = tt
-  copies-sent v end was answer.Nothing is same = tt
+  copies-sent v end was _ is same = tt
 
   regulated-sent : (vl : VlId) (e : RegEvent) (s : EndSystemState) → AllSources (SameEnd w) (same-end-stays w) s → IsSent vl.0 (regulated_asks q e (source_at s vl))
   regulated-sent vl e s h = go (source_at s vl) refl
@@ -140,9 +126,7 @@ module _ (q : ℕ) (w : EndSystemState) where
       go : (b : Bool) → IsSent 0 (cond b (Some Free) None)
       go true = tt
       go false = tt
-  end-sent t (body.Arrive p frame) s h = tt
-  end-sent t (body.Enqueue p frame) s h = tt
-  end-sent t (body.Carry frame) s h = tt
+  end-sent t _ s h = tt
 
 -- ---- in the run
 
@@ -154,8 +138,7 @@ module _ (x : Setting NodeState) (L : Laws (simulation_of (rules_of node) x)) (N
     -- at an end system it is released as it is put
     abbrev pub IsFresh : Equipment → PutFrame → Type 0
     IsFresh (EndSystem s) put = put.frame.released ≡ put.at
-    IsFresh (Switch s) put = ⊤
-    IsFresh (Line s) put = ⊤
+    IsFresh _ put = ⊤
 
     -- the frame put is of a virtual link that goes out there, with its size
     pub record IsPutFit (r : Priority) (put : PutFrame) : Type 0 where
@@ -177,11 +160,7 @@ module _ (x : Setting NodeState) (L : Laws (simulation_of (rules_of node) x)) (N
 
     offer-fit : (t : ℕ) (b : Body) → IsSized size b → IsOfferFit (OfLink size) t b
     offer-fit t (body.Offer vl bytes sub) h = (refl, h)
-    offer-fit t (body.Release vl) h = tt
-    offer-fit t (body.PortFree k) h = tt
-    offer-fit t (body.Arrive k frame) h = tt
-    offer-fit t (body.Enqueue k frame) h = tt
-    offer-fit t (body.Carry frame) h = tt
+    offer-fit t _ h = tt
 
     end-asks : (t v : ℕ) (w : EndSystemState) (o : Option PortEvent) → (x.opening p).equipment ≡ EndSystem w → IsSent q w v o → OfPut (OfLink size) v t o → AskFits t 0 o
     end-asks t v w None is sent put = tt
@@ -197,14 +176,11 @@ module _ (x : Setting NodeState) (L : Laws (simulation_of (rules_of node) x)) (N
 
     switch-asks : (t : ℕ) (b : Body) (s w : SwitchState) → (x.opening p).equipment ≡ Switch w → AllTransits (SameAs w) (same-as-stays w) s → IsSized size b →
         ((k : ℕ) (frame : Frame) → b ≡ body.Enqueue k frame → GoesOut (x.opening p).equipment k frame.vl.0) → AskFits t (input_of b (Switch s)) (switch_asks q b s)
-    switch-asks t (body.Offer vl bytes sub) s w is same sized out = tt
-    switch-asks t (body.Release vl) s w is same sized out = tt
     switch-asks t (body.PortFree k) s w is same sized out = go (k == q)
       where
         go : (b : Bool) → AskFits t 0 (cond b (Some Free) None)
         go true = tt
         go false = tt
-    switch-asks t (body.Arrive k frame) s w is same sized out = tt
     switch-asks t (body.Enqueue k frame) s w is same sized out = go (k == q) refl (transit_at s frame.vl) refl
       where
         go : (b : Bool) → (k == q) ≡ b → (o : Option (Found Transit)) → transit_at s frame.vl ≡ o →
@@ -227,7 +203,7 @@ module _ (x : Setting NodeState) (L : Laws (simulation_of (rules_of node) x)) (N
               cost = refl;
             }
         go false e o here = tt
-    switch-asks t (body.Carry frame) s w is same sized out = tt
+    switch-asks t _ s w is same sized out = tt
 
     node-asks-fit : (m : Message) (e : Equipment) → m.receiver ≡ p → IsFit x L N size O m → Known e → AskFits m.time (input_of m.body e) (asks q m e)
     node-asks-fit m (EndSystem s) to fit k =

@@ -9,7 +9,7 @@ use Rattle.bag_regulator.specs.Regulator.{Outcome, Regulator, admitted, appended
 use Rattle.bag_regulator.specs.declared.event.RegEvent.{RegEvent}
 use Rattle.bag_regulator.specs.declared.event.RegEvent.TheVariants.{Offer, Release}
 use Rattle.bag_regulator.specs.declared.event.RegAnswer.{RegAnswer}
-use Rattle.bag_regulator.specs.declared.event.RegAnswer.TheVariants.{Dropped, Kept, Nothing, Released}
+use Rattle.bag_regulator.specs.declared.event.RegAnswer.TheVariants.{Dropped, Nothing, Released}
 use Rattle.bag_regulator.proofs.RoundRobinLemmas.{next-all, next-none, next-some, with_frames-other}
 use Rattle.bag_regulator.proofs.SpacingLemmas.{ask-some}
 use Rattle.frame_ages.proofs.RoundRobin.{next-within}
@@ -21,9 +21,7 @@ IsReleaseOf was t frame = (frame.released ≡ t) × (frame.offered ≡ was.offer
 -- each frame that an answer releases has P
 abbrev pub OfReleased : (Frame → Type 0) → RegAnswer → Type 0
 OfReleased P (Released frame) = P frame
-OfReleased P Kept = ⊤
-OfReleased P Dropped = ⊤
-OfReleased P Nothing = ⊤
+OfReleased P _ = ⊤
 
 -- the frames that wait in a sub-virtual link
 abbrev pub frames_at : Regulator → ℕ → List Frame
@@ -128,10 +126,10 @@ module _ (room sub bag : ℕ) where
 
     -- ---- what it keeps
 
-    pub passed-right : (t q : ℕ) → q < sub → IsRight (let_go g t q g.lists)
+    passed-right : (t q : ℕ) → q < sub → IsRight (let_go g t q g.lists)
     passed-right t q h = record { count = R.count; pointer = subst (λ n. (q + 1) % n ≤ sub) (sym R.count) (next-within sub q h); rooms = R.rooms; bag_is = R.bag_is; sound = λ k e. (t, refl) }
 
-    pub kept-right : (q : ℕ) (xs : List Frame) → q < sub → ((l : ℕ) × (g.last ≡ Some l)) → IsRight (record g { lists = with_frames g.lists q xs })
+    kept-right : (q : ℕ) (xs : List Frame) → q < sub → ((l : ℕ) × (g.last ≡ Some l)) → IsRight (record g { lists = with_frames g.lists q xs })
     kept-right q xs h last = record {
       count = length-set g.lists q (record (list_at g.lists q) { frames = xs }) ∙ R.count;
       pointer = R.pointer;
@@ -140,7 +138,7 @@ module _ (room sub bag : ℕ) where
       sound = λ k e. last;
     }
 
-    pub popped-right : (t q : ℕ) (xs : List Frame) → q < sub → IsRight (let_go g t q (with_frames g.lists q xs))
+    popped-right : (t q : ℕ) (xs : List Frame) → q < sub → IsRight (let_go g t q (with_frames g.lists q xs))
     popped-right t q xs h = record {
       count = length-set g.lists q (record (list_at g.lists q) { frames = xs }) ∙ R.count;
       pointer = subst (λ n. (q + 1) % n ≤ sub) (sym R.count) (next-within sub q h);
@@ -148,6 +146,16 @@ module _ (room sub bag : ℕ) where
       bag_is = R.bag_is;
       sound = λ k e. (t, refl);
     }
+
+    pub right-stays : (e : RegEvent) → IsRight (outcome g e).state
+    right-stays e = go (step e)
+      where
+        go : Stepped g e (outcome g e) → IsRight (outcome g e).state
+        go (Drops t q frame is state asks none) = subst IsRight (sym state) R
+        go (Passes t q frame is empty inside state asks released) = subst IsRight (sym state) (passed-right t q inside)
+        go (Keeps t q frame is inside few state asks last none) = subst IsRight (sym state) (kept-right q (frames_at g q ++ frame ∷ []) inside last)
+        go (Rests t is why state asks none) = subst IsRight (sym state) R
+        go (Pops t is q f rest next inside are state asks released) = subst IsRight (sym state) (popped-right t q rest inside)
 
     -- ---- when it asks
 

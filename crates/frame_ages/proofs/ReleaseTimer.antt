@@ -1,13 +1,13 @@
 -- A Release comes at just the moment for which the regulator asks.
 use Rattle.std.proofs.Common.{◌≡◌, ℕ, ◌+◌, ◌<◌, ◌==◌, ◌⊎◌, inl, inr, Bool, true, false, cond, List, [], ◌∷◌, ◌++◌, filter, Option, Some, None, refl, sym, ap, ◌∙◌, subst, arith, eq-eqb, eqb-true}
-use Rattle.std.proofs.lemmas.Bool.{cases_lt, both_ways}
+use Rattle.std.proofs.lemmas.Bool.{cases_lt, both_ways, false≢true}
 use Rattle.vlink.specs.declared.frame.Frame.{Frame}
 use Rattle.vlink.specs.declared.frame.VlId.{VlId}
 use Rattle.vlink.specs.declared.message.Message.{Message}
 use Rattle.vlink.specs.declared.message.Body.{Body}
 use Rattle.vlink.specs.declared.message.Body.TheVariants as body
 use Rattle.vlink.specs.declared.note.Note.{Note}
-use Rattle.bag_regulator.specs.Regulator.{Regulator, ask, ask_of, is_some_frame, let_go, next_release, next_served, outcome, regulator, with_frames}
+use Rattle.bag_regulator.specs.Regulator.{Regulator, ask, ask_of, is_some_frame, next_release, next_served, outcome, regulator, with_frames}
 use Rattle.bag_regulator.specs.declared.event.RegEvent.{RegEvent}
 use Rattle.bag_regulator.specs.declared.event.RegEvent.TheVariants.{Offer, Release}
 use Rattle.reverse.specs.Sending.{Wish}
@@ -18,45 +18,36 @@ use Rattle.timers.specs.Timer.{Alarm, AreOnTime, IsSet, IsTimer}
 use Rattle.timers.specs.Timer.IsSet.{Off, On, PastEnd}
 use Rattle.timers.proofs.TimerLemmas.{are_on_time}
 use Rattle.nodes.specs.declared.equipment.Equipment.{Equipment}
-use Rattle.nodes.specs.declared.equipment.Equipment.TheVariants.{EndSystem, Switch, Line}
+use Rattle.nodes.specs.declared.equipment.Equipment.TheVariants.{EndSystem}
 use Rattle.nodes.specs.declared.node.NodeRecord.{NodeRecord}
 use Rattle.nodes.specs.rules.EndSystem.{asked}
 use Rattle.nodes.specs.rules.Node.{NodeState, after, handled, regulator_in, sends}
 use Rattle.nodes.specs.undoing.Node.{node}
-use Rattle.port_turns.specs.Nodes.{IsOfNodes}
+use Rattle.port_turns.specs.Nodes.{IsOfNodes, is_offer_of}
 use Rattle.port_turns.specs.PortEvents.{asks}
 use Rattle.port_turns.specs.PortRuns.{AreOwnFrames}
-use Rattle.port_turns.proofs.Senders.{number-stays, until-stays}
+use Rattle.port_turns.proofs.Elsewhere.{all-sent}
+use Rattle.port_turns.proofs.Senders.{number-is, until-is}
 use Rattle.port_turns.proofs.SentKinds.{IsElsewhere, is_to, mine, mine-kind, none-elsewhere, offers-none, receiver-is, sent-late, sent-none, sent-one}
 use Rattle.port_turns.proofs.Sources.{IsOfferFit, source-keeps}
-use Rattle.frame_ages.specs.Waits.{is_offer_of}
-use Rattle.frame_ages.proofs.RegulatorSteps.{IsRight, Stepped, ask-next, ask-none, frames_at, kept-asks, kept-right, kept_ask, kept_by, passed-ask, passed-right, popped-right, step}
+use Rattle.frame_ages.proofs.RegulatorSteps.{IsRight, Stepped, ask-next, ask-none, frames_at, kept-asks, kept_ask, kept_by, passed-ask, right-stays, step}
 use Rattle.frame_ages.proofs.RegulatorSteps.Stepped.{Drops, Keeps, Passes, Pops, Rests}
-use Rattle.frame_ages.proofs.RegulatorTurns.{IsSaid, OfPutAt, Turned, all-sent, is_release, node-turn, releases}
-use Rattle.frame_ages.proofs.RegulatorTurns.Turned.{Does, Quiet}
-
-no : {X : Type 0} → false ≡ true → X
-no h = absurd (let z : ⊥ = cc in z)
+use Rattle.port_turns.proofs.RegulatorTurns.{IsSaid, OfPutAt, Turned, is_release, node-turn, releases}
+use Rattle.port_turns.proofs.RegulatorTurns.Turned.{Does, Quiet}
 
 -- ---- each frame is of its own virtual link
 
 offer-own : (t : ℕ) (b : Body) → IsOfferFit (λ k frame. frame.vl.0 ≡ k) t b
 offer-own t (body.Offer vl size sub) = refl
-offer-own t (body.Release vl) = tt
-offer-own t (body.PortFree k) = tt
-offer-own t (body.Arrive k frame) = tt
-offer-own t (body.Enqueue k frame) = tt
-offer-own t (body.Carry frame) = tt
+offer-own t _ = tt
 
 pub put-own : (v q : ℕ) (m : Message) (e : Equipment) → AreOwnFrames e → OfPutAt v q m e
 put-own v q m (EndSystem s) h = (source-keeps (λ k frame. frame.vl.0 ≡ k) 0 m.time q m.body s (offer-own m.time m.body) h).put
-put-own v q m (Switch s) h = tt
-put-own v q m (Line s) h = tt
+put-own v q m _ h = tt
 
 pub own-stays : (n : ℕ) (m : Message) (e : Equipment) → AreOwnFrames e → AreOwnFrames (handled n m e).equipment
 own-stays n m (EndSystem s) h = (source-keeps (λ k frame. frame.vl.0 ≡ k) n m.time 0 m.body s (offer-own m.time m.body) h).waiting
-own-stays n m (Switch s) h = tt
-own-stays n m (Line s) h = tt
+own-stays n m _ h = tt
 
 -- ---- when the regulator asks
 
@@ -97,11 +88,7 @@ module _ (v room sub bag : ℕ) where
     where
       go : (b : Body) → is_offer_of v b ≡ true → is_release v b ≡ false
       go (body.Offer vl bytes sub) k = refl
-      go (body.Release vl) k = no k
-      go (body.PortFree i) k = no k
-      go (body.Arrive i f) k = no k
-      go (body.Enqueue i f) k = no k
-      go (body.Carry f) k = no k
+      go _ k = absurd (false≢true k)
 
   said-release : (t : ℕ) (b : Body) (e : RegEvent) (at : ℕ) → IsSaid v t b e → e ≡ Release at → (is_release v b ≡ true) × (at ≡ t)
   said-release t b e at h is = subst (IsSaid v t b) is h
@@ -147,67 +134,38 @@ module _ (v room sub bag : ℕ) where
           by (Some j) next = Same (now ∙ sym (ap (λ o. ask_of o (next_release r.regulator r.regulator.last)) next)) (ap (λ o. kept_by o (next_release r.regulator r.regulator.last)) next) k
 
       by : (a : RegEvent) → IsSaid v m.time m.body a → regulator_in (handled n m e).equipment (record { 0 = v }) ≡ Some (regulator.after r.regulator a) → (vl : VlId) →
-          releases v (handled n m e).reply.wishes ≡ (asked n vl (regulator.out r.regulator a).release_at).wishes → Stepped room sub bag r.regulator a (outcome r.regulator a) → Turns n m e
-      by a said now vl ws (Drops t q frame is state ask none) =
-          let at = now ∙ ap (λ z. Some z) state in
-          record {
+          releases v (handled n m e).reply.wishes ≡ (asked n vl (regulator.out r.regulator a).release_at).wishes → Turns n m e
+      by a said now vl ws = by-step (step room sub bag r.regulator r.right a)
+        where
+          done : (wish : Option ℕ) → (regulator.out r.regulator a).release_at ≡ wish → AskTurn (is_release v m.body) m.time (ask r.regulator) (ask (regulator.after r.regulator a)) wish → Turns n m e
+          done wish asks turn = record {
             vl = vl;
-            wish = None;
-            turn = asks-by None r.regulator at (Same refl refl (said-offer m.time m.body a t q frame said is));
-            wishes = ws ∙ ap (λ z. (asked n vl z).wishes) ask;
-            next = record { regulator = r.regulator; is = at; right = r.right; own = own };
+            wish = wish;
+            turn = asks-by wish (regulator.after r.regulator a) now turn;
+            wishes = ws ∙ ap (λ z. (asked n vl z).wishes) asks;
+            next = record { regulator = regulator.after r.regulator a; is = now; right = right-stays room sub bag r.regulator r.right a; own = own };
           }
-      by a said now vl ws (Passes t q frame is empty inside state ask released) =
-          let at = now ∙ ap (λ z. Some z) state in
-          record {
-            vl = vl;
-            wish = None;
-            turn = asks-by None (let_go r.regulator t q r.regulator.lists) at (Sets (ask-none room sub bag r.regulator r.right empty) (sym (passed-ask room sub bag r.regulator r.right t q empty)) (said-offer m.time m.body a t q frame said is));
-            wishes = ws ∙ ap (λ z. (asked n vl z).wishes) ask;
-            next = record { regulator = let_go r.regulator t q r.regulator.lists; is = at; right = passed-right room sub bag r.regulator r.right t q inside; own = own };
-          }
-      by a said now vl ws (Keeps t q frame is inside few state ask last none) =
-          let at = now ∙ ap (λ z. Some z) state in
-          record {
-            vl = vl;
-            wish = kept_ask r.regulator;
-            turn = asks-by (kept_ask r.regulator) (record r.regulator { lists = with_frames r.regulator.lists q (frames_at r.regulator q ++ frame ∷ []) }) at (keeps q frame inside last (said-offer m.time m.body a t q frame said is));
-            wishes = ws ∙ ap (λ z. (asked n vl z).wishes) ask;
-            next = record { regulator = record r.regulator { lists = with_frames r.regulator.lists q (frames_at r.regulator q ++ frame ∷ []) }; is = at; right = kept-right room sub bag r.regulator r.right q (frames_at r.regulator q ++ frame ∷ []) inside last; own = own };
-          }
-      by a said now vl ws (Rests t is why state ask none) =
-          let at = now ∙ ap (λ z. Some z) state in
-          let rel = said-release m.time m.body a t said is in
-          record {
-            vl = vl;
-            wish = None;
-            turn = asks-by None r.regulator at (Early (early r.regulator t m.time r.right rel.1 why) rel.0);
-            wishes = ws ∙ ap (λ z. (asked n vl z).wishes) ask;
-            next = record { regulator = r.regulator; is = at; right = r.right; own = own };
-          }
-      by a said now vl ws (Pops t is q f rest next inside are state asks released) =
-          let at = now ∙ ap (λ z. Some z) state in
-          let rel = said-release m.time m.body a t said is in
-          record {
-            vl = vl;
-            wish = ask (let_go r.regulator t q (with_frames r.regulator.lists q rest));
-            turn = asks-by (ask (let_go r.regulator t q (with_frames r.regulator.lists q rest))) (let_go r.regulator t q (with_frames r.regulator.lists q rest)) at (Again refl rel.0);
-            wishes = ws ∙ ap (λ z. (asked n vl z).wishes) (asks ∙ ap ask state);
-            next = record { regulator = let_go r.regulator t q (with_frames r.regulator.lists q rest); is = at; right = popped-right room sub bag r.regulator r.right t q rest inside; own = own };
-          }
+
+          by-step : Stepped room sub bag r.regulator a (outcome r.regulator a) → Turns n m e
+          by-step (Drops t q frame is state asks none) = done None asks (Same (ap ask state) refl (said-offer m.time m.body a t q frame said is))
+          by-step (Passes t q frame is empty inside state asks released) =
+              done None asks (Sets (ask-none room sub bag r.regulator r.right empty) (sym (ap ask state ∙ passed-ask room sub bag r.regulator r.right t q empty)) (said-offer m.time m.body a t q frame said is))
+          by-step (Keeps t q frame is inside few state asks last none) =
+              done (kept_ask r.regulator) asks (subst (λ g. AskTurn (is_release v m.body) m.time (ask r.regulator) (ask g) (kept_ask r.regulator)) (sym state) (keeps q frame inside last (said-offer m.time m.body a t q frame said is)))
+          by-step (Rests t is why state asks none) = let rel = said-release m.time m.body a t said is in done None asks (Early (early r.regulator t m.time r.right rel.1 why) rel.0)
+          by-step (Pops t is q f rest next inside are state asks released) = done (ask (regulator.after r.regulator a)) asks (Again refl (said-release m.time m.body a t said is).0)
 
       go : Turned v n m.time m.body r.regulator (regulator_in (handled n m e).equipment (record { 0 = v })) (releases v (handled n m e).reply.wishes) (asks 0 m e) → Turns n m e
       go (Quiet now none rel off put) =
           record { vl = record { 0 = v }; wish = None; turn = asks-by None r.regulator now (Same refl refl rel); wishes = none; next = record { regulator = r.regulator; is = now; right = r.right; own = own } }
-      go (Does a said now vl k ws put) = by a said now vl ws (step room sub bag r.regulator r.right a)
+      go (Does a said now vl k ws put) = by a said now vl ws
 
 -- ---- the timer
 
 same_moment : Option ℕ → Option ℕ → Bool
 same_moment None None = true
 same_moment (Some a) (Some b) = a == b
-same_moment None (Some b) = false
-same_moment (Some a) None = false
+same_moment _ _ = false
 
 same-refl : (a : Option ℕ) → same_moment a a ≡ true
 unfolding same_moment
@@ -218,8 +176,7 @@ same-is : (a b : Option ℕ) → same_moment a b ≡ true → a ≡ b
 unfolding same_moment
 same-is None None h = refl
 same-is (Some a) (Some b) h = ap Some (eqb-true a b h)
-same-is None (Some b) h = no h
-same-is (Some a) None h = no h
+same-is _ _ h = absurd (false≢true h)
 
 module _ (x : Setting NodeState) (N : IsOfNodes x) (p v room sub bag : ℕ) (inside : p < x.processes) (opens : HasRegulator v room sub bag (x.opening p).equipment) (quiet : ask_in v room sub bag (x.opening p).equipment ≡ None) where
   abbrev f : Simulation Message NodeState NodeRecord Note
@@ -240,12 +197,6 @@ module _ (x : Setting NodeState) (N : IsOfNodes x) (p v room sub bag : ℕ) (ins
 
   has : (s : NodeState) → IsReached f p s → HasRegulator v room sub bag s.equipment
   has s h = subst (λ (z : NodeState). HasRegulator v room sub bag z.equipment) (sym h.1) (has-stays (x.opening p) h.0 opens)
-
-  number-is : (r : ℕ) → r < x.processes → (s : NodeState) → IsReached f r s → s.sender.number ≡ r
-  number-is r i s h = ap (λ (z : NodeState). z.sender.number) h.1 ∙ (number-stays (x.opening r) h.0 ∙ N.number r i)
-
-  until-is : (s : NodeState) → IsReached f p s → s.sender.until ≡ x.until
-  until-is s h = ap (λ (z : NodeState). z.sender.until) h.1 ∙ (until-stays (x.opening p) h.0 ∙ N.until p inside)
 
   due-is : (m : Message) (b : Bool) → m.receiver ≡ p → is_due m ≡ b → is_release v m.body ≡ b
   due-is m b r h = sym (ap (λ c. cond c (is_release v m.body) false) (eq-eqb m.receiver p r)) ∙ h
@@ -297,12 +248,12 @@ module _ (x : Setting NodeState) (N : IsOfNodes x) (p v room sub bag : ℕ) (ins
 
   -- another process releases none here
   none-by : (r : ℕ) → (r ≡ p → ⊥) → (s : NodeState) (m : Message) → s.sender.number ≡ r → filter is_due (sends s m) ≡ []
-  none-by r d s m n = sent-none (is_release v) p s.sender _ (none-elsewhere (is_release v) p (handled s.sender.number m s.equipment).reply.wishes (all-sent (IsElsewhere (is_release v) p) s.sender.number (record {
-    starts = λ t q ahead frame. (λ e. no e, λ e. no e);
+  none-by r d s m n = sent-none (is_release v) p s.sender _ (none-elsewhere (is_release v) p (handled s.sender.number m s.equipment).reply.wishes (all-sent (IsElsewhere (is_release v) p) s.sender.number m s.equipment (record {
+    starts = λ t q ahead frame. (λ e. absurd (false≢true e), λ e. absurd (false≢true e));
     releases = λ t vl e own. d (sym n ∙ own);
-    puts = λ t q frame e. no e;
-    arrivals = λ t to q frame e. no e;
-  }) m s.equipment))
+    puts = λ t q frame e. absurd (false≢true e);
+    arrivals = λ l is t frame e. absurd (false≢true e);
+  })))
 
   timer : IsTimer f p is_due alarm fits
   timer = record {
@@ -310,10 +261,10 @@ module _ (x : Setting NodeState) (N : IsOfNodes x) (p v room sub bag : ℕ) (ins
     off = refl;
     keeps = λ s g m h i r on_time. same-refl (ask_in v room sub bag (after s m).equipment);
     goes_on = λ s g m u h i r free a. goes-on s m u (turns v room sub bag s.sender.number m s.equipment (has s h)) (due-is m false r free) (sym (same-is g (ask_in v room sub bag s.equipment) i) ∙ a);
-    begins = λ s g m h i r free a. begins s m (turns v room sub bag s.sender.number m s.equipment (has s h)) (number-is p inside s h) (until-is s h) (due-is m false r free) (sym (same-is g (ask_in v room sub bag s.equipment) i) ∙ a);
-    again = λ s g m h i r mine on_time. again s m (turns v room sub bag s.sender.number m s.equipment (has s h)) (number-is p inside s h) (until-is s h) (due-is m true r mine) (sym (same-is g (ask_in v room sub bag s.equipment) i) ∙ on_time.at_moment mine);
+    begins = λ s g m h i r free a. begins s m (turns v room sub bag s.sender.number m s.equipment (has s h)) (number-is x N p inside s h) (until-is x N p inside s h) (due-is m false r free) (sym (same-is g (ask_in v room sub bag s.equipment) i) ∙ a);
+    again = λ s g m h i r mine on_time. again s m (turns v room sub bag s.sender.number m s.equipment (has s h)) (number-is x N p inside s h) (until-is x N p inside s h) (due-is m true r mine) (sym (same-is g (ask_in v room sub bag s.equipment) i) ∙ on_time.at_moment mine);
     to_itself = receiver-is (is_release v) p;
-    by_none = λ r i d s h m. none-by r d s m (number-is r i s h);
+    by_none = λ r i d s h m. none-by r d s m (number-is x N r i s h);
     not_offered = offers-none (is_release v) p (λ vl size sub. refl) x.offers N.offered;
   }
 

@@ -4,6 +4,7 @@ use Rattle.std.specs.Prelude.{⊤}
 use Rattle.std.proofs.lemmas.Bool.{both_ways}
 use Rattle.std.proofs.lemmas.Nat.{mul-le}
 use Rattle.std.proofs.lemmas.List.Sums.{sum_by-cons}
+use Rattle.vlink.specs.Wire.{busy_for}
 use Rattle.vlink.specs.declared.frame.Frame.{Frame}
 use Rattle.frame_ring.specs.Queue.{bytes_of}
 use Rattle.output_port.specs.Port as real
@@ -13,16 +14,16 @@ use Rattle.output_port.specs.declared.event.Priority.TheVariants as priority
 use Rattle.output_port.specs.declared.event.PortEvent.{PortEvent}
 use Rattle.output_port.specs.declared.event.PortEvent.TheVariants.{Put, Free}
 use Rattle.output_port.specs.declared.event.PortAnswer.{PortAnswer}
-use Rattle.output_port.specs.declared.event.PortAnswer.TheVariants.{Dropped, Idle, Kept, Nothing, Started}
+use Rattle.output_port.specs.declared.event.PortAnswer.TheVariants.{Dropped, Idle, Kept, Started}
 use Rattle.port_bounds.specs.Frames.{IsWithin, PutFrame, cost_of}
-use Rattle.port_bounds.specs.Port.{Event, IsBy, IsServed, Port, after, highs_of, idle, lows_of, outcome}
+use Rattle.port_bounds.specs.Port.{Event, IsBy, IsServed, Port, after, highs_of, idle, lows_of}
 use Rattle.port_bounds.specs.Port as bounded
 use Rattle.port_bounds.specs.Sublists.{Every}
 use Rattle.port_bounds.proofs.FrameLemmas.{cost-append}
 use Rattle.port_bounds.proofs.LowLemmas as low
-use Rattle.port_bounds.proofs.StartLemmas.{every-push}
+use Rattle.port_bounds.proofs.StartLemmas.{of-port}
 use Rattle.element_bounds.specs.PortTrace.{IsSamePort, PortEventAt, frames_of, put_at, put_event, seen_as, state_after, trace_of}
-use Rattle.element_bounds.proofs.TraceLemmas.{AllPuts, OfAsked, same, trace-puts}
+use Rattle.element_bounds.proofs.TraceLemmas.{after-append, costed, same}
 use Rattle.port_turns.proofs.PortRuns.{AreAskedBy, RunsWell}
 use Rattle.port_turns.proofs.Serving.{served-sooner}
 use Rattle.frame_ages.proofs.GivenLemmas.{below}
@@ -34,10 +35,6 @@ trace-append byte_ns p [] ys = refl
 trace-append byte_ns p (e ∷ xs) ys =
     ap (λ z. seen_as byte_ns e.at e.line e.event (port.out p e.event) ++ z) (trace-append byte_ns (port.after p e.event) xs ys) ∙
     sym (append_assoc (seen_as byte_ns e.at e.line e.event (port.out p e.event)) (trace_of byte_ns (port.after p e.event) xs) (trace_of byte_ns (state_after (port.after p e.event) xs) ys))
-
-after-append : (a : Port) (xs ys : List Event) → after a (xs ++ ys) ≡ after (after a xs) ys
-after-append a [] ys = refl
-after-append a (x ∷ xs) ys = after-append (outcome a x).port xs ys
 
 highs-append : (xs ys : List Event) → highs_of (xs ++ ys) ≡ highs_of xs ++ highs_of ys
 highs-append [] ys = refl
@@ -57,25 +54,9 @@ within-front scale burst rate fs gs W = record {
   bounded = λ xs ys zs t u e between. W.bounded xs ys (zs ++ gs) t u (ap (λ z. z ++ gs) e ∙ (append_assoc xs (ys ++ zs) gs ∙ ap (λ z. xs ++ z) (append_assoc ys zs gs))) between;
 }
 
--- what holds of each frame put holds of each that waits
-module _ (P : PutFrame → Type 0) where
-  record AllWait (a : Port) : Type 0 where
-    high : Every P a.high
-    low : Every P a.low
-
-  wait-put : (es : List Event) (until : Option ℕ) (high low : List PutFrame) → Every P high → Every P low → Every P (highs_of es) → Every P (lows_of es) → AllWait (after (record { until = until; high = high; low = low }) es)
-  wait-put [] until high low h l a b = record { high = h; low = l }
-  wait-put (bounded.Event.High x ∷ es) None high low h l a b = wait-put es (Some (x.at + x.cost)) high low h l a.1 b
-  wait-put (bounded.Event.High x ∷ es) (Some u) high low h l a b = wait-put es (Some u) (high ++ x ∷ []) low (every-push P high x h a.0) l a.1 b
-  wait-put (bounded.Event.Low x ∷ es) None high low h l a b = wait-put es (Some (x.at + x.cost)) high low h l a b.1
-  wait-put (bounded.Event.Low x ∷ es) (Some u) high low h l a b = wait-put es (Some u) high (low ++ x ∷ []) h (every-push P low x l b.0) a b.1
-  wait-put (bounded.Event.Free t ∷ es) until (x ∷ high) low h l a b = wait-put es (Some (t + x.cost)) high low h.1 l a b
-  wait-put (bounded.Event.Free t ∷ es) until [] (x ∷ low) h l a b = wait-put es (Some (t + x.cost)) [] low tt l.1 a b
-  wait-put (bounded.Event.Free t ∷ es) until [] [] h l a b = wait-put es None [] [] tt tt a b
-
 -- frames cost at least their bytes
 abbrev IsCosted : ℕ → PutFrame → Type 0
-IsCosted byte_ns x = x.frame.size * byte_ns ≤ x.cost
+IsCosted byte_ns x = x.cost ≡ busy_for x.frame.size byte_ns
 
 bytes-cost : (byte_ns : ℕ) (xs : List PutFrame) → Every (IsCosted byte_ns) xs → bytes_of (frames_of xs) * byte_ns ≤ cost_of xs
 bytes-cost byte_ns [] h = omega arith
@@ -94,14 +75,9 @@ module _ (byte_ns t line : ℕ) where
   seen-later a now from (Put frame priority.Low) (Started f) xs ys l b h k = (l, h.1, k)
   seen-later a now from (Put frame priority.High) Kept xs ys l b h k = (l, h.1, k)
   seen-later a now from (Put frame priority.Low) Kept xs ys l b h k = (l, h.1, k)
-  seen-later a now from (Put frame r) Dropped xs ys l b h k = served-sooner a now t ys l k
-  seen-later a now from (Put frame r) Idle xs ys l b h k = served-sooner a now t ys l k
-  seen-later a now from (Put frame r) Nothing xs ys l b h k = served-sooner a now t ys l k
   seen-later a now from Free (Started f) xs ys l b h k = (l, h.1, k)
   seen-later a now from Free Idle xs ys l b h k = (l, h.1, k)
-  seen-later a now from Free Kept xs ys l b h k = served-sooner a now t ys l k
-  seen-later a now from Free Dropped xs ys l b h k = served-sooner a now t ys l k
-  seen-later a now from Free Nothing xs ys l b h k = served-sooner a now t ys l k
+  seen-later a now from _ _ xs ys l b h k = served-sooner a now t ys l k
 
   -- the rest is served from its moment on
   seen-rest : (a : Port) (now : ℕ) (e : PortEvent) (o : PortAnswer) (xs : List Event) → IsServed a now (seen_as byte_ns t line e o ++ xs) → (from : ℕ) × IsServed (after a (seen_as byte_ns t line e o)) from xs
@@ -109,14 +85,9 @@ module _ (byte_ns t line : ℕ) where
   seen-rest a now (Put frame priority.Low) (Started f) xs h = (t, h.2)
   seen-rest a now (Put frame priority.High) Kept xs h = (t, h.2)
   seen-rest a now (Put frame priority.Low) Kept xs h = (t, h.2)
-  seen-rest a now (Put frame r) Dropped xs h = (now, h)
-  seen-rest a now (Put frame r) Idle xs h = (now, h)
-  seen-rest a now (Put frame r) Nothing xs h = (now, h)
   seen-rest a now Free (Started f) xs h = (t, h.2)
   seen-rest a now Free Idle xs h = (t, h.2)
-  seen-rest a now Free Kept xs h = (now, h)
-  seen-rest a now Free Dropped xs h = (now, h)
-  seen-rest a now Free Nothing xs h = (now, h)
+  seen-rest a now _ _ xs h = (now, h)
 
 put-served : (r : Priority) (x : PutFrame) (a : Port) (now : ℕ) → now ≤ x.at → IsBy x.at a.until → IsServed a now (put_event r x ∷ [])
 put-served priority.High x a now l b = (l, b, tt)
@@ -155,15 +126,13 @@ module _ (p : PortState) (bytes : ℕ) (more : p.bytes ≤ bytes) where
   put-grown : (frame : Frame) (q : Priority) (b w big : Bool) → (w ≡ true → big ≡ true) → ((cond b (cond w (real.keeping p frame q) (real.dropping p)) (real.at_once p frame)).answer ≡ Dropped → ⊥) →
       IsGrown (cond b (cond w (real.keeping p frame q) (real.dropping p)) (real.at_once p frame)) (cond b (cond big (real.keeping (grown p bytes) frame q) (real.dropping (grown p bytes))) (real.at_once (grown p bytes) frame))
   put-grown frame priority.High true true true h k = record { answer = refl; state = refl }
-  put-grown frame priority.Low true true true h k = record { answer = refl; state = refl }
   put-grown frame q true true false h k = absurd (let e = h refl in let z : ⊥ = cc in z)
   put-grown frame q true false big h k = absurd (k refl)
-  put-grown frame q false w big h k = record { answer = refl; state = refl }
+  put-grown frame _ _ _ _ h k = record { answer = refl; state = refl }
 
   next-grown : (hs ls : List Frame) → IsGrown (real.next p hs ls) (real.next (grown p bytes) hs ls)
-  next-grown (f ∷ hs) ls = record { answer = refl; state = refl }
   next-grown [] (f ∷ ls) = record { answer = refl; state = refl }
-  next-grown [] [] = record { answer = refl; state = refl }
+  next-grown _ _ = record { answer = refl; state = refl }
 
   event-grown : (e : PortEvent) → (port.out p e ≡ Dropped → ⊥) → IsGrown (real.outcome p e) (real.outcome (grown p bytes) e)
   event-grown (Put frame q) k = put-grown frame q p.busy (may_wait p frame) (may_wait (grown p bytes) frame) (λ e. le-leb (waiting_bytes p + frame.size) bytes (let l = leb-true (waiting_bytes p + frame.size) p.bytes e in omega arith)) k
@@ -184,10 +153,8 @@ bytes-stay p (Put frame q) = go p.busy (may_wait p frame) q
 bytes-stay p Free = go p.busy p.high p.low
   where
     go : (b : Bool) (hs ls : List Frame) → (cond b (real.next p hs ls) (real.still_idle p)).state.bytes ≡ p.bytes
-    go true (f ∷ hs) ls = refl
     go true [] (f ∷ ls) = refl
-    go true [] [] = refl
-    go false hs ls = refl
+    go _ _ _ = refl
 
 pub bytes-after : (p : PortState) (es : List PortEventAt) → (state_after p es).bytes ≡ p.bytes
 bytes-after p [] = refl
@@ -209,18 +176,15 @@ dropped-why : (p : PortState) (frame : Frame) (q : Priority) → port.out p (Put
 dropped-why p frame q h = go p.busy refl (may_wait p frame) refl h
   where
     go : (b : Bool) → p.busy ≡ b → (w : Bool) → may_wait p frame ≡ w → (cond b (cond w (real.keeping p frame q) (real.dropping p)) (real.at_once p frame)).answer ≡ Dropped → (p.busy ≡ true) × (may_wait p frame ≡ false)
-    go true eb true ew k = absurd (let z : ⊥ = cc in z)
     go true eb false ew k = (eb, ew)
-    go false eb w ew k = absurd (let z : ⊥ = cc in z)
+    go _ eb _ ew k = absurd (let z : ⊥ = cc in z)
 
 free-never : (p : PortState) → port.out p Free ≡ Dropped → ⊥
 free-never p h = go p.busy p.high p.low h
   where
     go : (b : Bool) (hs ls : List Frame) → (cond b (real.next p hs ls) (real.still_idle p)).answer ≡ Dropped → ⊥
-    go true (f ∷ hs) ls k = let z : ⊥ = cc in z
     go true [] (f ∷ ls) k = let z : ⊥ = cc in z
-    go true [] [] k = let z : ⊥ = cc in z
-    go false hs ls k = let z : ⊥ = cc in z
+    go _ _ _ k = let z : ⊥ = cc in z
 
 -- a frame put to a busy port waits
 waits-more : (a : Port) (x : PutFrame) (r : Priority) → is_some a.until ≡ true → cost_of (after a (put_event r x ∷ [])).high + cost_of (after a (put_event r x ∷ [])).low ≡ (cost_of a.high + cost_of a.low) + x.cost
@@ -243,17 +207,6 @@ none-push p (x ∷ xs) e h k = (h.0, none-push (port.after p x.event) xs e h.1 k
 module _ (byte_ns bytes u bh rh bl rl : ℕ) (p : PortState) (es : List PortEventAt) (empty : IsSamePort p idle) (runs : RunsWell byte_ns p idle 0 es) (slow : rh + rl ≤ u)
     (high-within : (other : PortState) → IsWithin u bh rh (highs_of (trace_of byte_ns other es))) (low-within : (other : PortState) → IsWithin u bl rl (lows_of (trace_of byte_ns other es)))
     (bound : bh + bl < (u * byte_ns) * (bytes + 1)) (room : bytes ≤ p.bytes) where
-  costed : (pre : List PortEventAt) → AllPuts (λ r x. IsCosted byte_ns x) byte_ns (trace_of byte_ns p pre)
-  costed pre = trace-puts (λ r x. IsCosted byte_ns x) byte_ns p pre (each pre)
-    where
-      one : (t line : ℕ) (e : PortEvent) → OfAsked (λ r x. IsCosted byte_ns x) byte_ns t line e
-      one t line (Put frame q) = omega arith
-      one t line Free = tt
-
-      each : (es : List PortEventAt) → Every (λ e. OfAsked (λ r x. IsCosted byte_ns x) byte_ns e.at e.line e.event) es
-      each [] = tt
-      each (e ∷ es) = (one e.at e.line e.event, each es)
-
   -- with all that waits a frame that is put has no more bytes than the bound
   few : (pre post : List PortEventAt) (t line : ℕ) (frame : Frame) (r : Priority) → es ≡ pre ++ record { at = t; line = line; event = Put frame r } ∷ post → NoneDropped p pre → (state_after p pre).busy ≡ true →
       waiting_bytes (state_after p pre) + frame.size ≤ bytes
@@ -276,12 +229,13 @@ module _ (byte_ns bytes u bh rh bl rl : ℕ) (p : PortState) (es : List PortEven
       let served : IsServed idle 0 first = served-put byte_ns p idle 0 pre t line frame r post (subst (AreAskedBy byte_ns p idle 0) are runs.asked) 0 (subst (λ z. IsServed idle 0 (trace_of byte_ns p z)) are runs.served) in
       let highs : IsWithin u bh rh (highs_of first) = within-front u bh rh (highs_of first) (highs_of rest) (subst (IsWithin u bh rh) (ap highs_of whole ∙ highs-append first rest) (high-within (grown p k))) in
       let lows : IsWithin u bl rl (lows_of first) = within-front u bl rl (lows_of first) (lows_of rest) (subst (IsWithin u bl rl) (ap lows_of whole ∙ lows-append first rest) (low-within (grown p k))) in
-      let backlog = (low.are_bounded (highs_of first) (lows_of first) u bh rh bl rl slow highs lows first 0 None [] [] (low.opening first) served).1 in
+      let backlog = low.backlog u bh rh bl rl first slow served highs lows in
       let more : cost_of (after idle first).high + cost_of (after idle first).low ≡ (cost_of a.high + cost_of a.low) + x.cost =
       ap (λ z. cost_of z.high + cost_of z.low) (after-append idle (trace_of byte_ns p pre) (put_event r x ∷ [])) ∙ waits-more a x r (sym alike.busy ∙ busy) in
-      let waits = wait-put (IsCosted byte_ns) (trace_of byte_ns p pre) None [] [] tt tt (costed pre).high (costed pre).low in
-      let high-bytes : bytes_of now.high * byte_ns ≤ cost_of a.high = subst (λ z. bytes_of z * byte_ns ≤ cost_of a.high) (sym alike.high) (bytes-cost byte_ns a.high waits.high) in
-      let low-bytes : bytes_of now.low * byte_ns ≤ cost_of a.low = subst (λ z. bytes_of z * byte_ns ≤ cost_of a.low) (sym alike.low) (bytes-cost byte_ns a.low waits.low) in
+      let costs = costed byte_ns p pre in
+      let put = of-port (IsCosted byte_ns) (IsCosted byte_ns) (trace_of byte_ns p pre) None [] [] tt tt costs.high costs.low in
+      let high-bytes : bytes_of now.high * byte_ns ≤ cost_of a.high = subst (λ z. bytes_of z * byte_ns ≤ cost_of a.high) (sym alike.high) (bytes-cost byte_ns a.high put.2) in
+      let low-bytes : bytes_of now.low * byte_ns ≤ cost_of a.low = subst (λ z. bytes_of z * byte_ns ≤ cost_of a.low) (sym alike.low) (bytes-cost byte_ns a.low put.3) in
       sums u byte_ns (bytes_of now.high) (bytes_of now.low) frame.size (cost_of a.high) (cost_of a.low) x.cost (bh + bl) bytes high-bytes low-bytes (omega arith) (subst (λ z. u * z ≤ bh + bl) more backlog) bound
     where
       keeps : (now : PortState) (k : ℕ) (frame : Frame) (r : Priority) → now.busy ≡ true → waiting_bytes now + frame.size ≤ k → port.out (grown now k) (Put frame r) ≡ Kept

@@ -97,28 +97,7 @@ next-within n k h = elim (next-pointer n k h) [ inl c ↦ (let a = c.0 in let b 
 
 -- a release of k brings each other one, which waits farther on, nearer by what stood before k, and k
 pub nearer-by : (n pointer k q : ℕ) → pointer ≤ n → k < n → q < n → distance n pointer k < distance n pointer q → (distance n ((k + 1) % n) q + 1) + distance n pointer k ≤ distance n pointer q
-nearer-by n pointer k q h a b far = go (next-pointer n k a) (distance-cases n pointer k) (distance-cases n pointer q) (distance-cases n ((k + 1) % n) q)
-  where
-    go : ((k + 1 < n) × ((k + 1) % n ≡ k + 1)) ⊎ ((k + 1 ≡ n) × ((k + 1) % n ≡ 0)) → ((k < pointer) × (distance n pointer k ≡ (k + n) - pointer)) ⊎ ((pointer ≤ k) × (distance n pointer k ≡ k - pointer)) →
-        ((q < pointer) × (distance n pointer q ≡ (q + n) - pointer)) ⊎ ((pointer ≤ q) × (distance n pointer q ≡ q - pointer)) →
-        ((q < (k + 1) % n) × (distance n ((k + 1) % n) q ≡ (q + n) - (k + 1) % n)) ⊎ (((k + 1) % n ≤ q) × (distance n ((k + 1) % n) q ≡ q - (k + 1) % n)) →
-        (distance n ((k + 1) % n) q + 1) + distance n pointer k ≤ distance n pointer q
-    go (inl m) (inl c) (inl d) (inl e) = let z1 = m.0 in let z2 = m.1 in let z3 = c.0 in let z4 = c.1 in let z5 = d.0 in let z6 = d.1 in let z7 = e.0 in let z8 = e.1 in omega arith
-    go (inl m) (inl c) (inl d) (inr e) = let z1 = m.0 in let z2 = m.1 in let z3 = c.0 in let z4 = c.1 in let z5 = d.0 in let z6 = d.1 in let z7 = e.0 in let z8 = e.1 in omega arith
-    go (inl m) (inl c) (inr d) (inl e) = let z1 = m.0 in let z2 = m.1 in let z3 = c.0 in let z4 = c.1 in let z5 = d.0 in let z6 = d.1 in let z7 = e.0 in let z8 = e.1 in omega arith
-    go (inl m) (inl c) (inr d) (inr e) = let z1 = m.0 in let z2 = m.1 in let z3 = c.0 in let z4 = c.1 in let z5 = d.0 in let z6 = d.1 in let z7 = e.0 in let z8 = e.1 in omega arith
-    go (inl m) (inr c) (inl d) (inl e) = let z1 = m.0 in let z2 = m.1 in let z3 = c.0 in let z4 = c.1 in let z5 = d.0 in let z6 = d.1 in let z7 = e.0 in let z8 = e.1 in omega arith
-    go (inl m) (inr c) (inl d) (inr e) = let z1 = m.0 in let z2 = m.1 in let z3 = c.0 in let z4 = c.1 in let z5 = d.0 in let z6 = d.1 in let z7 = e.0 in let z8 = e.1 in omega arith
-    go (inl m) (inr c) (inr d) (inl e) = let z1 = m.0 in let z2 = m.1 in let z3 = c.0 in let z4 = c.1 in let z5 = d.0 in let z6 = d.1 in let z7 = e.0 in let z8 = e.1 in omega arith
-    go (inl m) (inr c) (inr d) (inr e) = let z1 = m.0 in let z2 = m.1 in let z3 = c.0 in let z4 = c.1 in let z5 = d.0 in let z6 = d.1 in let z7 = e.0 in let z8 = e.1 in omega arith
-    go (inr m) (inl c) (inl d) (inl e) = let z2 = m.1 in let z7 = e.0 in absurd (omega arith)
-    go (inr m) (inl c) (inl d) (inr e) = let z1 = m.0 in let z2 = m.1 in let z3 = c.0 in let z4 = c.1 in let z5 = d.0 in let z6 = d.1 in let z7 = e.0 in let z8 = e.1 in omega arith
-    go (inr m) (inl c) (inr d) (inl e) = let z2 = m.1 in let z7 = e.0 in absurd (omega arith)
-    go (inr m) (inl c) (inr d) (inr e) = let z1 = m.0 in let z2 = m.1 in let z3 = c.0 in let z4 = c.1 in let z5 = d.0 in let z6 = d.1 in let z7 = e.0 in let z8 = e.1 in omega arith
-    go (inr m) (inr c) (inl d) (inl e) = let z2 = m.1 in let z7 = e.0 in absurd (omega arith)
-    go (inr m) (inr c) (inl d) (inr e) = let z1 = m.0 in let z2 = m.1 in let z3 = c.0 in let z4 = c.1 in let z5 = d.0 in let z6 = d.1 in let z7 = e.0 in let z8 = e.1 in omega arith
-    go (inr m) (inr c) (inr d) (inl e) = let z2 = m.1 in let z7 = e.0 in absurd (omega arith)
-    go (inr m) (inr c) (inr d) (inr e) = let z1 = m.0 in let z2 = m.1 in let z3 = c.0 in let z4 = c.1 in let z5 = d.0 in let z6 = d.1 in let z7 = e.0 in let z8 = e.1 in omega arith
+nearer-by n pointer k q h a b far = grind (arith, next-pointer n k a, distance-cases n pointer k, distance-cases n pointer q, distance-cases n ((k + 1) % n) q)
 
 -- and k itself then stands last
 pub last-then : (n k : ℕ) → k < n → distance n ((k + 1) % n) k + 1 ≤ n

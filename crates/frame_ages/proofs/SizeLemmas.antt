@@ -1,21 +1,19 @@
 -- Why each message that brings a frame brings one of its virtual link's size, and why one that puts a frame to an output of a switch does so by an output of its virtual link.
-use Rattle.std.proofs.Common.{◌≡◌, ℕ, ◌+◌, ◌<◌, Bool, true, false, cond, List, [], ◌∷◌, All, IfSome, Option, Some, None, option_map, refl, sym, ap, ◌∙◌, subst}
+use Rattle.std.proofs.Common.{◌≡◌, ℕ, ◌+◌, true, List, [], ◌∷◌, All, IfSome, Option, Some, None, option_map, refl, sym, ap, subst}
 use Rattle.std.specs.Prelude.{⊤}
-use Rattle.std.specs.List.{list_any}
 use Rattle.std.proofs.lemmas.Option.{none-some}
 use Rattle.std.proofs.lemmas.List.Elements.{All-cons, All-head, All-nil, All-tail, All-weaker}
 use Rattle.vlink.specs.declared.frame.Frame.{Frame}
 use Rattle.vlink.specs.declared.message.Message.{Message}
 use Rattle.vlink.specs.declared.message.Body.{Body}
-use Rattle.vlink.specs.declared.message.Body.TheVariants.{Offer, Release, PortFree, Arrive, Enqueue, Carry}
+use Rattle.vlink.specs.declared.message.Body.TheVariants.{PortFree, Enqueue, Carry}
 use Rattle.vlink.specs.declared.note.Note.{Note}
-use Rattle.vlink.specs.declared.note.Cause.TheVariants as cause
 use Rattle.frame_ring.specs.Queue.{Queue}
 use Rattle.policer.specs.Account.{Policing}
-use Rattle.reverse.specs.Sending.{Wish, loss}
+use Rattle.reverse.specs.Sending.{Wish}
 use Rattle.reverse.specs.Rules.{rules_of}
 use Rattle.reverse.specs.Setting.{Setting, simulation_of}
-use Rattle.virtual_time.specs.Law.{IsReached, Laws, Simulation, events, one}
+use Rattle.virtual_time.specs.Law.{Laws, Simulation, events, one}
 use Rattle.port_bounds.specs.Mixtures.{IsAmong}
 use Rattle.port_bounds.specs.Port.{idle}
 use Rattle.element_bounds.specs.PortTrace.{IsSamePort}
@@ -26,7 +24,6 @@ use Rattle.nodes.specs.declared.ports.Outlet.{Outlet}
 use Rattle.nodes.specs.declared.source.Source.{Source}
 use Rattle.nodes.specs.declared.transit.Transit.{Transit}
 use Rattle.nodes.specs.rules.Finding.{Found}
-use Rattle.nodes.specs.rules.Line.{LineState, is_within, line}
 use Rattle.nodes.specs.rules.Ports.{PortsState}
 use Rattle.nodes.specs.rules.Switch.{SwitchState, outputs_of, transit_at}
 use Rattle.nodes.specs.rules.Node.{NodeState, handled}
@@ -36,19 +33,20 @@ use Rattle.nodes.specs.laws.Sent.{IsSentAs, sent-all}
 use Rattle.port_turns.specs.Nodes.{IsOfNodes, is_offer}
 use Rattle.port_turns.specs.PortEvents.{outlet_in}
 use Rattle.port_turns.specs.SwitchPuts.{transit_of}
-use Rattle.port_turns.proofs.Senders.{number-stays}
+use Rattle.port_turns.proofs.Elsewhere.{line-all}
+use Rattle.port_turns.proofs.Senders.{number-is}
 use Rattle.port_turns.proofs.Sources.{HasWaiting}
 use Rattle.frame_ages.specs.Sizes.{HaveEmptyRegulators, HaveIdlePorts, IsSized, IsSizedFrame, OpensEmpty}
 use Rattle.frame_ages.proofs.PortFrames.{there, AllWaitAt, AllWaitAtPorts, IsCarryOf, IsPortWish}
 use Rattle.frame_ages.proofs.EndFrames.{IsFitEnd, OfLink, end-sends, end-state}
-use Rattle.frame_ages.proofs.SwitchFrames.{AllTransits, switch-ports, switch-sends, transits-stay}
+use Rattle.frame_ages.proofs.SwitchFrames.{switch-ports, switch-sends}
+use Rattle.port_turns.proofs.Transits.{AllTransits, transits-stay}
 use Rattle.frame_ages.proofs.Invariants.{IsInvariant, all-events, all-handled}
 
 -- virtual link v goes out by output q of this equipment
 abbrev pub GoesOut : Equipment → ℕ → ℕ → Type 0
-GoesOut (EndSystem s) q v = ⊥
 GoesOut (Switch s) q v = (transit : Transit) × (transit_of (Switch s) v ≡ Some transit) × IsAmong q (outputs_of transit)
-GoesOut (Line s) q v = ⊥
+GoesOut _ q v = ⊥
 
 -- the virtual link as it goes through the switch at first, but for the account
 abbrev pub SameAs : SwitchState → ℕ → Transit → Type 0
@@ -88,12 +86,8 @@ module _ (x : Setting NodeState) (L : Laws (simulation_of (rules_of node) x)) (N
   f = simulation_of (rules_of node) x
 
   abbrev pub IsOut : ℕ → Body → Type 0
-  IsOut r (Offer vl bytes sub) = ⊤
-  IsOut r (Release vl) = ⊤
-  IsOut r (PortFree q) = ⊤
-  IsOut r (Arrive q frame) = ⊤
   IsOut r (Enqueue q frame) = GoesOut (x.opening r).equipment q frame.vl.0
-  IsOut r (Carry frame) = ⊤
+  IsOut r _ = ⊤
 
   -- the frame of a message has the size of its virtual link, and goes out by one of its outputs
   abbrev pub IsFit : Message → Type 0
@@ -111,12 +105,9 @@ module _ (x : Setting NodeState) (L : Laws (simulation_of (rules_of node) x)) (N
   by-port w h = go w.body h
     where
       go : (b : Body) → IsCarryOf (IsSizedFrame size) b → IsSized size b × IsOut w.receiver b
-      go (Offer vl bytes sub) k = absurd k
-      go (Release vl) k = absurd k
       go (PortFree q) k = (tt, tt)
-      go (Arrive q frame) k = absurd k
-      go (Enqueue q frame) k = absurd k
       go (Carry frame) k = (k, tt)
+      go _ k = absurd k
 
   puts-fit : (p n t : ℕ) (s w : SwitchState) → n ≡ p → (x.opening p).equipment ≡ Switch w → AllTransits (SameAs w) (same-as-stays w) s →
       (frame : Frame) (found : Found Transit) (q : ℕ) → transit_at s frame.vl ≡ Some found → IsSizedFrame size frame → IsAmong q (outputs_of found.entry) →
@@ -125,22 +116,10 @@ module _ (x : Setting NodeState) (L : Laws (simulation_of (rules_of node) x)) (N
       let was = same frame.vl found here in
       (f, subst (λ z. GoesOut (x.opening z).equipment q frame.vl.0) (sym e) (subst (λ z. GoesOut z q frame.vl.0) (sym is) (was.0, was.1, subst (IsAmong q) (ap outputs_of was.2) i)))
 
-  line-sends : (t : ℕ) (b : Body) (l : LineState) → IsSized size b → All IsFitWish (line t b l).wishes
-  line-sends t (Offer vl bytes sub) l h = All-nil IsFitWish
-  line-sends t (Release vl) l h = All-nil IsFitWish
-  line-sends t (PortFree q) l h = All-nil IsFitWish
-  line-sends t (Arrive q frame) l h = All-nil IsFitWish
-  line-sends t (Enqueue q frame) l h = All-nil IsFitWish
-  line-sends t (Carry frame) l h = go (list_any (is_within t) l.outages)
-    where
-      go : (b : Bool) → All IsFitWish (cond b (loss cause.Outage frame) (record { wishes = record { time = t + l.propagation; receiver = l.to; body = Arrive l.to_port frame } ∷ []; notes = [] })).wishes
-      go true = All-nil IsFitWish
-      go false = All-cons IsFitWish (record { time = t + l.propagation; receiver = l.to; body = Arrive l.to_port frame }) [] (h, tt) (All-nil IsFitWish)
-
   handled-sends : (p n : ℕ) (m : Message) (e : Equipment) → n ≡ p → State p e → IsFit m → All IsFitWish (handled n m e).reply.wishes
   handled-sends p n m (EndSystem s) k h q = end-sends size IsFitWish by-port (λ t r vl. (tt, tt)) n m.time m.body s q.0 h
   handled-sends p n m (Switch s) k h q = switch-sends size n IsFitWish by-port m.time m.body s (λ frame found c here f i. puts-fit p n (m.time + s.latency) s h.1 k h.2 h.3 frame found c here f i) q.0 h.0
-  handled-sends p n m (Line s) k h q = line-sends m.time m.body s q.0
+  handled-sends p n m (Line l) k h q = line-all IsFitWish m.time m.body l (λ frame is. (subst (IsSized size) is q.0, tt))
 
   handled-state : (p n : ℕ) (m : Message) (e : Equipment) → n ≡ p → State p e → IsFit m → State p (handled n m e).equipment
   handled-state p n m (EndSystem s) k h q = end-state size IsFitWish by-port (λ t r vl. (tt, tt)) n m.time m.body s q.0 h
@@ -151,9 +130,6 @@ module _ (x : Setting NodeState) (L : Laws (simulation_of (rules_of node) x)) (N
     transits-stay (SameAs h.1) (same-as-stays h.1) n m.time m.body s h.3,
   )
   handled-state p n m (Line s) k h q = tt
-
-  number : (p : ℕ) → p < x.processes → (s : NodeState) → IsReached f p s → s.sender.number ≡ p
-  number p i s h = ap (λ (z : NodeState). z.sender.number) h.1 ∙ (number-stays (x.opening p) h.0 ∙ N.number p i)
 
   opens : (p : ℕ) → (e : Equipment) → (x.opening p).equipment ≡ e → HaveEmptyRegulators e → HaveIdlePorts e → State p e
   opens p (EndSystem s) is h k = record { waiting = none-waits size s.sources h; ports = none-at-ports size s.ports k }
@@ -167,20 +143,16 @@ module _ (x : Setting NodeState) (L : Laws (simulation_of (rules_of node) x)) (N
       (offers-fit ms (All-tail (λ (m : Message). IsSized size m.body) m ms h) (All-tail (λ (m : Message). is_offer m.body ≡ true) m ms k))
     where
       go : (b : Body) → is_offer b ≡ true → IsOut m.receiver b
-      go (Offer vl bytes sub) e = tt
-      go (Release vl) e = tt
-      go (PortFree q) e = tt
-      go (Arrive q frame) e = tt
       go (Enqueue q frame) e = absurd (let z : ⊥ = cc in z)
-      go (Carry frame) e = tt
+      go _ e = tt
 
   invariant : IsInvariant f L IsFit (λ p s. State p s.equipment)
   invariant = record {
     offered = offers-fit x.offers O.offers N.offered;
     opens = λ p i. opens p (x.opening p).equipment refl (O.regulators p i) (O.ports p i);
-    after = λ p i s m was to h q. handled-state p s.sender.number m s.equipment (number p i s was) h q;
+    after = λ p i s m was to h q. handled-state p s.sender.number m s.equipment (number-is x N p i s was) h q;
     sends = λ p i s m was to h q. sent-all IsFit s.sender (handled s.sender.number m s.equipment).reply.wishes
-        (All-weaker IsFitWish (IsSentAs IsFit s.sender) (λ w k n l. k) (handled s.sender.number m s.equipment).reply.wishes (handled-sends p s.sender.number m s.equipment (number p i s was) h q));
+        (All-weaker IsFitWish (IsSentAs IsFit s.sender) (λ w k n l. k) (handled s.sender.number m s.equipment).reply.wishes (handled-sends p s.sender.number m s.equipment (number-is x N p i s was) h q));
   }
 
   -- each message that a process handles is so

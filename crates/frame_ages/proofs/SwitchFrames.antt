@@ -1,14 +1,11 @@
 -- At a switch each frame that is sent came there, and goes out by an output of its virtual link.
-use Rattle.std.proofs.Common.{◌≡◌, ℕ, ◌+◌, ◌==◌, inl, inr, Bool, true, false, cond, nat_lt, List, [], ◌∷◌, All, Option, Some, None, slice_set, refl, sym, ap, ◌∙◌, subst}
-use Rattle.std.proofs.lemmas.Bool.{cases_eq}
-use Rattle.std.proofs.lemmas.Option.{same_Some}
+use Rattle.std.proofs.Common.{◌≡◌, ℕ, ◌+◌, ◌==◌, inl, inr, Bool, true, false, cond, nat_lt, List, [], ◌∷◌, All, Option, Some, None, refl}
 use Rattle.std.proofs.lemmas.List.Elements.{All-cons, All-map, All-nil, All-weaker}
 use Rattle.vlink.specs.declared.frame.Frame.{Frame}
-use Rattle.vlink.specs.declared.frame.VlId.{VlId}
 use Rattle.vlink.specs.declared.message.Body.{Body}
-use Rattle.vlink.specs.declared.message.Body.TheVariants.{Offer, Release, PortFree, Arrive, Enqueue, Carry}
+use Rattle.vlink.specs.declared.message.Body.TheVariants.{PortFree, Arrive, Enqueue}
 use Rattle.vlink.specs.declared.note.Cause.TheVariants.{TooLong, Unknown}
-use Rattle.policer.specs.Account.{Policing, account}
+use Rattle.policer.specs.Account.{account}
 use Rattle.policer.specs.declared.account.Verdict.{Verdict}
 use Rattle.policer.specs.declared.account.Verdict.TheVariants as verdict
 use Rattle.output_port.specs.declared.event.PortEvent.{PortEvent}
@@ -16,49 +13,13 @@ use Rattle.output_port.specs.declared.event.PortEvent.TheVariants.{Put, Free}
 use Rattle.reverse.specs.Sending.{Wish, loss}
 use Rattle.port_bounds.specs.Mixtures.{IsAmong}
 use Rattle.nodes.specs.declared.transit.Transit.{Transit}
-use Rattle.nodes.specs.rules.Finding.{Found, find}
+use Rattle.nodes.specs.rules.Finding.{Found}
 use Rattle.nodes.specs.rules.Ports.{exists}
-use Rattle.nodes.specs.rules.Switch.{SwitchOutcome, SwitchState, at_port, entered, entered_reply, judged, outputs_of, switch, transit_at, transit_number}
+use Rattle.nodes.specs.rules.Switch.{SwitchOutcome, SwitchState, at_port, entered_reply, judged, outputs_of, switch, transit_at}
 use Rattle.nodes.specs.rules.Switch as sw
-use Rattle.nodes.specs.laws.SwitchSending.{switch-cases, wish_to}
-use Rattle.port_turns.proofs.Found.{found-other, found-set}
+use Rattle.nodes.specs.laws.SwitchSending.{wish_to}
 use Rattle.frame_ages.specs.Sizes.{IsSized, IsSizedFrame}
 use Rattle.frame_ages.proofs.PortFrames.{AllWaitAtPorts, IsPortWish, OfPut, changed-keeps, reply-keeps}
-
--- K speaks of a virtual link that goes through the switch, and not of its account's level: it stays
-module _ (K : ℕ → Transit → Type 0) (stays : (v : ℕ) (x : Transit) (a : Policing) → K v x → K v (record x { account = a })) where
-  abbrev pub AllTransits : SwitchState → Type 0
-  AllTransits s = (vl : VlId) (found : Found Transit) → transit_at s vl ≡ Some found → K vl.0 found.entry
-
-  pub transits-stay : (n t : ℕ) (b : Body) (s : SwitchState) → AllTransits s → AllTransits (switch n t b s).state
-  transits-stay n t b s h = switch-cases (λ o. AllTransits o.state) n t s (record { quiet = λ z k. h; at_ports = λ i e. h; takes = λ i frame found is. takes i frame found is }) b
-    where
-      same : (i : ℕ) (frame : Frame) (x : Transit) → transit_number (entered t i frame x) ≡ transit_number x
-      same i frame x = go (x.input == i) (nat_lt x.smax frame.size)
-        where
-          go : (b c : Bool) → transit_number (cond b (cond c x (record x { account = account.after x.account (record { at = t; size = frame.size }) })) x) ≡ transit_number x
-          go true true = refl
-          go true false = refl
-          go false c = refl
-
-      kept : (v i : ℕ) (frame : Frame) (x : Transit) → K v x → K v (entered t i frame x)
-      kept v i frame x k = go (x.input == i) (nat_lt x.smax frame.size)
-        where
-          go : (b c : Bool) → K v (cond b (cond c x (record x { account = account.after x.account (record { at = t; size = frame.size }) })) x)
-          go true true = k
-          go true false = stays v x (account.after x.account (record { at = t; size = frame.size })) k
-          go false c = k
-
-      takes : (i : ℕ) (frame : Frame) (found : Found Transit) → transit_at s frame.vl ≡ Some found → AllTransits (record s { transits = slice_set s.transits found.place (entered t i frame found.entry) })
-      takes i frame found is vl new here = elim (cases_eq vl.0 frame.vl.0) [
-        | inl e ↦ (
-            let now = subst (λ z. find transit_number (slice_set s.transits found.place (entered t i frame found.entry)) z ≡ Some (record { place = found.place; entry = entered t i frame found.entry })) (sym e)
-            (found-set transit_number s.transits frame.vl.0 found is (entered t i frame found.entry) (same i frame found.entry)) in
-            let entry : entered t i frame found.entry ≡ new.entry = ap (λ (z : Found Transit). z.entry) (same_Some (record { place = found.place; entry = entered t i frame found.entry }) new (sym now ∙ here)) in
-            subst (K vl.0) entry (kept vl.0 i frame found.entry (subst (λ z. K z found.entry) (sym e) (h frame.vl found is)))
-            )
-        | inr d ↦ h vl new (sym (found-other transit_number s.transits frame.vl.0 found is (entered t i frame found.entry) (same i frame found.entry) vl.0 d) ∙ here)
-      ]
 
 among-more : (k n : ℕ) (ns xs : List ℕ) → All (λ m. IsAmong m ns) xs → All (λ m. IsAmong m (n ∷ ns)) xs
 among-more k n ns xs h = All-weaker (λ m. IsAmong m ns) (λ m. IsAmong m (n ∷ ns)) (λ m i. inr i) xs h
@@ -87,14 +48,10 @@ module _ (size : ℕ → ℕ) (n : ℕ) (P : Wish → Type 0) (by-port : (w : Wi
     entered-all delay q frame x puts = go (x.input == q) (nat_lt x.smax frame.size) (account.out x.account (record { at = t; size = frame.size }))
       where
         go : (b c : Bool) (v : Verdict) → All P (cond b (cond c (loss TooLong frame) (judged n (t + delay) frame (outputs_of x) v)) (loss Unknown frame)).wishes
-        go true true v = All-nil P
         go true false verdict.Passed = All-map P (wish_to n (t + delay) frame) (outputs_of x) (All-weaker (λ k. IsAmong k (outputs_of x)) (λ k. P (wish_to n (t + delay) frame k)) puts (outputs_of x) (all-among (outputs_of x)))
-        go true false verdict.Refused = All-nil P
-        go false c v = All-nil P
+        go _ _ _ = All-nil P
 
     switch-step : (b : Body) (s : SwitchState) → PutsFit s → IsSized size b → AllWaitAtPorts (IsSizedFrame size) s.ports → Step (switch n t b s)
-    switch-step (Offer vl bytes sub) s fit f h = record { ports = h; sends = All-nil P }
-    switch-step (Release vl) s fit f h = record { ports = h; sends = All-nil P }
     switch-step (PortFree q) s fit f h = port-step q Free s tt h
     switch-step (Arrive q frame) s fit f h = go (exists s.ports q) (transit_at s frame.vl) refl
       where
@@ -108,7 +65,7 @@ module _ (size : ℕ → ℕ) (n : ℕ) (P : Wish → Type 0) (by-port : (w : Wi
         go true None = record { ports = h; sends = All-nil P }
         go true (Some found) = port-step q (Put frame found.entry.priority) s f h
         go false o = record { ports = h; sends = All-nil P }
-    switch-step (Carry frame) s fit f h = record { ports = h; sends = All-nil P }
+    switch-step _ s fit f h = record { ports = h; sends = All-nil P }
 
     pub switch-ports : (b : Body) (s : SwitchState) → PutsFit s → IsSized size b → AllWaitAtPorts (IsSizedFrame size) s.ports → AllWaitAtPorts (IsSizedFrame size) (switch n t b s).state.ports
     switch-ports b s fit f h = (switch-step b s fit f h).ports

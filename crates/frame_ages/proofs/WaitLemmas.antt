@@ -30,15 +30,14 @@ use Rattle.element_bounds.proofs.TraceLemmas.{AllPuts, OfAsked, trace-puts}
 use Rattle.nodes.specs.declared.node.NodeRecord.{NodeRecord}
 use Rattle.nodes.specs.rules.Node.{NodeState, after, handled, regulator_in}
 use Rattle.nodes.specs.undoing.Node.{node}
-use Rattle.port_turns.specs.Nodes.{IsOfNodes}
+use Rattle.port_turns.specs.Nodes.{IsOfNodes, is_offer_of}
 use Rattle.port_turns.specs.PortEvents.{asks}
 use Rattle.port_turns.specs.PortRuns.{AreOwnFrames, asked_at, input_of, port_events}
 use Rattle.port_turns.proofs.Rising.{AreTo, events-to}
-use Rattle.frame_ages.specs.Waits.{is_offer_of}
-use Rattle.frame_ages.proofs.RegulatorSteps.{IsReleaseOf, IsRight, OfReleased, Stepped, ask-next, frames_at, kept-right, passed-right, popped-right, step, with-same}
+use Rattle.frame_ages.proofs.RegulatorSteps.{IsReleaseOf, IsRight, OfReleased, Stepped, ask-next, frames_at, right-stays, step, with-same}
 use Rattle.frame_ages.proofs.RegulatorSteps.Stepped.{Drops, Keeps, Passes, Pops, Rests}
-use Rattle.frame_ages.proofs.RegulatorTurns.{IsSaid, LikeReleased, OfPutBy, Turned, is_release, node-turn, releases}
-use Rattle.frame_ages.proofs.RegulatorTurns.Turned.{Does, Quiet}
+use Rattle.port_turns.proofs.RegulatorTurns.{IsSaid, LikeReleased, OfPutBy, Turned, is_release, node-turn, releases}
+use Rattle.port_turns.proofs.RegulatorTurns.Turned.{Does, Quiet}
 use Rattle.frame_ages.proofs.RoundRobin.{distance, distance-below, last-then, nearer-by, nearest}
 use Rattle.frame_ages.proofs.ReleaseTimer.{HasRegulator, alarm, early, ask-is, ask_in, is_due, own-stays, put-own, releases-on-time}
 
@@ -105,18 +104,14 @@ module _ (x : Setting NodeState) (N : IsOfNodes x) (p q v room sub bag : ℕ) (i
 
   none-released : (a : RegAnswer) (frame : Frame) → OfReleased (λ f. ⊥) a → LikeReleased v a frame → ⊥
   none-released (answer.Released f) frame h k = h
-  none-released answer.Kept frame h k = k
-  none-released answer.Dropped frame h k = k
-  none-released answer.Nothing frame h k = k
+  none-released _ frame h k = k
 
   held-none : (a : RegAnswer) (o : Option PortEvent) → OfReleased (λ f. ⊥) a → OfPutBy v (LikeReleased v a) o → HeldBy o
   held-none a o h k = put-weaker (LikeReleased v a) (λ frame. frame.released ≤ frame.offered + wait) (λ frame l. absurd (none-released a frame h l)) o k
 
   one-released : (was : Frame) (t : ℕ) (a : RegAnswer) (frame : Frame) → t ≤ was.offered + wait → OfReleased (IsReleaseOf was t) a → LikeReleased v a frame → frame.released ≤ frame.offered + wait
   one-released was t (answer.Released f) frame l h k = let a = h.0 in let b = h.1 in let c = k.0 in let d = k.1 in omega arith
-  one-released was t answer.Kept frame l h k = absurd k
-  one-released was t answer.Dropped frame l h k = absurd k
-  one-released was t answer.Nothing frame l h k = absurd k
+  one-released was t _ frame l h k = absurd k
 
   held-one : (was : Frame) (t : ℕ) (a : RegAnswer) (o : Option PortEvent) → t ≤ was.offered + wait → OfReleased (IsReleaseOf was t) a → OfPutBy v (LikeReleased v a) o → HeldBy o
   held-one was t a o l h k = put-weaker (LikeReleased v a) (λ frame. frame.released ≤ frame.offered + wait) (λ frame c. one-released was t a frame l h c) o k
@@ -247,55 +242,41 @@ module _ (x : Setting NodeState) (N : IsOfNodes x) (p q v room sub bag : ℕ) (i
       release a t said is = subst (IsSaid v m.time m.body) is said
 
       by : (a : RegEvent) → IsSaid v m.time m.body a → regulator_in (after s m).equipment (record { 0 = v }) ≡ Some (regulator.after r.regulator a) →
-          OfPutBy v (LikeReleased v (regulator.out r.regulator a).answer) (asks q m s.equipment) → Stepped room sub bag r.regulator a (outcome r.regulator a) → Goes s m ms
-      by a said now put (Drops t k frame is state ask none) =
-          let o = offered.0 (offer a t k frame said is).0 in
-          record {
-            held = held-none _ (asks q m s.equipment) none put;
-            next = record { regulator = r.regulator; is = now ∙ ap (λ z. Some z) state; right = r.right; own = own };
-            e = o.0 + period;
-            offered = o.4;
-            reckoned = dropped r.regulator r.right e reckoned o.0 o.1;
+          OfPutBy v (LikeReleased v (regulator.out r.regulator a).answer) (asks q m s.equipment) → Goes s m ms
+      by a said now put = by-step (step room sub bag r.regulator r.right a)
+        where
+          done : (later : ℕ) → HeldBy (asks q m s.equipment) → AreOffered v period jitter onward later ms → (g : Regulator) → (outcome r.regulator a).state ≡ g → Reckoned g later → Goes s m ms
+          done later is_held offers g state then = record {
+            held = is_held;
+            next = record { regulator = regulator.after r.regulator a; is = now; right = right-stays room sub bag r.regulator r.right a; own = own };
+            e = later;
+            offered = offers;
+            reckoned = subst (λ g. Reckoned g later) (sym state) then;
           }
-      by a said now put (Passes t k frame is empty inside' state ask released) =
-          let w = offer a t k frame said is in
-          let o = offered.0 w.0 in
-          let at = w.1 in
-          let since = w.2 in
-          record {
-            held = held-one frame t _ (asks q m s.equipment) (omega arith) released put;
-            next = record { regulator = let_go r.regulator t k r.regulator.lists; is = now ∙ ap (λ z. Some z) state; right = passed-right room sub bag r.regulator r.right t k inside'; own = own };
-            e = o.0 + period;
-            offered = o.4;
-            reckoned = passed r.regulator r.right e reckoned t k o.0 empty (let l = o.2 in omega arith) (let l = o.3 in omega arith);
-          }
-      by a said now put (Keeps t k frame is inside' few state ask last none) =
-          let w = offer a t k frame said is in
-          let o = offered.0 w.0 in
-          let since = w.2 in
-          record {
-            held = held-none _ (asks q m s.equipment) none put;
-            next = record {
-              regulator = record r.regulator { lists = with_frames r.regulator.lists k (frames_at r.regulator k ++ frame ∷ []) };
-              is = now ∙ ap (λ z. Some z) state;
-              right = kept-right room sub bag r.regulator r.right k (frames_at r.regulator k ++ frame ∷ []) inside' last;
-              own = own;
-            };
-            e = o.0 + period;
-            offered = o.4;
-            reckoned = kept r.regulator r.right e reckoned k frame o.0 inside' few o.1 (let l = o.2 in omega arith);
-          }
-      by a said now put (Rests t is why state ask none) = let w = release a t said is in absurd (early v room sub bag r.regulator t m.time r.right w.1 why (due w.0))
-      by a said now put (Pops t is j first rest next inside' are state asks' released) =
-          let w = release a t said is in
-          let k = popped r.regulator r.right e reckoned t j first rest next inside' are (due w.0 ∙ ap Some (sym w.1)) in
-          record {
-            held = held-one first t _ (asks q m s.equipment) k.in_time released put;
-            next = record { regulator = let_go r.regulator t j (with_frames r.regulator.lists j rest); is = now ∙ ap (λ z. Some z) state; right = popped-right room sub bag r.regulator r.right t j rest inside'; own = own };
-            e = onward e t;
-            offered = subst (λ z. AreOffered v period jitter onward (onward e z) ms) (sym w.1) (offered.1 w.0);
-            reckoned = k.reckoned_then;
-          }
+
+          by-step : Stepped room sub bag r.regulator a (outcome r.regulator a) → Goes s m ms
+          by-step (Drops t k frame is state ask none) =
+              let o = offered.0 (offer a t k frame said is).0 in
+              done (o.0 + period) (held-none _ (asks q m s.equipment) none put) o.4 r.regulator state (dropped r.regulator r.right e reckoned o.0 o.1)
+          by-step (Passes t k frame is empty inside' state ask released) =
+              let w = offer a t k frame said is in
+              let o = offered.0 w.0 in
+              let at = w.1 in
+              let since = w.2 in
+              done (o.0 + period) (held-one frame t _ (asks q m s.equipment) (omega arith) released put) o.4 (let_go r.regulator t k r.regulator.lists) state
+              (passed r.regulator r.right e reckoned t k o.0 empty (let l = o.2 in omega arith) (let l = o.3 in omega arith))
+          by-step (Keeps t k frame is inside' few state ask last none) =
+              let w = offer a t k frame said is in
+              let o = offered.0 w.0 in
+              let since = w.2 in
+              done (o.0 + period) (held-none _ (asks q m s.equipment) none put) o.4 (record r.regulator { lists = with_frames r.regulator.lists k (frames_at r.regulator k ++ frame ∷ []) }) state
+              (kept r.regulator r.right e reckoned k frame o.0 inside' few o.1 (let l = o.2 in omega arith))
+          by-step (Rests t is why state ask none) = let w = release a t said is in absurd (early v room sub bag r.regulator t m.time r.right w.1 why (due w.0))
+          by-step (Pops t is j first rest next inside' are state asks' released) =
+              let w = release a t said is in
+              let k = popped r.regulator r.right e reckoned t j first rest next inside' are (due w.0 ∙ ap Some (sym w.1)) in
+              done (onward e t) (held-one first t _ (asks q m s.equipment) k.in_time released put) (subst (λ z. AreOffered v period jitter onward (onward e z) ms) (sym w.1) (offered.1 w.0))
+              (let_go r.regulator t j (with_frames r.regulator.lists j rest)) state k.reckoned_then
 
       go : Turned v s.sender.number m.time m.body r.regulator (regulator_in (after s m).equipment (record { 0 = v })) (releases v (handled s.sender.number m s.equipment).reply.wishes) (asks q m s.equipment) → Goes s m ms
       go (Quiet now none rel off put) = record {
@@ -305,7 +286,7 @@ module _ (x : Setting NodeState) (N : IsOfNodes x) (p q v room sub bag : ℕ) (i
         offered = offered.2 off rel;
         reckoned = reckoned;
       }
-      go (Does a said now vl k ws put) = by a said now put (step room sub bag r.regulator r.right a)
+      go (Does a said now vl k ws put) = by a said now put
 
   module _ (byte_ns : ℕ) where
     run : (s : NodeState) (ms : List Message) (e : ℕ) (r : HasRegulator v room sub bag s.equipment) → AreTo p ms → AreTimely s ms → AreOffered v period jitter onward e ms → Reckoned r.regulator e →

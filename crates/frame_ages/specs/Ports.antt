@@ -8,7 +8,7 @@ use Rattle.output_port.specs.declared.event.Priority.TheVariants.{High, Low}
 use Rattle.reverse.specs.Rules.{rules_of}
 use Rattle.reverse.specs.Setting.{Setting, simulation_of}
 use Rattle.virtual_time.specs.Law.{Laws, events}
-use Rattle.port_bounds.specs.Certificate.{AreSentWithin}
+use Rattle.port_bounds.specs.Delays.{AreSentWithin}
 use Rattle.port_bounds.specs.Frames.{link_of}
 use Rattle.port_bounds.specs.Mixtures.{Flow, Group, IsAmong, groups_burst, groups_rate, lines_of, links_of}
 use Rattle.port_bounds.specs.Port.{Event, high_starts, idle, low_starts}
@@ -69,15 +69,20 @@ AreApartBy (EndSystem s) v bytes bag slack = (g : Regulator) × (regulator_in (E
 AreApartBy (Switch s) v bytes bag slack = (transit : Transit) × (transit_of (Switch s) v ≡ Some transit) × IsCounting transit.account bytes × (transit.account.bag ≡ bag) × (transit.account.jitter ≡ slack)
 AreApartBy (Line s) v bytes bag slack = ⊥
 
--- the burst and the rate of a virtual link, in units of which a ns has `scale`
+-- the curve of frames that cost so much, in units of which a ns has `scale`. By the BAG: one frame, what the slack adds, and then a frame in
+-- each BAG. By the gap that the slack leaves of a BAG: one frame, and then one in each gap
+pub data IsCurve (parts bag slack scale cost : ℕ) (flow : Flow) : Type 0 where
+  ByBag : flow.burst ≡ (parts * cost) * (bag + slack) → flow.rate ≡ parts * cost → IsCurve parts bag slack scale cost flow
+  ByGap : flow.burst ≡ scale * cost → scale * cost ≤ flow.rate * (bag - slack) → IsCurve parts bag slack scale cost flow
+
+-- the burst and the rate of a virtual link
 pub record IsFlow (e : Equipment) (size : ℕ → ℕ) (byte_ns scale : ℕ) (flow : Flow) : Type 0 where
   pub parts : ℕ
   pub bag : ℕ
   pub slack : ℕ
   pub apart : AreApartBy e flow.link (size flow.link) bag slack
   pub units : parts * bag ≡ scale
-  pub burst : flow.burst ≡ (parts * busy_for (size flow.link) byte_ns) * (bag + slack)
-  pub rate : flow.rate ≡ parts * busy_for (size flow.link) byte_ns
+  pub curve : IsCurve parts bag slack scale (busy_for (size flow.link) byte_ns) flow
 
 -- the burst and the rate of a line by which frames come to node p, and which is no faster than the port's own
 pub record IsByLine (x : Setting NodeState) (p : ℕ) (size : ℕ → ℕ) (byte_ns scale : ℕ) (g : Group) : Type 0 where

@@ -1,7 +1,7 @@
 -- Each frame of a virtual link has the size that its virtual link has.
 use Rattle.std.specs.Prelude.{◌≡◌, ℕ, ◌<◌, All, IfSome, [], ⊤}
 use Rattle.vlink.specs.declared.message.Body.{Body}
-use Rattle.vlink.specs.declared.message.Body.TheVariants.{Offer, Release, PortFree, Arrive, Enqueue, Carry}
+use Rattle.vlink.specs.declared.message.Body.TheVariants.{Offer, Arrive, Enqueue, Carry}
 use Rattle.vlink.specs.declared.frame.Frame.{Frame}
 use Rattle.reverse.specs.Rules.{rules_of}
 use Rattle.reverse.specs.Setting.{Setting, simulation_of}
@@ -21,17 +21,15 @@ IsSizedFrame size frame = frame.size ≡ size frame.vl.0
 -- and so has the frame that a message offers or brings, if it does
 abbrev pub IsSized : (ℕ → ℕ) → Body → Type 0
 IsSized size (Offer vl bytes sub) = bytes ≡ size vl.0
-IsSized size (Release vl) = ⊤
-IsSized size (PortFree p) = ⊤
 IsSized size (Arrive p frame) = IsSizedFrame size frame
 IsSized size (Enqueue p frame) = IsSizedFrame size frame
 IsSized size (Carry frame) = IsSizedFrame size frame
+IsSized size _ = ⊤
 
 -- no frame waits in a regulator
 abbrev pub HaveEmptyRegulators : Equipment → Type 0
 HaveEmptyRegulators (EndSystem s) = All (λ source. All (λ list. list.frames ≡ []) source.regulator.lists) s.sources
-HaveEmptyRegulators (Switch s) = ⊤
-HaveEmptyRegulators (Line s) = ⊤
+HaveEmptyRegulators _ = ⊤
 
 -- each port is idle, and no frame waits there
 abbrev pub HaveIdlePorts : Equipment → Type 0

@@ -1,26 +1,15 @@
 -- How long a regulator holds frames in the one-thread run.
-use Rattle.std.specs.Prelude.{◌≡◌, ℕ, ◌+◌, ◌-◌, ◌*◌, ◌<◌, ◌≤◌, ◌==◌, Bool, true, false, All, Some}
+use Rattle.std.specs.Prelude.{◌≡◌, ℕ, ◌+◌, ◌-◌, ◌*◌, ◌<◌, ◌≤◌, true, All, Some}
 use Rattle.vlink.specs.declared.message.Message.{Message}
-use Rattle.vlink.specs.declared.message.Body.{Body}
-use Rattle.vlink.specs.declared.message.Body.TheVariants.{Offer, Release, PortFree, Arrive, Enqueue, Carry}
 use Rattle.bag_regulator.specs.Regulator.{opening}
 use Rattle.reverse.specs.Rules.{rules_of}
 use Rattle.reverse.specs.Setting.{Setting, simulation_of}
 use Rattle.virtual_time.specs.Law.{Laws}
 use Rattle.nodes.specs.rules.Node.{NodeState, regulator_in}
 use Rattle.nodes.specs.undoing.Node.{node}
-use Rattle.port_turns.specs.Nodes.{IsOfNodes}
+use Rattle.port_turns.specs.Nodes.{IsOfNodes, is_offer_of}
 use Rattle.frame_ages.specs.Latencies.{IsHeldWithin}
 use Rattle.frame_ages.specs.Sizes.{OpensEmpty}
-
--- the message offers a frame of virtual link v
-abbrev pub is_offer_of : ℕ → Body → Bool
-is_offer_of v (Offer vl bytes sub) = vl.0 == v
-is_offer_of v (Release vl) = false
-is_offer_of v (PortFree q) = false
-is_offer_of v (Arrive q frame) = false
-is_offer_of v (Enqueue q frame) = false
-is_offer_of v (Carry frame) = false
 
 -- a regulator with `sub` lists, each for `depth` frames, holds none for more BAGs than these are frames, whatever is offered
 abbrev pub AreListsHeld : Type 0

@@ -20,7 +20,7 @@ use Rattle.reverse.proofs.Members.{in-all}
 use Rattle.antimessages.specs.Counting.{signed_count}
 use Rattle.group_hand.specs.Block.{steps_told}
 use Rattle.group_hand.specs.DoneEvents.{done_events_at, done_events_of, messages_of}
-use Rattle.group_hand.specs.Flow.{Flow}
+use Rattle.group_hand.specs.Handling.{FirstLacksNumbers}
 use Rattle.group_hand.specs.Hands.{Held, IsAsBefore, IsMember, StandsForGroup, StaysDone, counted, is_ours}
 use Rattle.group_hand.specs.Sealing.{Stays}
 use Rattle.group_hand.proofs.Among.{contains-in, none-among}
@@ -149,8 +149,7 @@ module _ {S K : Type 0} (plain : Plain S Message Sends K) (O : IsOrder message_o
 -- where the first message of a group is not handled for want of numbers, its receiver wants them
 pub is-short : {S K : Type 0} {plain : Plain S Message Sends K} {number end : S → ℕ} {is_placed : S → Type 0} {x : Setting S} {owners : List ℕ} {V : S → Message → Type 0} {groups g seen : ℕ} {last : List Step} {h : Held S K} →
     Holds (rules_of plain) number end is_placed x owners V groups g seen last h → IsOrder message_order → (new : Held S K) → IsAsBefore h new →
-    ((m : Message) × Contains h.flow.queue m × All (λ y. is_before y m ≡ false) h.flow.queue × (IsAscending message_order (messages_of h.done) → All (λ y. y ≢ m) (messages_of h.done))
-    × ((s : S) → slice_get h.members m.receiver ≡ Some (Some s) → greatest_number < plain.counter s + MOST_SENT)) → (gone : ℕ) →
+    FirstLacksNumbers (λ s. plain.counter s) h → (gone : ℕ) →
     IsShort (simulation_of (rules_of plain) x) owners (record { number = g; held = new; last = last; seen = seen; gone = gone })
 is-short {plain = plain} {x = x} {owners = owners} {V = V} {seen = seen} {last = last} {h = h} old O new a e gone =
     let f = simulation_of (rules_of plain) x in
@@ -158,5 +157,5 @@ is-short {plain = plain} {x = x} {owners = owners} {V = V} {seen = seen} {last =
     let s = wants plain O V x (done_by f (steps_told h.flow.words) begun) h old.stands e.0 e.1 e.2 e.3 e.4 in (
       e.0.receiver,
       sym (old.ours e.0.receiver) ∙ s.0,
-      subst (λ ds. WantsNumbers f owners ((done_by f (steps_told ds) begun).parts e.0.receiver)) (sym (ap (λ (z : Flow). z.words) a.flow)) s.1,
+      subst (λ ds. WantsNumbers f owners ((done_by f (steps_told ds) begun).parts e.0.receiver)) (sym (ap (λ (z : Held _ _). z.flow.words) a)) s.1,
     )

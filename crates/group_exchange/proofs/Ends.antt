@@ -5,8 +5,8 @@ use Rattle.vlink.specs.Letters.{Letter}
 use Rattle.vlink.specs.declared.note.Note.{Note}
 use Rattle.virtual_time.specs.Law.{Order, Simulation}
 use Rattle.virtual_time.specs.declared.step.Step.{Step}
-use Rattle.group_hand.specs.declared.block.Did.{Did}
-use Rattle.group_hand.specs.declared.block.Did.TheVariants.{Ran, Home, Taken, Arrived, Committed}
+use Rattle.group_hand.specs.declared.block.Word.{Word}
+use Rattle.group_hand.specs.declared.block.Word.TheVariants.{Ran, Home, Taken, Arrived, Committed}
 use Rattle.group_hand.specs.Block.{steps_told}
 use Rattle.group_hand.specs.Hands.{Held}
 use Rattle.group_exchange.specs.declared.mark.Standing.{Standing}
@@ -36,7 +36,7 @@ pub takes-none : (o : Order Message) (steps : List Step) (ls : List Letter) → 
 takes-none o steps ls e = sym (ap (λ z. steps ++ takes_of o z) e ∙ append-nil steps)
 
 -- a block of no step has no word
-pub no-words : (ws : List Did) → length (steps_told ws) ≡ 0 → ws ≡ []
+pub no-words : (ws : List Word) → length (steps_told ws) ≡ 0 → ws ≡ []
 no-words [] e = refl
 no-words (Ran p ∷ ws) e = absurd (omega arith)
 no-words (Home p ∷ ws) e = absurd (omega arith)
@@ -45,6 +45,6 @@ no-words (Arrived p ∷ ws) e = absurd (omega arith)
 no-words (Committed p ∷ ws) e = absurd (omega arith)
 
 module _ {S K : Type 0} (f : Simulation Message S K Note) (owners : List ℕ) where
-  pub posts-some : (ws : List Did) (x : Ledger) (h : GroupState S K) (y : Ledger) (k : GroupState S K) → 0 < length (steps_told ws) → PostsBlock f owners x h y k → posts f owners ws x h y k
+  pub posts-some : (ws : List Word) (x : Ledger) (h : GroupState S K) (y : Ledger) (k : GroupState S K) → 0 < length (steps_told ws) → PostsBlock f owners x h y k → posts f owners ws x h y k
   posts-some [] x h y k n b = absurd (omega arith)
   posts-some (d ∷ ds) x h y k n b = b

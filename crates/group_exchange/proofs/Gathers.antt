@@ -1,6 +1,5 @@
 -- What collecting and posting leave and show, put together.
 use Rattle.std.proofs.Common.{◌≡◌, ℕ, ◌<◌, ◌++◌, List, [], map, set, length, refl, sym, ap, ◌∙◌, subst}
-use Rattle.std.proofs.lemmas.List.Sorted.{IsPermutation-refl}
 use Rattle.vlink.specs.declared.message.Message.{Message}
 use Rattle.vlink.specs.declared.note.Note.{Note}
 use Rattle.virtual_time.specs.Law.{Laws, Rules, behind, waiting_in}
@@ -57,7 +56,7 @@ module _ {S K : Type 0} {r : Rules Message S K Note} {number end : S → ℕ} {i
         Collects (simulation_of r x) owners (shown steps standings limit) (group_at g h s gone) (shown steps standings' limit) (group_at g h now gone) 0
     collects-none h s limit gone =
         collects-shown steps (takes-none r.order steps (box_of mail.boxes g) empty) standings' now told last place sees 0 (sym (ap length empty)) h h
-        (took-none h (box_of mail.boxes g) empty (IsPermutation-refl h.flow.queue)) s limit gone
+        (took-none h (box_of mail.boxes g) empty) s limit gone
 
   -- the block went to the journal
   pub posts-shown : (h : Held S K) (steps' : List Step) → steps' ≡ steps ++ map (behind (waiting_in (simulation_of r x) (world_after (simulation_of r x) steps))) (steps_told h.flow.words) →

@@ -7,7 +7,7 @@ use Rattle.virtual_time.specs.Law.{Rules, Laws, World, AreBy, done_by, in_hand}
 use Rattle.virtual_time.specs.declared.step.Step.{Step}
 use Rattle.virtual_time.specs.declared.step.Step.TheVariants.{Take, Arrive, Run, Post, Gvt, Commit}
 use Rattle.reverse.specs.Setting.{Setting, simulation_of}
-use Rattle.group_hand.specs.declared.block.Did.{Did}
+use Rattle.group_hand.specs.declared.block.Word.{Word}
 use Rattle.group_hand.specs.Block.{steps_told}
 use Rattle.group_hand.specs.Hands.{CommitsTold, DoesTold, Held, is_ours}
 use Rattle.group_exchange.specs.Views.{is_of, world_after}
@@ -32,7 +32,7 @@ module _ {S K : Type 0} {r : Rules Message S K Note} {number end : S → ℕ} {i
   now = done_by (simulation_of r x) (steps_told h.flow.words) (in_hand (simulation_of r x) seen (world_after (simulation_of r x) last))
 
   -- words were told: the group keeps what it keeps, and went on by them
-  pub record Told (did : List Did) : Type 0 where
+  pub record Told (did : List Word) : Type 0 where
     pub holds : Holds r number end is_placed x owners V groups g seen last new
     pub went : (gone : ℕ) →
         Went (simulation_of r x) owners did (record { number = g; held = h; last = last; seen = seen; gone = gone }) (record { number = g; held = new; last = last; seen = seen; gone = gone })

@@ -8,7 +8,7 @@ use Rattle.virtual_time.proofs.Groups.{step-does}
 use Rattle.virtual_time.proofs.GroupSteps.{run-done}
 use Rattle.virtual_time.proofs.SafeGroup.{group-safe}
 use Rattle.reverse.specs.Setting.{Setting, simulation_of}
-use Rattle.group_hand.specs.declared.block.Did.{Did}
+use Rattle.group_hand.specs.declared.block.Word.{Word}
 use Rattle.group_hand.specs.Block.{steps_of_word, steps_told}
 use Rattle.group_hand.specs.Hands.{Held, StandsForGroup, is_ours}
 use Rattle.group_exchange.specs.Views.{GroupState, before_block, in_group, is_of, world_after}
@@ -16,7 +16,7 @@ use Rattle.group_exchange.specs.Keeps.{Holds}
 use Rattle.group_exchange.specs.Effects.{Went}
 
 -- words, and then others
-pub told-append : (ds es : List Did) → steps_told (ds ++ es) ≡ steps_told ds ++ steps_told es
+pub told-append : (ds es : List Word) → steps_told (ds ++ es) ≡ steps_told ds ++ steps_told es
 told-append [] es = refl
 told-append (d ∷ ds) es = ap (λ z. steps_of_word d ++ z) (told-append ds es) ∙ sym (append_assoc (steps_of_word d) (steps_told ds) (steps_told es))
 
@@ -36,7 +36,7 @@ module _ {S K : Type 0} (f : Simulation Message S K Note) where
       (a.0, are-done-append xs ys (step f x v) a.1 (subst (λ z. AreDone f ys (done_by f xs z)) (sym e) b))
 
 module _ {S K : Type 0} {r : Rules Message S K Note} {number end : S → ℕ} {is_placed : S → Type 0} {x : Setting S} {owners : List ℕ} {V : S → Message → Type 0} {groups g seen : ℕ} {last : List Step}
-    {h : Held S K} (old : Holds r number end is_placed x owners V groups g seen last h) (L : Laws (simulation_of r x)) (new : Held S K) (did : List Did)
+    {h : Held S K} (old : Holds r number end is_placed x owners V groups g seen last h) (L : Laws (simulation_of r x)) (new : Held S K) (did : List Word)
     (words : new.flow.words ≡ h.flow.words ++ did) (by : AreBy (is_of owners g) (steps_told did)) where
   -- what the group had in hand when its block began, and has now
   abbrev begun : World Message S
@@ -79,7 +79,7 @@ module _ {S K : Type 0} {r : Rules Message S K Note} {number end : S → ℕ} {i
   went-on done gone = record { words = words; by = by; enabled = done; ends = ends; others = refl }
 
 -- one call after another
-pub went-both : {S K : Type 0} (f : Simulation Message S K Note) (owners : List ℕ) (did more : List Did) (h mid k : GroupState S K) → Went f owners did h mid → Went f owners more mid k → Went f owners (did ++ more) h k
+pub went-both : {S K : Type 0} (f : Simulation Message S K Note) (owners : List ℕ) (did more : List Word) (h mid k : GroupState S K) → Went f owners did h mid → Went f owners more mid k → Went f owners (did ++ more) h k
 went-both f owners did more h mid k a b =
     let t = told-append did more in
     let same : mid.number ≡ h.number = ap (λ (z : GroupState _ _). z.number) a.others in

@@ -1,5 +1,5 @@
 -- What each call does to an exchange of groups and to a group.
-use Rattle.std.specs.Prelude.{◌≡◌, ◌≢◌, ℕ, ◌+◌, ◌<◌, ◌≤◌, ◌==◌, ◌⊎◌, Bool, true, false, List, [], ◌∷◌, ◌++◌, map, length, set, All, IsSome, Some, IsPermutation, ⊤}
+use Rattle.std.specs.Prelude.{◌≡◌, ◌≢◌, ℕ, ◌+◌, ◌<◌, ◌≤◌, ◌==◌, ◌⊎◌, Bool, true, false, List, [], ◌∷◌, ◌++◌, map, length, set, All, IsSome, Some, ⊤}
 use Rattle.vlink.specs.declared.message.Message.{Message}
 use Rattle.vlink.specs.declared.note.Note.{Note}
 use Rattle.vlink.specs.Numbering.{greatest_number}
@@ -9,7 +9,7 @@ use Rattle.virtual_time.specs.declared.step.Step.{Step}
 use Rattle.virtual_time.specs.declared.step.Step.TheVariants.{Take, Arrive, Run, Post, Gvt, Commit}
 use Rattle.journal.specs.declared.fault.PoolFault.{PoolFault}
 use Rattle.journal.specs.declared.fault.PoolFault.TheVariants.{OutOfMemory, Exhausted}
-use Rattle.group_hand.specs.declared.block.Did.{Did}
+use Rattle.group_hand.specs.declared.block.Word.{Word}
 use Rattle.group_hand.specs.Block.{commits_in, runs_in, steps_told}
 use Rattle.group_hand.specs.DoneEvents.{messages_of}
 use Rattle.group_hand.specs.Hands.{Held}
@@ -20,29 +20,22 @@ use Rattle.reverse.specs.declared.sends.TheConstants.{MOST_SENT}
 abbrev pub takes_of : Order Message → List Letter → List Step
 takes_of o ls = map (λ l. Take (o.receiver l.message) 0) ls
 
--- these letters came to the back of the tray
-pub record TookLetters {S K : Type 0} (letters : List Letter) (old new : Held S K) : Type 0 where
-  pub members : new.members ≡ old.members
-  pub done : new.done ≡ old.done
-  pub rows : new.rows ≡ old.rows
-  pub queue : IsPermutation old.flow.queue new.flow.queue
-  pub flow : new.flow ≡ record old.flow { queue = new.flow.queue; tray = old.flow.tray ++ letters; room = new.flow.room }
+-- these letters came to the back of the tray. Here and below, for how much more there is room may change too
+abbrev pub TookLetters : {S K : Type 0} → List Letter → Held S K → Held S K → Type 0
+TookLetters letters old new = new ≡ record old { flow = record old.flow { tray = old.flow.tray ++ letters; room = new.flow.room } }
 
 -- its letters to others and its block left; messages that are done already may count beside in place of waiting
-pub record LeftBlock {S K : Type 0} (old new : Held S K) : Type 0 where
-  pub members : new.members ≡ old.members
-  pub done : new.done ≡ old.done
-  pub rows : new.rows ≡ old.rows
-  pub flow : new.flow ≡ record old.flow { queue = new.flow.queue; extra = new.flow.extra; abroad = []; words = []; room = new.flow.room }
+abbrev pub LeftBlock : {S K : Type 0} → Held S K → Held S K → Type 0
+LeftBlock old new = new ≡ record old { flow = record old.flow { queue = new.flow.queue; extra = new.flow.extra; abroad = []; words = []; room = new.flow.room } }
 
--- nothing changed but that messages that are done already may count beside in place of waiting, the order of the queue, and for how much more there is
--- room
-pub record IsGroupAsBefore {S K : Type 0} (old new : GroupState S K) : Type 0 where
-  pub members : new.held.members ≡ old.held.members
-  pub done : new.held.done ≡ old.held.done
-  pub rows : new.held.rows ≡ old.held.rows
-  pub flow : new.held.flow ≡ record old.held.flow { queue = new.held.flow.queue; extra = new.held.flow.extra; room = new.held.flow.room }
-  pub others : new ≡ record old { held = new.held }
+-- nothing changed
+abbrev pub IsGroupAsBefore : {S K : Type 0} → GroupState S K → GroupState S K → Type 0
+IsGroupAsBefore old new = new ≡ record old { held = record old.held { flow = record old.held.flow { room = new.held.flow.room } } }
+
+-- nothing changed but that messages that are done already may count beside in place of waiting
+abbrev pub CountsDone : {S K : Type 0} → GroupState S K → GroupState S K → Type 0
+CountsDone old new =
+    new ≡ record old { held = record old.held { flow = record old.held.flow { queue = new.held.flow.queue; extra = new.held.flow.extra; room = new.held.flow.room } } }
 
 module _ {S K : Type 0} (f : Simulation Message S K Note) where
   -- a step that handles a message handles one that is earlier than the limit, where no letter waits to arrive at these processes
@@ -87,7 +80,7 @@ module _ {S K : Type 0} (f : Simulation Message S K Note) (owners : List ℕ) wh
     pub held : LeftBlock h.held k.held
 
   -- an empty block changes nothing
-  abbrev pub posts : List Did → Ledger → GroupState S K → Ledger → GroupState S K → Type 0
+  abbrev pub posts : List Word → Ledger → GroupState S K → Ledger → GroupState S K → Type 0
   posts [] x h y k = (y ≡ x) × IsGroupAsBefore h k
   posts (d ∷ ds) x h y k = PostsBlock x h y k
 
@@ -109,7 +102,7 @@ module _ {S K : Type 0} (f : Simulation Message S K Note) (owners : List ℕ) wh
       × publishes (t == (world_after f x.steps).gvt) x y
 
   -- the group did these words, which joined the block: each of their steps could be done, and is one of its own processes
-  pub record Went (did : List Did) (h k : GroupState S K) : Type 0 where
+  pub record Went (did : List Word) (h k : GroupState S K) : Type 0 where
     pub words : k.held.flow.words ≡ h.held.flow.words ++ did
     pub by : AreBy (is_of owners h.number) (steps_told did)
     pub enabled : AreDone f (steps_told did) (in_group f h)
@@ -118,14 +111,14 @@ module _ {S K : Type 0} (f : Simulation Message S K Note) (owners : List ℕ) wh
 
   -- some words joined the block: letters arrived, and messages were handled that are earlier than the limit, each where no letter waited
   pub record Goes (limit : ℕ) (h k : GroupState S K) : Type 0 where
-    pub did : List Did
+    pub did : List Word
     pub went : Went did h k
     pub timely : AreTimely f limit (is_of owners h.number) (steps_told did) (in_group f h)
     pub no_commit : commits_in did ≡ 0
 
   -- words of committed events joined the block
   pub record Ends (h k : GroupState S K) : Type 0 where
-    pub did : List Did
+    pub did : List Word
     pub went : Went did h k
     pub commits : commits_in did ≡ length did
 
@@ -136,11 +129,11 @@ module _ {S K : Type 0} (f : Simulation Message S K Note) (owners : List ℕ) wh
   -- all letters of the tray arrive; then messages are handled that are earlier than the GVT seen and the window, `most` at most, as long as there are
   -- any; then all done events below the GVT seen are committed
   pub record Works (most window : ℕ) (h k : GroupState S K) (count : ℕ) : Type 0 where
-    pub did : List Did
+    pub did : List Word
     pub went : Went did h k
     -- words of letters and of messages that were handled, and then those of committed events
-    pub worked : List Did
-    pub ended : List Did
+    pub worked : List Word
+    pub ended : List Word
     pub parts : did ≡ worked ++ ended
     pub no_commit : commits_in worked ≡ 0
     pub commits : commits_in ended ≡ length ended
@@ -162,8 +155,10 @@ module _ {S K : Type 0} (f : Simulation Message S K Note) (owners : List ℕ) wh
   IsShort k = (p : ℕ) × (is_of owners k.number p ≡ true) × WantsNumbers ((in_group f k).parts p)
 
   -- a refusal leaves what was done before it. That numbers are wanting is told only where they are
-  pub record WorksSome (h k : GroupState S K) (fault : PoolFault) : Type 0 where
-    pub did : List Did
+  pub record WorksSome (window : ℕ) (h k : GroupState S K) (fault : PoolFault) : Type 0 where
+    pub did : List Word
     pub went : Went did h k
+    -- each message that was handled is earlier than the GVT seen and the window, and no letter waited
+    pub timely : AreTimely f (h.seen + window) (is_of owners h.number) (steps_told did) (in_group f h)
     pub numbers : fault ≡ Exhausted → (p : ℕ) × (is_of owners h.number p ≡ true) × WantsNumbers ((in_group f k).parts p)
     pub faults : (fault ≡ OutOfMemory) ⊎ (fault ≡ Exhausted)

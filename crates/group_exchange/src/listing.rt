@@ -6,7 +6,7 @@ ghost use Rattle.group_hand.specs.Block.{steps_of_word, steps_told};
 ghost use Rattle.group_boxes.specs.Boxing.{waiting_for};
 
 use group_boxes::Boxes;
-use group_hand::{Did, Words};
+use group_hand::{Word, Words};
 use vlink::{Letter, Step};
 
 /// Lists a Take for each letter, the first of the mail of its receiver. The room for these steps was made before.
@@ -33,7 +33,7 @@ pub(crate) fn list_block(steps: &mut Vec<Step>, words: &Words, boxes: &Boxes)
 }
 
 /// Lists the steps that these words represent, each Take behind the letters that are in transit. The room for them was made before.
-fn list_words(steps: &mut Vec<Step>, words: &[Did], boxes: &Boxes)
+fn list_words(steps: &mut Vec<Step>, words: &[Word], boxes: &Boxes)
     requires room { vec_len steps.old + length (steps_told words.now) ≤ vec_capacity steps.old }
     ensures { steps.new.items ≡ steps.old.items ++ map (behind (waiting_for boxes.now)) (steps_told words.now) }
 {
@@ -43,35 +43,35 @@ fn list_words(steps: &mut Vec<Step>, words: &[Did], boxes: &Boxes)
 }
 
 /// Lists the steps that this word represents.
-fn list_word(steps: &mut Vec<Step>, did: Did, boxes: &Boxes)
+fn list_word(steps: &mut Vec<Step>, did: Word, boxes: &Boxes)
     requires room { vec_len steps.old + length (steps_of_word did) ≤ vec_capacity steps.old }
     ensures items { steps.new.items ≡ steps.old.items ++ map (behind (waiting_for boxes.now)) (steps_of_word did) }
     ensures len { vec_len steps.new ≡ vec_len steps.old + length (steps_of_word did) }
     ensures capacity { vec_capacity steps.new ≡ vec_capacity steps.old }
 {
     match did {
-        Did::Ran { process } => {
+        Word::Ran { process } => {
             let process = u32::from(process);
             steps.push_reserved(Step::Run { process });
             steps.push_reserved(Step::Post { process });
         }
-        Did::Home { process } => {
+        Word::Home { process } => {
             let place = boxes.waiting_count(process);
             let process = u32::from(process);
             steps.push_reserved(Step::Take { process, place });
             steps.push_reserved(Step::Arrive { process });
         }
-        Did::Taken { process } => {
+        Word::Taken { process } => {
             let place = boxes.waiting_count(process);
             let process = u32::from(process);
             steps.push_reserved(Step::Take { process, place });
         }
-        Did::Arrived { process } => {
+        Word::Arrived { process } => {
             let process = u32::from(process);
             steps.push_reserved(Step::Arrive { process });
             steps.push_reserved(Step::Post { process });
         }
-        Did::Committed { process } => {
+        Word::Committed { process } => {
             let process = u32::from(process);
             steps.push_reserved(Step::Commit { process });
         }

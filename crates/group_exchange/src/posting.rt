@@ -11,7 +11,7 @@ ghost use Rattle.group_hand.specs.DoneEvents.{messages_of};
 ghost use Rattle.group_hand.specs.Hands.{FirstWaits, StandsForGroup};
 ghost use Rattle.group_boxes.specs.Boxing.{HasRoom, box_of, for_group, waiting_for};
 ghost use Rattle.group_exchange.specs.Views.{block_of};
-ghost use Rattle.group_exchange.specs.Effects.{IsGroupAsBefore, Posts};
+ghost use Rattle.group_exchange.specs.Effects.{CountsDone, Posts};
 
 use crate::group::Group;
 use crate::groups::GroupExchange;
@@ -33,7 +33,7 @@ pub fn post<R: Actor, J: GroupRun<R>>(
     exchange: &mut GroupExchange<R, J>,
 ) -> Result<(), PoolFault>
     ensures ok { OnOk result (Posts (simulation_of (rules_of R.plain) J.setting) J.owners exchange.old group.old exchange.new group.new) }
-    ensures unchanged { OnErr result ((exchange.new ≡ exchange.old) × IsGroupAsBefore group.old group.new) }
+    ensures unchanged { OnErr result ((exchange.new ≡ exchange.old) × CountsDone group.old group.new) }
     ensures full { result ≡ Err JournalFull → (0 < length (block_of group.old)) × (exchange.old.limit < length exchange.old.steps + length (block_of group.old)) }
     ensures limited { exchange.old.limit < length exchange.old.steps + length (block_of group.old) → 0 < length (block_of group.old) → result ≡ Err JournalFull }
     ensures faults { IfErr result (λ fault. (fault ≡ OutOfMemory) ⊎ (fault ≡ JournalFull)) }

@@ -1,5 +1,5 @@
 //! What a group does alone.
-ghost use Rattle.std.specs.Prelude.{◌≡◌, ℕ, ◌+◌, ◌≤◌, ◌⊎◌, false, [], OnOk, IfOk, IfErr, IfNone, Ok, Err, All, IsPermutation};
+ghost use Rattle.std.specs.Prelude.{◌≡◌, ℕ, ◌+◌, ◌≤◌, ◌⊎◌, false, [], OnOk, IfOk, IfErr, IfNone, Ok, Err, All};
 ghost use Rattle.vlink.specs.Order.{message_order};
 ghost use Rattle.virtual_time.specs.Law.{IsAscending, one_if};
 ghost use Rattle.reverse.specs.Rules.{rules_of};
@@ -9,7 +9,7 @@ ghost use Rattle.group_hand.specs.Block.{runs_in};
 ghost use Rattle.group_hand.specs.DoneEvents.{messages_of};
 ghost use Rattle.group_hand.specs.Hands.{FirstWaits};
 ghost use Rattle.group_hand.specs.declared.in_order.InOrder.TheVariants.{Ran, Idle, Late};
-ghost use Rattle.group_exchange.specs.Effects.{Ends, Goes, IsGroupAsBefore, IsIdleBefore, IsShort, Works, WorksSome};
+ghost use Rattle.group_exchange.specs.Effects.{CountsDone, Ends, Goes, IsGroupAsBefore, IsIdleBefore, IsShort, Works, WorksSome};
 
 use crate::group::Group;
 use crate::run_of::GroupRun;
@@ -32,7 +32,7 @@ pub fn work<R: Actor, J: GroupRun<R>, G: Gate>(
     gate: &G,
 ) -> Result<u64, PoolFault>
     ensures ok { IfOk result (λ count. Works (simulation_of (rules_of R.plain) J.setting) J.owners turn window group.old group.new count) }
-    ensures some { IfErr result (λ fault. WorksSome (simulation_of (rules_of R.plain) J.setting) J.owners group.old group.new fault) }
+    ensures some { IfErr result (λ fault. WorksSome (simulation_of (rules_of R.plain) J.setting) J.owners window group.old group.new fault) }
 {
     let reach = Reach::of(group.standing.seen, window, group.end);
     let count = group.run_turn(turn, reach.ahead, gate)?;
@@ -188,7 +188,7 @@ impl<R: Actor, J: GroupRun<R>> Group<R, J> {
 
     /// Moves messages at the front of the queue that are already done to the tally, until the first is not done.
     fn count_done(&mut self) -> Result<(), PoolFault>
-        ensures stood { IsGroupAsBefore self.old self.new }
+        ensures stood { CountsDone self.old self.new }
         ensures waits { OnOk result (IsAscending message_order (messages_of self.new.held.done) → FirstWaits message_order self.new.held) }
         ensures memory { IfErr result (λ fault. fault ≡ OutOfMemory) }
     {
@@ -217,7 +217,7 @@ impl<R: Actor, J: GroupRun<R>> Group<R, J> {
         requires seen { moment ≡ self.old.seen }
         ensures ends { Ends (simulation_of (rules_of R.plain) J.setting) J.owners self.old self.new }
         ensures below { OnOk result (All (λ m. self.old.seen ≤ m.time) (messages_of self.new.held.done)) }
-        ensures queue { IsPermutation self.old.held.flow.queue self.new.held.flow.queue }
+        ensures queue { self.new.held.flow.queue ≡ self.old.held.flow.queue }
         ensures in_time { All (λ m. m.time ≤ J.setting.until) self.new.held.flow.queue }
         ensures tray { self.new.held.flow.tray ≡ self.old.held.flow.tray }
         ensures memory { IfErr result (λ fault. fault ≡ OutOfMemory) }

@@ -16,7 +16,7 @@ use Rattle.reverse.proofs.Members.{in-all}
 use Rattle.antimessages.specs.Counting.{is_after, newest_of}
 use Rattle.antimessages.proofs.Newest.{after-all}
 use Rattle.two_lists.proofs.Counting.{times-permutation}
-use Rattle.group_hand.specs.declared.block.Did.TheVariants.{Ran}
+use Rattle.group_hand.specs.declared.block.Word.TheVariants.{Ran}
 use Rattle.group_hand.specs.Block.{steps_told}
 use Rattle.group_hand.specs.DoneEvents.{DoneEvent, done_event_of, done_events_at, messages_of}
 use Rattle.group_hand.specs.Flow.{Flow}

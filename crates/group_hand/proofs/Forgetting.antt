@@ -6,7 +6,7 @@ use Rattle.std.proofs.lemmas.Option.{slice_get-map, slice_get-get_or, slice_get_
 use Rattle.vlink.specs.declared.message.Message.{Message}
 use Rattle.vlink.specs.Letters.{Row}
 use Rattle.group_hand.specs.declared.done_events.Event.{Event}
-use Rattle.group_hand.specs.declared.block.Did.TheVariants.{Committed}
+use Rattle.group_hand.specs.declared.block.Word.TheVariants.{Committed}
 use Rattle.group_hand.specs.DoneEvents.{DoneEvent, done_events_in, all_sent, all_noted, messages_of}
 use Rattle.group_hand.specs.Undoing.{sent_in, noted_in}
 use Rattle.group_hand.specs.Sealing.{rows_in, words_of}

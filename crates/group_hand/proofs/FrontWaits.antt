@@ -1,7 +1,5 @@
 -- Messages at the front of the queue that are done already count beside, until the first one waits.
-use Rattle.std.proofs.Common.{◌≡◌, ◌≢◌, false, Option, Some, IfSome, List, [], length, All, Contains, IsPermutation, refl, sym, ap, ◌∙◌, subst, arith}
-use Rattle.std.proofs.lemmas.List.{nil_from_length}
-use Rattle.std.proofs.lemmas.List.Sorted.{Contains-permutation, All-permutation, IsPermutation-refl, length_permutation}
+use Rattle.std.proofs.Common.{◌≡◌, ◌≢◌, false, Option, Some, IfSome, List, [], All, Contains, refl, sym, ap, ◌∙◌, subst, arith}
 use Rattle.vlink.specs.declared.message.Message.{Message}
 use Rattle.vlink.specs.declared.note.Note.{Note}
 use Rattle.vlink.specs.Order.{message_order}
@@ -22,14 +20,10 @@ use Rattle.group_hand.proofs.Among.{contains-in, none-among}
 use Rattle.group_hand.proofs.CountsAgain.{stands-again}
 use Rattle.group_hand.proofs.Still.{stands-still}
 
--- the first message as code finds it, in whatever order the queue is
-pub first-least : IsOrder message_order → (m : Message) (old new : List Message) → IsPermutation old new → Contains old m → All (λ x. is_before x m ≡ false) old →
-    least message_order new ≡ Some m
-first-least O m old new p c a =
-    least-from message_order O new m (record {
-      inside = contains-in O new m (Contains-permutation old new m p c);
-      lowest = λ y i. in-all message_order O (λ x. is_before x m ≡ false) y new (All-permutation (λ (x : Message). is_before x m ≡ false) old new p a) i;
-    })
+-- the first message as code finds it
+pub first-least : IsOrder message_order → (m : Message) (queue : List Message) → Contains queue m → All (λ x. is_before x m ≡ false) queue → least message_order queue ≡ Some m
+first-least O m queue c a =
+    least-from message_order O queue m (record { inside = contains-in O queue m c; lowest = λ y i. in-all message_order O (λ x. is_before x m ≡ false) y queue a i })
 
 -- it is none of the done events
 pub front-waits : {S K : Type 0} → IsOrder message_order → (h : Held S K) (m : Message) → least message_order h.flow.queue ≡ Some m → All (λ x. x ≢ m) (messages_of h.done) → FirstWaits message_order h
@@ -39,7 +33,7 @@ front-waits O h m e a = subst (λ o. IfSome o (λ y. times_in message_order y (m
 pub not-waiting : {S K : Type 0} → IsOrder message_order → (h : Held S K) (m : Message) → Contains h.flow.queue m → All (λ x. is_before x m ≡ false) h.flow.queue → Contains (messages_of h.done) m →
     FirstWaits message_order h → ⊥
 not-waiting O h m c a there w =
-    let e = first-least O m h.flow.queue h.flow.queue (IsPermutation-refl h.flow.queue) c a in
+    let e = first-least O m h.flow.queue c a in
     let i = contains-in O (messages_of h.done) m there in
     let z = subst (λ o. IfSome o (λ y. times_in message_order y (messages_of h.done) ≡ 0)) e w in
     omega arith
@@ -47,10 +41,6 @@ not-waiting O h m c a there w =
 -- there is none
 pub nothing-waits : {S K : Type 0} (h : Held S K) → h.flow.queue ≡ [] → FirstWaits message_order h
 nothing-waits h e = subst (λ q. IfSome (least message_order q) (λ y. times_in message_order y (messages_of h.done) ≡ 0)) (sym e) tt
-
--- there was none
-pub nothing-left : (old new : List Message) → IsPermutation old new → old ≡ [] → new ≡ []
-nothing-left old new p e = nil_from_length new (length_permutation old new p ∙ ap length e)
 
 -- messages of the queue count beside, and nothing else changed but for how much more there is room
 pub record CountedBeside {S K : Type 0} (r : Rules Message S K Note) (V : S → Message → Type 0) (old new : Held S K) : Type 0 where
@@ -75,15 +65,10 @@ module _ {S K : Type 0} (r : Rules Message S K Note) (V : S → Message → Type
     others = λ j. held members done rows (e j);
   }
 
--- nothing changed but the order of the queue
+-- nothing changed but room
 pub counted-as : {S K : Type 0} (plain : Plain S Message Sends K) (V : S → Message → Type 0) → IsOrder message_order →
     ((s : S) (e : Message) → plain.before (plain.after s e) e (plain.saves s e) ≡ s) → (old new : Held S K) → IsAsBefore old new → CountedBeside (rules_of plain) V old new
 counted-as plain V O law old new a = record {
   stands = stands-still plain V O law old new a;
-  others = λ j. record {
-    members = a.members j;
-    done = a.done j;
-    rows = a.rows j;
-    flow = (a.flow ∙ (λ i. record old.flow { queue = new.flow.queue; extra = (ap (λ z. z.extra) (sym a.flow)) i; room = new.flow.room })) j;
-  };
+  others = a ∙ (λ j. record old { flow = record old.flow { queue = (ap (λ z. z.flow.queue) (sym a)) j; extra = (ap (λ z. z.flow.extra) (sym a)) j; room = new.flow.room } });
 }

@@ -15,7 +15,7 @@ use Rattle.reverse.specs.Rules.{rules_of}
 use Rattle.reverse.specs.declared.sends.Sends.{Sends}
 use Rattle.antimessages.specs.Counting.{HaveSameCounts, signed_count}
 use Rattle.two_lists.proofs.Counting.{times-permutation}
-use Rattle.group_hand.specs.declared.block.Did.TheVariants.{Arrived}
+use Rattle.group_hand.specs.declared.block.Word.TheVariants.{Arrived}
 use Rattle.group_hand.specs.declared.tray.Way.{Way}
 use Rattle.group_hand.specs.declared.tray.Way.TheVariants.{Beside, Joins, Leaves, Undoes}
 use Rattle.group_hand.specs.Arriving.{FrontArrived, WentOn, CountsMore, JoinsQueue, LeavesQueue, IsUndone, sent_by, taken_back, to_members, to_others, words_taken}

@@ -9,7 +9,7 @@ use Rattle.reverse.specs.Plain.{Plain}
 use Rattle.reverse.specs.Rules.{rules_of}
 use Rattle.reverse.specs.declared.sends.Sends.{Sends}
 use Rattle.antimessages.specs.Counting.{is_after, newest_of}
-use Rattle.group_hand.specs.declared.block.Did.TheVariants.{Ran}
+use Rattle.group_hand.specs.declared.block.Word.TheVariants.{Ran}
 use Rattle.group_hand.specs.Arriving.{WentOn, to_members, to_others, words_taken}
 use Rattle.group_hand.specs.DoneEvents.{DoneEvent, done_event_of, done_events_at, messages_of}
 use Rattle.group_hand.specs.Flow.{Flow}

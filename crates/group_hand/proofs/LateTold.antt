@@ -15,7 +15,7 @@ use Rattle.reverse.specs.Setting.{Setting, simulation_of}
 use Rattle.reverse.specs.declared.sends.Sends.{Sends}
 use Rattle.reverse.proofs.Members.{in-all}
 use Rattle.two_lists.proofs.Counting.{times-permutation}
-use Rattle.group_hand.specs.declared.block.Did.TheVariants.{Ran}
+use Rattle.group_hand.specs.declared.block.Word.TheVariants.{Ran}
 use Rattle.group_hand.specs.DoneEvents.{DoneEvent, done_event_of, done_events_at, messages_of}
 use Rattle.group_hand.specs.Hands.{Held, DoesSent, StandsForSent, is_held, is_ours}
 use Rattle.group_hand.specs.Arriving.{WentOn}

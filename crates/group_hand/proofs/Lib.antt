@@ -1,4 +1,5 @@
 pub mod Shares
+pub mod Waiting
 pub mod Offers
 pub mod Telling
 pub mod Adding

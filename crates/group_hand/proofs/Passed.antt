@@ -10,7 +10,7 @@ use Rattle.reverse.specs.Rules.{rules_of}
 use Rattle.reverse.specs.Setting.{simulation_of}
 use Rattle.reverse.specs.declared.sends.Sends.{Sends}
 use Rattle.two_lists.proofs.Counting.{times-permutation}
-use Rattle.group_hand.specs.declared.block.Did.TheVariants.{Home, Taken}
+use Rattle.group_hand.specs.declared.block.Word.TheVariants.{Home, Taken}
 use Rattle.group_hand.specs.Block.{steps_told}
 use Rattle.group_hand.specs.Flow.{Flow, WentAbroad, CameHome, WasTaken}
 use Rattle.group_hand.specs.Hands.{StandsForSent, is_ours}

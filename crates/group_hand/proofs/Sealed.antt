@@ -1,8 +1,7 @@
 -- Done events are committed one after another.
-use Rattle.std.proofs.Common.{◌≡◌, ℕ, ◌<◌, ◌≤◌, ◌⊎◌, inl, inr, min, true, false, List, [], ◌∷◌, ◌++◌, Option, Some, None, IfSome, IfNone, All, IsPermutation, pos, refl, sym, ap, ◌∙◌, subst, append_assoc, append-nil, arith}
+use Rattle.std.proofs.Common.{◌≡◌, ℕ, ◌<◌, ◌≤◌, ◌⊎◌, inl, inr, min, true, false, List, [], ◌∷◌, ◌++◌, Option, Some, None, IfSome, IfNone, All, pos, refl, sym, ap, ◌∙◌, subst, append_assoc, append-nil, arith}
 use Rattle.std.proofs.lemmas.Bool.{both_ways}
 use Rattle.std.proofs.lemmas.List.Elements.{All-head, All-tail, All-weaker}
-use Rattle.std.proofs.lemmas.List.Sorted.{IsPermutation-refl}
 use Rattle.vlink.specs.declared.message.Message.{Message}
 use Rattle.vlink.specs.declared.note.Note.{Note}
 use Rattle.vlink.specs.Order.{message_order}
@@ -15,7 +14,7 @@ use Rattle.reverse.specs.Setting.{simulation_of}
 use Rattle.reverse.specs.declared.sends.Sends.{Sends}
 use Rattle.reverse.proofs.Members.{in-all}
 use Rattle.antimessages.specs.Counting.{signed_count}
-use Rattle.group_hand.specs.declared.block.Did.TheVariants.{Committed}
+use Rattle.group_hand.specs.declared.block.Word.TheVariants.{Committed}
 use Rattle.group_hand.specs.Block.{steps_told}
 use Rattle.group_hand.specs.DoneEvents.{DoneEvent}
 use Rattle.group_hand.specs.Flow.{Flow, IsFirst}
@@ -82,9 +81,9 @@ module _ {S K : Type 0} (plain : Plain S Message Sends K) (V : S → Message →
   pub commits-nothing : (h new : Held S K) → IsAsBefore h new → CommitsTold (rules_of plain) V moment h new
   commits-nothing h new a = record {
     did = [];
-    block = ap (λ z. z.words) a.flow ∙ sym (append-nil h.flow.words);
-    keeps = ap (λ z. z.keeps) a.flow;
-    stands = λ x L v l g. (tt, stands-still plain V O law h new a x v g, refl, of_members-none h.members new.members a.members);
+    block = ap (λ z. z.flow.words) a ∙ sym (append-nil h.flow.words);
+    keeps = ap (λ z. z.flow.keeps) a;
+    stands = λ x L v l g. (tt, stands-still plain V O law h new a x v g, refl, of_members-none h.members new.members (ap (λ z. z.members) a));
   }
 
   pub commits-oldest : (h new : Held S K) (d : DoneEvent K) (rest : List (DoneEvent K)) → new.members ≡ h.members → h.done ≡ d ∷ rest → new.done ≡ rest → new.rows.all ≡ h.rows.all ++ d.rows →
@@ -112,12 +111,11 @@ module _ {S K : Type 0} (plain : Plain S Message Sends K) (V : S → Message →
   pub commits-many : (ds : List (DoneEvent K)) (h new : Held S K) (rest : List (DoneEvent K)) → new.members ≡ h.members → h.done ≡ ds ++ rest → new.done ≡ rest → new.rows ≡ record h.rows { all = h.rows.all ++ rows_in ds } →
       new.flow ≡ record h.flow { words = h.flow.words ++ words_of ds; room = new.flow.room } → All (λ d. CanCommit moment h.flow d.message) ds →
       CommitsTold (rules_of plain) V moment h new
-  commits-many [] h new rest members done left rows flow can = commits-nothing h new (record {
-    members = members;
-    done = left ∙ sym done;
-    rows = rows ∙ (λ j. record h.rows { all = append-nil h.rows.all j });
-    queue = subst (λ z. IsPermutation h.flow.queue z) (sym (ap (λ z. z.queue) flow)) (IsPermutation-refl h.flow.queue);
-    flow = flow ∙ (λ j. record h.flow { queue = (ap (λ z. z.queue) (sym flow)) j; words = append-nil h.flow.words j; room = new.flow.room });
+  commits-many [] h new rest members done left rows flow can = commits-nothing h new (λ j. record {
+    members = members j;
+    done = (left ∙ sym done) j;
+    rows = (rows ∙ (λ i. record h.rows { all = append-nil h.rows.all i })) j;
+    flow = (flow ∙ (λ i. record h.flow { words = append-nil h.flow.words i; room = new.flow.room })) j;
   })
   commits-many (d ∷ ds) h new rest members done left rows flow can =
       let one : CanCommit moment h.flow d.message = All-head (λ (d : DoneEvent K). CanCommit moment h.flow d.message) d ds can in

@@ -1,17 +1,17 @@
 -- For how many steps words stand.
 use Rattle.std.proofs.Common.{◌≡◌, ℕ, ◌+◌, ◌≤◌, List, [], ◌∷◌, ◌++◌, length, ap, ◌∙◌, arith, length-append, append-nil}
-use Rattle.group_hand.specs.declared.block.Did.{Did}
-use Rattle.group_hand.specs.declared.block.Did.TheVariants.{Ran, Home, Taken, Arrived, Committed}
+use Rattle.group_hand.specs.declared.block.Word.{Word}
+use Rattle.group_hand.specs.declared.block.Word.TheVariants.{Ran, Home, Taken, Arrived, Committed}
 use Rattle.group_hand.specs.Block.{steps_of_word, steps_told}
 use Rattle.group_hand.proofs.Telling.{told-append}
 
 -- one word more
-pub steps-push : (ds : List Did) (d : Did) → length (steps_told (ds ++ d ∷ [])) ≡ length (steps_told ds) + length (steps_of_word d)
+pub steps-push : (ds : List Word) (d : Word) → length (steps_told (ds ++ d ∷ [])) ≡ length (steps_told ds) + length (steps_of_word d)
 steps-push ds d =
     ap length (told-append ds (d ∷ [])) ∙ (length-append (steps_told ds) (steps_of_word d ++ []) ∙
     ap (λ xs. length (steps_told ds) + length xs) (append-nil (steps_of_word d)))
 
-word-most : (d : Did) → length (steps_of_word d) ≤ 2
+word-most : (d : Word) → length (steps_of_word d) ≤ 2
 word-most (Ran p) = omega arith
 word-most (Home p) = omega arith
 word-most (Taken p) = omega arith
@@ -19,7 +19,7 @@ word-most (Arrived p) = omega arith
 word-most (Committed p) = omega arith
 
 -- at most two each
-pub steps-most : (ds : List Did) → length (steps_told ds) ≤ length ds + length ds
+pub steps-most : (ds : List Word) → length (steps_told ds) ≤ length ds + length ds
 steps-most [] = omega arith
 steps-most (d ∷ ds) =
     let a = length-append (steps_of_word d) (steps_told ds) in
@@ -28,5 +28,5 @@ steps-most (d ∷ ds) =
     omega arith
 
 -- what that is beside one each: no more than there are words
-pub long-few : (ds : List Did) (n long : ℕ) → length ds ≡ n → length (steps_told ds) ≡ n + long → long ≤ n
+pub long-few : (ds : List Word) (n long : ℕ) → length ds ≡ n → length (steps_told ds) ≡ n + long → long ≤ n
 long-few ds n long e s = let a = steps-most ds in omega arith

@@ -6,7 +6,7 @@ use Rattle.vlink.specs.Letters.{Letter}
 use Rattle.virtual_time.specs.Law.{Simulation, Rules, World, AreBy, AreDone, done_by, is_enabled, effect, step}
 use Rattle.virtual_time.specs.declared.step.Step.{Step}
 use Rattle.reverse.specs.Setting.{simulation_of}
-use Rattle.group_hand.specs.declared.block.Did.{Did}
+use Rattle.group_hand.specs.declared.block.Word.{Word}
 use Rattle.group_hand.specs.Block.{steps_of_word, steps_told}
 use Rattle.group_hand.specs.Hands.{Held, AreOfMembers, DoesSent, StandsForSent, is_ours}
 
@@ -27,7 +27,7 @@ module _ {M S K N : Type 0} (f : Simulation M S K N) where
         (are_done-append xs ys (effect f x v) (subst (λ w. AreDone f xs w) (step-does x v a.0) a.1) b),
   )
 
-pub told-append : (xs ys : List Did) → steps_told (xs ++ ys) ≡ steps_told xs ++ steps_told ys
+pub told-append : (xs ys : List Word) → steps_told (xs ++ ys) ≡ steps_told xs ++ steps_told ys
 told-append [] ys = refl
 told-append (x ∷ xs) ys = ap (λ z. steps_of_word x ++ z) (told-append xs ys) ∙ sym (append_assoc (steps_of_word x) (steps_told xs) (steps_told ys))
 
@@ -35,7 +35,7 @@ by-append : (ours : ℕ → Bool) (xs ys : List Step) → AreBy ours xs → AreB
 by-append ours [] ys a b = b
 by-append ours (x ∷ xs) ys a b = (a.0, by-append ours xs ys a.1 b)
 
-pub by-both : (ours : ℕ → Bool) (ds es : List Did) → AreBy ours (steps_told ds) → AreBy ours (steps_told es) → AreBy ours (steps_told (ds ++ es))
+pub by-both : (ours : ℕ → Bool) (ds es : List Word) → AreBy ours (steps_told ds) → AreBy ours (steps_told es) → AreBy ours (steps_told (ds ++ es))
 by-both ours ds es a b = subst (λ xs. AreBy ours xs) (sym (told-append ds es)) (by-append ours (steps_told ds) (steps_told es) a b)
 
 -- where the same are members
@@ -46,7 +46,7 @@ by-same ours now e xs a = subst (λ o. AreBy o xs) (λ j p. e p j) a
 pub of_members-none : {S : Type 0} (old new : List (Option S)) → new ≡ old → AreOfMembers old new []
 of_members-none old new e = record { by = tt; same = λ p. ap (λ ms. is_ours ms p) e }
 
-pub of_members-both : {S : Type 0} (old mid new : List (Option S)) (ds es : List Did) → AreOfMembers old mid ds → AreOfMembers mid new es → AreOfMembers old new (ds ++ es)
+pub of_members-both : {S : Type 0} (old mid new : List (Option S)) (ds es : List Word) → AreOfMembers old mid ds → AreOfMembers mid new es → AreOfMembers old new (ds ++ es)
 of_members-both old mid new ds es a b = record {
   by = by-both (is_ours old) ds es a.by (by-same (is_ours old) (is_ours mid) a.same (steps_told es) b.by);
   same = λ p. b.same p ∙ a.same p;

@@ -11,7 +11,7 @@ use Rattle.reverse.specs.Plain.{Plain}
 use Rattle.reverse.specs.Rules.{rules_of}
 use Rattle.reverse.specs.Setting.{Setting, simulation_of}
 use Rattle.reverse.specs.declared.sends.Sends.{Sends}
-use Rattle.group_hand.specs.declared.block.Did.TheVariants.{Taken}
+use Rattle.group_hand.specs.declared.block.Word.TheVariants.{Taken}
 use Rattle.group_hand.specs.Block.{steps_told}
 use Rattle.group_hand.specs.DoneEvents.{DoneEvent}
 use Rattle.group_hand.specs.Flow.{Flow}

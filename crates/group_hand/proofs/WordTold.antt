@@ -8,7 +8,7 @@ use Rattle.reverse.specs.Plain.{Plain}
 use Rattle.reverse.specs.Rules.{rules_of}
 use Rattle.reverse.specs.Setting.{Setting, simulation_of}
 use Rattle.reverse.specs.declared.sends.Sends.{Sends}
-use Rattle.group_hand.specs.declared.block.Did.{Did}
+use Rattle.group_hand.specs.declared.block.Word.{Word}
 use Rattle.group_hand.specs.Block.{steps_told}
 use Rattle.group_hand.specs.Hands.{Held, DoesSent, StandsForSent, is_ours}
 use Rattle.group_hand.specs.Passing.{held}
@@ -18,7 +18,7 @@ use Rattle.group_hand.proofs.Going.{stands-kept}
 use Rattle.group_hand.proofs.WentOn.{to_members-same, to_others-same, taken-by, all-went, Goes}
 
 module _ {S K : Type 0} (plain : Plain S Message Sends K) (V : S → Message → Type 0) (O : IsOrder message_order)
-    (law : (s : S) (e : Message) → plain.before (plain.after s e) e (plain.saves s e) ≡ s) (word : Did) (tray sent : List Letter) (old new : Held S K) where
+    (law : (s : S) (e : Message) → plain.before (plain.after s e) e (plain.saves s e) ≡ s) (word : Word) (tray sent : List Letter) (old new : Held S K) where
   -- the group when the word is told, and what it posted has not gone on
   abbrev pub between : Held S K
   between = held new.members new.done new.rows (record new.flow { tray = tray; abroad = old.flow.abroad; words = old.flow.words ++ word ∷ [] })

@@ -7,8 +7,8 @@ use Rattle.vlink.specs.Letters.{Letter}
 use Rattle.virtual_time.specs.Law.{Order, Rules, IsAscending, IsIn, times_in, minus_of}
 use Rattle.virtual_time.specs.declared.letter.Sign.TheVariants.{Plus, Minus}
 use Rattle.antimessages.specs.Counting.{HaveSameCounts, signed_count}
-use Rattle.group_hand.specs.declared.block.Did.{Did}
-use Rattle.group_hand.specs.declared.block.Did.TheVariants.{Taken}
+use Rattle.group_hand.specs.declared.block.Word.{Word}
+use Rattle.group_hand.specs.declared.block.Word.TheVariants.{Taken}
 use Rattle.group_hand.specs.DoneEvents.{DoneEvent, done_events_at, messages_of}
 use Rattle.group_hand.specs.Flow.{Flow}
 use Rattle.group_hand.specs.Hands.{Held, is_ours}
@@ -35,7 +35,7 @@ abbrev pub to_others : {S : Type 0} → List (Option S) → List Letter → List
 to_others members ls = filter (λ l. not (is_ours members l.message.receiver)) ls
 
 -- the words that these were taken
-abbrev pub words_taken : List Letter → List Did
+abbrev pub words_taken : List Letter → List Word
 words_taken ls = map (λ l. Taken l.message.receiver) ls
 
 -- these letters, which were just posted, went on: those to members were taken to the back of the tray, the rest joined the letters for others

@@ -6,17 +6,17 @@ use Rattle.vlink.specs.Letters.{Letter}
 use Rattle.virtual_time.specs.Law.{Order, plus_of, lowest, times_of}
 use Rattle.reverse.specs.Rules.{is_before}
 use Rattle.antimessages.specs.Counting.{signed_count}
-use Rattle.group_hand.specs.declared.block.Did.{Did}
-use Rattle.group_hand.specs.declared.block.Did.TheVariants.{Home, Taken}
+use Rattle.group_hand.specs.declared.block.Word.{Word}
+use Rattle.group_hand.specs.declared.block.Word.TheVariants.{Home, Taken}
 
--- what is present and not done, in no particular order; what counts beside; letters to members that were taken and have not arrived; letters to
+-- what is present and not done, in message order; what counts beside; letters to members that were taken and have not arrived; letters to
 -- others; the words of the block, and whether they are kept; and for how many letters and words more there is room
 pub record Flow : Type 0 where
   pub queue : List Message
   pub extra : List Letter
   pub tray : List Letter
   pub abroad : List Letter
-  pub words : List Did
+  pub words : List Word
   pub keeps : Bool
   pub room : ℕ
 
@@ -27,7 +27,7 @@ IsFirst (Some m) queue = Contains queue m × All (λ x. is_before x m ≡ false)
 
 -- the first message left the queue
 pub record TookFirst (m : Message) (old new : Flow) : Type 0 where
-  pub taken : IsPermutation old.queue (m ∷ new.queue)
+  pub taken : old.queue ≡ m ∷ new.queue
   pub first : All (λ x. is_before x m ≡ false) old.queue
   pub others : new ≡ record old { queue = new.queue; room = new.room }
 

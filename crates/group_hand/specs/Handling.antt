@@ -6,6 +6,7 @@ use Rattle.vlink.specs.Order.{message_order}
 use Rattle.virtual_time.specs.Law.{Order, Rules, IsAscending, IsIn, times_in, plus_of}
 use Rattle.reverse.specs.Rules.{is_before}
 use Rattle.antimessages.specs.Counting.{HaveSameCounts, is_after, newest_of}
+use Rattle.group_hand.specs.Becoming.{CannotSend}
 use Rattle.group_hand.specs.Block.{AddsRun}
 use Rattle.group_hand.specs.DoneEvents.{DoneEvent, done_event_of, messages_of}
 use Rattle.group_hand.specs.Flow.{Flow}
@@ -56,6 +57,12 @@ pub record HasLater {K : Type 0} (o : Order Message) (m : Message) (done : List 
 -- one event more is done; or this message, which was done already, left the queue
 abbrev pub IsHandled : {S K : Type 0} → Message → Held S K → Held S K → Type 0
 IsHandled m old new = (length new.done ≡ length old.done + 1) ⊎ IsPermutation old.flow.queue (m ∷ new.flow.queue)
+
+-- the first message of the queue is not done, and its receiver has too few numbers left for what one event can send, if it is a member
+abbrev pub FirstLacksNumbers : {S K : Type 0} → (S → ℕ) → Held S K → Type 0
+FirstLacksNumbers counter h =
+    (m : Message) × Contains h.flow.queue m × All (λ x. is_before x m ≡ false) h.flow.queue
+    × (IsAscending message_order (messages_of h.done) → All (λ x. x ≢ m) (messages_of h.done)) × CannotSend counter h.members m.receiver
 
 -- this message, which is the first of the queue and is not done, was handled
 pub record RanFirst {S K : Type 0} (m : Message) (old new : Held S K) : Type 0 where

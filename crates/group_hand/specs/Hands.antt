@@ -1,5 +1,5 @@
 -- What a group holds, when it represents its processes in a small world of the laws of virtual time, and what its calls do there.
-use Rattle.std.specs.Prelude.{◌≡◌, ℕ, suc, ◌<◌, ◌≤◌, Bool, true, false, List, [], ◌++◌, map, length, slice_get, Option, Some, None, All, IfSome, min, ⊤, IsPermutation}
+use Rattle.std.specs.Prelude.{◌≡◌, ℕ, suc, ◌<◌, ◌≤◌, Bool, true, false, List, [], ◌++◌, map, length, slice_get, Option, Some, None, All, IfSome, min, ⊤}
 use Rattle.vlink.specs.declared.message.Message.{Message}
 use Rattle.vlink.specs.declared.note.Note.{Note}
 use Rattle.vlink.specs.Letters.{Letter}
@@ -7,7 +7,7 @@ use Rattle.virtual_time.specs.Law.{Order, Rules, Laws, World, Part, opened, reac
 use Rattle.reverse.specs.Setting.{Setting, simulation_of}
 use Rattle.antimessages.specs.Counting.{HaveSameCounts}
 use Rattle.reverse.specs.Rules.{AreValues}
-use Rattle.group_hand.specs.declared.block.Did.{Did}
+use Rattle.group_hand.specs.declared.block.Word.{Word}
 use Rattle.group_hand.specs.Block.{steps_told}
 use Rattle.group_hand.specs.DoneEvents.{DoneEvent, done_events_at, done_events_of, messages_of}
 use Rattle.group_hand.specs.Flow.{Flow}
@@ -34,7 +34,7 @@ abbrev pub is_ours : {S : Type 0} → List (Option S) → ℕ → Bool
 is_ours members p = is_held (slice_get members p)
 
 -- these words are all of members, which stay members
-pub record AreOfMembers {S : Type 0} (old new : List (Option S)) (did : List Did) : Type 0 where
+pub record AreOfMembers {S : Type 0} (old new : List (Option S)) (did : List Word) : Type 0 where
   pub by : AreBy (is_ours old) (steps_told did)
   pub same : (p : ℕ) → is_ours new p ≡ is_ours old p
 
@@ -84,7 +84,7 @@ module _ {S K : Type 0} (r : Rules Message S K Note) (is_value : S → Message �
   -- whatever group this stood for, the steps that joined the block could be done there, it stands for what they make of it, and they are all of
   -- members, which stay members
   pub record DoesSent (old : Held S K) (sent : List Letter) (new : Held S K) (left : List Letter) : Type 0 where
-    pub did : List Did
+    pub did : List Word
     pub block : new.flow.words ≡ old.flow.words ++ did
     pub keeps : new.flow.keeps ≡ old.flow.keeps
     pub rows : new.rows ≡ old.rows
@@ -131,17 +131,13 @@ pub record IsOpened {S K : Type 0} (x : Setting S) (v : World Message S) (h : He
   pub floor : (p : ℕ) → is_ours h.members p ≡ true → v.floors p ≡ suc x.until
   pub mail : (q : ℕ) → v.mail q ≡ []
 
--- nothing changed but the order of the queue, and for how much more there is room
-pub record IsAsBefore {S K : Type 0} (old new : Held S K) : Type 0 where
-  pub members : new.members ≡ old.members
-  pub done : new.done ≡ old.done
-  pub rows : new.rows ≡ old.rows
-  pub queue : IsPermutation old.flow.queue new.flow.queue
-  pub flow : new.flow ≡ record old.flow { queue = new.flow.queue; room = new.flow.room }
+-- nothing changed but for how much more there is room
+abbrev pub IsAsBefore : {S K : Type 0} → Held S K → Held S K → Type 0
+IsAsBefore old new = new ≡ record old { flow = record old.flow { room = new.flow.room } }
 
 -- the same where GVT stands at this moment or later; GVT stays
 pub record CommitsTold {S K : Type 0} (r : Rules Message S K Note) (is_value : S → Message → Type 0) (moment : ℕ) (old new : Held S K) : Type 0 where
-  pub did : List Did
+  pub did : List Word
   pub block : new.flow.words ≡ old.flow.words ++ did
   pub keeps : new.flow.keeps ≡ old.flow.keeps
   pub stands : (x : Setting S) → Laws (simulation_of r x) → (v : World Message S) → moment ≤ v.gvt → StandsForGroup r is_value x v old →

@@ -11,3 +11,5 @@ pub mod Counted
 pub mod Undoing
 pub mod Sealing
 pub mod Trail
+pub mod Waiting
+pub mod Answered

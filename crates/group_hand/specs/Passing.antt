@@ -6,7 +6,7 @@ use Rattle.vlink.specs.declared.message.Message.{Message}
 use Rattle.vlink.specs.declared.note.Note.{Note}
 use Rattle.virtual_time.specs.Law.{Rules, Laws, World, IsIn, plus_of, AreBy, AreDone, done_by}
 use Rattle.reverse.specs.Setting.{Setting, simulation_of}
-use Rattle.group_hand.specs.declared.block.Did.{Did}
+use Rattle.group_hand.specs.declared.block.Word.{Word}
 use Rattle.group_hand.specs.Block.{commits_in, runs_in, steps_told}
 use Rattle.group_hand.specs.DoneEvents.{DoneEvent, messages_of}
 use Rattle.group_hand.specs.Flow.{Flow}
@@ -19,7 +19,7 @@ held members done rows flow = record { members = members; done = done; rows = ro
 -- of these messages, which one event sent, some have not gone on yet; where all come after what the group has done, and are not after the end,
 -- the group stands for what the steps make of it by which the others did, which are all of members
 pub record GoesOn {S K : Type 0} (r : Rules Message S K Note) (V : S → Message → Type 0) (members : List (Option S)) (all : List Message) (old : Flow) (sent : List Message) (new : Flow) (left : List Message) : Type 0 where
-  pub did : List Did
+  pub did : List Word
   pub words : new.words ≡ old.words ++ did
   pub keeps : new.keeps ≡ old.keeps
   pub by : AreBy (is_ours members) (steps_told did)

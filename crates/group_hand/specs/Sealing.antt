@@ -5,8 +5,8 @@ use Rattle.vlink.specs.Letters.{Row}
 use Rattle.vlink.specs.Order.{message_order}
 use Rattle.virtual_time.specs.Law.{times_in}
 use Rattle.antimessages.specs.Counting.{signed_count}
-use Rattle.group_hand.specs.declared.block.Did.{Did}
-use Rattle.group_hand.specs.declared.block.Did.TheVariants.{Committed}
+use Rattle.group_hand.specs.declared.block.Word.{Word}
+use Rattle.group_hand.specs.declared.block.Word.TheVariants.{Committed}
 use Rattle.group_hand.specs.DoneEvents.{DoneEvent}
 use Rattle.group_hand.specs.Flow.{Flow}
 
@@ -25,5 +25,5 @@ abbrev pub rows_in : {K : Type 0} → List (DoneEvent K) → List Row
 rows_in [] = []
 rows_in (d ∷ ds) = d.rows ++ rows_in ds
 
-abbrev pub words_of : {K : Type 0} → List (DoneEvent K) → List Did
+abbrev pub words_of : {K : Type 0} → List (DoneEvent K) → List Word
 words_of = map (λ d. Committed d.message.receiver)

@@ -8,7 +8,7 @@ use std::snapshot::Snapshot;
 
 /// Steps of one member, in order.
 #[derive(Clone, Copy)]
-pub enum Did {
+pub enum Word {
     /// Run and Post.
     Ran { process: u16 },
     /// Take of the first letter that the group sent it, and Arrive.
@@ -25,10 +25,10 @@ pub enum Did {
 /// each word exists once more as a value.
 #[derive(Drop)]
 pub struct Words {
-    told: Vec<Snapshot<Did>>,
+    told: Vec<Snapshot<Word>>,
     /// How many of the words represent two steps; the others represent one.
     long: usize,
-    kept: Option<Vec<Did>>,
+    kept: Option<Vec<Word>>,
 }
 
 impl Model for Words {
@@ -77,7 +77,7 @@ impl Words {
 
     /// Adds one word. The room for it was made before.
     #[inline(always)]
-    pub(crate) fn push_reserved(&mut self, did: Did)
+    pub(crate) fn push_reserved(&mut self, did: Word)
         requires { 0 < self.old.room }
         ensures words { self.new.words ≡ self.old.words ++ did ∷ [] }
         ensures keeps { self.new.keeps ≡ self.old.keeps }
@@ -105,7 +105,7 @@ impl Words {
     }
 
     /// Returns the words, if they are stored.
-    pub fn list(&self) -> &[Did]
+    pub fn list(&self) -> &[Word]
         requires { self.now.keeps ≡ true }
         ensures { result.now ≡ self.now.words }
     {
@@ -118,12 +118,12 @@ impl Words {
 
 /// Returns how many steps a word represents besides the first: one or none.
 #[inline(always)]
-fn more_steps(did: &Did) -> usize
+fn more_steps(did: &Word) -> usize
     ensures few { result ≤ 1 }
     ensures steps { length (steps_of_word did.now) ≡ 1 + result }
 {
     match did {
-        Did::Ran { .. } | Did::Home { .. } | Did::Arrived { .. } => 1,
-        Did::Taken { .. } | Did::Committed { .. } => 0,
+        Word::Ran { .. } | Word::Home { .. } | Word::Arrived { .. } => 1,
+        Word::Taken { .. } | Word::Committed { .. } => 0,
     }
 }

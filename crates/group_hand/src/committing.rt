@@ -7,7 +7,7 @@ ghost use Rattle.group_hand.specs.Flow.{IsFirst};
 ghost use Rattle.group_hand.specs.Sealing.{CanCommit, Stays, rows_in, words_of};
 ghost use Rattle.group_hand.specs.Undoing.{noted_in, sent_in};
 
-use crate::block::{Did, Words};
+use crate::block::{Word, Words};
 use crate::done_events::{DoneEvents, precedes};
 use crate::handing::time_or;
 use crate::letters::Letters;
@@ -157,7 +157,7 @@ fn tell_committed<K: Copy>(done: &DoneEvents<K>, block: &mut Words, count: usize
 {
     let events = done.events.as_slice();
     for place in 0..count {
-        block.push_reserved(Did::Committed {
+        block.push_reserved(Word::Committed {
             process: events[place].message.receiver,
         });
     }

@@ -1,5 +1,5 @@
 //! The letters that were taken arrive, one after another.
-ghost use Rattle.std.specs.Prelude.{◌≡◌, ◌+◌, ◌<◌, ◌≤◌, true, false, Ok, OnOk, OnErr, IfErr, IfSome, IsPermutation, length, vec_len, vec_capacity};
+ghost use Rattle.std.specs.Prelude.{◌≡◌, ◌+◌, ◌<◌, ◌≤◌, true, false, Ok, OnOk, OnErr, IfErr, IfSome, length, vec_len, vec_capacity};
 ghost use Rattle.reverse.specs.Rules.{rules_of};
 ghost use Rattle.group_hand.specs.Block.{AddsLetters};
 ghost use Rattle.group_hand.specs.Hands.{DoesTold, IsAsBefore, IsQuiet};
@@ -85,8 +85,7 @@ impl<R: Actor> Hand<R> {
 impl Letters {
     /// Sorts the messages that wait in no order, if they are many. Gives back the room of a tray that was emptied of many letters.
     fn sort_many(&mut self)
-        ensures queue { IsPermutation self.old.queue self.new.queue }
-        ensures others { self.new ≡ record self.old { queue = self.new.queue; room = self.new.room } }
+        ensures { self.new ≡ record self.old { room = self.new.room } }
     {
         self.room = 0;
         self.queue.sort_many();

@@ -105,8 +105,7 @@ impl<R: Actor> Hand<R> {
             × (self.new.rows ≡ record self.old.rows { all = self.old.rows.all ++ rows_in ds }) × All (λ m. m.time < moment) (messages_of ds)) }
         ensures left { OnOk result (StaysDone moment self.new) }
         ensures words { AddsCommits self.old.flow.words self.new.flow.words }
-        ensures queue { IsPermutation self.old.flow.queue self.new.flow.queue }
-        ensures flow { self.new.flow ≡ record self.old.flow { queue = self.new.flow.queue; words = self.new.flow.words; room = self.new.flow.room } }
+        ensures flow { self.new.flow ≡ record self.old.flow { words = self.new.flow.words; room = self.new.flow.room } }
         ensures memory { IfErr result (λ fault. fault ≡ OutOfMemory) }
         ensures unchanged { OnErr result (IsAsBefore self.old self.new) }
     {

@@ -1,5 +1,5 @@
 //! What a group passes to the rest of the run: its block, the letters for others, and its floor.
-ghost use Rattle.std.specs.Prelude.{◌≡◌, ◌⊎◌, ◌≤◌, ℕ, suc, min, [], true, Some, All, Contains, IfSome, IfNone, IsPermutation};
+ghost use Rattle.std.specs.Prelude.{◌≡◌, ◌⊎◌, ◌≤◌, ℕ, suc, min, [], true, Some, All, Contains, IfSome, IfNone};
 ghost use Rattle.vlink.specs.declared.message.Message.{Message};
 ghost use Rattle.vlink.specs.Order.{message_order};
 ghost use Rattle.virtual_time.specs.Law.{World, in_hand, lowest, received_by, times_of};
@@ -122,8 +122,7 @@ impl Letters {
 
     /// Returns the least time of the messages of the queue and of the letters in the tray, or `end`.
     fn floor(&mut self, end: Time) -> Time
-        ensures same { IsPermutation self.old.queue self.new.queue }
-        ensures others { self.new ≡ record self.old { queue = self.new.queue; room = self.new.room } }
+        ensures unchanged { self.new ≡ record self.old { room = self.new.room } }
         ensures least { result ≡ floor_in message_order end self.old }
     {
         order_law();

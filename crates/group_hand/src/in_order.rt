@@ -14,7 +14,7 @@ ghost use Rattle.group_hand.specs.Rows.{Sealed};
 ghost use Rattle.group_hand.specs.Undoing.{CameTo};
 ghost use Rattle.reverse.specs.declared.sends.TheConstants.{MOST_SENT};
 
-use crate::block::Did;
+use crate::block::Word;
 use crate::done_events::DoneEvents;
 use crate::fault::HandFault;
 use crate::letters::Letters;
@@ -59,7 +59,7 @@ pub(crate) fn handle_in_order<R: Actor>(
     actor_rules_law::<R>();
     let kept = act(members, message, out);
     done.push_reserved(message, kept, out.messages(), out.notes());
-    letters.tell(Did::Ran {
+    letters.tell(Word::Ran {
         process: message.receiver,
     });
     send_all(members, letters, out.messages());

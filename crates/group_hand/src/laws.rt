@@ -9,7 +9,7 @@ use reverse::{Actor, actor_rules_law};
 
 /// What holds for each group, whatever calls do.
 ///
-/// - `as_before`: a group that is as before, except for the order of its queue and its room, represents what it represented.
+/// - `as_before`: a group that is as before, except for its room, represents what it represented.
 /// - `opens`: a group that has done nothing represents its members in their opening states.
 pub fn hand_law<R: Actor>()
     ensures as_before { (old new : Held R R.Record) → IsAsBefore old new → (x : Setting R) (v : World Message R) →

@@ -3,10 +3,11 @@ ghost use Rattle.std.specs.Prelude.{◌≡◌, ◌+◌, ◌<◌, ◌≤◌, ◌�
 ghost use Rattle.vlink.specs.declared.message.Message.{Message};
 ghost use Rattle.vlink.specs.Letters.{Letter};
 ghost use Rattle.reverse.specs.Rules.{is_before};
-ghost use Rattle.group_hand.specs.declared.block.Did.TheVariants.{Home, Taken};
+ghost use Rattle.group_hand.specs.declared.block.Word.TheVariants.{Home, Taken};
 ghost use Rattle.group_hand.specs.Flow.{WentAbroad, CameHome, WasTaken, TookFirst};
+ghost use Rattle.group_hand.specs.Waiting.{placed};
 
-use crate::block::{Did, Words};
+use crate::block::{Word, Words};
 use crate::queue::Queue;
 use antimessages::Tally;
 use std::alloc::{AllocError, Global};
@@ -109,9 +110,8 @@ impl Letters {
     /// Returns the first message, if any.
     #[inline(always)]
     pub(crate) fn first(&mut self) -> Option<Message>
-        ensures same { IsPermutation self.old.queue self.new.queue }
         ensures room { self.old.room ≤ self.new.room }
-        ensures others { self.new ≡ record self.old { queue = self.new.queue; room = self.new.room } }
+        ensures unchanged { self.new ≡ record self.old { room = self.new.room } }
         ensures among { IfSome result (Contains self.old.queue) }
         ensures first { IfSome result (λ m. All (λ x. is_before x m ≡ false) self.old.queue) }
         ensures none { IfNone result (self.old.queue ≡ []) }
@@ -147,6 +147,7 @@ impl Letters {
     pub(crate) fn wait_again(&mut self, message: &Message)
         requires { 0 < self.old.room }
         ensures waits { IsPermutation (message.now ∷ self.old.queue) self.new.queue }
+        ensures placed { self.new.queue ≡ placed message.now self.old.queue }
         ensures others { self.new ≡ record self.old { queue = self.new.queue; room = self.new.room } }
         ensures room { self.old.room ≤ self.new.room + 1 }
     {
@@ -156,7 +157,7 @@ impl Letters {
 
     /// Adds one word. The room for it was made before.
     #[inline(always)]
-    pub(crate) fn tell(&mut self, did: Did)
+    pub(crate) fn tell(&mut self, did: Word)
         requires { 0 < self.old.room }
         ensures told { self.new ≡ record self.old { words = self.old.words ++ did ∷ []; room = self.new.room } }
         ensures room { self.old.room ≤ self.new.room + 1 }
@@ -209,7 +210,7 @@ impl Letters {
             sign,
         };
         self.tray.push_back_reserved(letter);
-        self.block.push_reserved(Did::Taken {
+        self.block.push_reserved(Word::Taken {
             process: message.receiver,
         });
         self.room -= 1;
@@ -228,7 +229,7 @@ impl Letters {
         ensures room { self.old.room ≤ self.new.room + 1 }
     {
         self.queue.push_reserved(message);
-        self.block.push_reserved(Did::Home {
+        self.block.push_reserved(Word::Home {
             process: message.receiver,
         });
         self.room -= 1;

@@ -30,7 +30,7 @@ mod settling;
 mod trail;
 mod tray;
 
-pub use block::{Did, Words};
+pub use block::{Word, Words};
 pub use fault::HandFault;
 pub use hand::Hand;
 pub use in_order::InOrder;

@@ -16,7 +16,7 @@ ghost use Rattle.group_hand.specs.Rows.{Sealed};
 ghost use Rattle.group_hand.specs.Undoing.{CameTo, HasRoomFor};
 ghost use Rattle.reverse.specs.declared.sends.TheConstants.{MOST_SENT};
 
-use crate::block::Did;
+use crate::block::Word;
 use crate::done_events::DoneEvents;
 use crate::letters::Letters;
 use crate::members::{act, is_ours};
@@ -121,7 +121,7 @@ pub(crate) fn handle_out_of_order<R: Actor>(
     letters.take_first(message);
     let kept = act(members, message, out);
     done.push_reserved(message, kept, out.messages(), out.notes());
-    letters.tell(Did::Ran {
+    letters.tell(Word::Ran {
         process: message.receiver,
     });
     send_later(members, letters, out.messages());

@@ -5,6 +5,7 @@ ghost use Rattle.std.proofs.Props.{props};
 ghost use Rattle.vlink.specs.Order.{message_order};
 ghost use Rattle.vlink.specs.declared.message.Message.{Message};
 ghost use Rattle.reverse.specs.Rules.{is_before};
+ghost use Rattle.group_hand.specs.Waiting.{placed};
 
 use std::alloc::{AllocError, Global};
 use std::marker::Model;
@@ -17,7 +18,7 @@ const MANY: usize = 1024;
 /// The messages that a group has to handle. All offers are known from the start and are sorted once; an offer that is undone goes to the
 /// lists.
 ///
-/// Clauses see it as the list of all, in no particular order, in which a message can occur several times, and the room for more.
+/// Clauses see it as the list of all, in message order, in which a message can occur several times, and the room for more.
 #[derive(Drop)]
 pub(crate) struct Queue {
     lists: TwoLists,
@@ -29,10 +30,11 @@ pub(crate) struct Queue {
 impl Model for Queue {
     ghost use Rattle.std.specs.Prelude.{◌++◌};
     ghost use Rattle.two_lists.specs.Listing.{Listing};
+    ghost use Rattle.group_hand.specs.Waiting.{ordered};
 
     ghost Value = { Listing };
 
-    ghost view = { λ q. record { messages = q.lists.messages ++ q.offers.items; room = q.lists.room } };
+    ghost view = { λ q. record { messages = ordered (q.lists.messages ++ q.offers.items); room = q.lists.room } };
 }
 
 impl Queue {
@@ -51,13 +53,14 @@ impl Queue {
     /// Returns the first message, if any.
     #[inline(always)]
     pub(crate) fn first(&mut self) -> Option<Message>
-        ensures same { IsPermutation self.old.messages self.new.messages }
+        ensures same { self.new.messages ≡ self.old.messages }
         ensures room { self.old.room ≤ self.new.room }
         ensures among { IfSome result (Contains self.old.messages) }
         ensures first { IfSome result (λ m. All (λ x. is_before x m ≡ false) self.old.messages) }
         ensures none { IfNone result (self.old.messages ≡ []) }
     {
         message_order_law();
+        order_law();
         let last = self.offers.last();
         let Some(message) = self.lists.first_before(last) else {
             return last.copied();
@@ -68,13 +71,14 @@ impl Queue {
     /// Removes and returns the first message, if any.
     #[inline(always)]
     pub(crate) fn pop(&mut self) -> Option<Message>
-        ensures one { IfSome result (λ m. IsPermutation self.old.messages (m ∷ self.new.messages)) }
+        ensures one { IfSome result (λ m. self.old.messages ≡ m ∷ self.new.messages) }
         ensures first { IfSome result (λ m. All (λ x. is_before x m ≡ false) self.old.messages) }
         ensures none { IfNone result (self.old.messages ≡ []) }
         ensures empty { IfNone result (self.new.messages ≡ []) }
         ensures room { self.old.room ≤ self.new.room }
     {
         message_order_law();
+        order_law();
         let Some(message) = self.lists.pop_before(self.offers.last()) else {
             return self.offers.pop();
         };
@@ -95,8 +99,9 @@ impl Queue {
 
     /// If many messages wait in no order, and no offers are left, sorts them at one go, and stores them in place of the offers.
     pub(crate) fn sort_many(&mut self)
-        ensures { IsPermutation self.old.messages self.new.messages }
+        ensures { self.new.messages ≡ self.old.messages }
     {
+        order_law();
         if !self.offers.is_empty() {
             return;
         }
@@ -121,8 +126,10 @@ impl Queue {
     pub(crate) fn push_reserved(&mut self, message: &Message)
         requires { 0 < self.old.room }
         ensures more { IsPermutation (message.now ∷ self.old.messages) self.new.messages }
+        ensures placed { self.new.messages ≡ placed message.now self.old.messages }
         ensures room { self.old.room ≤ self.new.room + 1 }
     {
+        order_law();
         self.lists.push_reserved(message);
     }
 

@@ -1,19 +1,11 @@
 //! Handles the first message of a group.
-ghost use Rattle.std.specs.Prelude.{◌≡◌, ◌≢◌, ◌≤◌, ◌<◌, ◌+◌, ◌++◌, ◌∷◌, [], false, true, Some, All, Contains, Ok, Err, OnOk, OnErr, slice_get};
+ghost use Rattle.std.specs.Prelude.{◌≡◌, ◌≤◌, ◌+◌, Contains, OnOk};
 ghost use Rattle.vlink.specs.declared.message.Message.{Message};
-ghost use Rattle.vlink.specs.Order.{message_order};
-ghost use Rattle.vlink.specs.Numbering.{greatest_number};
-ghost use Rattle.virtual_time.specs.Law.{World, IsAscending};
-ghost use Rattle.reverse.specs.Rules.{rules_of, is_before};
-ghost use Rattle.reverse.specs.Setting.{Setting};
-ghost use Rattle.antimessages.specs.Counting.{is_after, newest_of};
-ghost use Rattle.group_hand.specs.DoneEvents.{DoneEvent, messages_of};
-ghost use Rattle.group_hand.specs.Handling.{IsHandled, RanFirst};
-ghost use Rattle.group_hand.specs.Hands.{DoesTold, FirstWaits, IsAsBefore, StandsForGroup};
-ghost use Rattle.group_hand.specs.Undoing.{HasRoomFor};
-ghost use Rattle.group_hand.specs.declared.fault.HandFault.TheVariants.{Exhausted};
-ghost use Rattle.group_hand.specs.declared.in_order.InOrder.TheVariants.{Ran, Idle, Late};
+ghost use Rattle.reverse.specs.Rules.{rules_of};
 ghost use Rattle.reverse.specs.declared.sends.TheConstants.{MOST_SENT};
+ghost use Rattle.group_hand.specs.Answered.{RunsInOrder, RunsNext, RunsOutOfOrder};
+ghost use Rattle.group_hand.specs.Hands.{DoesTold};
+ghost use Rattle.group_hand.specs.Undoing.{HasRoomFor};
 
 use crate::done_events::DoneEvents;
 use crate::fault::HandFault;
@@ -38,19 +30,7 @@ impl<R: Actor> Hand<R> {
     /// was refused. Either leaves all as it was.
     pub fn run_in_order(&mut self, limit: Time) -> Result<InOrder, HandFault>
         ensures did { DoesTold (rules_of R.plain) R.is_value self.old self.new }
-        ensures idle { result ≡ Ok Idle → All (λ m. limit ≤ m.time) self.old.flow.queue }
-        ensures late { result ≡ Ok Late → (m : Message) × (is_after message_order (newest_of (messages_of self.old.done)) m ≡ false)
-            × Contains self.old.flow.queue m × All (λ x. is_before x m ≡ false) self.old.flow.queue }
-        ensures still { result ≡ Ok Late → IsAsBefore self.old self.new }
-        ensures idle_still { result ≡ Ok Idle → IsAsBefore self.old self.new }
-        ensures ran { result ≡ Ok Ran → (d : DoneEvent R.Record) × (self.new.done ≡ self.old.done ++ d ∷ [])
-            × Contains self.old.flow.queue d.message × All (λ x. is_before x d.message ≡ false) self.old.flow.queue × (d.message.time < limit) }
-        ensures first { result ≡ Ok Ran → (m : Message) × (m.time < limit) × RanFirst m self.old self.new }
-        ensures soon { result ≡ Ok Late → (m : Message) × Contains self.old.flow.queue m × (m.time < limit) }
-        ensures exhausted { result ≡ Err Exhausted → (m : Message) × Contains self.old.flow.queue m × All (λ x. is_before x m ≡ false) self.old.flow.queue
-            × (IsAscending message_order (messages_of self.old.done) → All (λ x. x ≢ m) (messages_of self.old.done))
-            × ((s : R) → slice_get self.old.members m.receiver ≡ Some (Some s) → greatest_number < R.plain.counter s + MOST_SENT) }
-        ensures unchanged { OnErr result (IsAsBefore self.old self.new) }
+        ensures told { RunsInOrder (λ s. R.plain.counter s) limit self.old self.new result }
     {
         actor_rules_law::<R>();
         let Ok(()) = make_room(&mut self.done, &mut self.letters) else {
@@ -86,17 +66,7 @@ impl<R: Actor> Hand<R> {
     /// send. `OutOfMemory`: memory was refused. Either leaves all as it was.
     pub fn run_next(&mut self, limit: Time) -> Result<bool, HandFault>
         ensures did { DoesTold (rules_of R.plain) R.is_value self.old self.new }
-        ensures idle { result ≡ Ok false → All (λ m. limit ≤ m.time) self.old.flow.queue }
-        ensures still { result ≡ Ok false → IsAsBefore self.old self.new }
-        ensures ran { result ≡ Ok true → (x : Setting R) (v : World Message R) → StandsForGroup (rules_of R.plain) R.is_value x v self.old →
-            (m : Message) × Contains self.old.flow.queue m × (m.time < limit) × IsHandled m self.old self.new }
-        // where the first message of the queue is not done, it is handled
-        ensures first { result ≡ Ok true → (IsAscending message_order (messages_of self.old.done) → FirstWaits message_order self.old) →
-            (x : Setting R) (v : World Message R) → StandsForGroup (rules_of R.plain) R.is_value x v self.old → (m : Message) × (m.time < limit) × RanFirst m self.old self.new }
-        ensures exhausted { result ≡ Err Exhausted → (m : Message) × Contains self.old.flow.queue m × All (λ x. is_before x m ≡ false) self.old.flow.queue
-            × (IsAscending message_order (messages_of self.old.done) → All (λ x. x ≢ m) (messages_of self.old.done))
-            × ((s : R) → slice_get self.old.members m.receiver ≡ Some (Some s) → greatest_number < R.plain.counter s + MOST_SENT) }
-        ensures unchanged { OnErr result (IsAsBefore self.old self.new) }
+        ensures told { RunsNext (rules_of R.plain) R.is_value (λ s. R.plain.counter s) limit self.old self.new result }
     {
         actor_rules_law::<R>();
         match self.run_in_order(limit)? {
@@ -117,14 +87,7 @@ impl<R: Actor> Hand<R> {
     pub(crate) fn run_out_of_order(&mut self) -> Result<(), HandFault>
         requires { (m : Message) × Contains self.old.flow.queue m }
         ensures did { DoesTold (rules_of R.plain) R.is_value self.old self.new }
-        ensures ran { OnOk result ((x : Setting R) (v : World Message R) → StandsForGroup (rules_of R.plain) R.is_value x v self.old →
-            (m : Message) × Contains self.old.flow.queue m × All (λ y. is_before y m ≡ false) self.old.flow.queue × IsHandled m self.old self.new) }
-        ensures first { OnOk result ((IsAscending message_order (messages_of self.old.done) → FirstWaits message_order self.old) →
-            (x : Setting R) (v : World Message R) → StandsForGroup (rules_of R.plain) R.is_value x v self.old → (m : Message) × RanFirst m self.old self.new) }
-        ensures exhausted { result ≡ Err Exhausted → (m : Message) × Contains self.old.flow.queue m × All (λ x. is_before x m ≡ false) self.old.flow.queue
-            × (IsAscending message_order (messages_of self.old.done) → All (λ x. x ≢ m) (messages_of self.old.done))
-            × ((s : R) → slice_get self.old.members m.receiver ≡ Some (Some s) → greatest_number < R.plain.counter s + MOST_SENT) }
-        ensures unchanged { OnErr result (IsAsBefore self.old self.new) }
+        ensures told { RunsOutOfOrder (rules_of R.plain) R.is_value (λ s. R.plain.counter s) self.old self.new result }
     {
         actor_rules_law::<R>();
         let Some(message) = self.letters.first() else {

@@ -8,11 +8,11 @@ ghost use Rattle.virtual_time.specs.declared.letter.Sign.TheVariants.{Plus, Minu
 ghost use Rattle.antimessages.specs.Counting.{HaveSameCounts, signed_count};
 ghost use Rattle.group_hand.specs.Arriving.{WentOn};
 ghost use Rattle.group_hand.specs.Counted.{FrontCounts};
-ghost use Rattle.group_hand.specs.declared.block.Did.TheVariants.{Arrived, Taken};
+ghost use Rattle.group_hand.specs.declared.block.Word.TheVariants.{Arrived, Taken};
 ghost use Rattle.group_hand.specs.declared.tray.Way.{Way};
 ghost use Rattle.group_hand.specs.declared.tray.Way.TheVariants.{Beside};
 
-use crate::block::Did;
+use crate::block::Word;
 use crate::letters::Letters;
 use crate::members::is_ours;
 use antimessages::OutOfMemory;
@@ -119,7 +119,7 @@ impl Letters {
         ensures room { self.old.room ≤ self.new.room + 1 }
     {
         let _front = self.tray.pop_front();
-        self.block.push_reserved(Did::Arrived {
+        self.block.push_reserved(Word::Arrived {
             process: letter.message.receiver,
         });
         self.room -= 1;

@@ -5,7 +5,7 @@ use Rattle.std.proofs.lemmas.Bool.{cases_lt}
 use Rattle.port_bounds.specs.Mixtures.{flows_burst, flows_rate, groups_burst, groups_rate, mixed}
 use Rattle.network_bounds.specs.declared.mixing.Choice.{Choice}
 use Rattle.network_bounds.specs.declared.mixing.Mixture.{Mixture}
-use Rattle.network_bounds.specs.Mixing.{PortPlan, flows_at, groups_below, line_burst_at, line_rate_at, mixed_below, share_at, weight_of, with_share}
+use Rattle.network_bounds.specs.Mixing.{PortPlan, flows_at, gaps_in, groups_below, line_burst_at, line_rate_at, mixed_below, share_at, weight_of, with_share}
 use Rattle.network_bounds.specs.Numbers.{WHOLE, capped}
 
 -- what was stopped before a sum makes no difference to what is stopped after it
@@ -44,9 +44,9 @@ made a b c d m k one two = cc
 
 -- a line more
 pub share-more : (port : PortPlan) (choice : Choice) (high : Bool) (j : ℕ) →
-    with_share (mixed_below port choice high j) (weight_of choice j (share_at port j high)) (share_at port j high) ≡ mixed_below port choice high (suc j)
+    with_share (mixed_below port choice high j) (weight_of choice j (share_at port (gaps_in choice) j high)) (share_at port (gaps_in choice) j high) ≡ mixed_below port choice high (suc j)
 share-more port choice high j =
-    let weight = weight_of choice j (share_at port j high) in
+    let weight = weight_of choice j (share_at port (gaps_in choice) j high) in
     made _ _ _ _ _ _
-    (mixed-more weight (line_burst_at port j high) (flows_burst (flows_at port j high)) (groups_burst WHOLE (groups_below port choice high j)))
-    (mixed-more weight (line_rate_at port j high) (flows_rate (flows_at port j high)) (groups_rate WHOLE (groups_below port choice high j)))
+    (mixed-more weight (line_burst_at port (gaps_in choice) j high) (flows_burst (flows_at port (gaps_in choice) j high)) (groups_burst WHOLE (groups_below port choice high j)))
+    (mixed-more weight (line_rate_at port (gaps_in choice) j high) (flows_rate (flows_at port (gaps_in choice) j high)) (groups_rate WHOLE (groups_below port choice high j)))

@@ -9,14 +9,14 @@ use Rattle.network_bounds.specs.Passing.{comes}
 use Rattle.network_bounds.specs.Mixing.{PortPlan, any_by, any_loose_at, flows_at, flows_by, flows_share, greatest_at, greatest_by, with_link}
 
 -- a share, and what comes besides, are together all that comes
-pub record AreTogether (port : PortPlan) (j : ℕ) (high : Bool) (share : Share) (rest : List Passing) : Type 0 where
+pub record AreTogether (port : PortPlan) (by_gap : Bool) (j : ℕ) (high : Bool) (share : Share) (rest : List Passing) : Type 0 where
   pub no_bound : share.is_bounding ≡ false
   pub no_burst : share.line_burst ≡ 0
   pub no_rate : share.line_rate ≡ 0
   pub held_burst : share.burst ≡ capped share.burst
   pub held_rate : share.rate ≡ capped share.rate
-  pub burst : capped (share.burst + flows_burst (flows_by (comes port.is_end j high) (flow_of port.is_end port.byte_ns) rest)) ≡ capped (flows_burst (flows_at port j high))
-  pub rate : capped (share.rate + flows_rate (flows_by (comes port.is_end j high) (flow_of port.is_end port.byte_ns) rest)) ≡ capped (flows_rate (flows_at port j high))
+  pub burst : capped (share.burst + flows_burst (flows_by (comes port.is_end j high) (flow_of port.is_end by_gap port.byte_ns) rest)) ≡ capped (flows_burst (flows_at port by_gap j high))
+  pub rate : capped (share.rate + flows_rate (flows_by (comes port.is_end j high) (flow_of port.is_end by_gap port.byte_ns) rest)) ≡ capped (flows_rate (flows_at port by_gap j high))
   pub greatest : max share.greatest (greatest_by (comes port.is_end j high) (cost_of port.byte_ns) rest) ≡ greatest_at port j high
   pub loose : (share.is_loose || any_by (comes port.is_end j high) (is_loose port.is_end) rest) ≡ any_loose_at port j high
 
@@ -34,11 +34,11 @@ max-three : (a b f : ℕ) → max (max a b) f ≡ max a (max b f)
 max-three a b f = omega arith
 
 -- one that comes
-pub with-one : (port : PortPlan) (j : ℕ) (high : Bool) (share : Share) (p : Passing) (rest : List Passing) → comes port.is_end j high p ≡ true →
-    AreTogether port j high share (p ∷ rest) → AreTogether port j high (with_link share port.is_end port.byte_ns p.link) rest
-with-one port j high share p rest is all =
+pub with-one : (port : PortPlan) (by_gap : Bool) (j : ℕ) (high : Bool) (share : Share) (p : Passing) (rest : List Passing) → comes port.is_end j high p ≡ true →
+    AreTogether port by_gap j high share (p ∷ rest) → AreTogether port by_gap j high (with_link share port.is_end by_gap port.byte_ns p.link) rest
+with-one port by_gap j high share p rest is all =
     let test = comes port.is_end j high in
-    let flow = flow_of port.is_end port.byte_ns in
+    let flow = flow_of port.is_end by_gap port.byte_ns in
     let cost = cost_of port.byte_ns in
     let loose = is_loose port.is_end in
     let flows : flows_by test flow (p ∷ rest) ≡ flow p.link ∷ flows_by test flow rest =
@@ -60,11 +60,11 @@ with-one port j high share p rest is all =
     }
 
 -- one that does not
-pub without-one : (port : PortPlan) (j : ℕ) (high : Bool) (share : Share) (p : Passing) (rest : List Passing) → comes port.is_end j high p ≡ false →
-    AreTogether port j high share (p ∷ rest) → AreTogether port j high share rest
-without-one port j high share p rest is all =
+pub without-one : (port : PortPlan) (by_gap : Bool) (j : ℕ) (high : Bool) (share : Share) (p : Passing) (rest : List Passing) → comes port.is_end j high p ≡ false →
+    AreTogether port by_gap j high share (p ∷ rest) → AreTogether port by_gap j high share rest
+without-one port by_gap j high share p rest is all =
     let test = comes port.is_end j high in
-    let flow = flow_of port.is_end port.byte_ns in
+    let flow = flow_of port.is_end by_gap port.byte_ns in
     let cost = cost_of port.byte_ns in
     let loose = is_loose port.is_end in
     let flows : flows_by test flow (p ∷ rest) ≡ flows_by test flow rest =
@@ -96,10 +96,10 @@ made : (i j : Bool) (a b c d e f g h m n : ℕ) (k l : Bool) → i ≡ j → a �
 made i j a b c d e f g h m n k l zero one two three four five six = cc
 
 -- once none is left
-pub all-there : (port : PortPlan) (j : ℕ) (high : Bool) (share : Share) → AreTogether port j high share [] → share ≡ flows_share port j high
-all-there port j high share all =
-    let burst : share.burst ≡ capped (flows_burst (flows_at port j high)) = omega (arith, all.held_burst, all.burst) in
-    let rate : share.rate ≡ capped (flows_rate (flows_at port j high)) = omega (arith, all.held_rate, all.rate) in
+pub all-there : (port : PortPlan) (by_gap : Bool) (j : ℕ) (high : Bool) (share : Share) → AreTogether port by_gap j high share [] → share ≡ flows_share port by_gap j high
+all-there port by_gap j high share all =
+    let burst : share.burst ≡ capped (flows_burst (flows_at port by_gap j high)) = omega (arith, all.held_burst, all.burst) in
+    let rate : share.rate ≡ capped (flows_rate (flows_at port by_gap j high)) = omega (arith, all.held_rate, all.rate) in
     let greatest : share.greatest ≡ greatest_at port j high = omega (arith, all.greatest) in
     let loose : share.is_loose ≡ any_loose_at port j high = sym (or-none share.is_loose) ∙ all.loose in
     made _ _ _ _ _ _ _ _ _ _ _ _ _ _ all.no_bound all.no_burst all.no_rate burst rate greatest loose

@@ -1,5 +1,5 @@
 -- What a virtual link gives the port before a line, as its regulator or its account lets it pass: a burst and a rate.
-use Rattle.std.specs.Prelude.{ℕ, ◌+◌, ◌*◌, ◌/◌, ◌&&◌, nat_lt, Bool, true, false, if◌then◌else◌}
+use Rattle.std.specs.Prelude.{ℕ, ◌+◌, ◌-◌, ◌*◌, ◌/◌, ◌&&◌, nat_lt, Bool, true, false, if◌then◌else◌}
 use Rattle.vlink.specs.Wire.{busy_for}
 use Rattle.network_rows.specs.declared.rows.VirtualLink.{VirtualLink}
 use Rattle.network_rows.specs.declared.rows.Policing.{Policing}
@@ -7,6 +7,7 @@ use Rattle.network_rows.specs.declared.rows.Policing.TheVariants.{Bytes, Frames}
 use Rattle.network_rows.specs.declared.rows.Priority.{Priority}
 use Rattle.network_rows.specs.declared.rows.Priority.TheVariants.{High, Low}
 use Rattle.port_bounds.specs.Mixtures.{Flow}
+use Rattle.network_bounds.specs.Numbers.{SCALE}
 
 -- how many BAGs of the virtual link 128 ms have
 abbrev pub parts_of : VirtualLink → ℕ
@@ -23,14 +24,28 @@ slack_of is_end link = if is_end then 0 else link.policing_jitter_ns
 abbrev pub cost_of : ℕ → VirtualLink → ℕ
 cost_of byte_ns link = busy_for link.size byte_ns
 
-abbrev pub rate_of : ℕ → VirtualLink → ℕ
-rate_of byte_ns link = parts_of link * cost_of byte_ns link
+-- the least time between two of its frames; 0 where several may come at once
+abbrev pub gap_of : Bool → VirtualLink → ℕ
+gap_of is_end link = bag_of link - slack_of is_end link
 
-abbrev pub burst_of : Bool → ℕ → VirtualLink → ℕ
-burst_of is_end byte_ns link = rate_of byte_ns link * (bag_of link + slack_of is_end link)
+-- two curves bound what it gives. By the BAG: one frame, what the slack adds, and then a frame in each BAG. By the gap, where there is one:
+-- one frame, and then one in each gap; the rate is rounded up
+abbrev pub counts_gaps : Bool → Bool → VirtualLink → Bool
+counts_gaps is_end by_gap link = by_gap && nat_lt 0 (gap_of is_end link)
 
-abbrev pub flow_of : Bool → ℕ → VirtualLink → Flow
-flow_of is_end byte_ns link = record { link = link.id.0; burst = burst_of is_end byte_ns link; rate = rate_of byte_ns link }
+abbrev pub bag_rate : ℕ → VirtualLink → ℕ
+bag_rate byte_ns link = parts_of link * cost_of byte_ns link
+
+abbrev pub rate_of : Bool → Bool → ℕ → VirtualLink → ℕ
+rate_of is_end by_gap byte_ns link = if counts_gaps is_end by_gap link then SCALE * cost_of byte_ns link / gap_of is_end link + 1 else bag_rate byte_ns link
+
+abbrev pub burst_of : Bool → Bool → ℕ → VirtualLink → ℕ
+burst_of is_end by_gap byte_ns link =
+    if counts_gaps is_end by_gap link then SCALE * cost_of byte_ns link else bag_rate byte_ns link * (bag_of link + slack_of is_end link)
+
+abbrev pub flow_of : Bool → Bool → ℕ → VirtualLink → Flow
+flow_of is_end by_gap byte_ns link =
+    record { link = link.id.0; burst = burst_of is_end by_gap byte_ns link; rate = rate_of is_end by_gap byte_ns link }
 
 abbrev pub is_high : Priority → Bool
 is_high High = true

@@ -64,8 +64,9 @@ abbrev pub any_by : (Passing → Bool) → (VirtualLink → Bool) → List Passi
 any_by test wide [] = false
 any_by test wide (p ∷ ps) = if test p then wide p.link || any_by test wide ps else any_by test wide ps
 
-abbrev pub flows_at : PortPlan → ℕ → Bool → List Flow
-flows_at port j high = flows_by (comes port.is_end j high) (flow_of port.is_end port.byte_ns) port.passings
+-- by their gaps, or by their BAGs
+abbrev pub flows_at : PortPlan → Bool → ℕ → Bool → List Flow
+flows_at port by_gap j high = flows_by (comes port.is_end j high) (flow_of port.is_end by_gap port.byte_ns) port.passings
 
 abbrev pub greatest_at : PortPlan → ℕ → Bool → ℕ
 greatest_at port j high = greatest_by (comes port.is_end j high) (cost_of port.byte_ns) port.passings
@@ -77,50 +78,54 @@ any_loose_at port j high = any_by (comes port.is_end j high) (is_loose port.is_e
 abbrev pub is_bounding : PortPlan → ℕ → Bool
 is_bounding port j = if port.is_end then false else option_map_or (λ before. nat_le port.byte_ns before) (slice_index_or port.before j None) false
 
-abbrev pub line_burst_at : PortPlan → ℕ → Bool → ℕ
-line_burst_at port j high = if is_bounding port j then SCALE * greatest_at port j high else flows_burst (flows_at port j high)
+abbrev pub line_burst_at : PortPlan → Bool → ℕ → Bool → ℕ
+line_burst_at port by_gap j high = if is_bounding port j then SCALE * greatest_at port j high else flows_burst (flows_at port by_gap j high)
 
-abbrev pub line_rate_at : PortPlan → ℕ → Bool → ℕ
-line_rate_at port j high = if is_bounding port j then SCALE else flows_rate (flows_at port j high)
+abbrev pub line_rate_at : PortPlan → Bool → ℕ → Bool → ℕ
+line_rate_at port by_gap j high = if is_bounding port j then SCALE else flows_rate (flows_at port by_gap j high)
 
 -- what comes, with one virtual link more, in numbers of 128 bits
-abbrev pub with_link : Share → Bool → ℕ → VirtualLink → Share
-with_link share is_end byte_ns link = record share {
-  burst = capped (share.burst + burst_of is_end byte_ns link);
-  rate = capped (share.rate + rate_of byte_ns link);
+abbrev pub with_link : Share → Bool → Bool → ℕ → VirtualLink → Share
+with_link share is_end by_gap byte_ns link = record share {
+  burst = capped (share.burst + burst_of is_end by_gap byte_ns link);
+  rate = capped (share.rate + rate_of is_end by_gap byte_ns link);
   greatest = max share.greatest (cost_of byte_ns link);
   is_loose = share.is_loose || is_loose is_end link;
 }
 
 -- that, in numbers of 128 bits; without what the line bounds, and with it
-abbrev pub flows_share : PortPlan → ℕ → Bool → Share
-flows_share port j high = record {
+abbrev pub flows_share : PortPlan → Bool → ℕ → Bool → Share
+flows_share port by_gap j high = record {
   is_bounding = false;
   line_burst = 0;
   line_rate = 0;
-  burst = capped (flows_burst (flows_at port j high));
-  rate = capped (flows_rate (flows_at port j high));
+  burst = capped (flows_burst (flows_at port by_gap j high));
+  rate = capped (flows_rate (flows_at port by_gap j high));
   greatest = greatest_at port j high;
   is_loose = any_loose_at port j high;
 }
 
-abbrev pub share_at : PortPlan → ℕ → Bool → Share
-share_at port j high = record {
+abbrev pub share_at : PortPlan → Bool → ℕ → Bool → Share
+share_at port by_gap j high = record {
   is_bounding = is_bounding port j;
-  line_burst = capped (line_burst_at port j high);
-  line_rate = capped (line_rate_at port j high);
-  burst = capped (flows_burst (flows_at port j high));
-  rate = capped (flows_rate (flows_at port j high));
+  line_burst = capped (line_burst_at port by_gap j high);
+  line_rate = capped (line_rate_at port by_gap j high);
+  burst = capped (flows_burst (flows_at port by_gap j high));
+  rate = capped (flows_rate (flows_at port by_gap j high));
   greatest = greatest_at port j high;
   is_loose = any_loose_at port j high;
 }
 
 -- ---- weights: whatever they are, the mixture is a bound
 
--- those of the least rate, or these by port, of WHOLE parts
+-- those of the least rate, or these by port, of WHOLE parts; and how virtual links count
 abbrev pub weight_by : Choice → ℕ → Share → ℕ
 weight_by Least j share = if nat_lt share.line_rate share.rate then WHOLE else 0
-weight_by (By weights) j share = min WHOLE (slice_index_or weights j 0)
+weight_by (By parts) j share = min WHOLE (slice_index_or parts.of_line j 0)
+
+abbrev pub gaps_in : Choice → Bool
+gaps_in Least = false
+gaps_in (By parts) = parts.by_gap
 
 -- none where the line bounds nothing
 abbrev pub weight_of : Choice → ℕ → Share → ℕ
@@ -129,10 +134,10 @@ weight_of choice j share = if share.is_bounding then weight_by choice j share el
 abbrev pub group_at : PortPlan → Choice → Bool → ℕ → Group
 group_at port choice high j = record {
   line = j;
-  burst = line_burst_at port j high;
-  rate = line_rate_at port j high;
-  weight = weight_of choice j (share_at port j high);
-  flows = flows_at port j high;
+  burst = line_burst_at port (gaps_in choice) j high;
+  rate = line_rate_at port (gaps_in choice) j high;
+  weight = weight_of choice j (share_at port (gaps_in choice) j high);
+  flows = flows_at port (gaps_in choice) j high;
 }
 
 -- the groups of the ports below j

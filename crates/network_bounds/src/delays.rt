@@ -7,23 +7,23 @@ ghost use Rattle.network_bounds.specs.Delays.{IsBound, bound_by, delay_of, first
 
 use crate::choosing::choose;
 use crate::curves::{cost, is_first};
-use crate::mixing::{Choice, Mixture, UNITS, mixed_at};
+use crate::mixing::{Choice, Mixture, Parts, UNITS, mixed_at};
 use crate::port::Port;
 use crate::reason::Reason;
-use network::{GREATEST_PORTS, VirtualLink};
+use network::VirtualLink;
 use vlink::last_bit_ns;
 
-/// The weights of a port: for each port by which frames come, how many parts of a million are taken from what the line there bounds.
+/// The mixtures of a port.
 #[derive(Clone, Copy)]
 pub struct Weights {
-    /// Those of high frames, for their delay.
-    pub first: [u32; GREATEST_PORTS],
+    /// That of high frames, for their delay.
+    pub first: Parts,
     /// Those of high and of low frames, for the delay of low ones.
-    pub high: [u32; GREATEST_PORTS],
-    pub low: [u32; GREATEST_PORTS],
+    pub high: Parts,
+    pub low: Parts,
     /// Those of high and of low frames, for how much waits.
-    pub waiting_high: [u32; GREATEST_PORTS],
-    pub waiting_low: [u32; GREATEST_PORTS],
+    pub waiting_high: Parts,
+    pub waiting_low: Parts,
 }
 
 /// What determines the delay of low frames: both bursts, and what high frames leave of the line.

@@ -1,4 +1,5 @@
-//! Chooses weights for what comes with one priority. Any weights give right bounds; these make the bounds small.
+//! Chooses weights for what comes with one priority, such that its burst is small. No contract is needed: that of `delays::PortBound::of`,
+//! which `choose` serves, holds for any weights.
 
 use crate::mixing::{WHOLE, mixed};
 use crate::port::Port;
@@ -12,11 +13,11 @@ pub struct Total {
     pub rate: u128,
 }
 
-/// Returns what comes by each port with one priority.
-pub fn shares_of(port: &Port, is_high: bool) -> [Share; GREATEST_PORTS] {
-    let mut shares = [share_at(port, 0, is_high); GREATEST_PORTS];
+/// Returns what comes by each port with one priority; virtual links count by their gaps if `by_gap`.
+pub fn shares_of(port: &Port, by_gap: bool, is_high: bool) -> [Share; GREATEST_PORTS] {
+    let mut shares = [share_at(port, by_gap, 0, is_high); GREATEST_PORTS];
     for input in 1..GREATEST_PORTS {
-        shares[input] = share_at(port, input as u16, is_high);
+        shares[input] = share_at(port, by_gap, input as u16, is_high);
     }
     shares
 }
@@ -82,7 +83,8 @@ fn cheapest(
     Some((place?, found?))
 }
 
-/// Returns the weights of the least burst, if `count` lines give way to their virtual links whole.
+/// Returns the weights of the least burst, if `count` lines give way to their virtual links whole. A mistake makes a bound greater, never
+/// wrong.
 pub fn lowered(shares: &[Share; GREATEST_PORTS], count: usize) -> [u32; GREATEST_PORTS] {
     let mut weights = of_least_burst(shares);
     for _ in 0..count {
@@ -103,7 +105,7 @@ fn part_left(share: &Share, over: u128) -> u32 {
 }
 
 /// Returns the weights of the least burst after as many lines as necessary give way to their virtual links, until the rate is at most
-/// `room`. The last one gives way in part.
+/// `room`. The last one gives way in part. A mistake makes a bound greater, never wrong.
 pub fn filled(shares: &[Share; GREATEST_PORTS], room: u128) -> [u32; GREATEST_PORTS] {
     let mut weights = of_least_burst(shares);
     for _ in 0..GREATEST_PORTS {

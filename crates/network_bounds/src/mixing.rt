@@ -2,7 +2,7 @@
 ghost use Rattle.std.specs.Prelude.{◌≡◌, ◌≤◌};
 ghost use Rattle.port_bounds.specs.Mixtures.{mixed};
 ghost use Rattle.network_bounds.specs.Numbers.{WHOLE, capped};
-ghost use Rattle.network_bounds.specs.Mixing.{mixed_at, weight_of, with_share};
+ghost use Rattle.network_bounds.specs.Mixing.{gaps_in, mixed_at, weight_of, with_share};
 
 use crate::port::Port;
 use crate::share::{Share, share_at};
@@ -25,13 +25,33 @@ pub struct Mixture {
     pub is_loose: bool,
 }
 
-/// The weights of a mixture: how many parts of WHOLE are taken from what a line bounds.
+/// How a mixture is made: how many parts of WHOLE are taken from what a line bounds, by port, and how virtual links count.
+#[derive(Clone, Copy)]
+pub struct Parts {
+    pub of_line: [u32; GREATEST_PORTS],
+    /// Whether by their gaps, otherwise by their BAGs.
+    pub by_gap: bool,
+}
+
+/// Which mixture.
 #[derive(Clone, Copy)]
 pub enum Choice {
-    /// Those of the least rate.
+    /// That of the least rate.
     Least,
-    /// These, by port.
-    By([u32; GREATEST_PORTS]),
+    /// This one.
+    By(Parts),
+}
+
+impl Choice {
+    /// Whether virtual links count by their gaps.
+    fn by_gap(&self) -> bool
+        ensures { result ≡ gaps_in self.now }
+    {
+        match self {
+            Choice::Least => false,
+            Choice::By(parts) => parts.by_gap,
+        }
+    }
 }
 
 /// Returns the weight of the line to this port: none if it bounds nothing.
@@ -50,7 +70,7 @@ fn weight_of(choice: Choice, input: usize, share: &Share) -> u32
                 0
             }
         }
-        Choice::By(weights) => match weights.get(input) {
+        Choice::By(parts) => match parts.of_line.get(input) {
             Some(weight) => WHOLE.min(*weight),
             None => 0,
         },
@@ -91,7 +111,7 @@ pub fn mixed_at(port: &Port, choice: Choice, is_high: bool) -> Mixture
         is_loose: false,
     };
     for input in 0..GREATEST_PORTS {
-        let share = share_at(port, input as u16, is_high);
+        let share = share_at(port, choice.by_gap(), input as u16, is_high);
         all = with_share(all, weight_of(choice, input, &share), &share);
     }
     all

@@ -3,12 +3,9 @@ ghost use Rattle.std.specs.Prelude.{◌≡◌};
 ghost use Rattle.network.specs.Words.{IsLinkInLimits};
 ghost use Rattle.network_bounds.specs.Mixing.{flows_share, is_bounding, share_at, with_link};
 
-use crate::curves::{burst, cost, is_loose, rate};
+use crate::curves::{SCALE, burst, cost, is_loose, rate};
 use crate::port::Port;
 use network::VirtualLink;
-
-/// The number of units in one ns.
-pub const SCALE: u128 = 128_000_000;
 
 /// What comes to a port by one line, with one priority: bursts in units, rates in units a ns. All sums stop at the greatest number.
 #[derive(Clone, Copy)]
@@ -28,17 +25,17 @@ pub struct Share {
 }
 
 /// Adds one virtual link to what comes.
-fn with_link(share: Share, port: &Port, link: &VirtualLink) -> Share
+fn with_link(share: Share, port: &Port, by_gap: bool, link: &VirtualLink) -> Share
     requires { IsLinkInLimits link.now }
-    ensures { result ≡ with_link share port.now.is_end port.now.byte_ns link.now }
+    ensures { result ≡ with_link share port.now.is_end by_gap port.now.byte_ns link.now }
 {
     Share {
         burst: share
             .burst
-            .saturating_add(burst(port.is_end, port.byte_ns, link)),
+            .saturating_add(burst(port.is_end, by_gap, port.byte_ns, link)),
         rate: share
             .rate
-            .saturating_add(u128::from(rate(port.byte_ns, link))),
+            .saturating_add(u128::from(rate(port.is_end, by_gap, port.byte_ns, link))),
         greatest: share.greatest.max(u64::from(cost(port.byte_ns, link))),
         is_loose: share.is_loose || is_loose(port.is_end, link),
         ..share
@@ -46,8 +43,8 @@ fn with_link(share: Share, port: &Port, link: &VirtualLink) -> Share
 }
 
 /// Returns what the virtual links that come by port `input` can send.
-fn flows_at(port: &Port, input: u16, is_high: bool) -> Share
-    ensures { result ≡ flows_share port.now input is_high }
+fn flows_at(port: &Port, by_gap: bool, input: u16, is_high: bool) -> Share
+    ensures { result ≡ flows_share port.now by_gap input is_high }
 {
     let mut share = Share {
         is_bounding: false,
@@ -60,7 +57,7 @@ fn flows_at(port: &Port, input: u16, is_high: bool) -> Share
     };
     for passing in &port.passings {
         if passing.comes(port.is_end, input, is_high) {
-            share = with_link(share, port, &passing.link);
+            share = with_link(share, port, by_gap, &passing.link);
         }
     }
     share
@@ -79,16 +76,16 @@ fn is_bounding(port: &Port, input: u16) -> bool
     }
 }
 
-/// Returns what comes by port `input` with this priority.
-pub fn share_at(port: &Port, input: u16, is_high: bool) -> Share
-    ensures { result ≡ share_at port.now input is_high }
+/// Returns what comes by port `input` with this priority; virtual links count by their gaps if `by_gap`.
+pub fn share_at(port: &Port, by_gap: bool, input: u16, is_high: bool) -> Share
+    ensures { result ≡ share_at port.now by_gap input is_high }
 {
-    let flows = flows_at(port, input, is_high);
+    let flows = flows_at(port, by_gap, input, is_high);
     if is_bounding(port, input) {
         Share {
             is_bounding: true,
-            line_burst: SCALE * u128::from(flows.greatest),
-            line_rate: SCALE,
+            line_burst: u128::from(SCALE) * u128::from(flows.greatest),
+            line_rate: u128::from(SCALE),
             ..flows
         }
     } else {

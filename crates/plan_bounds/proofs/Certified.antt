@@ -27,7 +27,7 @@ use Rattle.network_bounds.specs.declared.mixing.Choice.{Choice}
 use Rattle.network_bounds.specs.declared.mixing.Choice.TheVariants.{By, Least}
 use Rattle.network_bounds.specs.declared.share.Share.{Share}
 use Rattle.network_bounds.specs.Curves.{is_first}
-use Rattle.network_bounds.specs.Mixing.{PORTS, PortPlan, any_loose_at, any_loose_below, byte_ns_into, flows_at, greatest_at, group_at, groups_below, is_bounding, port_before, share_at, weight_by, weight_of}
+use Rattle.network_bounds.specs.Mixing.{PORTS, PortPlan, any_loose_at, any_loose_below, byte_ns_into, flows_at, gaps_in, greatest_at, group_at, groups_below, is_bounding, port_before, share_at, weight_by, weight_of}
 use Rattle.network_bounds.specs.Numbers.{SCALE, WHOLE}
 use Rattle.network_bounds.specs.Passing.{are_same, comes, first_port_of, input_of, passings}
 use Rattle.port_bounds.specs.Mixtures.{IsAmong, lines_of as group_lines, links_of}
@@ -47,7 +47,7 @@ weight-most choice j share = go share.is_bounding
         least : (b : Bool) → cond b WHOLE 0 ≤ WHOLE
         least true = omega arith
         least false = omega arith
-    by-choice (By weights) = omega arith
+    by-choice (By parts) = omega arith
 
     go : (b : Bool) → cond b (weight_by choice j share) 0 ≤ WHOLE
     go true = by-choice choice
@@ -90,7 +90,7 @@ module _ (plan : Plan) (accepted : IsAccepted plan) (k : ℕ) (line : LinePlan) 
       go false e h = (e, slower-is plan line.from j line.byte_ns PORTS lt h)
 
   module _ (choice : Choice) (high : Bool) where
-    by-line : (j : ℕ) → j < PORTS → (b : Bool) → is_bounding port j ≡ b → 1 ≤ cond b (weight_by choice j (share_at port j high)) 0
+    by-line : (j : ℕ) → j < PORTS → (b : Bool) → is_bounding port j ≡ b → 1 ≤ cond b (weight_by choice j (share_at port (gaps_in choice) j high)) 0
         → IsByLine (setting_of plan) line.from (size_of plan) line.byte_ns SCALE (group_at port choice high j)
     by-line j lt false e some = absurd (omega (arith, some))
     by-line j lt true e some =
@@ -119,16 +119,16 @@ module _ (plan : Plan) (accepted : IsAccepted plan) (k : ℕ) (line : LinePlan) 
               way = there;
               slower = (let le = slow.slower in let same = way.byte_ns in omega (arith, le, same));
               most = greatest_at port j high;
-              costs = costs-are plan accepted line.byte_ns line.from line.from_port (comes (is_end_system plan.nodes line.from) j high) (is_end_system plan.nodes line.from) (passings plan line.from line.from_port) (λ x h. h) (greatest_at port j high) (omega arith);
+              costs = costs-are plan accepted line.byte_ns line.from line.from_port (gaps_in choice) (comes (is_end_system plan.nodes line.from) j high) (is_end_system plan.nodes line.from) (passings plan line.from line.from_port) (λ x h. h) (greatest_at port j high) (omega arith);
               burst = rw e refl;
               rate = rw e refl;
             }
 
     group-is : (j : ℕ) → j < PORTS → any_loose_at port j high ≡ false → IsGroup (setting_of plan) line.from (size_of plan) line.byte_ns SCALE WHOLE (group_at port choice high j)
     group-is j lt tight = record {
-      weight = weight-most choice j (share_at port j high);
+      weight = weight-most choice j (share_at port (gaps_in choice) j high);
       by_line = λ some. by-line j lt (is_bounding port j) refl some;
-      flows = flows-are plan accepted line.from line.from_port line.byte_ns (comes (is_end_system plan.nodes line.from) j high) from-node (passings plan line.from line.from_port) (λ x h. h) tight;
+      flows = flows-are plan accepted line.from line.from_port line.byte_ns (gaps_in choice) (comes (is_end_system plan.nodes line.from) j high) from-node (passings plan line.from line.from_port) (λ x h. h) tight;
     }
 
     groups-are : (n : ℕ) → n ≤ PORTS → any_loose_below port high n ≡ false → Every (IsGroup (setting_of plan) line.from (size_of plan) line.byte_ns SCALE WHOLE) (groups_below port choice high n)
@@ -152,12 +152,12 @@ module _ (plan : Plan) (accepted : IsAccepted plan) (k : ℕ) (line : LinePlan) 
         passing : Passing
         passing = record { link = h.vl.link; input = input_of plan line.from h.vl.link.id.0 }
 
-        here : input ≡ j → IsAmong v (links_of (flows_at port j (is_high_put priority)))
+        here : input ≡ j → IsAmong v (links_of (flows_at port (gaps_in choice) j (is_high_put priority)))
         here same =
             let at : (input_of plan line.from h.vl.link.id.0 == j) ≡ true = eq-eqb _ _ (sym h.comes_in ∙ same) in
             let first : are_same (is_first (is_end_system plan.nodes line.from) h.vl.link) (is_high_put priority) ≡ true = ap (λ b. are_same b (is_high_put priority)) h.first ∙ same-is (is_high_put priority) in
-            subst (λ n. IsAmong n (links_of (flows_at port j (is_high_put priority)))) h.id
-            (flow-among plan accepted line.byte_ns (comes (is_end_system plan.nodes line.from) j (is_high_put priority)) (is_end_system plan.nodes line.from) (passings plan line.from line.from_port) (record { link = h.vl.link; input = input_of plan line.from h.vl.link.id.0 })
+            subst (λ n. IsAmong n (links_of (flows_at port (gaps_in choice) j (is_high_put priority)))) h.id
+            (flow-among plan accepted line.byte_ns (gaps_in choice) (comes (is_end_system plan.nodes line.from) j (is_high_put priority)) (is_end_system plan.nodes line.from) (passings plan line.from line.from_port) (record { link = h.vl.link; input = input_of plan line.from h.vl.link.id.0 })
             (leaves-passed plan accepted line.from line.from_port h.vl h.leaves) (rw at first))
 
     pub are-groups : (outlet : Outlet) → outlet.ahead.byte_ns ≡ line.byte_ns → any_loose_below port (is_high_put priority) PORTS ≡ false

@@ -1,5 +1,6 @@
 -- What can be put to a port, by lines and virtual links, is what the bounds of the network count there.
-use Rattle.std.proofs.Common.{◌≡◌, ℕ, ◌+◌, ◌*◌, ◌<◌, ◌≤◌, ◌&&◌, ◌||◌, ◌⊎◌, Bool, true, false, cond, max, nat_lt, List, [], ◌∷◌, length, inl, inr, refl, ap, sym, ◌∙◌, subst, arith}
+use Rattle.std.proofs.Common.{◌≡◌, ℕ, ◌+◌, ◌-◌, ◌*◌, ◌/◌, ◌<◌, ◌≤◌, ◌&&◌, ◌||◌, ◌⊎◌, Bool, true, false, cond, max, nat_lt, List, [], ◌∷◌, length, inl, inr, refl, ap, sym, ◌∙◌, subst, arith}
+use Rattle.std.proofs.Math.Nat.{lt-mul-div-succ}
 use Rattle.std.proofs.lemmas.Bool.{false≢true}
 use Rattle.vlink.specs.Wire.{busy_for}
 use Rattle.network_rows.specs.declared.rows.Policing.{Policing}
@@ -18,7 +19,7 @@ use Rattle.port_turns.specs.SwitchPuts.{transit_of}
 use Rattle.plan_ports.specs.Links.{LeavesBy, size_of}
 use Rattle.plan_ports.proofs.Linked.{are-bags, are-positive, are-sizes, are-sources, are-transits, have-sources, have-transits}
 use Rattle.network_bounds.specs.declared.passing.Passing.{Passing}
-use Rattle.network_bounds.specs.Curves.{bag_of, cost_of, counts_bytes, flow_of, is_first, is_high, is_loose, parts_of, slack_of}
+use Rattle.network_bounds.specs.Curves.{bag_of, bag_rate, cost_of, counts_bytes, counts_gaps, flow_of, gap_of, is_first, is_high, is_loose, parts_of, slack_of}
 use Rattle.policer.specs.declared.account.Measure.TheVariants as measure
 use Rattle.nodes.specs.rules.Node.{regulator_in}
 use Rattle.std.proofs.lemmas.Bool.Decides.{nat_tests}
@@ -27,7 +28,8 @@ use Rattle.network_bounds.specs.Numbers.{SCALE}
 use Rattle.network_bounds.specs.Passing.{input_of, passings}
 use Rattle.port_bounds.specs.Mixtures.{IsAmong, links_of}
 use Rattle.port_bounds.specs.Sublists.{Every}
-use Rattle.frame_ages.specs.Ports.{AreApartBy, IsFlow, IsSentBy, IsThrough, IsThroughSwitch}
+use Rattle.frame_ages.specs.Ports.IsCurve.{ByBag, ByGap}
+use Rattle.frame_ages.specs.Ports.{AreApartBy, IsCurve, IsFlow, IsSentBy, IsThrough, IsThroughSwitch}
 use Rattle.plan_bounds.proofs.NodeKinds.{IsEndAt, IsSwitchAt, node-kind}
 use Rattle.plan_bounds.proofs.Passed.{input-is, passed-leaves}
 
@@ -111,9 +113,21 @@ module _ (plan : Plan) (accepted : IsAccepted plan) where
     )
   ]
 
-  flow-is : (p q byte_ns : ℕ) (vl : VlPlan) → p < length plan.nodes → LeavesBy plan p q vl → is_loose (is_end_system plan.nodes p) vl.link ≡ false
-      → IsFlow (opening plan p).equipment (size_of plan) byte_ns SCALE (flow_of (is_end_system plan.nodes p) byte_ns vl.link)
-  flow-is p q byte_ns vl lt leaves tight =
+  curve-is : (is_end by_gap : Bool) (byte_ns : ℕ) (link : VirtualLink)
+      → IsCurve (parts_of link) (bag_of link) (slack_of is_end link) SCALE (cost_of byte_ns link) (flow_of is_end by_gap byte_ns link)
+  curve-is is_end by_gap byte_ns link = go (counts_gaps is_end by_gap link) refl
+    where
+      gap : by_gap && nat_lt 0 (gap_of is_end link) ≡ true → 0 < gap_of is_end link
+      gap h = grind (arith, nat_tests)
+
+      go : (b : Bool) → counts_gaps is_end by_gap link ≡ b → IsCurve (parts_of link) (bag_of link) (slack_of is_end link) SCALE (cost_of byte_ns link)
+          (record { link = link.id.0; burst = cond b (SCALE * cost_of byte_ns link) (bag_rate byte_ns link * (bag_of link + slack_of is_end link)); rate = cond b (SCALE * cost_of byte_ns link / gap_of is_end link + 1) (bag_rate byte_ns link) })
+      go true h = ByGap refl (let lt = lt-mul-div-succ (SCALE * cost_of byte_ns link) {b = gap_of is_end link} (gap h) in omega (arith, lt))
+      go false h = ByBag refl refl
+
+  flow-is : (p q byte_ns : ℕ) (by_gap : Bool) (vl : VlPlan) → p < length plan.nodes → LeavesBy plan p q vl → is_loose (is_end_system plan.nodes p) vl.link ≡ false
+      → IsFlow (opening plan p).equipment (size_of plan) byte_ns SCALE (flow_of (is_end_system plan.nodes p) by_gap byte_ns vl.link)
+  flow-is p q byte_ns by_gap vl lt leaves tight =
       let sized : size_of plan vl.link.id.0 ≡ vl.link.size = are-sizes plan accepted vl leaves.is_vl in
       let is_end = is_end_system plan.nodes p in
       record {
@@ -122,38 +136,37 @@ module _ (plan : Plan) (accepted : IsAccepted plan) where
         slack = slack_of is_end vl.link;
         apart = subst (λ n. AreApartBy (opening plan p).equipment vl.link.id.0 n (bag_of vl.link) (slack_of is_end vl.link)) (sym sized) (apart p q vl lt leaves tight);
         units = are-bags plan accepted vl leaves.is_vl;
-        burst = ap (λ n. (parts_of vl.link * busy_for n byte_ns) * (bag_of vl.link + slack_of is_end vl.link)) (sym sized);
-        rate = ap (λ n. parts_of vl.link * busy_for n byte_ns) (sym sized);
+        curve = subst (λ n. IsCurve (parts_of vl.link) (bag_of vl.link) (slack_of is_end vl.link) SCALE (busy_for n byte_ns) (flow_of is_end by_gap byte_ns vl.link)) (sym sized) (curve-is is_end by_gap byte_ns vl.link);
       }
 
   -- ---- all that comes by a port with one priority
 
-  pub flows-are : (p q byte_ns : ℕ) (test : Passing → Bool) → p < length plan.nodes → (ps : List Passing) → ((passing : Passing) → Has ps passing → Has (passings plan p q) passing)
+  pub flows-are : (p q byte_ns : ℕ) (by_gap : Bool) (test : Passing → Bool) → p < length plan.nodes → (ps : List Passing) → ((passing : Passing) → Has ps passing → Has (passings plan p q) passing)
       → any_by test (is_loose (is_end_system plan.nodes p)) ps ≡ false
-      → Every (IsFlow (opening plan p).equipment (size_of plan) byte_ns SCALE) (flows_by test (flow_of (is_end_system plan.nodes p) byte_ns) ps)
-  flows-are p q byte_ns test lt [] there tight = tt
-  flows-are p q byte_ns test lt (passing ∷ ps) there tight = go (test passing) tight (flows-are p q byte_ns test lt ps (λ x h. there x (inr h)))
+      → Every (IsFlow (opening plan p).equipment (size_of plan) byte_ns SCALE) (flows_by test (flow_of (is_end_system plan.nodes p) by_gap byte_ns) ps)
+  flows-are p q byte_ns by_gap test lt [] there tight = tt
+  flows-are p q byte_ns by_gap test lt (passing ∷ ps) there tight = go (test passing) tight (flows-are p q byte_ns by_gap test lt ps (λ x h. there x (inr h)))
     where
       go : (b : Bool) → cond b (is_loose (is_end_system plan.nodes p) passing.link || any_by test (is_loose (is_end_system plan.nodes p)) ps) (any_by test (is_loose (is_end_system plan.nodes p)) ps) ≡ false
-          → (any_by test (is_loose (is_end_system plan.nodes p)) ps ≡ false → Every (IsFlow (opening plan p).equipment (size_of plan) byte_ns SCALE) (flows_by test (flow_of (is_end_system plan.nodes p) byte_ns) ps))
-          → Every (IsFlow (opening plan p).equipment (size_of plan) byte_ns SCALE) (cond b (flow_of (is_end_system plan.nodes p) byte_ns passing.link ∷ flows_by test (flow_of (is_end_system plan.nodes p) byte_ns) ps) (flows_by test (flow_of (is_end_system plan.nodes p) byte_ns) ps))
+          → (any_by test (is_loose (is_end_system plan.nodes p)) ps ≡ false → Every (IsFlow (opening plan p).equipment (size_of plan) byte_ns SCALE) (flows_by test (flow_of (is_end_system plan.nodes p) by_gap byte_ns) ps))
+          → Every (IsFlow (opening plan p).equipment (size_of plan) byte_ns SCALE) (cond b (flow_of (is_end_system plan.nodes p) by_gap byte_ns passing.link ∷ flows_by test (flow_of (is_end_system plan.nodes p) by_gap byte_ns) ps) (flows_by test (flow_of (is_end_system plan.nodes p) by_gap byte_ns) ps))
       go true h later =
           let is = passed-leaves plan accepted p q passing (there passing (inl refl)) in (
-            subst (λ (l : VirtualLink). IsFlow (opening plan p).equipment (size_of plan) byte_ns SCALE (flow_of (is_end_system plan.nodes p) byte_ns l)) (sym is.link)
-                (flow-is p q byte_ns is.vl lt is.leaves (ap (is_loose (is_end_system plan.nodes p)) (sym is.link) ∙ or-left _ _ h)),
+            subst (λ (l : VirtualLink). IsFlow (opening plan p).equipment (size_of plan) byte_ns SCALE (flow_of (is_end_system plan.nodes p) by_gap byte_ns l)) (sym is.link)
+                (flow-is p q byte_ns by_gap is.vl lt is.leaves (ap (is_loose (is_end_system plan.nodes p)) (sym is.link) ∙ or-left _ _ h)),
             later (or-right (is_loose (is_end_system plan.nodes p) passing.link) _ h),
           )
       go false h later = later h
 
   -- their costs are no more than the greatest
-  pub costs-are : (byte_ns p q : ℕ) (test : Passing → Bool) (end : Bool) → (ps : List Passing) → ((passing : Passing) → Has ps passing → Has (passings plan p q) passing) → (most : ℕ) → greatest_by test (cost_of byte_ns) ps ≤ most
-      → Every (λ flow. busy_for (size_of plan flow.link) byte_ns ≤ most) (flows_by test (flow_of end byte_ns) ps)
-  costs-are byte_ns p q test end [] there most below = tt
-  costs-are byte_ns p q test end (passing ∷ ps) there most below = go (test passing) below (costs-are byte_ns p q test end ps (λ x h. there x (inr h)) most)
+  pub costs-are : (byte_ns p q : ℕ) (by_gap : Bool) (test : Passing → Bool) (end : Bool) → (ps : List Passing) → ((passing : Passing) → Has ps passing → Has (passings plan p q) passing) → (most : ℕ) → greatest_by test (cost_of byte_ns) ps ≤ most
+      → Every (λ flow. busy_for (size_of plan flow.link) byte_ns ≤ most) (flows_by test (flow_of end by_gap byte_ns) ps)
+  costs-are byte_ns p q by_gap test end [] there most below = tt
+  costs-are byte_ns p q by_gap test end (passing ∷ ps) there most below = go (test passing) below (costs-are byte_ns p q by_gap test end ps (λ x h. there x (inr h)) most)
     where
       go : (b : Bool) → cond b (max (cost_of byte_ns passing.link) (greatest_by test (cost_of byte_ns) ps)) (greatest_by test (cost_of byte_ns) ps) ≤ most
-          → (greatest_by test (cost_of byte_ns) ps ≤ most → Every (λ flow. busy_for (size_of plan flow.link) byte_ns ≤ most) (flows_by test (flow_of end byte_ns) ps))
-          → Every (λ flow. busy_for (size_of plan flow.link) byte_ns ≤ most) (cond b (flow_of end byte_ns passing.link ∷ flows_by test (flow_of end byte_ns) ps) (flows_by test (flow_of end byte_ns) ps))
+          → (greatest_by test (cost_of byte_ns) ps ≤ most → Every (λ flow. busy_for (size_of plan flow.link) byte_ns ≤ most) (flows_by test (flow_of end by_gap byte_ns) ps))
+          → Every (λ flow. busy_for (size_of plan flow.link) byte_ns ≤ most) (cond b (flow_of end by_gap byte_ns passing.link ∷ flows_by test (flow_of end by_gap byte_ns) ps) (flows_by test (flow_of end by_gap byte_ns) ps))
       go true h later =
           let is = passed-leaves plan accepted p q passing (there passing (inl refl)) in
           let sized : size_of plan passing.link.id.0 ≡ passing.link.size =
@@ -162,12 +175,12 @@ module _ (plan : Plan) (accepted : IsAccepted plan) where
       go false h later = later h
 
   -- each that passes the test is among them
-  pub flow-among : (byte_ns : ℕ) (test : Passing → Bool) (end : Bool) (ps : List Passing) (passing : Passing) → Has ps passing → test passing ≡ true → IsAmong passing.link.id.0 (links_of (flows_by test (flow_of end byte_ns) ps))
-  flow-among byte_ns test end [] passing there passes = absurd there
-  flow-among byte_ns test end (first ∷ ps) passing (inl same) passes =
+  pub flow-among : (byte_ns : ℕ) (by_gap : Bool) (test : Passing → Bool) (end : Bool) (ps : List Passing) (passing : Passing) → Has ps passing → test passing ≡ true → IsAmong passing.link.id.0 (links_of (flows_by test (flow_of end by_gap byte_ns) ps))
+  flow-among byte_ns by_gap test end [] passing there passes = absurd there
+  flow-among byte_ns by_gap test end (first ∷ ps) passing (inl same) passes =
       rw (ap test same ∙ passes) (inl (ap (λ (x : Passing). x.link.id.0) (sym same)))
-  flow-among byte_ns test end (first ∷ ps) passing (inr there) passes = go (test first) (flow-among byte_ns test end ps passing there passes)
+  flow-among byte_ns by_gap test end (first ∷ ps) passing (inr there) passes = go (test first) (flow-among byte_ns by_gap test end ps passing there passes)
     where
-      go : (b : Bool) → IsAmong passing.link.id.0 (links_of (flows_by test (flow_of end byte_ns) ps)) → IsAmong passing.link.id.0 (links_of (cond b (flow_of end byte_ns first.link ∷ flows_by test (flow_of end byte_ns) ps) (flows_by test (flow_of end byte_ns) ps)))
+      go : (b : Bool) → IsAmong passing.link.id.0 (links_of (flows_by test (flow_of end by_gap byte_ns) ps)) → IsAmong passing.link.id.0 (links_of (cond b (flow_of end by_gap byte_ns first.link ∷ flows_by test (flow_of end by_gap byte_ns) ps) (flows_by test (flow_of end by_gap byte_ns) ps)))
       go true later = inr later
       go false later = later

@@ -76,17 +76,15 @@ first-of byte_ns high greatest delay e = go high.is_loose refl (fits_first high)
     go false l true f false h e = absurd (err-ok Number delay e)
     go false l true f true h e = record { tight = l; fits = leb-true _ _ f; burst = grind (arith, nat_tests); is = sym (same-ok (capped (high.burst / UNITS + greatest) - 12 * byte_ns) delay e) }
 
--- it is by some weights
-record IsChosen (port : PortPlan) (w : Weights) : Type 0 where
-  choice : Choice
-  is : first_mixed port w ≡ mixed_at port choice true
+-- a bound is by the mixtures that the program chose, or by those of the least rate
+pub record IsPair (X : Type 0) (value : Choice → Choice → X) (bound : X) : Type 0 where
+  pub high : Choice
+  pub low : Choice
+  pub is : bound ≡ value high low
 
-chosen : (port : PortPlan) (w : Weights) → IsChosen port w
-chosen port w = go (fits_first (mixed_at port (By w.first) true)) refl
-  where
-    go : (b : Bool) → fits_first (mixed_at port (By w.first) true) ≡ b → IsChosen port w
-    go true e = record { choice = By w.first; is = rw e refl }
-    go false e = record { choice = Least; is = rw e refl }
+pub pair : (X : Type 0) (value : Choice → Choice → X) (high low : Choice) (b : Bool) → IsPair X value (cond b (value high low) (value Least Least))
+pair X value high low true = record { high = high; low = low; is = refl }
+pair X value high low false = record { high = Least; low = Least; is = refl }
 
 -- ---- no frame costs more than the greatest does
 
@@ -154,13 +152,13 @@ module _ (plan : Plan) (accepted : IsAccepted plan) (k : ℕ) (line : LinePlan) 
       → IsInTime (setting_of plan) (size_of plan) v line.from line.from_port outlet High delay
   unfolding mixed_at
   high-bound w v outlet byte delay e =
-      let c = chosen port w in
+      let c : IsPair Mixture (λ h l. mixed_at port h true) (first_mixed port w) = pair Mixture (λ h l. mixed_at port h true) (By w.first) (By w.first) (fits_first (mixed_at port (By w.first) true)) in
       let h = first-of line.byte_ns (first_mixed port w) (mixed_at port Least false).greatest delay e in
       let tight : any_loose_below port true PORTS ≡ false = ap (λ (m : Mixture). m.is_loose) (sym c.is) ∙ h.tight in
-      let rates : capped (groups_rate WHOLE (groups_at port c.choice true)) ≤ UNITS = subst (λ (m : Mixture). m.rate ≤ UNITS) c.is h.fits in
-      let bursts : capped (groups_burst WHOLE (groups_at port c.choice true)) < 2 ^ 128 - 1 = subst (λ (m : Mixture). m.burst < 2 ^ 128 - 1) c.is h.burst in
-      let burst_is = uncapped (groups_burst WHOLE (groups_at port c.choice true)) bursts in
-      high-made outlet byte delay c.choice tight rates burst_is (h.is ∙ ap (λ (m : Mixture). capped (m.burst / UNITS + greatest_below port false PORTS) - 12 * line.byte_ns) c.is) bursts
+      let rates : capped (groups_rate WHOLE (groups_at port c.high true)) ≤ UNITS = subst (λ (m : Mixture). m.rate ≤ UNITS) c.is h.fits in
+      let bursts : capped (groups_burst WHOLE (groups_at port c.high true)) < 2 ^ 128 - 1 = subst (λ (m : Mixture). m.burst < 2 ^ 128 - 1) c.is h.burst in
+      let burst_is = uncapped (groups_burst WHOLE (groups_at port c.high true)) bursts in
+      high-made outlet byte delay c.high tight rates burst_is (h.is ∙ ap (λ (m : Mixture). capped (m.burst / UNITS + greatest_below port false PORTS) - 12 * line.byte_ns) c.is) bursts
     where
       high-made : (outlet : Outlet) → outlet.ahead.byte_ns ≡ line.byte_ns → (delay : ℕ) (choice : Choice) → any_loose_below port true PORTS ≡ false → capped (groups_rate WHOLE (groups_at port choice true)) ≤ UNITS
           → capped (groups_burst WHOLE (groups_at port choice true)) ≡ groups_burst WHOLE (groups_at port choice true)

@@ -12,7 +12,7 @@ use Rattle.seqsim.specs.Networks.{setting_of}
 use Rattle.plan_ports.specs.Links.{size_of}
 use Rattle.plan_ports.proofs.Linked.{are-sizes}
 use Rattle.network_bounds.specs.declared.mixing.Choice.{Choice}
-use Rattle.network_bounds.specs.declared.mixing.Choice.TheVariants.{By, Least}
+use Rattle.network_bounds.specs.declared.mixing.Choice.TheVariants.{By}
 use Rattle.network_bounds.specs.declared.mixing.Mixture.{Mixture}
 use Rattle.network_bounds.specs.declared.delays.Later.{Later}
 use Rattle.network_bounds.specs.declared.delays.Weights.{Weights}
@@ -26,7 +26,7 @@ use Rattle.port_bounds.specs.Mixtures.{groups_burst, groups_rate}
 use Rattle.frame_ages.specs.Ways.{IsInTime}
 use Rattle.plan_bounds.proofs.Certified.{are-groups}
 use Rattle.plan_bounds.proofs.Groups.{or-left, or-right}
-use Rattle.plan_bounds.proofs.InTime.{err-ok, lt-true, same-ok, uncapped}
+use Rattle.plan_bounds.proofs.InTime.{IsPair, pair, err-ok, lt-true, same-ok, uncapped}
 
 -- ---- what a bound of low frames says
 
@@ -64,17 +64,8 @@ later-of high low later e = go (high.is_loose || low.is_loose) refl (fits_later 
           left = ap (λ (x : Later). x.left) (sym same);
         }
 
-record IsPair (port : PortPlan) (w : Weights) : Type 0 where
-  high : Choice
-  low : Choice
-  is : later_bound port w ≡ later_of (mixed_at port high true) (mixed_at port low false)
-
-paired : (port : PortPlan) (w : Weights) → IsPair port w
-paired port w = go (later_by port (By w.high) (By w.low)) refl
-  where
-    go : (b : Bool) → later_by port (By w.high) (By w.low) ≡ b → IsPair port w
-    go true e = record { high = By w.high; low = By w.low; is = rw e refl }
-    go false e = record { high = Least; low = Least; is = rw e refl }
+paired : (port : PortPlan) (w : Weights) → IsPair (Result Later Reason) (λ h l. later_of (mixed_at port h true) (mixed_at port l false)) (later_bound port w)
+paired port w = pair (Result Later Reason) (λ h l. later_of (mixed_at port h true) (mixed_at port l false)) (By w.high) (By w.low) (later_by port (By w.high) (By w.low))
 
 -- the delay of a low frame of a virtual link
 record IsLowDelay (byte_ns : ℕ) (link : VirtualLink) (later : Later) (delay : ℕ) : Type 0 where

@@ -9,7 +9,7 @@ use Rattle.port_bounds.specs.Mixtures.{flows_burst, flows_rate, groups_burst, gr
 use Rattle.network_bounds.specs.declared.mixing.Choice.{Choice}
 use Rattle.network_bounds.specs.declared.passing.Passing.{Passing}
 use Rattle.network_bounds.specs.Curves.{cost_of, flow_of, is_loose}
-use Rattle.network_bounds.specs.Mixing.{PORTS, PortPlan, any_by, any_loose_below, flows_by, greatest_below, greatest_by, group_at, groups_below, is_bounding, line_into, mixed_at, port_before, share_at, weight_of}
+use Rattle.network_bounds.specs.Mixing.{PORTS, PortPlan, any_by, any_loose_below, flows_by, gaps_in, greatest_below, greatest_by, group_at, groups_below, is_bounding, line_into, mixed_at, port_before, share_at, weight_of}
 use Rattle.network_bounds.specs.Numbers.{SCALE, WHOLE, capped, within}
 use Rattle.network_bounds.specs.Passing.{comes, first_port_of, input_of, passing_at, passing_by, passing_of, passings}
 use Rattle.std.specs.List.{list_any}
@@ -83,9 +83,9 @@ module _ (plan : Plan) where
 
 -- ---- a port whose passings have only their shape has the same bounds
 
-flows-same : (is_end : Bool) (byte_ns j : ℕ) (high : Bool) (ps : List Passing) → flows_by (comes is_end j high) (flow_of is_end byte_ns) (map shape_of_passing ps) ≡ flows_by (comes is_end j high) (flow_of is_end byte_ns) ps
-flows-same is_end byte_ns j high [] = refl
-flows-same is_end byte_ns j high (p ∷ ps) = ap (λ fs. cond (comes is_end j high p) (flow_of is_end byte_ns p.link ∷ fs) fs) (flows-same is_end byte_ns j high ps)
+flows-same : (is_end by_gap : Bool) (byte_ns j : ℕ) (high : Bool) (ps : List Passing) → flows_by (comes is_end j high) (flow_of is_end by_gap byte_ns) (map shape_of_passing ps) ≡ flows_by (comes is_end j high) (flow_of is_end by_gap byte_ns) ps
+flows-same is_end by_gap byte_ns j high [] = refl
+flows-same is_end by_gap byte_ns j high (p ∷ ps) = ap (λ fs. cond (comes is_end j high p) (flow_of is_end by_gap byte_ns p.link ∷ fs) fs) (flows-same is_end by_gap byte_ns j high ps)
 
 greatest-same : (is_end : Bool) (byte_ns j : ℕ) (high : Bool) (ps : List Passing) → greatest_by (comes is_end j high) (cost_of byte_ns) (map shape_of_passing ps) ≡ greatest_by (comes is_end j high) (cost_of byte_ns) ps
 greatest-same is_end byte_ns j high [] = refl
@@ -99,9 +99,9 @@ abbrev shape_of_port : PortPlan → PortPlan
 shape_of_port port = record port { passings = map shape_of_passing port.passings }
 
 module _ (port : PortPlan) where
-  share-same : (j : ℕ) (high : Bool) → share_at (shape_of_port port) j high ≡ share_at port j high
-  share-same j high =
-      let flows = flows-same port.is_end port.byte_ns j high port.passings in
+  share-same : (by_gap : Bool) (j : ℕ) (high : Bool) → share_at (shape_of_port port) by_gap j high ≡ share_at port by_gap j high
+  share-same by_gap j high =
+      let flows = flows-same port.is_end by_gap port.byte_ns j high port.passings in
       let greatest = greatest-same port.is_end port.byte_ns j high port.passings in
       let loose = loose-same port.is_end j high port.passings in
       λ i. record {
@@ -116,9 +116,9 @@ module _ (port : PortPlan) where
 
   group-same : (choice : Choice) (high : Bool) (j : ℕ) → group_at (shape_of_port port) choice high j ≡ group_at port choice high j
   group-same choice high j =
-      let flows = flows-same port.is_end port.byte_ns j high port.passings in
+      let flows = flows-same port.is_end (gaps_in choice) port.byte_ns j high port.passings in
       let greatest = greatest-same port.is_end port.byte_ns j high port.passings in
-      let share = share-same j high in
+      let share = share-same (gaps_in choice) j high in
       λ i. record {
         line = j;
         burst = cond (is_bounding port j) (SCALE * greatest i) (flows_burst (flows i));

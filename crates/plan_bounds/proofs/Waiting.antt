@@ -1,5 +1,5 @@
 -- The bytes that wait at a port, as the bounds of a network give them, are a bound of it that passes the check.
-use Rattle.std.proofs.Common.{◌≡◌, ℕ, ◌+◌, ◌-◌, ◌*◌, ◌/◌, ◌^◌, ◌<◌, ◌≤◌, ◌||◌, Bool, true, false, cond, nat_lt, Some, Ok, Err, refl, ap, sym, ◌∙◌, subst, arith, slice_get, leb-true}
+use Rattle.std.proofs.Common.{◌≡◌, ℕ, ◌+◌, ◌-◌, ◌*◌, ◌/◌, ◌^◌, ◌<◌, ◌≤◌, ◌||◌, Bool, true, false, cond, nat_lt, Some, Result, Ok, Err, refl, ap, sym, ◌∙◌, subst, arith, slice_get, leb-true}
 use Rattle.std.proofs.Math.Nat.{div-div-eq-div-mul, lt-mul-div-succ, mul-le-mul_left}
 use Rattle.network.specs.declared.wiring.LinePlan.{LinePlan}
 use Rattle.network.specs.Words.{IsAccepted, Plan, lines_of}
@@ -9,18 +9,19 @@ use Rattle.output_port.specs.declared.event.Priority.TheVariants.{High, Low}
 use Rattle.seqsim.specs.Networks.{setting_of}
 use Rattle.plan_ports.specs.Links.{size_of}
 use Rattle.network_bounds.specs.declared.mixing.Choice.{Choice}
-use Rattle.network_bounds.specs.declared.mixing.Choice.TheVariants.{By, Least}
+use Rattle.network_bounds.specs.declared.mixing.Choice.TheVariants.{By}
 use Rattle.network_bounds.specs.declared.mixing.Mixture.{Mixture}
 use Rattle.network_bounds.specs.declared.delays.Weights.{Weights}
+use Rattle.network_bounds.specs.declared.reason.Reason.{Reason}
 use Rattle.network_bounds.specs.declared.reason.Reason.TheVariants.{Bytes, Number, Rate}
 use Rattle.network_bounds.specs.Delays.{bound_by, fits_both, only_if, waiting_bound, waiting_of}
-use Rattle.network_bounds.specs.Mixing.{PortPlan, groups_at, mixed_at, port_before}
+use Rattle.network_bounds.specs.Mixing.{groups_at, mixed_at, port_before}
 use Rattle.network_bounds.specs.Numbers.{SCALE, UNITS, WHOLE, capped}
 use Rattle.port_bounds.specs.Mixtures.{groups_burst, groups_rate}
 use Rattle.frame_ages.specs.Ports.{IsWaitingBound}
 use Rattle.plan_bounds.proofs.Certified.{are-groups}
 use Rattle.plan_bounds.proofs.Groups.{or-left, or-right}
-use Rattle.plan_bounds.proofs.InTime.{err-ok, lt-true, same-ok}
+use Rattle.plan_bounds.proofs.InTime.{IsPair, pair, err-ok, lt-true, same-ok}
 use Rattle.plan_bounds.proofs.LowTimes.{bursts-fit}
 
 record IsWaiting (byte_ns : ℕ) (high low : Mixture) (bytes : ℕ) : Type 0 where
@@ -45,19 +46,6 @@ waiting-of byte_ns high low bytes e = go (high.is_loose || low.is_loose) refl (f
       held = lt-true _ _ h;
       is = sym (same-ok (capped (high.burst + low.burst) / UNITS / byte_ns) bytes e);
     }
-
--- it is by some weights
-record IsRoomPair (port : PortPlan) (w : Weights) : Type 0 where
-  high : Choice
-  low : Choice
-  is : waiting_bound port w ≡ waiting_of port.byte_ns (mixed_at port high true) (mixed_at port low false)
-
-room-pair : (port : PortPlan) (w : Weights) → IsRoomPair port w
-room-pair port w = go (fits_both (mixed_at port (By w.waiting_high) true) (mixed_at port (By w.waiting_low) false)) refl
-  where
-    go : (b : Bool) → fits_both (mixed_at port (By w.waiting_high) true) (mixed_at port (By w.waiting_low) false) ≡ b → IsRoomPair port w
-    go true e = record { high = By w.waiting_high; low = By w.waiting_low; is = rw e refl }
-    go false e = record { high = Least; low = Least; is = rw e refl }
 
 rates-both : (high low : ℕ) → capped (capped high + capped low) ≤ UNITS → high + low ≤ UNITS
 rates-both high low le = omega (arith, le)
@@ -95,5 +83,7 @@ module _ (plan : Plan) (accepted : IsAccepted plan) (k : ℕ) (line : LinePlan) 
   pub waiting-bound : (w : Weights) (outlet : Outlet) → outlet.ahead.byte_ns ≡ line.byte_ns → (bytes : ℕ) → (bound_by (port_before plan line) w).waiting ≡ Ok bytes
       → IsWaitingBound (setting_of plan) (size_of plan) line.from line.from_port outlet bytes
   waiting-bound w outlet byte bytes e =
-      let pair = room-pair (port_before plan line) w in
-      waiting-made outlet byte bytes pair.high pair.low (waiting-of line.byte_ns (mixed_at (port_before plan line) pair.high true) (mixed_at (port_before plan line) pair.low false) bytes (sym pair.is ∙ e))
+      let port = port_before plan line in
+      let value : Choice → Choice → Result ℕ Reason = λ h l. waiting_of port.byte_ns (mixed_at port h true) (mixed_at port l false) in
+      let chosen : IsPair (Result ℕ Reason) value (waiting_bound port w) = pair (Result ℕ Reason) value (By w.waiting_high) (By w.waiting_low) (fits_both (mixed_at port (By w.waiting_high) true) (mixed_at port (By w.waiting_low) false)) in
+      waiting-made outlet byte bytes chosen.high chosen.low (waiting-of line.byte_ns (mixed_at port chosen.high true) (mixed_at port chosen.low false) bytes (sym chosen.is ∙ e))

@@ -88,14 +88,7 @@ forth nodes earlier link = record {
 }
 
 abbrev back : List NodePlan → List Link → Link → LinePlan
-back nodes earlier link = record {
-  from = link.b;
-  from_port = port_at nodes earlier link.b link.a;
-  to = link.a;
-  to_port = port_at nodes earlier link.a link.b;
-  byte_ns = link.byte_ns;
-  propagation_ns = link.propagation_ns;
-}
+back nodes earlier link = forth nodes earlier (record link { a = link.b; b = link.a })
 
 -- ---- the two ends of a link that may be
 
@@ -226,23 +219,19 @@ module _ (nodes : List NodePlan) (out : Bool) where
       → slice_get (each_after (directions nodes) earlier links) j ≡ Some b → end_at out a ≡ end_at out b → port_by out a ≡ port_by out b → i < j → ⊥
   unfolding Below
   apart earlier [] none ends i j a b at by end port lt = absurd (none-some a at)
-  apart earlier (link ∷ links) none ends zero zero a b at by end port lt = absurd (omega (arith, lt))
   apart earlier (link ∷ links) none ends zero (suc zero) a b at by end port lt =
       ends-differ nodes earlier link (may-be earlier links link none) ends.0 out (ap (end_at out) (same_Some (forth nodes earlier link) a at) ∙ end ∙ sym (ap (end_at out) (same_Some (back nodes earlier link) b by)))
   apart earlier (link ∷ links) none ends zero (suc (suc j)) a b at by end port lt =
       let same = same_Some (forth nodes earlier link) a at in
       clash (earlier ++ link ∷ []) (end_at out (forth nodes earlier link)) (port_by out (forth nodes earlier link)) b (taken-first nodes earlier link (may-be earlier links link none) ends.0 out)
       (free-of (earlier ++ link ∷ []) links (behind-none (no_link_at_link nodes earlier link) _ none) ends.1 j b by) (ap (end_at out) same ∙ end) (ap (port_by out) same ∙ port)
-  apart earlier (link ∷ links) none ends (suc zero) zero a b at by end port lt = absurd (omega (arith, lt))
-  apart earlier (link ∷ links) none ends (suc zero) (suc zero) a b at by end port lt = absurd (omega (arith, lt))
   apart earlier (link ∷ links) none ends (suc zero) (suc (suc j)) a b at by end port lt =
       let same = same_Some (back nodes earlier link) a at in
       clash (earlier ++ link ∷ []) (end_at out (back nodes earlier link)) (port_by out (back nodes earlier link)) b (taken-second nodes earlier link (may-be earlier links link none) ends.0 out)
       (free-of (earlier ++ link ∷ []) links (behind-none (no_link_at_link nodes earlier link) _ none) ends.1 j b by) (ap (end_at out) same ∙ end) (ap (port_by out) same ∙ port)
-  apart earlier (link ∷ links) none ends (suc (suc i)) zero a b at by end port lt = absurd (omega (arith, lt))
-  apart earlier (link ∷ links) none ends (suc (suc i)) (suc zero) a b at by end port lt = absurd (omega (arith, lt))
   apart earlier (link ∷ links) none ends (suc (suc i)) (suc (suc j)) a b at by end port lt =
       apart (earlier ++ link ∷ []) links (behind-none (no_link_at_link nodes earlier link) _ none) ends.1 i j a b at by end port (omega (arith, lt))
+  apart earlier (link ∷ links) none ends i j a b at by end port lt = absurd (omega (arith, lt))
 
 -- ---- of an accepted network
 

@@ -83,11 +83,6 @@ module _ (plan : Plan) (accepted : IsAccepted plan) (own : HaveOwnPorts plan) (k
   number : ℕ
   number = length plan.nodes
 
-  -- its port is there
-  record HasOutlet : Type 0 where
-    outlet : Outlet
-    there : outlet_in (opening plan line.from).equipment line.from_port ≡ Some outlet
-
   outlet-at : (count bytes : ℕ) → line.from_port < count → (outlet : Outlet) × (outlet_at (ports_of plan line.from count bytes) line.from_port ≡ Some outlet)
   outlet-at count bytes lt =
       let (ahead, found) = has-ahead line.from line.from_port (length plan.nodes) (lines_of plan) k line read refl refl in

@@ -12,10 +12,10 @@ use Rattle.nodes.specs.rules.Node.{regulator_in}
 use Rattle.nodes.specs.rules.Opening.{bag_ns, opening}
 use Rattle.nodes.specs.undoing.Node.{node}
 use Rattle.seqsim.specs.Networks.{setting_of}
-use Rattle.port_turns.specs.Nodes.{IsOfNodes}
+use Rattle.port_turns.specs.Nodes.{IsOfNodes, is_offer_of}
 use Rattle.frame_ages.specs.Latencies.{IsHeldWithin}
 use Rattle.frame_ages.specs.Sizes.{OpensEmpty}
-use Rattle.frame_ages.specs.Waits.{IsOfferedBy, is_offer_of}
+use Rattle.frame_ages.specs.Waits.{IsOfferedBy}
 use Rattle.frame_ages.proofs.HeldLemmas.{lists-held, periods-held}
 use Rattle.plan_ports.proofs.Linked.{have-sources, one-vl}
 use Rattle.plan_ports.proofs.Offered.{all-offered}

@@ -1,5 +1,6 @@
 -- Why paced frames, and frames that come one after the other, have their curves.
-use Rattle.std.proofs.Common.{◌≡◌, ℕ, ◌+◌, ◌-◌, ◌*◌, ◌≤◌, inl, inr, Bool, true, false, cond, List, [], ◌∷◌, ◌++◌, length, Option, Some, None, ap, arith, refl, sym, subst, ◌∙◌}
+use Rattle.std.proofs.Common.{◌≡◌, ℕ, zero, suc, ◌+◌, ◌-◌, ◌*◌, ◌≤◌, inl, inr, Bool, true, false, cond, List, [], ◌∷◌, ◌++◌, length, Option, Some, None, ap, arith, refl, sym, subst, ◌∙◌}
+use Rattle.std.proofs.lemmas.Bool.{cases_lt}
 use Rattle.std.proofs.lemmas.Nat.{mul-le}
 use Rattle.std.specs.Prelude.{⊤}
 use Rattle.port_bounds.specs.Frames.{PutFrame, IsBetween}
@@ -42,20 +43,55 @@ moments-between test t u (y ∷ ys) h = go (test y) (moments-between test y.at u
     go true r = (h.0, r)
     go false r = sooner t y.at u (moments_at test ys) h.0 r
 
+-- how many of paced frames come in a part, and what they cost
+module _ (bag jitter most : ℕ) (test : PutFrame → Bool) (fs : List PutFrame) (p : IsPaced bag jitter (moments_at test fs)) (h : IsEachAtMost most test fs) where
+  part-within : (xs ys zs : List PutFrame) (t u : ℕ) → fs ≡ xs ++ (ys ++ zs) → IsBetween t u ys →
+      (length (moments_at test ys) * bag ≤ bag + jitter + (u - t)) × (cost_at test ys ≤ length (moments_at test ys) * most)
+  part-within xs ys zs t u are between =
+      let split = ap (moments_at test) are ∙ (moments-append test xs (ys ++ zs) ∙ ap (λ ms. moments_at test xs ++ ms) (moments-append test ys zs)) in (
+        p.bounded (moments_at test ys) t u (subst (IsSublist (moments_at test ys)) (sym split) (sub-part (moments_at test xs) (moments_at test ys) (moments_at test zs))) (moments-between test t u ys between),
+        cost-count most test ys (most-part most test xs ys zs (subst (IsEachAtMost most test) are h)),
+      )
+
 pub paced : (parts bag jitter most : ℕ) (test : PutFrame → Bool) (fs : List PutFrame) → IsPaced bag jitter (moments_at test fs) → IsEachAtMost most test fs →
     IsClassWithin (parts * bag) ((parts * most) * (bag + jitter)) (parts * most) test fs
 paced parts bag jitter most test fs p h = record {
   bounded = λ xs ys zs t u are between.
-      let split = ap (moments_at test) are ∙ (moments-append test xs (ys ++ zs) ∙ ap (λ ms. moments_at test xs ++ ms) (moments-append test ys zs)) in
-      let few : length (moments_at test ys) * bag ≤ bag + jitter + (u - t) = p.bounded (moments_at test ys) t u (subst (IsSublist (moments_at test ys)) (sym split) (sub-part (moments_at test xs) (moments_at test ys) (moments_at test zs))) (moments-between test t u ys between) in
-      let cost = cost-count most test ys (most-part most test xs ys zs (subst (IsEachAtMost most test) are h)) in
-      numbers parts bag jitter most (cost_at test ys) (length (moments_at test ys)) (u - t) few cost;
+      let part = part-within bag jitter most test fs p h xs ys zs t u are between in
+      numbers (cost_at test ys) (length (moments_at test ys)) (u - t) part.0 part.1;
 }
   where
-    numbers : (parts bag jitter most cost n w : ℕ) → n * bag ≤ bag + jitter + w → cost ≤ n * most → (parts * bag) * cost ≤ (parts * most) * (bag + jitter) + (parts * most) * w
-    numbers parts bag jitter most cost n w few c =
+    numbers : (cost n w : ℕ) → n * bag ≤ bag + jitter + w → cost ≤ n * most → (parts * bag) * cost ≤ (parts * most) * (bag + jitter) + (parts * most) * w
+    numbers cost n w few c =
         let a : (parts * bag) * cost ≤ (parts * bag) * (n * most) = mul-le (parts * bag) cost (parts * bag) (n * most) (omega arith) c in
         let b : (parts * most) * (n * bag) ≤ (parts * most) * (bag + jitter + w) = mul-le (parts * most) (n * bag) (parts * most) (bag + jitter + w) (omega arith) few in
+        omega arith
+
+-- between so many frames and one there are so many gaps
+gaps-within : (m gap jitter w : ℕ) → suc m * (gap + jitter) ≤ (gap + jitter) + jitter + w → m * gap ≤ w
+gaps-within zero gap jitter w h = omega arith
+gaps-within (suc m) gap jitter w h = omega arith
+
+gaps-left : (m bag jitter w : ℕ) → suc m * bag ≤ bag + jitter + w → m * (bag - jitter) ≤ w
+gaps-left m bag jitter w h = elim (cases_lt jitter bag) [
+  | inl less ↦ (let whole : bag ≡ (bag - jitter) + jitter = omega arith in gaps-within m (bag - jitter) jitter w (subst (λ b. suc m * b ≤ b + jitter + w) whole h))
+  | inr more ↦ (let none : bag - jitter ≡ 0 = omega arith in subst (λ g. m * g ≤ w) (sym none) (omega arith))
+]
+
+pub spaced : (scale rate bag jitter most : ℕ) (test : PutFrame → Bool) (fs : List PutFrame) → IsPaced bag jitter (moments_at test fs) → IsEachAtMost most test fs →
+    scale * most ≤ rate * (bag - jitter) → IsClassWithin scale (scale * most) rate test fs
+spaced scale rate bag jitter most test fs p h fast = record {
+  bounded = λ xs ys zs t u are between.
+      let part = part-within bag jitter most test fs p h xs ys zs t u are between in
+      numbers (cost_at test ys) (length (moments_at test ys)) (u - t) (bag - jitter) fast part.1 (λ m e. gaps-left m bag jitter (u - t) (subst (λ k. k * bag ≤ bag + jitter + (u - t)) e part.0));
+}
+  where
+    numbers : (cost n w gap : ℕ) → scale * most ≤ rate * gap → cost ≤ n * most → ((m : ℕ) → n ≡ suc m → m * gap ≤ w) → scale * cost ≤ scale * most + rate * w
+    numbers cost zero w gap fast c gaps = let a : scale * cost ≤ scale * 0 = mul-le scale cost scale 0 (omega arith) (omega arith) in omega arith
+    numbers cost (suc m) w gap fast c gaps =
+        let a : scale * cost ≤ scale * (suc m * most) = mul-le scale cost scale (suc m * most) (omega arith) c in
+        let b : m * (scale * most) ≤ m * (rate * gap) = mul-le m (scale * most) m (rate * gap) (omega arith) fast in
+        let d : rate * (m * gap) ≤ rate * w = mul-le rate (m * gap) rate w (omega arith) (gaps m refl) in
         omega arith
 
 -- some frame came last before a part

@@ -4,9 +4,9 @@ use Rattle.std.proofs.lemmas.Nat.{mul-le}
 use Rattle.port_bounds.specs.Frames.{PutFrame, IsWithin, cost_of}
 use Rattle.port_bounds.specs.Port.{Port, Event, IsServed, high_starts, highs_of, lows_of}
 use Rattle.port_bounds.specs.Port.Event.{High, Low, Free}
-use Rattle.port_bounds.specs.Delays.{AreHighInTime, AreAtMost}
+use Rattle.port_bounds.specs.Delays.{AreHighBounded, AreHighInTime, AreAtMost}
 use Rattle.port_bounds.proofs.FrameLemmas.{between-last, cost-append, cons_none, none_some}
-use Rattle.port_bounds.proofs.StartLemmas.{every-push}
+use Rattle.port_bounds.proofs.SublistLemmas.{every-push}
 use Rattle.port_bounds.proofs.ShareLemmas.{IsPast, IsShare, share-first, share-head, share-later, share-next, share-none, share-over, share-push}
 
 -- the arithmetic of one start: x is put at a and starts at s, and since b at most one low frame and those that are gone were served
@@ -95,7 +95,7 @@ module _ (scale burst rate most : ℕ) (slow : rate ≤ scale) (all : List PutFr
   quiet rest t x c st = Quiet refl (record { past = st; soon = omega arith })
 
   -- each high frame starts in time, where no low frame that waits or will be put costs more than `most`
-  pub are_in_time : (es : List Event) (now : ℕ) (until : Option ℕ) (high low : List PutFrame) → Standing all most es now until high low →
+  are_in_time : (es : List Event) (now : ℕ) (until : Option ℕ) (high low : List PutFrame) → Standing all most es now until high low →
       AreAtMost most low → AreAtMost most (lows_of es) → IsServed (port until high low) now es → AreHighInTime scale (burst + scale * most) (high_starts (port until high low) es)
   are_in_time [] now until high low st c d h = tt
   are_in_time (High x ∷ es) now None [] low st c d h = (first-in_time (highs_of es) x st.2, are_in_time es x.at (Some (x.at + x.cost)) [] low (Period (first (highs_of es) x st.2)) c d h.2)
@@ -112,5 +112,6 @@ module _ (scale burst rate most : ℕ) (slow : rate ≤ scale) (all : List PutFr
   are_in_time (Free t ∷ es) now (Some u) [] [] st c d h = are_in_time es t None [] [] (refl, refl, rests (highs_of es) u now st) tt d h.2
 
 -- at first all high frames are still to be put
-pub opening : (es : List Event) → IsPast (highs_of es) (highs_of es)
-opening es = record { earlier = []; are_all = refl }
+pub bounded : AreHighBounded
+bounded scale burst rate most es slow h within at_most =
+    are_in_time scale burst rate most slow (highs_of es) within es 0 None [] [] (refl, refl, record { earlier = []; are_all = refl }) tt at_most h

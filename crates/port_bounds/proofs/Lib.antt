@@ -7,6 +7,5 @@ pub mod SublistLemmas
 pub mod PacingLemmas
 pub mod ArrivalLemmas
 pub mod MixtureLemmas
-pub mod CertificateLemmas
 pub mod WaitLemmas
 mod Examples

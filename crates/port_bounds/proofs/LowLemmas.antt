@@ -2,9 +2,9 @@
 use Rattle.std.proofs.Common.{◌≡◌, ℕ, ◌+◌, ◌-◌, ◌*◌, ◌≤◌, List, [], ◌∷◌, ◌++◌, Option, Some, None, arith, refl, ap, sym, ◌∙◌, mul-add}
 use Rattle.std.proofs.lemmas.Nat.{mul-le}
 use Rattle.port_bounds.specs.Frames.{PutFrame, IsWithin, cost_of}
-use Rattle.port_bounds.specs.Port.{Port, Event, IsServed, after, highs_of, low_starts, lows_of}
+use Rattle.port_bounds.specs.Port.{Port, Event, IsServed, after, highs_of, idle, low_starts, lows_of}
 use Rattle.port_bounds.specs.Port.Event.{High, Low, Free}
-use Rattle.port_bounds.specs.Delays.{AreLowInTime}
+use Rattle.port_bounds.specs.Delays.{AreLowBounded, AreLowInTime, IsBacklogBounded}
 use Rattle.port_bounds.proofs.FrameLemmas.{between-ends, between-last, cost-append, none_some}
 use Rattle.port_bounds.proofs.ShareLemmas.{IsPast, IsShare, share-first, share-head, share-later, share-most, share-next, share-none, share-over, share-push}
 
@@ -145,7 +145,7 @@ module _ (highs lows : List PutFrame) where
         (share-most highs scale bh rh high_within [] st.began now st.high_gone high st.of_high) (share-most lows scale bl rl low_within [] st.began now st.low_gone low st.of_low)
 
     -- each low frame starts in time, and no more waits in the end
-    pub are_bounded : (es : List Event) (now : ℕ) (until : Option ℕ) (high low : List PutFrame) → Standing highs lows es now until high low →
+    are_bounded : (es : List Event) (now : ℕ) (until : Option ℕ) (high low : List PutFrame) → Standing highs lows es now until high low →
         IsServed (port until high low) now es →
         AreLowInTime scale (bh + bl) rh (low_starts (port until high low) es) × (scale * (cost_of (after (port until high low) es).high + cost_of (after (port until high low) es).low) ≤ bh + bl)
     are_bounded [] now until high low st h = (tt, left now until high low st)
@@ -163,5 +163,15 @@ module _ (highs lows : List PutFrame) where
         ((next-in_time es t u now x low h.0 e st, rest.0), rest.1)
     are_bounded (Free t ∷ es) now (Some u) [] [] st h = are_bounded es t None [] [] (rests es t u now st) h.2
 
-pub opening : (es : List Event) → IsIdle (highs_of es) (lows_of es) es [] []
-opening es = record { no_high = refl; no_low = refl; of_high = record { earlier = []; are_all = refl }; of_low = record { earlier = []; are_all = refl } }
+-- of an idle port
+module _ (scale bh rh bl rl : ℕ) (es : List Event) (slow : rh + rl ≤ scale) (served : IsServed idle 0 es) (high_within : IsWithin scale bh rh (highs_of es)) (low_within : IsWithin scale bl rl (lows_of es)) where
+  both : AreLowInTime scale (bh + bl) rh (low_starts idle es) × (scale * (cost_of (after idle es).high + cost_of (after idle es).low) ≤ bh + bl)
+  both =
+      are_bounded (highs_of es) (lows_of es) scale bh rh bl rl slow high_within low_within es 0 None [] []
+      (record { no_high = refl; no_low = refl; of_high = record { earlier = []; are_all = refl }; of_low = record { earlier = []; are_all = refl } }) served
+
+pub bounded : AreLowBounded
+bounded scale bh rh bl rl es slow h high_within low_within = (both scale bh rh bl rl es slow h high_within low_within).0
+
+pub backlog : IsBacklogBounded
+backlog scale bh rh bl rl es slow h high_within low_within = (both scale bh rh bl rl es slow h high_within low_within).1

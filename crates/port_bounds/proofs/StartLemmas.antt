@@ -1,53 +1,48 @@
 -- Which frames a port starts, and how far apart.
 use Rattle.std.proofs.Common.{◌≡◌, ℕ, ◌+◌, ◌≤◌, List, [], ◌∷◌, ◌++◌, Option, Some, None, arith}
+use Rattle.std.specs.Prelude.{⊤}
 use Rattle.port_bounds.specs.Frames.{PutFrame}
 use Rattle.port_bounds.specs.Sublists.{Every}
-use Rattle.port_bounds.specs.Port.{Event, IsServed, Start, high_starts, highs_of, low_starts, lows_of, starts_of}
+use Rattle.port_bounds.specs.Port.{Event, IsServed, Port, Start, after, high_starts, highs_of, idle, low_starts, lows_of, outcome, starts_of}
 use Rattle.port_bounds.specs.Port.Event.{High, Low, Free}
 use Rattle.port_bounds.specs.Starts.{AreApart}
 use Rattle.port_bounds.proofs.FrameLemmas.{none_some}
+use Rattle.port_bounds.proofs.SublistLemmas.{every-append, every-push, every-split, every-true}
 
-module _ (P : PutFrame → Type 0) where
-  pub every-push : (xs : List PutFrame) (x : PutFrame) → Every P xs → P x → Every P (xs ++ x ∷ [])
-  every-push [] x h c = (c, tt)
-  every-push (y ∷ ys) x h c = (h.0, every-push ys x h.1 c)
+abbrev pub OfStart : (PutFrame → Type 0) → Start → Type 0
+OfStart P s = P s.put
 
-  abbrev pub OfStart : Start → Type 0
-  OfStart s = P s.put
+-- where H holds of each high frame that waits or is put, and L of each low one, they hold of those that start and of those that wait then
+module _ (H L : PutFrame → Type 0) where
+  abbrev OfPort : Port → List Event → Type 0
+  OfPort p es = Every (OfStart H) (high_starts p es) × Every (OfStart L) (low_starts p es) × Every H (after p es).high × Every L (after p es).low
 
-  -- from frames that wait and are put to those that start
-  pub high-put : (es : List Event) (until : Option ℕ) (high low : List PutFrame) → Every P high → Every P (highs_of es) →
-      Every OfStart (high_starts (record { until = until; high = high; low = low }) es)
-  high-put [] until high low h k = tt
-  high-put (High x ∷ es) None high low h k = (k.0, high-put es (Some (x.at + x.cost)) high low h k.1)
-  high-put (High x ∷ es) (Some u) high low h k = high-put es (Some u) (high ++ x ∷ []) low (every-push high x h k.0) k.1
-  high-put (Low x ∷ es) None high low h k = high-put es (Some (x.at + x.cost)) high low h k
-  high-put (Low x ∷ es) (Some u) high low h k = high-put es (Some u) high (low ++ x ∷ []) h k
-  high-put (Free t ∷ es) until (x ∷ high) low h k = (h.0, high-put es (Some (t + x.cost)) high low h.1 k)
-  high-put (Free t ∷ es) until [] (x ∷ low) h k = high-put es (Some (t + x.cost)) [] low tt k
-  high-put (Free t ∷ es) until [] [] h k = high-put es None [] [] tt k
+  pub of-port : (es : List Event) (until : Option ℕ) (high low : List PutFrame) → Every H high → Every L low → Every H (highs_of es) → Every L (lows_of es) →
+      OfPort (record { until = until; high = high; low = low }) es
+  of-port [] until high low h l a b = (tt, tt, h, l)
+  of-port (High x ∷ es) None high low h l a b = let r = of-port es (Some (x.at + x.cost)) high low h l a.1 b in ((a.0, r.0), r.1, r.2, r.3)
+  of-port (High x ∷ es) (Some u) high low h l a b = of-port es (Some u) (high ++ x ∷ []) low (every-push H high x h a.0) l a.1 b
+  of-port (Low x ∷ es) None high low h l a b = let r = of-port es (Some (x.at + x.cost)) high low h l a b.1 in (r.0, (b.0, r.1), r.2, r.3)
+  of-port (Low x ∷ es) (Some u) high low h l a b = of-port es (Some u) high (low ++ x ∷ []) h (every-push L low x l b.0) a b.1
+  of-port (Free t ∷ es) until (x ∷ high) low h l a b = let r = of-port es (Some (t + x.cost)) high low h.1 l a b in ((h.0, r.0), r.1, r.2, r.3)
+  of-port (Free t ∷ es) until [] (x ∷ low) h l a b = let r = of-port es (Some (t + x.cost)) [] low tt l.1 a b in (r.0, (l.0, r.1), r.2, r.3)
+  of-port (Free t ∷ es) until [] [] h l a b = of-port es None [] [] tt tt a b
 
-  pub low-put : (es : List Event) (until : Option ℕ) (high low : List PutFrame) → Every P low → Every P (lows_of es) →
-      Every OfStart (low_starts (record { until = until; high = high; low = low }) es)
-  low-put [] until high low h k = tt
-  low-put (High x ∷ es) None high low h k = low-put es (Some (x.at + x.cost)) high low h k
-  low-put (High x ∷ es) (Some u) high low h k = low-put es (Some u) (high ++ x ∷ []) low h k
-  low-put (Low x ∷ es) None high low h k = (k.0, low-put es (Some (x.at + x.cost)) high low h k.1)
-  low-put (Low x ∷ es) (Some u) high low h k = low-put es (Some u) high (low ++ x ∷ []) (every-push low x h k.0) k.1
-  low-put (Free t ∷ es) until (x ∷ high) low h k = low-put es (Some (t + x.cost)) high low h k
-  low-put (Free t ∷ es) until [] (x ∷ low) h k = (h.0, low-put es (Some (t + x.cost)) [] low h.1 k)
-  low-put (Free t ∷ es) until [] [] h k = low-put es None [] [] tt k
+-- of an idle port, by the frames that are put
+module _ (P : PutFrame → Type 0) (es : List Event) where
+  pub high-put : Every P (highs_of es) → Every (OfStart P) (high_starts idle es)
+  high-put h = (of-port P (λ x. ⊤) es None [] [] tt tt h (every-true (lows_of es))).0
 
-  pub all-put : (es : List Event) (until : Option ℕ) (high low : List PutFrame) → Every P high → Every P low → Every P (highs_of es) → Every P (lows_of es) →
-      Every OfStart (starts_of (record { until = until; high = high; low = low }) es)
-  all-put [] until high low h l a b = tt
-  all-put (High x ∷ es) None high low h l a b = (a.0, all-put es (Some (x.at + x.cost)) high low h l a.1 b)
-  all-put (High x ∷ es) (Some u) high low h l a b = all-put es (Some u) (high ++ x ∷ []) low (every-push high x h a.0) l a.1 b
-  all-put (Low x ∷ es) None high low h l a b = (b.0, all-put es (Some (x.at + x.cost)) high low h l a b.1)
-  all-put (Low x ∷ es) (Some u) high low h l a b = all-put es (Some u) high (low ++ x ∷ []) h (every-push low x l b.0) a b.1
-  all-put (Free t ∷ es) until (x ∷ high) low h l a b = (h.0, all-put es (Some (t + x.cost)) high low h.1 l a b)
-  all-put (Free t ∷ es) until [] (x ∷ low) h l a b = (l.0, all-put es (Some (t + x.cost)) [] low tt l.1 a b)
-  all-put (Free t ∷ es) until [] [] h l a b = all-put es None [] [] tt tt a b
+  pub low-put : Every P (lows_of es) → Every (OfStart P) (low_starts idle es)
+  low-put h = (of-port (λ x. ⊤) P es None [] [] tt tt (every-true (highs_of es)) h).1
+
+-- what holds of each high start and of each low one holds of all
+pub starts-both : (P : Start → Type 0) (a : Port) (es : List Event) → Every P (high_starts a es) → Every P (low_starts a es) → Every P (starts_of a es)
+starts-both P a [] h l = tt
+starts-both P a (e ∷ es) h l =
+    let highs = every-split P (outcome a e).high (high_starts (outcome a e).port es) h in
+    let lows = every-split P (outcome a e).low (low_starts (outcome a e).port es) l in
+    every-append P ((outcome a e).high ++ (outcome a e).low) (starts_of (outcome a e).port es) (every-append P (outcome a e).high (outcome a e).low highs.0 lows.0) (starts-both P (outcome a e).port es highs.1 lows.1)
 
 apart-sooner : (t u : ℕ) (ss : List Start) → t ≤ u → AreApart u ss → AreApart t ss
 apart-sooner t u [] l h = tt

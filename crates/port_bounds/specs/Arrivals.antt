@@ -46,6 +46,12 @@ ArePacedWithin =
     (parts bag jitter most : ℕ) (test : PutFrame → Bool) (fs : List PutFrame) → IsPaced bag jitter (moments_at test fs) → IsEachAtMost most test fs →
     IsClassWithin (parts * bag) ((parts * most) * (bag + jitter)) (parts * most) test fs
 
+-- the curve of the same frames by the gap that is left between two of them: one frame, and then one in each gap
+abbrev pub AreSpacedWithin : Type 0
+AreSpacedWithin =
+    (scale rate bag jitter most : ℕ) (test : PutFrame → Bool) (fs : List PutFrame) → IsPaced bag jitter (moments_at test fs) → IsEachAtMost most test fs →
+    scale * most ≤ rate * (bag - jitter) → IsClassWithin scale (scale * most) rate test fs
+
 -- the curve of frames that come one after the other, by a line that is no faster than the port's own
 abbrev pub AreSerialWithin : Type 0
 AreSerialWithin =

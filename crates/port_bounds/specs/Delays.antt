@@ -15,6 +15,10 @@ IsHighInTime scale burst s = scale * (s.at + s.put.cost) ≤ scale * s.put.at + 
 abbrev pub AreHighInTime : ℕ → ℕ → List Start → Type 0
 AreHighInTime scale burst ss = Every (IsHighInTime scale burst) ss
 
+-- each frame has left so soon after it was put
+abbrev pub AreSentWithin : ℕ → List Start → Type 0
+AreSentWithin delay ss = Every (λ s. s.at + s.put.cost ≤ s.put.at + delay) ss
+
 -- high frames wait for their burst, and for one low frame in transmission
 abbrev pub AreHighBounded : Type 0
 AreHighBounded =

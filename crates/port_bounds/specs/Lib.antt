@@ -6,5 +6,4 @@ pub mod Delays
 pub mod Pacing
 pub mod Arrivals
 pub mod Mixtures
-pub mod Certificate
 pub mod Waits

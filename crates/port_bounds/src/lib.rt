@@ -2,13 +2,11 @@
 #![tactic(auto)]
 
 mod arrivals;
-mod certificate;
 mod delays;
 mod starts;
 mod waits;
 
 pub use arrivals::arrivals_law;
-pub use certificate::certificate_law;
 pub use delays::delays_law;
 pub use starts::starts_law;
 pub use waits::waits_law;

@@ -1,29 +1,31 @@
 -- Why frames come by a line one after the other: they are some of those that started at the port before it, each later by the same time.
 use Rattle.std.proofs.Common.{◌≡◌, ℕ, ◌+◌, ◌*◌, ◌<◌, ◌≤◌, ◌==◌, Bool, true, false, cond, List, [], ◌∷◌, ◌++◌, filter, map, Option, Some, None, refl, sym, ap, ◌∙◌, subst, arith, eq-eqb, eqb-true}
+use Rattle.std.proofs.lemmas.Bool.{false≢true}
 use Rattle.std.specs.Prelude.{⊤}
 use Rattle.std.specs.List.{list_any}
 use Rattle.vlink.specs.Wire.{busy_for, last_bit_after}
 use Rattle.vlink.specs.declared.frame.Frame.{Frame}
 use Rattle.vlink.specs.declared.message.Message.{Message}
 use Rattle.vlink.specs.declared.message.Body.{Body}
-use Rattle.vlink.specs.declared.message.Body.TheVariants.{Offer, Release, PortFree, Arrive, Enqueue, Carry}
+use Rattle.vlink.specs.declared.message.Body.TheVariants.{Arrive, Carry}
 use Rattle.vlink.specs.declared.note.Note.{Note}
 use Rattle.vlink.specs.declared.note.Cause.TheVariants as cause
 use Rattle.reverse.specs.Sending.{Wish, loss}
 use Rattle.reverse.specs.Rules.{rules_of}
 use Rattle.reverse.specs.Setting.{Setting, simulation_of}
 use Rattle.virtual_time.specs.Law.{Laws, Simulation, events, one, reached}
+use Rattle.timers.specs.Channel.{IsChannel}
 use Rattle.port_bounds.specs.Frames.{PutFrame}
 use Rattle.port_bounds.specs.Sublists.{Every, IsSublist}
 use Rattle.port_bounds.specs.Arrivals.{IsAfter, IsSerial}
 use Rattle.port_bounds.specs.Port.{Start, idle, starts_of}
 use Rattle.port_bounds.specs.Starts.{AreApart}
 use Rattle.port_bounds.proofs.ArrivalLemmas.{fewer-serial}
-use Rattle.port_bounds.proofs.StartLemmas.{all-put, apart}
-use Rattle.port_bounds.proofs.SublistLemmas.{sub-trans}
+use Rattle.port_bounds.proofs.StartLemmas.{apart, high-put, low-put, starts-both}
+use Rattle.port_bounds.proofs.SublistLemmas.{every-sub, sub-trans}
 use Rattle.element_bounds.specs.PortTrace.{FrameStart, PortEventAt, put_at, started_of, trace_of}
 use Rattle.element_bounds.proofs.TraceLemmas as trace
-use Rattle.element_bounds.proofs.TraceLemmas.{trace-puts}
+use Rattle.element_bounds.proofs.TraceLemmas.{costed}
 use Rattle.nodes.specs.declared.equipment.Equipment.{Equipment}
 use Rattle.nodes.specs.declared.equipment.Equipment.TheVariants.{EndSystem, Switch, Line}
 use Rattle.nodes.specs.declared.node.NodeRecord.{NodeRecord}
@@ -32,59 +34,41 @@ use Rattle.nodes.specs.rules.Line.{LineState, is_within, line}
 use Rattle.nodes.specs.rules.Node.{NodeState, after, handled}
 use Rattle.nodes.specs.undoing.Node.{node}
 use Rattle.output_port.specs.Port.{PortState}
-use Rattle.output_port.specs.declared.event.PortEvent.{PortEvent}
-use Rattle.output_port.specs.declared.event.PortEvent.TheVariants.{Put, Free}
 use Rattle.port_turns.specs.Nodes.{IsOfNodes}
 use Rattle.port_turns.specs.PortRuns.{port_events}
 use Rattle.port_turns.specs.Arrivals.{IsWay, arrival_in, arrivals_in}
 use Rattle.port_turns.proofs.Carrying.{AllLead, carried, carries, is_carry, lead-reached, none-carries}
-use Rattle.port_turns.proofs.Channels.{come}
+use Rattle.port_turns.proofs.Channels.{IsAlone, channel, come}
 use Rattle.port_turns.proofs.Elsewhere.{all-elsewhere}
 use Rattle.port_turns.proofs.PortRuns.{are_ports_served}
 use Rattle.port_turns.proofs.Rising.{AreTo, events-from, events-to}
-use Rattle.port_turns.proofs.SentKinds.{every-sub, AreFrom, as_wish, flat, flat-next, flat-sub, from-sooner, from-sub, is_to, mine, moments-times, moments_of, sub-filter, sub-map, wished, wished-sub}
+use Rattle.port_turns.proofs.SentKinds.{AreFrom, as_wish, flat, flat-next, flat-sub, from-sooner, from-sub, is_to, mine, moments-times, moments_of, sub-filter, sub-map, wished, wished-sub}
 
 -- ---- what a line makes of the frames that it carries
 
 abbrev is_arrive : ℕ → Body → Bool
-is_arrive j (Offer vl size sub) = false
-is_arrive j (Release vl) = false
-is_arrive j (PortFree p) = false
 is_arrive j (Arrive p frame) = p == j
-is_arrive j (Enqueue p frame) = false
-is_arrive j (Carry frame) = false
+is_arrive j _ = false
 
 module _ (l : LineState) where
   abbrev through : ℕ → Body → List Wish
-  through t (Offer vl size sub) = []
-  through t (Release vl) = []
-  through t (PortFree p) = []
-  through t (Arrive p frame) = []
-  through t (Enqueue p frame) = []
   through t (Carry frame) = record { time = t + l.propagation; receiver = l.to; body = Arrive l.to_port frame } ∷ []
+  through t _ = []
 
   not-through : (t : ℕ) (b : Body) → is_carry b ≡ false → through t b ≡ []
-  not-through t (Offer vl size sub) e = refl
-  not-through t (Release vl) e = refl
-  not-through t (PortFree p) e = refl
-  not-through t (Arrive p frame) e = refl
-  not-through t (Enqueue p frame) e = refl
   not-through t (Carry frame) e = absurd (let z : ⊥ = cc in z)
+  not-through t _ e = refl
 
   -- a frame comes, later by the propagation, where no outage takes it
   one-through : (test : Wish → Bool) (t : ℕ) (b : Body) → IsSublist (filter test (line t b l).wishes) (through t b)
-  one-through test t (Offer vl size sub) = tt
-  one-through test t (Release vl) = tt
-  one-through test t (PortFree p) = tt
-  one-through test t (Arrive p frame) = tt
-  one-through test t (Enqueue p frame) = tt
   one-through test t (Carry frame) = go (list_any (is_within t) l.outages)
     where
       go : (b : Bool) → IsSublist (filter test (cond b (loss cause.Outage frame) (record { wishes = through t (Carry frame); notes = [] })).wishes) (through t (Carry frame))
       go true = tt
       go false = sub-filter test (through t (Carry frame))
+  one-through test t _ = tt
 
-  line-stays : (s : NodeState) (ms : List Message) → s.equipment ≡ Line l → (reached (rules_of node) s ms).equipment ≡ Line l
+  pub line-stays : (s : NodeState) (ms : List Message) → s.equipment ≡ Line l → (reached (rules_of node) s ms).equipment ≡ Line l
   line-stays s [] e = e
   line-stays s (m ∷ ms) e = line-stays (after s m) ms (ap (λ z. (handled s.sender.number m z).equipment) e)
 
@@ -104,11 +88,7 @@ module _ (l : LineState) where
     where
       go : (b : Body) → AreFrom (w.time + l.propagation) (moments_of (flat through ws)) → AreFrom (t + l.propagation) (moments_of (through w.time b ++ flat through ws))
       go (Carry frame) k = (omega (arith, h.0), k)
-      go (Offer vl size sub) k = from-sooner (t + l.propagation) (w.time + l.propagation) (moments_of (flat through ws)) (omega (arith, h.0)) k
-      go (Release vl) k = from-sooner (t + l.propagation) (w.time + l.propagation) (moments_of (flat through ws)) (omega (arith, h.0)) k
-      go (PortFree p) k = from-sooner (t + l.propagation) (w.time + l.propagation) (moments_of (flat through ws)) (omega (arith, h.0)) k
-      go (Arrive p frame) k = from-sooner (t + l.propagation) (w.time + l.propagation) (moments_of (flat through ws)) (omega (arith, h.0)) k
-      go (Enqueue p frame) k = from-sooner (t + l.propagation) (w.time + l.propagation) (moments_of (flat through ws)) (omega (arith, h.0)) k
+      go _ k = from-sooner (t + l.propagation) (w.time + l.propagation) (moments_of (flat through ws)) (omega (arith, h.0)) k
 
 -- ---- the starts at the port before the line
 
@@ -122,16 +102,9 @@ module _ (byte_ns : ℕ) where
 
   all-costed : (p : PortState) (es : List PortEventAt) → Every Costed (starts_of idle (trace_of byte_ns p es))
   all-costed p es =
-      let a = trace-puts (λ r x. x.cost ≡ busy_for x.frame.size byte_ns) byte_ns p es (each es) in
-      all-put (λ x. x.cost ≡ busy_for x.frame.size byte_ns) (trace_of byte_ns p es) None [] [] tt tt a.high a.low
-    where
-      put : (t line : ℕ) (e : PortEvent) → trace.OfAsked (λ r x. x.cost ≡ busy_for x.frame.size byte_ns) byte_ns t line e
-      put t line (Put frame r) = refl
-      put t line Free = tt
-
-      each : (es : List PortEventAt) → Every (λ e. trace.OfAsked (λ r x. x.cost ≡ busy_for x.frame.size byte_ns) byte_ns e.at e.line e.event) es
-      each [] = tt
-      each (e ∷ es) = (put e.at e.line e.event, each es)
+      let a = costed byte_ns p es in
+      let cost : PutFrame → Type 0 = λ x. x.cost ≡ busy_for x.frame.size byte_ns in
+      starts-both Costed idle (trace_of byte_ns p es) (high-put cost (trace_of byte_ns p es) a.high) (low-put cost (trace_of byte_ns p es) a.low)
 
   carried-from : (k t : ℕ) (ss : List Start) → AreApart t ss → Every Costed ss → AreFrom t (moments_of (map (carried k byte_ns) (map told ss)))
   carried-from k t [] h c = tt
@@ -168,12 +141,8 @@ arrivals-are byte_ns j r [] to = refl
 arrivals-are byte_ns j r (m ∷ ms) to = ap (λ z. arrival_in byte_ns j m.time m.body ++ z) (arrivals-are byte_ns j r ms to.1) ∙ sym (flat-next (is_arrive j) r (arrival_in byte_ns j) none m ms to.0)
   where
     none : (t : ℕ) (b : Body) → is_arrive j b ≡ false → arrival_in byte_ns j t b ≡ []
-    none t (Offer vl size sub) e = refl
-    none t (Release vl) e = refl
-    none t (PortFree p) e = refl
     none t (Arrive p frame) e = ap (λ c. cond c (put_at byte_ns t j frame ∷ []) []) e
-    none t (Enqueue p frame) e = refl
-    none t (Carry frame) e = refl
+    none t _ e = refl
 
 -- each start brings one frame
 come-through : (byte_ns k : ℕ) (l : LineState) (j : ℕ) → l.to_port ≡ j → (ss : List FrameStart) →
@@ -182,7 +151,7 @@ come-through byte_ns k l j e [] = refl
 come-through byte_ns k l j e (s ∷ ss) = rw (eq-eqb l.to_port j e) (ap (λ z. coming byte_ns j l.propagation s ∷ z) (come-through byte_ns k l j e ss))
 
 -- a line was always that line
-line-was : (l : LineState) (s : NodeState) (ms : List Message) → (reached (rules_of node) s ms).equipment ≡ Line l → s.equipment ≡ Line l
+pub line-was : (l : LineState) (s : NodeState) (ms : List Message) → (reached (rules_of node) s ms).equipment ≡ Line l → s.equipment ≡ Line l
 line-was l s [] e = e
 line-was l s (m ∷ ms) e = go s.equipment (line-was l (after s m) ms e)
   where
@@ -190,9 +159,6 @@ line-was l s (m ∷ ms) e = go s.equipment (line-was l (after s m) ms e)
     go (EndSystem z) h = absurd (let z : ⊥ = cc in z)
     go (Switch z) h = absurd (let z : ⊥ = cc in z)
     go (Line z) h = h
-
-no : {X : Type 0} → false ≡ true → X
-no h = absurd (let z : ⊥ = cc in z)
 
 module _ (x : Setting NodeState) (L : Laws (simulation_of (rules_of node) x)) (p q k r j : ℕ) (inside : p < x.processes) (line-inside : k < x.processes) (N : IsOfNodes x) (outlet : Outlet) (l : LineState) (W : IsWay x p q k r j outlet l) where
   abbrev f : Simulation Message NodeState NodeRecord Note
@@ -223,12 +189,18 @@ module _ (x : Setting NodeState) (L : Laws (simulation_of (rules_of node) x)) (p
       from-sub 0 _ _ (sub-map (λ (w : Wish). w.time) _ _ (carry-sub n))
       (subst (λ z. AreFrom 0 (moments_of (map (carried k outlet.ahead.byte_ns) z))) (sym (starts-are n)) (carried-from outlet.ahead.byte_ns k 0 (starts' n) (starts-apart n) (all-costed outlet.ahead.byte_ns outlet.port (asked n))))
 
-  carry-come : (n : ℕ) → IsSublist (map as_wish (filter (is_to is_carry k) (events f n k))) (wished is_carry k (x.opening p) (events f n p))
-  carry-come n = come x L N p k inside is_carry (record {
+  carry-alone : IsAlone x L N p k inside is_carry
+  carry-alone = record {
     others = λ i inside' d s h m. none-carries q k i m s.equipment (subst (λ z. AllLead (λ i ahead. ahead.line ≡ k → ⊥) z.equipment) (sym h.1)
         (lead-reached (λ i ahead. ahead.line ≡ k → ⊥) (x.opening i) h.0 (λ i' other is e. d (W.only_port i i' other inside' is e).0)));
     not_offered = λ vl size sub. refl;
-  }) 0 carry-from n
+  }
+
+  pub carry-channel : IsChannel f p k (is_to is_carry k)
+  carry-channel = channel x L N p k inside is_carry carry-alone 0 carry-from
+
+  carry-come : (n : ℕ) → IsSublist (map as_wish (filter (is_to is_carry k) (events f n k))) (wished is_carry k (x.opening p) (events f n p))
+  carry-come n = come x L N p k inside is_carry carry-alone 0 carry-from n
 
   -- and out of it
   arrive-sub : (n : ℕ) → IsSublist (wished (is_arrive j) r (x.opening k) (events f n k)) (flat (through l) (map as_wish (filter (is_to is_carry k) (events f n k))))
@@ -244,7 +216,7 @@ module _ (x : Setting NodeState) (L : Laws (simulation_of (rules_of node) x)) (p
   arrive-come : (n : ℕ) → IsSublist (map as_wish (filter (is_to (is_arrive j) r) (events f n r))) (wished (is_arrive j) r (x.opening k) (events f n k))
   arrive-come n = come x L N k r line-inside (is_arrive j) (record {
     others = λ i inside' d s h m. all-elsewhere (is_arrive j) (record { no_release = λ vl. refl; no_free = λ k. refl; no_carry = λ frame. refl }) r i m s.equipment
-        (λ i' frame own. no own)
+        (λ i' frame own. absurd (false≢true own))
         (λ other is frame brought to. d (W.only_line i other inside' (line-was other (x.opening i) h.0 (sym (ap (λ (z : NodeState). z.equipment) h.1) ∙ is)) to (eqb-true other.to_port j brought)));
     not_offered = λ vl size sub. refl;
   }) (0 + l.propagation) arrive-from n

@@ -79,9 +79,6 @@ copied-asks q end net frame ports = go (is_on end net)
 -- both copies, each at its own port
 released-asks : (q : ℕ) (end : VlEnd) (a : RegAnswer) (ports : PortsState) →
     outlet_at (released_out end a ports) q ≡ option_map (done_at (or_else (copy_asks q end A a) (copy_asks q end B a))) (outlet_at ports q)
-released-asks q end answer.Kept ports = same (outlet_at ports q)
-released-asks q end answer.Dropped ports = same (outlet_at ports q)
-released-asks q end answer.Nothing ports = same (outlet_at ports q)
 released-asks q end (answer.Released frame) ports =
     copied-asks q end B frame (copied end A frame ports) ∙
     (ap (option_map (done_at (copy_asks q end B (answer.Released frame)))) (copied-asks q end A frame ports) ∙ two q (is_on end A) (is_on end B) (outlet_at ports q))
@@ -95,6 +92,7 @@ released-asks q end (answer.Released frame) ports =
         first : (a : Bool) → Some (done_at None (done_at (cond a (Some (copy A frame)) None) outlet)) ≡ Some (done_at (or_else (cond a (Some (copy A frame)) None) None) outlet)
         first true = refl
         first false = refl
+released-asks q end _ ports = same (outlet_at ports q)
 
 regulated-asks : (n t q : ℕ) (e : RegEvent) (otherwise : Reply) (s : EndSystemState) (o : Option (Found Source)) →
     outlet_at (regulated n t e otherwise s o).state.ports q ≡ option_map (done_at (regulated_asks q e o)) (outlet_at s.ports q)
@@ -111,12 +109,9 @@ end_system-asks n t q (body.Arrive p frame) s = go (exists s.ports p) (reception
     go true None = same (outlet_at s.ports q)
     go true (Some found) = same (outlet_at s.ports q)
     go false o = same (outlet_at s.ports q)
-end_system-asks n t q (body.Enqueue p frame) s = same (outlet_at s.ports q)
-end_system-asks n t q (body.Carry frame) s = same (outlet_at s.ports q)
+end_system-asks n t q _ s = same (outlet_at s.ports q)
 
 switch-asks : (n t q : ℕ) (b : Body) (s : SwitchState) → outlet_at (switch n t b s).state.ports q ≡ option_map (done_at (switch_asks q b s)) (outlet_at s.ports q)
-switch-asks n t q (body.Offer vl size sub) s = same (outlet_at s.ports q)
-switch-asks n t q (body.Release vl) s = same (outlet_at s.ports q)
 switch-asks n t q (body.PortFree p) s = changed-asks q p Free s.ports
 switch-asks n t q (body.Arrive p frame) s = go (exists s.ports p) (transit_at s frame.vl)
   where
@@ -140,7 +135,7 @@ switch-asks n t q (body.Enqueue p frame) s = go (outlet_at s.ports p) refl (tran
     go None is (Some found) = nowhere (Put frame found.entry.priority) is
     go (Some outlet) is None = unknown (p == q)
     go (Some outlet) is (Some found) = changed-asks q p (Put frame found.entry.priority) s.ports
-switch-asks n t q (body.Carry frame) s = same (outlet_at s.ports q)
+switch-asks n t q _ s = same (outlet_at s.ports q)
 
 pub node-asks : (n q : ℕ) (m : Message) (e : Equipment) → outlet_in (handled n m e).equipment q ≡ option_map (done_at (asks q m e)) (outlet_in e q)
 node-asks n q m (EndSystem s) = end_system-asks n m.time q m.body s

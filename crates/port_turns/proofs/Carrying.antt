@@ -5,10 +5,10 @@ use Rattle.std.proofs.lemmas.List.{map-append}
 use Rattle.vlink.specs.Wire.{last_bit_after}
 use Rattle.vlink.specs.declared.message.Message.{Message}
 use Rattle.vlink.specs.declared.message.Body.{Body}
-use Rattle.vlink.specs.declared.message.Body.TheVariants.{Offer, Release, PortFree, Arrive, Enqueue, Carry}
+use Rattle.vlink.specs.declared.message.Body.TheVariants.{Carry}
 use Rattle.output_port.specs.Port.{port}
 use Rattle.output_port.specs.declared.event.PortEvent.{PortEvent}
-use Rattle.output_port.specs.declared.event.PortEvent.TheVariants.{Put, Free}
+use Rattle.output_port.specs.declared.event.PortEvent.TheVariants.{Put}
 use Rattle.output_port.specs.declared.event.PortAnswer.{PortAnswer}
 use Rattle.output_port.specs.declared.event.PortAnswer.TheVariants as answer
 use Rattle.reverse.specs.Sending.{Wish}
@@ -17,7 +17,7 @@ use Rattle.virtual_time.specs.Law.{reached}
 use Rattle.port_bounds.specs.Sublists.{IsSublist}
 use Rattle.element_bounds.specs.PortTrace.{FrameStart, started_by, started_of}
 use Rattle.nodes.specs.declared.equipment.Equipment.{Equipment}
-use Rattle.nodes.specs.declared.equipment.Equipment.TheVariants.{EndSystem, Switch, Line}
+use Rattle.nodes.specs.declared.equipment.Equipment.TheVariants.{Line}
 use Rattle.nodes.specs.declared.ports.LineAhead.{LineAhead}
 use Rattle.nodes.specs.declared.ports.Outlet.{Outlet}
 use Rattle.nodes.specs.rules.Ports.{answered}
@@ -30,12 +30,8 @@ use Rattle.port_turns.proofs.SentKinds.{mine, sub-refl, wished, wished-sub}
 use Rattle.port_turns.proofs.Sending.{IsOfPort, LeadIn, node-sends, sent_of}
 
 abbrev pub is_carry : Body → Bool
-is_carry (Offer vl size sub) = false
-is_carry (Release vl) = false
-is_carry (PortFree p) = false
-is_carry (Arrive p frame) = false
-is_carry (Enqueue p frame) = false
 is_carry (Carry frame) = true
+is_carry _ = false
 
 -- a port as it was has the line that it has
 ahead-before : (a : Option PortEvent) (o : Option Outlet) (outlet : Outlet) → option_map (done_at a) o ≡ Some outlet → (before : Outlet) × (o ≡ Some before) × (outlet.ahead ≡ before.ahead)
@@ -83,18 +79,14 @@ module _ (q k : ℕ) where
     }
 
     leads : (e : Equipment) → AllLead elsewhere e → LeadIn (mine is_carry k) n q elsewhere own e
-    leads (EndSystem s) h = h
-    leads (Switch s) h = h
     leads (Line s) h = tt
+    leads _ h = h
 
     answered-carries : (t : ℕ) (ahead : LineAhead) (e : PortEvent) (a : PortAnswer) → ahead.line ≡ k → filter (mine is_carry k) (answered n t q ahead e a).wishes ≡ map (carried k ahead.byte_ns) (started_by t a)
     answered-carries t ahead e (answer.Started frame) h =
         rw (eq-eqb ahead.line k h, both-false (n == k)) (ap (λ z. record { time = t + last_bit_after frame.size ahead.byte_ns; receiver = z; body = Carry frame } ∷ []) h)
     answered-carries t ahead (Put frame r) answer.Dropped h = refl
-    answered-carries t ahead Free answer.Dropped h = refl
-    answered-carries t ahead e answer.Kept h = refl
-    answered-carries t ahead e answer.Idle h = refl
-    answered-carries t ahead e answer.Nothing h = refl
+    answered-carries t ahead _ _ h = refl
 
     -- what one message makes the node send into the line
     abbrev carries_of : ℕ → Option PortEvent → Outlet → List Wish
@@ -114,18 +106,14 @@ module _ (q k : ℕ) where
     answered-elsewhere : (t : ℕ) (ahead : LineAhead) (e : PortEvent) (a : PortAnswer) → (ahead.line ≡ k → ⊥) → filter (mine is_carry k) (answered n t q ahead e a).wishes ≡ []
     answered-elsewhere t ahead e (answer.Started frame) d = rw (ne_eqb ahead.line k d, both-false (n == k)) refl
     answered-elsewhere t ahead (Put frame r) answer.Dropped d = refl
-    answered-elsewhere t ahead Free answer.Dropped d = refl
-    answered-elsewhere t ahead e answer.Kept d = refl
-    answered-elsewhere t ahead e answer.Idle d = refl
-    answered-elsewhere t ahead e answer.Nothing d = refl
+    answered-elsewhere t ahead _ _ d = refl
 
     pub none-carries : (m : Message) (e : Equipment) → AllLead (λ j ahead. ahead.line ≡ k → ⊥) e → filter (mine is_carry k) (handled n m e).reply.wishes ≡ []
     none-carries m e h = node-sends (mine is_carry k) n q elsewhere own m e (leads e (λ j outlet is d. h j outlet is)) ∙ go (asks q m e) (outlet_in e q) refl
       where
         go : (o : Option PortEvent) (slot : Option Outlet) → outlet_in e q ≡ slot → sent_of (mine is_carry k) n q elsewhere own m.time o slot ≡ []
-        go None slot is = refl
-        go (Some event) None is = refl
         go (Some event) (Some outlet) is = answered-elsewhere m.time outlet.ahead event (port.out outlet.port event) (h q outlet is)
+        go _ _ is = refl
 
   -- the messages of a node into the line are some of its starts
   pub carries : (s : NodeState) (outlet : Outlet) (ms : List Message) → AllLead elsewhere s.equipment → outlet_in s.equipment q ≡ Some outlet → outlet.ahead.line ≡ k →

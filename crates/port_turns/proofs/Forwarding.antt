@@ -1,12 +1,10 @@
 -- What a switch puts to a port is some of what comes to it, each frame later by the delay, and by the port by which its virtual link comes in.
-use Rattle.std.proofs.Common.{◌≡◌, ℕ, ◌+◌, ◌<◌, ◌==◌, inl, inr, Bool, true, false, cond, nat_lt, List, [], ◌∷◌, ◌++◌, filter, map, Option, Some, None, slice_set, refl, sym, ap, ◌∙◌, subst, arith, eq-eqb, ne_eqb}
+use Rattle.std.proofs.Common.{◌≡◌, ℕ, ◌+◌, ◌<◌, ◌==◌, inl, inr, Bool, true, false, cond, nat_lt, List, [], ◌∷◌, ◌++◌, filter, map, Option, Some, None, refl, sym, ap, ◌∙◌, subst, arith, eq-eqb, ne_eqb}
 use Rattle.std.proofs.lemmas.Bool.{cases_eq}
-use Rattle.std.proofs.lemmas.Option.{same_Some}
 use Rattle.vlink.specs.declared.frame.Frame.{Frame}
-use Rattle.vlink.specs.declared.frame.VlId.{VlId}
 use Rattle.vlink.specs.declared.message.Message.{Message}
 use Rattle.vlink.specs.declared.message.Body.{Body}
-use Rattle.vlink.specs.declared.message.Body.TheVariants.{Offer, Release, PortFree, Arrive, Enqueue, Carry}
+use Rattle.vlink.specs.declared.message.Body.TheVariants.{PortFree, Arrive, Enqueue}
 use Rattle.vlink.specs.declared.note.Cause.TheVariants.{TooLong, Unknown}
 use Rattle.policer.specs.Account.{account}
 use Rattle.policer.specs.declared.account.Verdict.{Verdict}
@@ -17,15 +15,15 @@ use Rattle.reverse.specs.Sending.{Wish, loss}
 use Rattle.port_bounds.specs.Sublists.{IsSublist}
 use Rattle.nodes.specs.declared.transit.Transit.{Transit}
 use Rattle.nodes.specs.declared.equipment.Equipment.TheVariants.{Switch}
-use Rattle.nodes.specs.rules.Finding.{Found, find}
+use Rattle.nodes.specs.rules.Finding.{Found}
 use Rattle.nodes.specs.rules.Outputs.{marked_from}
 use Rattle.nodes.specs.rules.Ports.{PortsState, exists, reply}
-use Rattle.nodes.specs.rules.Switch.{SwitchState, entered, entered_reply, forwarded, judged, outputs_of, switch, transit_at, transit_number}
+use Rattle.nodes.specs.rules.Switch.{SwitchState, entered_reply, forwarded, judged, outputs_of, switch, transit_at}
 use Rattle.nodes.specs.rules.Switch as sw
 use Rattle.nodes.specs.rules.Node.{NodeState, after, handled}
 use Rattle.nodes.specs.laws.Ports.{reply-cases}
 use Rattle.nodes.specs.laws.SwitchSending.{switch-cases, wish_to}
-use Rattle.port_turns.proofs.Found.{found-other, found-set}
+use Rattle.port_turns.proofs.Transits.{AllTransits, transits-stay}
 use Rattle.port_turns.proofs.SentKinds.{AreFrom, as_wish, flat, from-sooner, mine, moments_of, wished, wished-sub}
 
 both-false : (b : Bool) → cond b false false ≡ false
@@ -33,12 +31,8 @@ both-false true = refl
 both-false false = refl
 
 abbrev pub is_put_at : ℕ → Body → Bool
-is_put_at q (Offer vl size sub) = false
-is_put_at q (Release vl) = false
-is_put_at q (PortFree p) = false
-is_put_at q (Arrive p frame) = false
 is_put_at q (Enqueue p frame) = p == q
-is_put_at q (Carry frame) = false
+is_put_at q _ = false
 
 -- switch r, at which frames of each virtual link come in by one port
 module _ (r q : ℕ) (input : ℕ → ℕ) where
@@ -47,12 +41,8 @@ module _ (r q : ℕ) (input : ℕ → ℕ) where
 
   -- what a frame gives that comes in there
   abbrev pub forward : ℕ → ℕ → Body → List Wish
-  forward delay t (Offer vl size sub) = []
-  forward delay t (Release vl) = []
-  forward delay t (PortFree p) = []
   forward delay t (Arrive p frame) = cond (input frame.vl.0 == p) (wish_to r (t + delay) frame q ∷ []) []
-  forward delay t (Enqueue p frame) = []
-  forward delay t (Carry frame) = []
+  forward delay t _ = []
 
   pub forward-from : (delay t : ℕ) (ws : List Wish) → AreFrom t (moments_of ws) → AreFrom (t + delay) (moments_of (flat (forward delay) ws))
   forward-from delay t [] h = tt
@@ -66,12 +56,8 @@ module _ (r q : ℕ) (input : ℕ → ℕ) where
       one false frame k = skip k
 
       go : (b : Body) → AreFrom (w.time + delay) (moments_of (flat (forward delay) ws)) → AreFrom (t + delay) (moments_of (forward delay w.time b ++ flat (forward delay) ws))
-      go (Offer vl size sub) k = skip k
-      go (Release vl) k = skip k
-      go (PortFree p) k = skip k
       go (Arrive p frame) k = one (input frame.vl.0 == p) frame k
-      go (Enqueue p frame) k = skip k
-      go (Carry frame) k = skip k
+      go _ k = skip k
 
   -- outputs rise, so the port is there once at most
   above : (at k : ℕ) (frame : Frame) (marks : List Bool) → q < k → puts (forwarded r at frame (marked_from k marks)).wishes ≡ []
@@ -92,11 +78,9 @@ module _ (r q : ℕ) (input : ℕ → ℕ) where
 
   -- each virtual link comes in by its port
   abbrev pub HaveInputs : SwitchState → Type 0
-  HaveInputs s = (vl : VlId) (found : Found Transit) → transit_at s vl ≡ Some found → input vl.0 ≡ found.entry.input
+  HaveInputs s = AllTransits (λ v x. input v ≡ x.input) (λ v x a k. k) s
 
   switch-forwards : (t : ℕ) (b : Body) (s : SwitchState) → HaveInputs s → IsSublist (puts (switch r t b s).reply.wishes) (forward s.latency t b)
-  switch-forwards t (Offer vl size sub) s h = tt
-  switch-forwards t (Release vl) s h = tt
   switch-forwards t (PortFree i) s h = subst (λ z. IsSublist z []) (sym (reply-none t i Free s.ports)) tt
   switch-forwards t (Enqueue i frame) s h = go (exists s.ports i) (transit_at s frame.vl)
     where
@@ -104,7 +88,6 @@ module _ (r q : ℕ) (input : ℕ → ℕ) where
       go true None = tt
       go true (Some found) = subst (λ z. IsSublist z []) (sym (reply-none t i (Put frame found.entry.priority) s.ports)) tt
       go false o = tt
-  switch-forwards t (Carry frame) s h = tt
   switch-forwards t (Arrive i frame) s h = go (exists s.ports i) (transit_at s frame.vl) refl
     where
       entered-forwards : (x : Transit) → input frame.vl.0 ≡ x.input → IsSublist (puts (entered_reply r t s.latency i frame x).wishes) (forward s.latency t (Arrive i frame))
@@ -112,39 +95,17 @@ module _ (r q : ℕ) (input : ℕ → ℕ) where
         where
           judge : (b : Bool) → (x.input == i) ≡ b → (c : Bool) (v : Verdict) →
               IsSublist (puts (cond b (cond c (loss TooLong frame) (judged r (t + s.latency) frame (outputs_of x) v)) (loss Unknown frame)).wishes) (cond (input frame.vl.0 == i) (wish_to r (t + s.latency) frame q ∷ []) [])
-          judge true eb true v = tt
           judge true eb false verdict.Passed =
               subst (λ z. IsSublist (puts (forwarded r (t + s.latency) frame (outputs_of x)).wishes) (cond z (wish_to r (t + s.latency) frame q ∷ []) [])) (sym (ap (λ z. z == i) e ∙ eb)) (once (t + s.latency) 0 frame x.outputs)
-          judge true eb false verdict.Refused = tt
-          judge false eb c v = tt
+          judge _ eb _ _ = tt
 
       go : (b : Bool) (o : Option (Found Transit)) → transit_at s frame.vl ≡ o → IsSublist (puts (cond b (sw.taken_in r t i frame s o) (sw.unmoved s)).reply.wishes) (forward s.latency t (Arrive i frame))
-      go true None is = tt
       go true (Some found) is = entered-forwards found.entry (h frame.vl found is)
-      go false o is = tt
+      go _ _ is = tt
+  switch-forwards t _ s h = tt
 
   pub inputs-stay : (n t : ℕ) (b : Body) (s : SwitchState) → HaveInputs s → HaveInputs (switch n t b s).state
-  inputs-stay n t b s h = switch-cases (λ o. HaveInputs o.state) n t s (record { quiet = λ z k. h; at_ports = λ i e. h; takes = λ i frame found is. takes i frame found is }) b
-    where
-      same : (i : ℕ) (frame : Frame) (x : Transit) → (transit_number (entered t i frame x) ≡ transit_number x) × ((entered t i frame x).input ≡ x.input)
-      same i frame x = go (x.input == i) (nat_lt x.smax frame.size)
-        where
-          go : (b c : Bool) → (transit_number (cond b (cond c x (record x { account = account.after x.account (record { at = t; size = frame.size }) })) x) ≡ transit_number x)
-              × ((cond b (cond c x (record x { account = account.after x.account (record { at = t; size = frame.size }) })) x).input ≡ x.input)
-          go true true = (refl, refl)
-          go true false = (refl, refl)
-          go false c = (refl, refl)
-
-      takes : (i : ℕ) (frame : Frame) (found : Found Transit) → transit_at s frame.vl ≡ Some found → HaveInputs (record s { transits = slice_set s.transits found.place (entered t i frame found.entry) })
-      takes i frame found is vl new here = elim (cases_eq vl.0 frame.vl.0) [
-        | inl e ↦ (
-            let now = subst (λ z. find transit_number (slice_set s.transits found.place (entered t i frame found.entry)) z ≡ Some (record { place = found.place; entry = entered t i frame found.entry })) (sym e)
-            (found-set transit_number s.transits frame.vl.0 found is (entered t i frame found.entry) (same i frame found.entry).0) in
-            let entry : entered t i frame found.entry ≡ new.entry = ap (λ (z : Found Transit). z.entry) (same_Some (record { place = found.place; entry = entered t i frame found.entry }) new (sym now ∙ here)) in
-            ap input e ∙ (h frame.vl found is ∙ (sym (same i frame found.entry).1 ∙ ap (λ (z : Transit). z.input) entry))
-            )
-        | inr d ↦ h vl new (sym (found-other transit_number s.transits frame.vl.0 found is (entered t i frame found.entry) (same i frame found.entry).0 vl.0 d) ∙ here)
-      ]
+  inputs-stay n t b s h = transits-stay (λ v x. input v ≡ x.input) (λ v x a k. k) n t b s h
 
   latency-stays : (n t : ℕ) (b : Body) (s : SwitchState) → (switch n t b s).state.latency ≡ s.latency
   latency-stays n t b s = switch-cases (λ o. o.state.latency ≡ s.latency) n t s (record { quiet = λ z k. refl; at_ports = λ i e. refl; takes = λ i frame found is. refl }) b

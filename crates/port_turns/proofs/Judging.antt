@@ -5,7 +5,7 @@ use Rattle.std.proofs.lemmas.Option.{none-some, same_Some}
 use Rattle.vlink.specs.declared.frame.Frame.{Frame}
 use Rattle.vlink.specs.declared.message.Message.{Message}
 use Rattle.vlink.specs.declared.message.Body.{Body}
-use Rattle.vlink.specs.declared.message.Body.TheVariants.{Offer, Release, PortFree, Arrive, Enqueue, Carry}
+use Rattle.vlink.specs.declared.message.Body.TheVariants.{PortFree, Arrive, Enqueue}
 use Rattle.vlink.specs.declared.note.Cause.TheVariants.{Unknown, TooLong}
 use Rattle.policer.specs.declared.account.Arrival.{Arrival}
 use Rattle.policer.specs.declared.account.Verdict.{Verdict}
@@ -17,7 +17,7 @@ use Rattle.reverse.specs.Sending.{Wish, loss}
 use Rattle.port_bounds.specs.Sublists.{IsSublist}
 use Rattle.nodes.specs.declared.transit.Transit.{Transit}
 use Rattle.nodes.specs.declared.equipment.Equipment.{Equipment}
-use Rattle.nodes.specs.declared.equipment.Equipment.TheVariants.{EndSystem, Switch, Line}
+use Rattle.nodes.specs.declared.equipment.Equipment.TheVariants.{Switch}
 use Rattle.nodes.specs.rules.Finding.{Found, find}
 use Rattle.nodes.specs.rules.Outputs.{marked_from}
 use Rattle.nodes.specs.rules.Ports.{exists, reply}
@@ -28,6 +28,7 @@ use Rattle.nodes.specs.laws.Ports.{reply-cases}
 use Rattle.nodes.specs.laws.SwitchSending.{wish_to}
 use Rattle.port_turns.specs.SwitchPuts.{IsBrought, is_put, transit_of}
 use Rattle.port_turns.proofs.Found.{found-set, found-other}
+use Rattle.port_turns.proofs.Transits.{entered-number}
 
 -- when frames of the virtual link are put to the port by these wishes
 abbrev pub put_times : ℕ → ℕ → List Wish → List ℕ
@@ -75,10 +76,8 @@ module _ (n t q v : ℕ) where
   entered-others delay at frame transit d = go (transit.input == at) (nat_lt transit.smax frame.size) (account.out transit.account (record { at = t; size = frame.size }))
     where
       go : (b c : Bool) (x : Verdict) → put_times q v (cond b (cond c (loss TooLong frame) (judged n (t + delay) frame (outputs_of transit) x)) (loss Unknown frame)).wishes ≡ []
-      go true true x = refl
       go true false verdict.Passed = others (t + delay) frame (outputs_of transit) d
-      go true false verdict.Refused = refl
-      go false c x = refl
+      go _ _ _ = refl
 
   -- and one of this one
   entered-own : (delay at : ℕ) (frame : Frame) (transit : Transit) → frame.vl.0 ≡ v →
@@ -95,9 +94,8 @@ module _ (n t q v : ℕ) where
       go : (b c : Bool) → Judged t delay v (Arrive at frame) transit
           (Some (cond b (cond c transit (record transit { account = account.after transit.account (record { at = t; size = frame.size }) })) transit))
           (put_times q v (cond b (cond c (loss TooLong frame) (judged n (t + delay) frame (outputs_of transit) (account.out transit.account (record { at = t; size = frame.size })))) (loss Unknown frame)).wishes)
-      go true true = Quiet refl refl
       go true false = Judges (record { at = t; size = frame.size }) refl (of, refl) refl (passing (passes transit.account (record { at = t; size = frame.size })))
-      go false c = Quiet refl refl
+      go _ _ = Quiet refl refl
 
   abbrev at_switch : SwitchState → Option Transit
   at_switch s = option_map (λ found. found.entry) (find transit_number s.transits v)
@@ -106,35 +104,25 @@ module _ (n t q v : ℕ) where
       Judged t s.latency v b transit (at_switch (switch n t b s).state) (put_times q v (switch n t b s).reply.wishes)
   switch-judges b s transit is = cases b
     where
-      same-number : (k : ℕ) (frame : Frame) (x : Transit) → transit_number (entered t k frame x) ≡ transit_number x
-      same-number k frame x = go (x.input == k) (nat_lt x.smax frame.size)
-        where
-          go : (b c : Bool) → transit_number (cond b (cond c x (record x { account = account.after x.account (record { at = t; size = frame.size }) })) x) ≡ transit_number x
-          go true true = refl
-          go true false = refl
-          go false c = refl
-
       own : (k : ℕ) (frame : Frame) (found : Found Transit) → transit_at s frame.vl ≡ Some found → frame.vl.0 ≡ v →
           Judged t s.latency v (Arrive k frame) transit (option_map (λ found. found.entry) (find transit_number (slice_set s.transits found.place (entered t k frame found.entry)) v)) (put_times q v (entered_reply n t s.latency k frame found.entry).wishes)
       own k frame found h e =
           let here : find transit_number s.transits v ≡ Some found = subst (λ i. find transit_number s.transits i ≡ Some found) e h in
           let same : found.entry ≡ transit = same_Some found.entry transit (sym (ap (option_map (λ (f : Found Transit). f.entry)) here) ∙ is) in
-          let now = ap (option_map (λ (f : Found Transit). f.entry)) (found-set transit_number s.transits v found here (entered t k frame found.entry) (same-number k frame found.entry)) in
+          let now = ap (option_map (λ (f : Found Transit). f.entry)) (found-set transit_number s.transits v found here (entered t k frame found.entry) (entered-number t k frame found.entry)) in
           subst (λ x. Judged t s.latency v (Arrive k frame) x (option_map (λ found. found.entry) (find transit_number (slice_set s.transits found.place (entered t k frame found.entry)) v)) (put_times q v (entered_reply n t s.latency k frame found.entry).wishes)) same
           (subst (λ o. Judged t s.latency v (Arrive k frame) found.entry o (put_times q v (entered_reply n t s.latency k frame found.entry).wishes)) (sym now) (entered-own s.latency k frame found.entry e))
 
       other : (k : ℕ) (frame : Frame) (found : Found Transit) → transit_at s frame.vl ≡ Some found → (frame.vl.0 ≡ v → ⊥) →
           Judged t s.latency v (Arrive k frame) transit (option_map (λ found. found.entry) (find transit_number (slice_set s.transits found.place (entered t k frame found.entry)) v)) (put_times q v (entered_reply n t s.latency k frame found.entry).wishes)
       other k frame found h d = Quiet
-          (ap (option_map (λ (f : Found Transit). f.entry)) (found-other transit_number s.transits frame.vl.0 found h (entered t k frame found.entry) (same-number k frame found.entry) v (λ e. d (sym e))) ∙ is)
+          (ap (option_map (λ (f : Found Transit). f.entry)) (found-other transit_number s.transits frame.vl.0 found h (entered t k frame found.entry) (entered-number t k frame found.entry) v (λ e. d (sym e))) ∙ is)
           (entered-others s.latency k frame found.entry d)
 
       ports-quiet : (b : Body) (k : ℕ) (e : PortEvent) → Judged t s.latency v b transit (at_switch s) (put_times q v (reply n t k e s.ports).wishes)
       ports-quiet b k e = Quiet is (reply-cases (λ r. put_times q v r.wishes ≡ []) n t k e s.ports (λ r h. ap (put_times q v) h) (λ outlet frame h. refl))
 
       cases : (b : Body) → Judged t s.latency v b transit (at_switch (switch n t b s).state) (put_times q v (switch n t b s).reply.wishes)
-      cases (Offer vl size sub) = Quiet is refl
-      cases (Release vl) = Quiet is refl
       cases (PortFree k) = ports-quiet (PortFree k) k Free
       cases (Arrive k frame) = go (exists s.ports k) (transit_at s frame.vl) refl
         where
@@ -150,16 +138,14 @@ module _ (n t q v : ℕ) where
           go true None = Quiet is refl
           go true (Some found) = ports-quiet (Enqueue k frame) k (Put frame found.entry.priority)
           go false o = Quiet is refl
-      cases (Carry frame) = Quiet is refl
+      cases _ = Quiet is refl
 
 -- how long a frame takes from its arrival to its output ports
 abbrev pub delay_of : Equipment → ℕ
-delay_of (EndSystem s) = 0
 delay_of (Switch s) = s.latency
-delay_of (Line s) = 0
+delay_of _ = 0
 
 pub node-judges : (n q v : ℕ) (m : Message) (e : Equipment) (transit : Transit) → transit_of e v ≡ Some transit →
     Judged m.time (delay_of e) v m.body transit (transit_of (handled n m e).equipment v) (put_times q v (handled n m e).reply.wishes)
-node-judges n q v m (EndSystem s) transit is = absurd (none-some transit is)
 node-judges n q v m (Switch s) transit is = switch-judges n m.time q v m.body s transit is
-node-judges n q v m (Line s) transit is = absurd (none-some transit is)
+node-judges n q v m _ transit is = absurd (none-some transit is)

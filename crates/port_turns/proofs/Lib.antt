@@ -1,6 +1,7 @@
 pub mod Turns
 pub mod Senders
 pub mod Asking
+pub mod Quiet
 pub mod Sending
 pub mod NodeTurns
 pub mod SentKinds
@@ -9,12 +10,14 @@ pub mod Found
 pub mod Later
 pub mod Rising
 pub mod Channels
+pub mod Transits
 pub mod Judging
 pub mod Elsewhere
 pub mod Putting
 pub mod Puts
 pub mod Sources
 pub mod TracePuts
+pub mod RegulatorTurns
 pub mod Releasing
 pub mod Serving
 pub mod PortRuns

@@ -53,9 +53,7 @@ module _ (q : ℕ) where
       go true b = refl
       go false true = refl
       go false false = refl
-  copies-put end answer.Kept = refl
-  copies-put end answer.Dropped = refl
-  copies-put end answer.Nothing = refl
+  copies-put end _ = refl
 
   regulated-puts : (e : RegEvent) (o : Option (Found Source)) → frees_port (regulated_asks q e o) ≡ false
   regulated-puts e None = refl
@@ -69,22 +67,17 @@ module _ (q : ℕ) where
   end_system-kind t (body.Offer vl size sub) s = sym (regulated-puts (Offer t sub (offered_frame t vl size)) (source_at s vl))
   end_system-kind t (body.Release vl) s = sym (regulated-puts (Release t) (source_at s vl))
   end_system-kind t (body.PortFree p) s = own-free (p == q)
-  end_system-kind t (body.Arrive p frame) s = refl
-  end_system-kind t (body.Enqueue p frame) s = refl
-  end_system-kind t (body.Carry frame) s = refl
+  end_system-kind t _ s = refl
 
   switch-kind : (b : Body) (s : SwitchState) → is_free q b ≡ frees_port (switch_asks q b s)
-  switch-kind (body.Offer vl size sub) s = refl
-  switch-kind (body.Release vl) s = refl
   switch-kind (body.PortFree p) s = own-free (p == q)
-  switch-kind (body.Arrive p frame) s = refl
   switch-kind (body.Enqueue p frame) s = go (p == q) (transit_at s frame.vl)
     where
       go : (b : Bool) (o : Option (Found Transit)) → false ≡ frees_port (cond b (option_map (λ found. Put frame found.entry.priority) o) None)
       go true None = refl
       go true (Some found) = refl
       go false o = refl
-  switch-kind (body.Carry frame) s = refl
+  switch-kind _ s = refl
 
   -- at a node with such a port
   pub node-kind : (m : Message) (e : Equipment) (outlet : Outlet) → outlet_in e q ≡ Some outlet → is_free q m.body ≡ frees_port (asks q m e)
@@ -94,8 +87,7 @@ module _ (q : ℕ) where
 
   port-of : (e : Equipment) → port_in e q ≡ option_map (λ o. o.port) (outlet_in e q)
   port-of (EndSystem s) = refl
-  port-of (Switch s) = refl
-  port-of (Line s) = refl
+  port-of _ = refl
 
   -- whether the port is busy
   pub busy-is : (e : Equipment) (slot : Option Outlet) → outlet_in e q ≡ slot → is_busy_in e q ≡ busy_of (option_map (λ o. o.port) slot)
@@ -115,20 +107,17 @@ module _ (q : ℕ) where
     }
 
     leads : (e : Equipment) → LeadIn (λ w. is_free q w.body) n q any own e
-    leads (EndSystem s) = λ k outlet h. tt
-    leads (Switch s) = λ k outlet h. tt
     leads (Line s) = tt
+    leads _ = λ k outlet h. tt
 
     -- the PortFree that the port sends
     abbrev pub freed_by : ℕ → Option PortEvent → Option Outlet → List Wish
     freed_by t (Some e) (Some outlet) = frees q (answered n t q outlet.ahead e (port.out outlet.port e)).wishes
-    freed_by t (Some e) None = []
-    freed_by t None o = []
+    freed_by t _ _ = []
 
     same-freed : (t : ℕ) (o : Option PortEvent) (slot : Option Outlet) → sent_of (λ w. is_free q w.body) n q any own t o slot ≡ freed_by t o slot
     same-freed t (Some e) (Some outlet) = refl
-    same-freed t (Some e) None = refl
-    same-freed t None o = refl
+    same-freed t _ _ = refl
 
     pub node-frees : (m : Message) (e : Equipment) (slot : Option Outlet) (o : Option PortEvent) → outlet_in e q ≡ slot → asks q m e ≡ o → frees q (handled n m e).reply.wishes ≡ freed_by m.time o slot
     node-frees m e slot o h k =

@@ -10,7 +10,7 @@ use Rattle.reverse.specs.Rules.{rules_of}
 use Rattle.reverse.specs.Setting.{Setting, simulation_of}
 use Rattle.virtual_time.specs.Law.{Laws, Simulation, events, one}
 use Rattle.timers.specs.Timer as timer
-use Rattle.timers.specs.Timer.{AreOnTime, IsOnTime}
+use Rattle.timers.specs.Timer.{AreOnTime}
 use Rattle.port_bounds.specs.Pacing.{AreBetween}
 use Rattle.port_bounds.specs.Port.{IsBy, IsServed, Port, idle}
 use Rattle.port_bounds.specs.Port as bounded
@@ -33,9 +33,8 @@ use Rattle.port_turns.proofs.Serving.{AreCosted, goes, served-sooner}
 
 stays : (b : Bool) (g until : Option ℕ) → b ≡ is_some until → g ≡ until → set_by [] b g ≡ until
 stays true g (Some u) e s = s
-stays true g None e s = absurd (let z : ⊥ = cc in z)
 stays false g None e s = refl
-stays false g (Some u) e s = absurd (let z : ⊥ = cc in z)
+stays _ g _ e s = absurd (let z : ⊥ = cc in z)
 
 -- what is asked of the port comes at moments that do not fall, and no later than the line is free
 abbrev pub AreAskedBy : ℕ → PortState → Port → ℕ → List PortEventAt → Type 0

@@ -6,7 +6,7 @@ use Rattle.vlink.specs.declared.note.Note.{Note}
 use Rattle.reverse.specs.Sending.{Wish, sent}
 use Rattle.reverse.specs.Rules.{rules_of}
 use Rattle.reverse.specs.Setting.{Setting, simulation_of}
-use Rattle.virtual_time.specs.Law.{Simulation, Laws, IsReached, events}
+use Rattle.virtual_time.specs.Law.{Simulation, Laws, events}
 use Rattle.nodes.specs.declared.node.NodeRecord.{NodeRecord}
 use Rattle.nodes.specs.rules.Node.{NodeState, handled, after, sends}
 use Rattle.nodes.specs.undoing.Node.{node}
@@ -19,7 +19,7 @@ use Rattle.port_turns.proofs.SentKinds.{mine, mine-kind, offers-none, receiver-i
 use Rattle.port_turns.proofs.Turns.{Turn}
 use Rattle.port_turns.proofs.Turns.Turn.{Stays, Starts, Stops}
 use Rattle.port_turns.proofs.NodeTurns.{node-turn}
-use Rattle.port_turns.proofs.Senders.{number-stays, until-stays}
+use Rattle.port_turns.proofs.Senders.{number-is, until-is}
 
 -- those of the wishes that free port q, and are for process p
 mine-free : (p q : ℕ) (ws fs : List Wish) → frees q ws ≡ fs → filter (mine (is_free q) p) ws ≡ filter (λ w. w.receiver == p) fs
@@ -43,12 +43,6 @@ module _ (x : Setting NodeState) (p q : ℕ) (inside : p < x.processes) (N : IsO
   -- the timer is set while the port is busy
   fits : NodeState → Option ℕ → Bool
   fits s g = alike (is_busy_in s.equipment q) (is_some g)
-
-  number-is : (r : ℕ) → r < x.processes → (s : NodeState) → IsReached f r s → s.sender.number ≡ r
-  number-is r i s h = ap (λ (z : NodeState). z.sender.number) h.1 ∙ (number-stays (x.opening r) h.0 ∙ N.number r i)
-
-  until-is : (s : NodeState) → IsReached f p s → s.sender.until ≡ x.until
-  until-is s h = ap (λ (z : NodeState). z.sender.until) h.1 ∙ (until-stays (x.opening p) h.0 ∙ N.until p inside)
 
   -- for which moment the timer is set after an event
   abbrev set_after : NodeState → Option ℕ → Message → Option ℕ
@@ -130,19 +124,19 @@ module _ (x : Setting NodeState) (p q : ℕ) (inside : p < x.processes) (N : IsO
   timer = record {
     opens = rw idle refl;
     off = refl;
-    keeps = λ s g m h i r on_time. keeps s g m (number-is p inside s h) i;
+    keeps = λ s g m h i r on_time. keeps s g m (number-is x N p inside s h) i;
     goes_on = λ s g m u h i r free a.
-        let n = number-is p inside s h in
+        let n = number-is x N p inside s h in
         let on = goes_on s g m u (busy-some s g i ∙ ap is_some a) (sym (free-mine m r) ∙ free) a in
         (on.0, ap (filter (is_timer p q)) (sends-at s m n) ∙ on.1);
     begins = λ s g m h i r free a.
-        subst (λ ms. IsSet f p (is_timer p q) (port_alarm p q) ms (set_after s g m)) (sym (sends-at s m (number-is p inside s h)))
-        (sets s g m (until-is s h) (inr (sym (free-mine m r) ∙ free, busy-some s g i ∙ ap is_some a)));
+        subst (λ ms. IsSet f p (is_timer p q) (port_alarm p q) ms (set_after s g m)) (sym (sends-at s m (number-is x N p inside s h)))
+        (sets s g m (until-is x N p inside s h) (inr (sym (free-mine m r) ∙ free, busy-some s g i ∙ ap is_some a)));
     again = λ s g m h i r free on_time.
-        subst (λ ms. IsSet f p (is_timer p q) (port_alarm p q) ms (set_after s g m)) (sym (sends-at s m (number-is p inside s h)))
-        (sets s g m (until-is s h) (inl (sym (free-mine m r) ∙ free, busy-some s g i ∙ ap is_some (on_time.at_moment free))));
+        subst (λ ms. IsSet f p (is_timer p q) (port_alarm p q) ms (set_after s g m)) (sym (sends-at s m (number-is x N p inside s h)))
+        (sets s g m (until-is x N p inside s h) (inl (sym (free-mine m r) ∙ free, busy-some s g i ∙ ap is_some (on_time.at_moment free))));
     to_itself = receiver-is (is_free q) p;
-    by_none = λ r i d s h m. none r d s m (number-is r i s h);
+    by_none = λ r i d s h m. none r d s m (number-is x N r i s h);
     not_offered = offers-none (is_free q) p (λ vl size sub. refl) x.offers N.offered;
   }
     where

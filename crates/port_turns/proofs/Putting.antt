@@ -1,5 +1,6 @@
 -- What a node sends as puts: what passed the account, later by the delay.
 use Rattle.std.proofs.Common.{◌≡◌, ℕ, ◌+◌, ◌≤◌, ◌==◌, Bool, true, false, cond, List, [], ◌∷◌, ◌++◌, filter, Some, refl, sym, ap, subst, arith}
+use Rattle.std.proofs.lemmas.Bool.{false≢true}
 use Rattle.vlink.specs.declared.message.Message.{Message}
 use Rattle.policer.specs.declared.account.Arrival.{Arrival}
 use Rattle.policer.specs.Account.{Policing, account, passes}
@@ -11,7 +12,7 @@ use Rattle.port_bounds.proofs.PacingLemmas.{ends}
 use Rattle.port_bounds.proofs.SublistLemmas.{sub-trans}
 use Rattle.element_bounds.specs.Passages.{AreAtLeast, passages_of}
 use Rattle.nodes.specs.declared.equipment.Equipment.{Equipment}
-use Rattle.nodes.specs.declared.equipment.Equipment.TheVariants.{EndSystem, Switch, Line}
+use Rattle.nodes.specs.declared.equipment.Equipment.TheVariants.{Switch}
 use Rattle.nodes.specs.declared.transit.Transit.{Transit}
 use Rattle.nodes.specs.rules.Node.{NodeState, handled, after}
 use Rattle.nodes.specs.laws.SwitchSending.{switch-cases}
@@ -22,9 +23,6 @@ use Rattle.port_turns.proofs.Judging.Judged.{Quiet, Judges}
 use Rattle.port_turns.proofs.Elsewhere.{all-elsewhere}
 use Rattle.port_turns.proofs.SentKinds.{AreFrom, from-sooner, from-sub, mine, mine-kind, moments-sub, moments_of, sub-filter, sub-map, times_of, wished}
 use Rattle.port_turns.proofs.Later.{later}
-
-no : {X : Type 0} → false ≡ true → X
-no h = absurd (let z : ⊥ = cc in z)
 
 -- moments that are later by a delay; and those of frames that pass
 later-from : (delay t : ℕ) (ts : List ℕ) → AreFrom t ts → AreFrom (t + delay) (later delay ts)
@@ -43,13 +41,12 @@ module _ (q v : ℕ) where
   -- another process puts none to this one
   pub puts-elsewhere : (r p : ℕ) → (r ≡ p → ⊥) → (m : Message) (e : Equipment) → filter (mine (is_put q v) p) (handled r m e).reply.wishes ≡ []
   puts-elsewhere r p d m e =
-      all-elsewhere (is_put q v) (record { no_release = λ vl. refl; no_free = λ k. refl; no_carry = λ frame. refl }) p r m e (λ k frame own. d) (λ l is frame brought to. no brought)
+      all-elsewhere (is_put q v) (record { no_release = λ vl. refl; no_free = λ k. refl; no_carry = λ frame. refl }) p r m e (λ k frame own. d) (λ l is frame brought to. absurd (false≢true brought))
 
   -- the delay stays
   pub delay-stays : (n : ℕ) (m : Message) (e : Equipment) → delay_of (handled n m e).equipment ≡ delay_of e
-  delay-stays n m (EndSystem s) = refl
   delay-stays n m (Switch s) = switch-cases (λ o. o.state.latency ≡ s.latency) n m.time s (record { quiet = λ r h. refl; at_ports = λ k e. refl; takes = λ k frame found h. refl }) m.body
-  delay-stays n m (Line s) = refl
+  delay-stays n m _ = refl
 
   module _ (p : ℕ) where
     -- what the process has put to the port, as its events wish for it

@@ -1,14 +1,10 @@
 -- Why the frames that an end system puts to a port are one BAG apart: each is put at the moment at which its regulator releases it.
-use Rattle.std.proofs.Common.{◌≡◌, ℕ, ◌==◌, inl, inr, Bool, true, false, cond, List, [], ◌∷◌, ◌++◌, Option, Some, None, option_map, refl, sym, ap, ◌∙◌, subst, ne_eqb}
-use Rattle.std.proofs.lemmas.Bool.{cases_eq}
-use Rattle.std.proofs.lemmas.Option.{none-some, same_Some}
+use Rattle.std.proofs.Common.{◌≡◌, ℕ, inl, Bool, true, false, cond, List, [], ◌∷◌, ◌++◌, Option, Some, None, refl, sym, ap, subst, ne_eqb}
+use Rattle.std.proofs.lemmas.Option.{none-some}
 use Rattle.vlink.specs.declared.frame.Frame.{Frame}
-use Rattle.vlink.specs.declared.frame.Net.TheVariants.{A, B}
-use Rattle.vlink.specs.declared.frame.VlId.{VlId}
 use Rattle.vlink.specs.declared.message.Message.{Message}
 use Rattle.vlink.specs.declared.message.Body.{Body}
 use Rattle.vlink.specs.declared.message.Body.TheVariants as body
-use Rattle.vlink.specs.declared.note.Cause.TheVariants.{Unknown}
 use Rattle.bag_regulator.specs.Regulator.{Regulator, regulator}
 use Rattle.bag_regulator.specs.Spacing.{if_released, moment_of, releases_of}
 use Rattle.bag_regulator.specs.declared.event.RegEvent.{RegEvent}
@@ -19,7 +15,7 @@ use Rattle.output_port.specs.Port.{PortState}
 use Rattle.output_port.specs.declared.event.Priority.{Priority}
 use Rattle.output_port.specs.declared.event.PortEvent.{PortEvent}
 use Rattle.output_port.specs.declared.event.PortEvent.TheVariants.{Put, Free}
-use Rattle.reverse.specs.Sending.{Reply, loss, silent}
+use Rattle.reverse.specs.Sending.{Wish}
 use Rattle.port_bounds.specs.Sublists.{IsSublist}
 use Rattle.port_bounds.specs.Pacing.{IsPaced}
 use Rattle.port_bounds.specs.Arrivals.{is_of_link, moments_at}
@@ -28,19 +24,13 @@ use Rattle.port_bounds.proofs.ArrivalLemmas.{fewer-paced}
 use Rattle.element_bounds.specs.PortTrace.{trace_of}
 use Rattle.element_bounds.proofs.ReleaseLemmas.{releases-paced}
 use Rattle.nodes.specs.declared.equipment.Equipment.{Equipment}
-use Rattle.nodes.specs.declared.equipment.Equipment.TheVariants.{EndSystem, Switch, Line}
-use Rattle.nodes.specs.declared.reception.Reception.{Reception}
-use Rattle.nodes.specs.declared.source.Source.{Source}
-use Rattle.nodes.specs.declared.vl_end.VlEnd.{VlEnd}
-use Rattle.nodes.specs.rules.Finding.{Found, find}
-use Rattle.nodes.specs.rules.Ports.{exists}
-use Rattle.nodes.specs.rules.EndSystem.{EndSystemState, end_system, offered_frame, reception_at, regulated, source_at, source_number}
-use Rattle.nodes.specs.rules.EndSystem as es
+use Rattle.nodes.specs.declared.equipment.Equipment.TheVariants.{EndSystem}
 use Rattle.nodes.specs.rules.Node.{NodeState, after, handled, regulator_in}
-use Rattle.port_turns.specs.PortEvents.{asks, copy_asks, end_system_asks, or_else, regulated_asks}
+use Rattle.port_turns.specs.PortEvents.{asks}
 use Rattle.port_turns.specs.PortRuns.{AreOwnFrames, port_events, puts_with}
-use Rattle.port_turns.proofs.Found.{found-set, found-other}
-use Rattle.port_turns.proofs.Sources.{IsOfferFit, OfPut, source-keeps, subject}
+use Rattle.port_turns.proofs.RegulatorTurns.{IsSaid, LikeReleased, OfPutBy, Turned, node-turn}
+use Rattle.port_turns.proofs.RegulatorTurns.Turned.{Does, Quiet as Unmoved}
+use Rattle.port_turns.proofs.Sources.{IsOfferFit, source-keeps}
 use Rattle.port_turns.proofs.TracePuts.{put_of, puts_at, trace-sub}
 
 -- a frame is of the virtual link with this number
@@ -52,66 +42,30 @@ data Asked (t : ℕ) (before : Regulator) (now : Option Regulator) (times : List
   Quiet : now ≡ Some before → times ≡ [] → Asked t before now times
   Asks : (e : RegEvent) → moment_of e ≡ t → now ≡ Some (regulator.after before e) → IsSublist times (if_released (regulator.out before e).answer t) → Asked t before now times
 
-module _ (n t q v : ℕ) where
-  abbrev source_in : EndSystemState → Option Regulator
-  source_in s = option_map (λ found. found.entry.regulator) (find source_number s.sources v)
+module _ (v t : ℕ) where
+  abbrev times : Option PortEvent → List ℕ
+  times o = cond (put_of v o) (t ∷ []) []
 
-  -- a copy is put only where a frame is released
-  copies : (end : VlEnd) (a : RegAnswer) → IsSublist (cond (put_of v (or_else (copy_asks q end A a) (copy_asks q end B a))) (t ∷ []) []) (if_released a t)
-  copies end (answer.Released frame) = go (put_of v (or_else (copy_asks q end A (answer.Released frame)) (copy_asks q end B (answer.Released frame))))
+  none-put : (o : Option PortEvent) → OfPutBy v (λ f. ⊥) o → times o ≡ []
+  none-put None h = refl
+  none-put (Some Free) h = refl
+  none-put (Some (Put frame r)) h = ap (λ b. cond b (t ∷ []) []) (ne_eqb frame.vl.0 v h)
+
+  some-put : (a : RegAnswer) (o : Option PortEvent) → OfPutBy v (LikeReleased v a) o → IsSublist (times o) (if_released a t)
+  some-put (answer.Released f) o h = go (put_of v o)
     where
       go : (b : Bool) → IsSublist (cond b (t ∷ []) []) (t ∷ [])
       go true = inl (refl, tt)
       go false = tt
-  copies end answer.Kept = tt
-  copies end answer.Dropped = tt
-  copies end answer.Nothing = tt
+  some-put _ o h = subst (λ z. IsSublist z []) (sym (none-put o h)) tt
 
-  -- a frame of another virtual link
-  other-put : (k : ℕ) (o : Option PortEvent) → OfPut IsOwn k t o → (k ≡ v → ⊥) → put_of v o ≡ false
-  other-put k None p d = refl
-  other-put k (Some Free) p d = refl
-  other-put k (Some (Put frame r)) p d = ne_eqb frame.vl.0 v (λ e. d (sym p.1 ∙ (sym (ap (λ (z : Frame). z.vl.0) p.2) ∙ e)))
+  said-at : (b : Body) (e : RegEvent) → IsSaid v t b e → moment_of e ≡ t
+  said-at b (Offer at sub frame) said = said.1
+  said-at b (Release at) said = said.1
 
-  regulated-asked : (vl : VlId) (e : RegEvent) (otherwise : Reply) (s : EndSystemState) (g : Regulator) → moment_of e ≡ t → OfPut IsOwn vl.0 t (regulated_asks q e (source_at s vl)) → source_in s ≡ Some g →
-      Asked t g (source_in (regulated n t e otherwise s (source_at s vl)).state) (cond (put_of v (regulated_asks q e (source_at s vl))) (t ∷ []) [])
-  regulated-asked vl e otherwise s g at p is = elim (cases_eq vl.0 v) [
-    | inl k ↦ own k (source_at s vl) refl
-    | inr d ↦ Quiet (other d (source_at s vl) refl) (ap (λ b. cond b (t ∷ []) []) (other-put vl.0 (regulated_asks q e (source_at s vl)) p d))
-  ]
-    where
-      own : vl.0 ≡ v → (o : Option (Found Source)) → source_at s vl ≡ o →
-          Asked t g (source_in (regulated n t e otherwise s o).state) (cond (put_of v (regulated_asks q e o)) (t ∷ []) [])
-      own k None h = absurd (none-some g (sym (ap (option_map (λ (f : Found Source). f.entry.regulator)) (subst (λ i. find source_number s.sources i ≡ None) k h)) ∙ is))
-      own k (Some found) h =
-          let here : find source_number s.sources v ≡ Some found = subst (λ i. find source_number s.sources i ≡ Some found) k h in
-          let same : found.entry.regulator ≡ g = same_Some found.entry.regulator g (sym (ap (option_map (λ (f : Found Source). f.entry.regulator)) here) ∙ is) in
-          let now = ap (option_map (λ (f : Found Source). f.entry.regulator)) (found-set source_number s.sources v found here (record found.entry { regulator = regulator.after found.entry.regulator e }) refl) in
-          Asks e at (now ∙ ap (λ z. Some (regulator.after z e)) same)
-          (subst (λ z. IsSublist (cond (put_of v (or_else (copy_asks q found.entry.end A (regulator.out found.entry.regulator e).answer) (copy_asks q found.entry.end B (regulator.out found.entry.regulator e).answer))) (t ∷ []) []) (if_released (regulator.out z e).answer t)) same (copies found.entry.end (regulator.out found.entry.regulator e).answer))
-
-      other : (vl.0 ≡ v → ⊥) → (o : Option (Found Source)) → source_at s vl ≡ o → source_in (regulated n t e otherwise s o).state ≡ Some g
-      other d None h = is
-      other d (Some found) h =
-          ap (option_map (λ (f : Found Source). f.entry.regulator)) (found-other source_number s.sources vl.0 found h (record found.entry { regulator = regulator.after found.entry.regulator e }) refl v (λ k. d (sym k))) ∙ is
-
-  source-asked : (b : Body) (s : EndSystemState) (g : Regulator) → OfPut IsOwn (subject b) t (end_system_asks q t b s) → source_in s ≡ Some g →
-      Asked t g (source_in (end_system n t b s).state) (cond (put_of v (end_system_asks q t b s)) (t ∷ []) [])
-  source-asked (body.Offer vl size sub) s g p is = regulated-asked vl (Offer t sub (offered_frame t vl size)) (loss Unknown (offered_frame t vl size)) s g refl p is
-  source-asked (body.Release vl) s g p is = regulated-asked vl (Release t) silent s g refl p is
-  source-asked (body.PortFree k) s g p is = Quiet is (go (k == q))
-    where
-      go : (b : Bool) → cond (put_of v (cond b (Some Free) None)) (t ∷ []) [] ≡ []
-      go true = refl
-      go false = refl
-  source-asked (body.Arrive k frame) s g p is = Quiet (go (exists s.ports k) (reception_at s frame.vl frame.net)) refl
-    where
-      go : (b : Bool) (o : Option (Found Reception)) → source_in (cond b (es.taken_in t frame s o) (es.unmoved s)).state ≡ Some g
-      go true None = is
-      go true (Some found) = is
-      go false o = is
-  source-asked (body.Enqueue k frame) s g p is = Quiet is refl
-  source-asked (body.Carry frame) s g p is = Quiet is refl
+  as-asked : (n : ℕ) (b : Body) (before : Regulator) (now : Option Regulator) (ws : List Wish) (o : Option PortEvent) → Turned v n t b before now ws o → Asked t before now (times o)
+  as-asked n b before now ws o (Unmoved is none release offer put) = Quiet is (none-put o put)
+  as-asked n b before now ws o (Does e said is vl own wished put) = Asks e (said-at b e said) is (some-put (regulator.out before e).answer o put)
 
 -- a message to a node that has the regulator, and in whose regulators each frame is of its virtual link
 record IsAsked (n q v : ℕ) (m : Message) (e : Equipment) (g : Regulator) : Type 0 where
@@ -120,18 +74,13 @@ record IsAsked (n q v : ℕ) (m : Message) (e : Equipment) (g : Regulator) : Typ
 
 offer-own : (t : ℕ) (b : Body) → IsOfferFit IsOwn t b
 offer-own t (body.Offer vl size sub) = refl
-offer-own t (body.Release vl) = tt
-offer-own t (body.PortFree k) = tt
-offer-own t (body.Arrive k frame) = tt
-offer-own t (body.Enqueue k frame) = tt
-offer-own t (body.Carry frame) = tt
+offer-own t _ = tt
 
 node-asked : (n q v : ℕ) (m : Message) (e : Equipment) (g : Regulator) → AreOwnFrames e → regulator_in e (record { 0 = v }) ≡ Some g → IsAsked n q v m e g
 node-asked n q v m (EndSystem s) g own is =
     let k = source-keeps IsOwn n m.time q m.body s (offer-own m.time m.body) own in
-    record { own = k.waiting; asked = source-asked n m.time q v m.body s g k.put is }
-node-asked n q v m (Switch s) g own is = absurd (none-some g is)
-node-asked n q v m (Line s) g own is = absurd (none-some g is)
+    record { own = k.waiting; asked = as-asked v m.time n m.body g _ _ (asks q m (EndSystem s)) (node-turn v n q m (EndSystem s) g k.put is) }
+node-asked n q v m _ g own is = absurd (none-some g is)
 
 -- what the regulator was asked, and the moments of puts among its releases
 record AreReleased (g : Regulator) (times : List ℕ) : Type 0 where

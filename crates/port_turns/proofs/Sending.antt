@@ -24,12 +24,6 @@ use Rattle.policer.specs.declared.account.Verdict.TheVariants as verdict
 use Rattle.output_port.specs.Port.{port}
 use Rattle.output_port.specs.declared.event.PortEvent.{PortEvent}
 use Rattle.output_port.specs.declared.event.PortEvent.TheVariants.{Put, Free}
-use Rattle.integrity.specs.Integrity.{integrity}
-use Rattle.integrity.specs.declared.checking.Checked.{Checked}
-use Rattle.integrity.specs.declared.checking.Checked.TheVariants as check
-use Rattle.redundancy.specs.Redundancy.{redundancy}
-use Rattle.redundancy.specs.declared.delivery.Delivery.{Delivery}
-use Rattle.redundancy.specs.declared.delivery.Delivery.TheVariants as delivery
 use Rattle.reverse.specs.Sending.{Reply, Wish, loss, silent}
 use Rattle.nodes.specs.declared.equipment.Equipment.{Equipment}
 use Rattle.nodes.specs.declared.equipment.Equipment.TheVariants.{EndSystem, Switch, Line}
@@ -50,6 +44,7 @@ use Rattle.nodes.specs.rules.Node.{handled}
 use Rattle.nodes.specs.laws.Ports.{reply-cases}
 use Rattle.port_turns.specs.PortEvents.{asks, copy_asks, done_at, end_system_asks, or_else, outlet_in, regulated_asks, switch_asks}
 use Rattle.port_turns.proofs.Asking.{copied-asks, only, same}
+use Rattle.port_turns.proofs.Quiet.{full-quiet, received-quiet}
 
 -- a kind of wish that node n has only where a frame starts at port q; of its other ports it is known which lines they lead into
 pub record IsOfPort (is : Wish → Bool) (n q : ℕ) (leads : ℕ → LineAhead → Type 0) : Type 0 where
@@ -68,8 +63,7 @@ module _ (is : Wish → Bool) (n q : ℕ) (leads : ℕ → LineAhead → Type 0)
   -- what port q sends of the kind
   abbrev pub sent_of : ℕ → Option PortEvent → Option Outlet → List Wish
   sent_of t (Some e) (Some outlet) = filter is (answered n t q outlet.ahead e (port.out outlet.port e)).wishes
-  sent_of t (Some e) None = []
-  sent_of t None o = []
+  sent_of t _ _ = []
 
   port-sends : (t at : ℕ) (e : PortEvent) (ports : PortsState) → Lead leads ports → of (reply n t at e ports) ≡ sent_of t (only q at e) (outlet_at ports q)
   port-sends t at e ports h = elim (cases_eq at q) [ inl k ↦ subst (λ z. of (reply n t z e ports) ≡ sent_of t (only q z e) (outlet_at ports q)) (sym k) (rw (eq-eqb q q refl) (here (outlet_at ports q))) | inr d ↦ rw (ne_eqb at q d) (other d) ]
@@ -115,9 +109,6 @@ module _ (is : Wish → Bool) (n q : ℕ) (leads : ℕ → LineAhead → Type 0)
 
   released-sends : (t : ℕ) (end : VlEnd) (a : RegAnswer) (ports : PortsState) → Lead leads ports →
       of (released_reply n t end a ports) ≡ sent_of t (or_else (copy_asks q end A a) (copy_asks q end B a)) (outlet_at ports q)
-  released-sends t end answer.Kept ports h = refl
-  released-sends t end answer.Dropped ports h = refl
-  released-sends t end answer.Nothing ports h = refl
   released-sends t end (answer.Released frame) ports h =
       filter-append is (copied_reply n t end A frame ports).wishes (copied_reply n t end B frame (copied end A frame ports)).wishes ∙
       (ap (λ ws. ws ++ of (copied_reply n t end B frame (copied end A frame ports))) (copied-sends t end A frame ports h) ∙
@@ -136,17 +127,11 @@ module _ (is : Wish → Bool) (n q : ℕ) (leads : ℕ → LineAhead → Type 0)
           left : (a : Option PortEvent) → sent_of t a o ++ [] ≡ sent_of t (or_else a None) o
           left None = refl
           left (Some e) = append-nil _
+  released-sends t end _ ports h = refl
 
   full-none : (e : RegEvent) (a : RegAnswer) (vl : VlId) (o : Option ℕ) → filter is ((full e a).wishes ++ (asked n vl o).wishes) ≡ []
-  full-none e a vl o = filter-append is (full e a).wishes (asked n vl o).wishes ∙ (ap (λ ws. ws ++ filter is (asked n vl o).wishes) (quiet e a) ∙ by_ask o)
+  full-none e a vl o = filter-append is (full e a).wishes (asked n vl o).wishes ∙ (ap (λ ws. filter is ws ++ filter is (asked n vl o).wishes) (full-quiet e a) ∙ by_ask o)
     where
-      quiet : (e : RegEvent) (a : RegAnswer) → filter is (full e a).wishes ≡ []
-      quiet (Offer at sub frame) answer.Dropped = refl
-      quiet (Offer at sub frame) (answer.Released f) = refl
-      quiet (Offer at sub frame) answer.Kept = refl
-      quiet (Offer at sub frame) answer.Nothing = refl
-      quiet (Release at) a = refl
-
       by_ask : (o : Option ℕ) → filter is (asked n vl o).wishes ≡ []
       by_ask None = refl
       by_ask (Some at) = rw (O.no_release at vl) refl
@@ -160,17 +145,6 @@ module _ (is : Wish → Bool) (n q : ℕ) (leads : ℕ → LineAhead → Type 0)
       (ap (λ ws. ws ++ of (released_reply n t found.entry.end out.answer s.ports)) (full-none e out.answer found.entry.end.vl out.release_at) ∙
       released-sends t found.entry.end out.answer s.ports h)
 
-  received-none : (t : ℕ) (frame : Frame) (found : Found Reception) → of (es.received_reply t frame found.entry.receiving) ≡ []
-  received-none t frame found = checks (integrity.out (es.check_of frame.net found.entry.receiving) frame.number)
-    where
-      gives : (d : Delivery) → of (es.delivered t frame d) ≡ []
-      gives delivery.Delivered = refl
-      gives delivery.Duplicate = refl
-
-      checks : (c : Checked) → of (es.checked t frame found.entry.receiving c) ≡ []
-      checks check.Passed = gives (redundancy.out found.entry.receiving.redundancy (record { number = frame.number; at = t }))
-      checks check.Refused = refl
-
   end_system-sends : (t : ℕ) (b : Body) (s : EndSystemState) → Lead leads s.ports → of (end_system n t b s).reply ≡ sent_of t (end_system_asks q t b s) (outlet_at s.ports q)
   end_system-sends t (body.Offer vl size sub) s h = regulated-sends t (Offer t sub (offered_frame t vl size)) (loss cause.Unknown (offered_frame t vl size)) refl s (source_at s vl) h
   end_system-sends t (body.Release vl) s h = regulated-sends t (Release t) silent refl s (source_at s vl) h
@@ -179,10 +153,9 @@ module _ (is : Wish → Bool) (n q : ℕ) (leads : ℕ → LineAhead → Type 0)
     where
       go : (b : Bool) (o : Option (Found Reception)) → of (cond b (es.taken_in t frame s o) (es.unmoved s)).reply ≡ []
       go true None = refl
-      go true (Some found) = received-none t frame found
+      go true (Some found) = ap (filter is) (received-quiet t frame found.entry.receiving)
       go false o = refl
-  end_system-sends t (body.Enqueue p frame) s h = refl
-  end_system-sends t (body.Carry frame) s h = refl
+  end_system-sends t _ s h = refl
 
   entered-none : (t delay at : ℕ) (frame : Frame) (transit : Transit) → of (entered_reply n t delay at frame transit) ≡ []
   entered-none t delay at frame transit = go (transit.input == at) (nat_lt transit.smax frame.size) (account.out transit.account (record { at = t; size = frame.size }))
@@ -192,14 +165,10 @@ module _ (is : Wish → Bool) (n q : ℕ) (leads : ℕ → LineAhead → Type 0)
       forwarded (k ∷ ks) = rw (O.no_put (t + delay) k frame) (forwarded ks)
 
       go : (b c : Bool) (v : Verdict) → of (cond b (cond c (loss cause.TooLong frame) (judged n (t + delay) frame (outputs_of transit) v)) (loss cause.Unknown frame)) ≡ []
-      go true true v = refl
       go true false verdict.Passed = forwarded (outputs_of transit)
-      go true false verdict.Refused = refl
-      go false c v = refl
+      go _ _ _ = refl
 
   switch-sends : (t : ℕ) (b : Body) (s : SwitchState) → Lead leads s.ports → of (switch n t b s).reply ≡ sent_of t (switch_asks q b s) (outlet_at s.ports q)
-  switch-sends t (body.Offer vl size sub) s h = refl
-  switch-sends t (body.Release vl) s h = refl
   switch-sends t (body.PortFree p) s h = port-sends t p Free s.ports h
   switch-sends t (body.Arrive p frame) s h = go (exists s.ports p) (transit_at s frame.vl)
     where
@@ -218,19 +187,15 @@ module _ (is : Wish → Bool) (n q : ℕ) (leads : ℕ → LineAhead → Type 0)
       go None k (Some found) = sym (nowhere (Put frame found.entry.priority) k)
       go (Some outlet) k None = sym (none t (p == q) (outlet_at s.ports q))
       go (Some outlet) k (Some found) = port-sends t p (Put frame found.entry.priority) s.ports h
-  switch-sends t (body.Carry frame) s h = refl
+  switch-sends t _ s h = refl
 
   line-sends : (t : ℕ) (b : Body) (s : LineState) → of (line t b s) ≡ []
-  line-sends t (body.Offer vl size sub) s = refl
-  line-sends t (body.Release vl) s = refl
-  line-sends t (body.PortFree p) s = refl
-  line-sends t (body.Arrive p frame) s = refl
-  line-sends t (body.Enqueue p frame) s = refl
   line-sends t (body.Carry frame) s = go (list_any (is_within t) s.outages)
     where
       go : (b : Bool) → of (cond b (loss cause.Outage frame) (record { wishes = record { time = t + s.propagation; receiver = s.to; body = body.Arrive s.to_port frame } ∷ []; notes = [] })) ≡ []
       go true = refl
       go false = rw (O.no_arrival (t + s.propagation) s.to s.to_port frame) refl
+  line-sends t _ s = refl
 
   abbrev pub LeadIn : Equipment → Type 0
   LeadIn (EndSystem s) = Lead leads s.ports

@@ -11,7 +11,7 @@ use Rattle.vlink.specs.declared.message.Body.TheVariants as body
 use Rattle.reverse.specs.Sending.{Sender, Wish, message_of, sent}
 use Rattle.reverse.specs.Rules.{rules_of}
 use Rattle.virtual_time.specs.Law as law
-use Rattle.port_bounds.specs.Sublists.{Every, IsSublist}
+use Rattle.port_bounds.specs.Sublists.{IsSublist}
 use Rattle.port_bounds.proofs.SublistLemmas.{sub-behind, sub-both, sub-trans}
 use Rattle.nodes.specs.rules.Node.{NodeState, after, handled, sends}
 use Rattle.nodes.specs.undoing.Node.{node}
@@ -38,12 +38,6 @@ sub-map f [] ys h = tt
 sub-map f (x ∷ xs) [] h = absurd h
 sub-map f (x ∷ xs) (y ∷ ys) (inl e) = inl (ap f e.0, sub-map f xs ys e.1)
 sub-map f (x ∷ xs) (y ∷ ys) (inr k) = inr (sub-map f (x ∷ xs) ys k)
-
-pub every-sub : {X : Type 0} (P : X → Type 0) (xs ys : List X) → IsSublist xs ys → Every P ys → Every P xs
-every-sub P [] ys h k = tt
-every-sub P (x ∷ xs) [] h k = absurd h
-every-sub P (x ∷ xs) (y ∷ ys) (inl e) k = (subst P (sym e.0) k.0, every-sub P xs ys e.1 k.1)
-every-sub P (x ∷ xs) (y ∷ ys) (inr h) k = every-sub P (x ∷ xs) ys h k.1
 
 abbrev pub times_of : List Message → List ℕ
 times_of ms = map (λ m. m.time) ms
@@ -158,9 +152,9 @@ module _ (kind : Body → Bool) (to : ℕ) where
   none-elsewhere (w ∷ ws) h = go (kind w.body) refl (w.receiver == to) refl (none-elsewhere ws (All-tail IsElsewhere w ws h))
     where
       go : (c : Bool) → kind w.body ≡ c → (r : Bool) → (w.receiver == to) ≡ r → filter mine ws ≡ [] → cond (cond r c false) (w ∷ filter mine ws) (filter mine ws) ≡ []
-      go c ec false er k = k
-      go false ec true er k = k
       go true ec true er k = absurd (All-head IsElsewhere w ws h ec (eqb-true w.receiver to er))
+      go false ec true er k = k
+      go c ec false er k = k
 
   -- what a node has sent of the kind to the process, as wishes
   abbrev pub wished : NodeState → List Message → List Wish
@@ -195,11 +189,7 @@ module _ (kind : Body → Bool) (to : ℕ) where
     where
       none : (b : Body) → is_offer b ≡ true → kind b ≡ false
       none (body.Offer vl size sub) e = never vl size sub
-      none (body.Release vl) e = absurd (let z : ⊥ = cc in z)
-      none (body.PortFree k) e = absurd (let z : ⊥ = cc in z)
-      none (body.Arrive k frame) e = absurd (let z : ⊥ = cc in z)
-      none (body.Enqueue k frame) e = absurd (let z : ⊥ = cc in z)
-      none (body.Carry frame) e = absurd (let z : ⊥ = cc in z)
+      none _ e = absurd (let z : ⊥ = cc in z)
 
       go : (r : Bool) → kind m.body ≡ false → filter is_to ms ≡ [] → cond (cond r (kind m.body) false) (m ∷ filter is_to ms) (filter is_to ms) ≡ []
       go true e k = rw e k

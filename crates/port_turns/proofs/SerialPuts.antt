@@ -1,6 +1,7 @@
 -- Why the frames that came by a line are put to a port of a switch one after the other: they are some of those that came, later by the delay.
 use Rattle.std.proofs.Common.{◌≡◌, ℕ, ◌+◌, ◌<◌, ◌≤◌, ◌==◌, inl, Bool, true, false, cond, List, [], ◌∷◌, ◌++◌, filter, map, Option, Some, None, option_map, refl, sym, ap, ◌∙◌, subst, arith, eq-eqb, eqb-true, append-nil, append_assoc}
 use Rattle.std.specs.Option.{option_map_or}
+use Rattle.std.proofs.lemmas.Bool.{false≢true}
 use Rattle.std.proofs.lemmas.Nat.{mul-le}
 use Rattle.std.proofs.lemmas.List.{map-append}
 use Rattle.std.proofs.lemmas.List.Elements.{filter-append}
@@ -8,7 +9,7 @@ use Rattle.vlink.specs.Wire.{busy_for}
 use Rattle.vlink.specs.declared.frame.Frame.{Frame}
 use Rattle.vlink.specs.declared.message.Message.{Message}
 use Rattle.vlink.specs.declared.message.Body.{Body}
-use Rattle.vlink.specs.declared.message.Body.TheVariants.{Offer, Release, PortFree, Arrive, Enqueue, Carry}
+use Rattle.vlink.specs.declared.message.Body.TheVariants.{PortFree, Arrive, Enqueue}
 use Rattle.vlink.specs.declared.note.Note.{Note}
 use Rattle.output_port.specs.Port.{PortState}
 use Rattle.output_port.specs.declared.event.Priority.{Priority}
@@ -23,7 +24,7 @@ use Rattle.port_bounds.specs.Frames.{PutFrame}
 use Rattle.port_bounds.specs.Sublists.{Every, IsSublist}
 use Rattle.port_bounds.specs.Arrivals.{IsAfter, IsSerial, is_by_line}
 use Rattle.port_bounds.proofs.ArrivalLemmas.{fewer-serial}
-use Rattle.port_bounds.proofs.SublistLemmas.{sub-both, sub-trans}
+use Rattle.port_bounds.proofs.SublistLemmas.{every-sub, sub-both, sub-trans}
 use Rattle.element_bounds.specs.PortTrace.{PortEventAt, put_at, trace_of}
 use Rattle.element_bounds.proofs.TraceLemmas.{OfAsked, trace-puts}
 use Rattle.nodes.specs.declared.equipment.Equipment.TheVariants.{Switch}
@@ -45,10 +46,7 @@ use Rattle.port_turns.proofs.Elsewhere.{all-elsewhere}
 use Rattle.port_turns.proofs.Forwarding.{HaveInputs, forward, forward-from, forwards, inputs-stay, is_put_at}
 use Rattle.port_turns.proofs.Rising.{AreTo, events-from, events-to}
 use Rattle.port_turns.proofs.TracePuts.{asked_puts, filter-sub, put_list, trace-asked}
-use Rattle.port_turns.proofs.SentKinds.{every-sub, AreFrom, as_wish, flat, flat-next, flat-sub, from-sub, is_to, moments-times, moments_of, sub-map, wished}
-
-no : {X : Type 0} → false ≡ true → X
-no h = absurd (let z : ⊥ = cc in z)
+use Rattle.port_turns.proofs.SentKinds.{AreFrom, as_wish, flat, flat-next, flat-sub, from-sub, is_to, moments-times, moments_of, sub-map, wished}
 
 -- ---- the same frames, as they cost on the line by which they came
 
@@ -68,7 +66,7 @@ serial-remade byte_in j test last (x ∷ xs) c h = go (test x) h (λ last k. ser
         ((last : Option ℕ) → IsSerial last (λ x. true) (map (remade byte_in j) (filter test xs)) → IsSerial last test xs) →
         (b ≡ true → IsAfter last x) × IsSerial (cond b (Some x.at) last) test xs
     go true k rest = (λ e. less last (k.0 refl), rest (Some x.at) k.1)
-    go false k rest = (λ e. no e, rest last k)
+    go false k rest = (λ e. absurd (false≢true e), rest last k)
 
 abbrev put_later : ℕ → PutFrame → PutFrame
 put_later delay x = record x { at = x.at + delay }
@@ -88,20 +86,11 @@ flat-append g (w ∷ ws) vs = ap (λ z. g w.time w.body ++ z) (flat-append g ws 
 module _ (byte_in j r q : ℕ) (input : ℕ → ℕ) where
   -- a frame that is put to port q and came in by port j
   abbrev put_in : ℕ → Body → List PutFrame
-  put_in t (Offer vl size sub) = []
-  put_in t (Release vl) = []
-  put_in t (PortFree p) = []
-  put_in t (Arrive p frame) = []
   put_in t (Enqueue p frame) = cond (p == q) (cond (input frame.vl.0 == j) (put_at byte_in t j frame ∷ []) []) []
-  put_in t (Carry frame) = []
+  put_in t _ = []
 
   -- of what comes in, later
   one-in : (delay t : ℕ) (b : Body) → IsSublist (flat put_in (forward r q input delay t b)) (map (put_later delay) (arrival_in byte_in j t b))
-  one-in delay t (Offer vl size sub) = tt
-  one-in delay t (Release vl) = tt
-  one-in delay t (PortFree p) = tt
-  one-in delay t (Enqueue p frame) = tt
-  one-in delay t (Carry frame) = tt
   one-in delay t (Arrive p frame) = go (input frame.vl.0 == p) refl
     where
       both : (c : Bool) → IsSublist (cond c (put_at byte_in (t + delay) j frame ∷ []) [] ++ []) (map (put_later delay) (cond c (put_at byte_in t j frame ∷ []) []))
@@ -113,6 +102,7 @@ module _ (byte_in j r q : ℕ) (input : ℕ → ℕ) where
       go true e =
           rw (eq-eqb q q refl)
           (subst (λ z. IsSublist (cond (z == j) (put_at byte_in (t + delay) j frame ∷ []) [] ++ []) (map (put_later delay) (cond (p == j) (put_at byte_in t j frame ∷ []) []))) (sym (eqb-true (input frame.vl.0) p e)) (both (p == j)))
+  one-in delay t _ = tt
 
   all-in : (delay : ℕ) (ms : List Message) → IsSublist (flat put_in (flat (forward r q input delay) (map as_wish ms))) (map (put_later delay) (arrivals_in byte_in j ms))
   all-in delay [] = tt
@@ -127,14 +117,11 @@ module _ (byte_in j r q : ℕ) (input : ℕ → ℕ) where
     by_line es = map (remade byte_in j) (filter (is_by_line j) (asked_puts byte_ns es))
 
     one-asked : (t : ℕ) (b : Body) (w : SwitchState) → HaveInputs r q input w → IsSublist (by_line (asked_at t (input_of b (Switch w)) (switch_asks q b w))) (put_in t b)
-    one-asked t (Offer vl size sub) w h = tt
-    one-asked t (Release vl) w h = tt
     one-asked t (PortFree p) w h = go (p == q)
       where
         go : (b : Bool) → IsSublist (by_line (asked_at t 0 (cond b (Some Free) None))) []
         go true = tt
         go false = tt
-    one-asked t (Arrive p frame) w h = tt
     one-asked t (Enqueue p frame) w h = go (p == q) (transit_at w frame.vl) refl
       where
         both : (c : Bool) (line : ℕ) → IsSublist (map (remade byte_in j) (cond c (put_at byte_ns t line frame ∷ []) [])) (cond c (put_at byte_in t j frame ∷ []) [])
@@ -149,7 +136,7 @@ module _ (byte_in j r q : ℕ) (input : ℕ → ℕ) where
             subst (λ z. IsSublist (map (remade byte_in j) (cond (found.entry.input == j) (put_at byte_ns t found.entry.input frame ∷ []) [])) (cond (z == j) (put_at byte_in t j frame ∷ []) [])) (sym (h frame.vl found is))
             (both (found.entry.input == j) found.entry.input)
         go false o is = tt
-    one-asked t (Carry frame) w h = tt
+    one-asked t _ w h = tt
 
     by_line-append : (t line : ℕ) (o : Option PortEvent) (es : List PortEventAt) → by_line (asked_at t line o ++ es) ≡ by_line (asked_at t line o) ++ by_line es
     by_line-append t line None es = refl
@@ -159,12 +146,8 @@ module _ (byte_in j r q : ℕ) (input : ℕ → ℕ) where
         ap (λ z. map (remade byte_in j) (filter (is_by_line j) z) ++ by_line es) (sym (append-nil (put_list byte_ns t line e))))
 
     not-put : (t : ℕ) (b : Body) → is_put_at q b ≡ false → put_in t b ≡ []
-    not-put t (Offer vl size sub) e = refl
-    not-put t (Release vl) e = refl
-    not-put t (PortFree p) e = refl
-    not-put t (Arrive p frame) e = refl
     not-put t (Enqueue p frame) e = ap (λ c. cond c (cond (input frame.vl.0 == j) (put_at byte_in t j frame ∷ []) []) []) e
-    not-put t (Carry frame) e = refl
+    not-put t _ e = refl
 
     all-asked : (s : NodeState) (w : SwitchState) (ms : List Message) → s.equipment ≡ Switch w → HaveInputs r q input w → AreTo r ms →
         IsSublist (by_line (port_events q s ms)) (flat put_in (map as_wish (filter (is_to (is_put_at q) r) ms)))
@@ -196,7 +179,7 @@ module _ (x : Setting NodeState) (L : Laws (simulation_of (rules_of node) x)) (p
 
   put-come : (n : ℕ) → IsSublist (map as_wish (filter (is_to (is_put_at i) r) (events f n r))) (wished (is_put_at i) r (x.opening r) (events f n r))
   put-come n = come x L N r r switch-inside (is_put_at i) (record {
-    others = λ c inside' d s h m. all-elsewhere (is_put_at i) (record { no_release = λ vl. refl; no_free = λ c. refl; no_carry = λ frame. refl }) r c m s.equipment (λ c frame own. d) (λ other is frame brought to. no brought);
+    others = λ c inside' d s h m. all-elsewhere (is_put_at i) (record { no_release = λ vl. refl; no_free = λ c. refl; no_carry = λ frame. refl }) r c m s.equipment (λ c frame own. d) (λ other is frame brought to. absurd (false≢true brought));
     not_offered = λ vl size sub. refl;
   }) (0 + w.latency) put-from n
 
@@ -227,7 +210,7 @@ module _ (x : Setting NodeState) (L : Laws (simulation_of (rules_of node) x)) (p
           go : (b : Bool) → (x.line == j) ≡ b → Every (λ put. P put.at put.frame) (map (remade outlet.ahead.byte_ns j) (cond b (x ∷ filter (is_by_line j) xs) (filter (is_by_line j) xs))) →
               (Every (λ put. P put.at put.frame) (map (remade outlet.ahead.byte_ns j) (filter (is_by_line j) xs)) → Every (λ put. put.line ≡ j → P put.at put.frame) xs) → Every (λ put. put.line ≡ j → P put.at put.frame) (x ∷ xs)
           go true e k rest = (λ line. k.0, rest k.1)
-          go false e k rest = (λ line. no (sym e ∙ eq-eqb x.line j line), rest k)
+          go false e k rest = (λ line. absurd (false≢true (sym e ∙ eq-eqb x.line j line)), rest k)
 
   pub traces-serial : (byte_ns : ℕ) → byte_ns ≤ outlet.ahead.byte_ns → (state : PortState) (c : Priority) (n : ℕ) → IsSerial None (is_by_line j) (puts_with c (trace_of byte_ns state (port_events i (x.opening r) (events f n r))))
   traces-serial byte_ns slower state c n =

@@ -7,10 +7,10 @@ use Rattle.output_port.specs.declared.event.Priority.TheVariants as priority
 use Rattle.output_port.specs.declared.event.PortEvent.{PortEvent}
 use Rattle.output_port.specs.declared.event.PortEvent.TheVariants.{Put, Free}
 use Rattle.output_port.specs.Port as real
-use Rattle.output_port.specs.Port.{PortState, port, may_wait}
+use Rattle.output_port.specs.Port.{PortState, may_wait}
 use Rattle.port_bounds.specs.Frames.{PutFrame}
 use Rattle.port_bounds.specs.Sublists.{Every}
-use Rattle.port_bounds.proofs.StartLemmas.{every-push}
+use Rattle.port_bounds.proofs.SublistLemmas.{every-push}
 use Rattle.port_bounds.specs.Port as bounded
 use Rattle.port_bounds.specs.Port.{Event, IsBy, IsServed, Port, after}
 use Rattle.element_bounds.specs.PortTrace.{IsSamePort, frames_of, put_at, seen_as}
@@ -74,10 +74,7 @@ module _ (n t q line : ℕ) (ahead : LineAhead) (g : Option ℕ) where
       let head : f ≡ x.frame = cc in
       record { set = rw (frees-start n t q ahead f) (ap (λ (z : Frame). Some (t + busy_for z.size ahead.byte_ns)) head ∙ ap (λ k. Some (t + k)) (sym d.0)); high = tt; low = d.1; served = λ now tr k s. (k, refl, s) }
   next-goes p [] [] [] [] h l c d = record { set = refl; high = tt; low = tt; served = λ now tr k s. (k, refl, s) }
-  next-goes p [] ls (f ∷ fs) gs h l c d = absurd (let z : ⊥ = cc in z)
-  next-goes p (x ∷ hs) ls [] gs h l c d = absurd (let z : ⊥ = cc in z)
-  next-goes p [] [] [] (f ∷ gs) h l c d = absurd (let z : ⊥ = cc in z)
-  next-goes p [] (x ∷ ls) [] [] h l c d = absurd (let z : ⊥ = cc in z)
+  next-goes p _ _ _ _ h l c d = absurd (let z : ⊥ = cc in z)
 
   free-goes : (p : PortState) (until : Option ℕ) (hs ls : List PutFrame) → p.busy ≡ is_some until → until ≡ Some t → p.high ≡ frames_of hs → p.low ≡ frames_of ls → AreCosted ahead.byte_ns hs → AreCosted ahead.byte_ns ls →
       Goes (as_port until hs ls) Free (real.free p)

@@ -33,10 +33,7 @@ use Rattle.element_bounds.proofs.WaitingLemmas.{AllWait, OfAnswer, OfOffer, keep
 abbrev pub subject : Body → ℕ
 subject (body.Offer vl size sub) = vl.0
 subject (body.Release vl) = vl.0
-subject (body.PortFree p) = 0
-subject (body.Arrive p frame) = 0
-subject (body.Enqueue p frame) = 0
-subject (body.Carry frame) = 0
+subject _ = 0
 
 -- P speaks of a frame and the number of its virtual link
 module _ (P : ℕ → Frame → Type 0) where
@@ -49,11 +46,7 @@ module _ (P : ℕ → Frame → Type 0) where
 
   abbrev pub IsOfferFit : ℕ → Body → Type 0
   IsOfferFit t (body.Offer vl size sub) = P vl.0 (offered_frame t vl size)
-  IsOfferFit t (body.Release vl) = ⊤
-  IsOfferFit t (body.PortFree p) = ⊤
-  IsOfferFit t (body.Arrive p frame) = ⊤
-  IsOfferFit t (body.Enqueue p frame) = ⊤
-  IsOfferFit t (body.Carry frame) = ⊤
+  IsOfferFit t _ = ⊤
 
   abbrev pub OfPut : ℕ → ℕ → Option PortEvent → Type 0
   OfPut v t None = ⊤
@@ -68,9 +61,7 @@ module _ (P : ℕ → Frame → Type 0) where
         go true b = (p.0, p.1, ap (λ (z : Frame). record z { net = A }) p.2)
         go false true = (p.0, p.1, ap (λ (z : Frame). record z { net = B }) p.2)
         go false false = tt
-    copies-of v end answer.Kept p = tt
-    copies-of v end answer.Dropped p = tt
-    copies-of v end answer.Nothing p = tt
+    copies-of v end _ p = tt
 
     -- all that waits has P, and what is put
     pub record KeepsAll (v : ℕ) (s : EndSystemState) (o : Option PortEvent) : Type 0 where
@@ -107,5 +98,4 @@ module _ (P : ℕ → Frame → Type 0) where
         go true None = h
         go true (Some found) = h
         go false o = h
-    source-keeps (body.Enqueue k frame) s p h = record { waiting = h; put = tt }
-    source-keeps (body.Carry frame) s p h = record { waiting = h; put = tt }
+    source-keeps _ s p h = record { waiting = h; put = tt }

@@ -45,10 +45,9 @@ module _ (byte_ns : ℕ) where
   asked_puts (e ∷ es) = put_list e.at e.line e.event ++ asked_puts es
 
   put-asked : (k r : Priority) (x : PutFrame) (es : List Event) (xs : List PutFrame) → IsSublist (puts_with k es) xs → IsSublist (puts_with k (put_event r x ∷ es)) (x ∷ xs)
-  put-asked priority.High priority.High x es xs h = inl (refl, h)
   put-asked priority.High priority.Low x es xs h = sub-behind (highs_of es) (x ∷ []) xs h
   put-asked priority.Low priority.High x es xs h = sub-behind (lows_of es) (x ∷ []) xs h
-  put-asked priority.Low priority.Low x es xs h = inl (refl, h)
+  put-asked _ _ x es xs h = inl (refl, h)
 
   free-asked : (k : Priority) (t : ℕ) (es : List Event) (xs : List PutFrame) → IsSublist (puts_with k es) xs → IsSublist (puts_with k (bounded.Event.Free t ∷ es)) xs
   free-asked priority.High t es xs h = h
@@ -58,14 +57,12 @@ module _ (byte_ns : ℕ) where
       IsSublist (puts_with k (seen_as byte_ns t line e a ++ es)) (put_list t line e ++ xs)
   event-asked k t line (Put frame r) (Started f) es xs h = put-asked k r (put_at byte_ns t line frame) es xs h
   event-asked k t line (Put frame r) Kept es xs h = put-asked k r (put_at byte_ns t line frame) es xs h
-  event-asked k t line (Put frame r) Dropped es xs h = sub-behind (puts_with k es) (put_at byte_ns t line frame ∷ []) xs h
-  event-asked k t line (Put frame r) Idle es xs h = sub-behind (puts_with k es) (put_at byte_ns t line frame ∷ []) xs h
-  event-asked k t line (Put frame r) Nothing es xs h = sub-behind (puts_with k es) (put_at byte_ns t line frame ∷ []) xs h
   event-asked k t line Free (Started f) es xs h = free-asked k t es xs h
   event-asked k t line Free Idle es xs h = free-asked k t es xs h
   event-asked k t line Free Kept es xs h = h
   event-asked k t line Free Dropped es xs h = h
   event-asked k t line Free Nothing es xs h = h
+  event-asked k t line (Put frame r) _ es xs h = sub-behind (puts_with k es) (put_at byte_ns t line frame ∷ []) xs h
 
   none : (k : Priority) → IsSublist (puts_with k []) []
   none priority.High = tt

@@ -1,5 +1,6 @@
 -- Why the frames of a virtual link in the trace of a port of a switch are paced: they are some of those that are put to it.
 use Rattle.std.proofs.Common.{◌≡◌, ℕ, ◌<◌, ◌==◌, ◌&&◌, inl, Bool, true, false, cond, List, [], ◌∷◌, filter, map, Option, Some, None, option_map, refl, eq-eqb}
+use Rattle.std.proofs.lemmas.Bool.{false≢true}
 use Rattle.std.proofs.lemmas.Option.{none-some}
 use Rattle.vlink.specs.declared.message.Message.{Message}
 use Rattle.vlink.specs.declared.message.Body.{Body}
@@ -18,7 +19,7 @@ use Rattle.port_bounds.proofs.ArrivalLemmas.{fewer-paced}
 use Rattle.element_bounds.specs.Passages.{IsCounting}
 use Rattle.element_bounds.specs.PortTrace.{trace_of}
 use Rattle.nodes.specs.declared.equipment.Equipment.{Equipment}
-use Rattle.nodes.specs.declared.equipment.Equipment.TheVariants.{EndSystem, Switch, Line}
+use Rattle.nodes.specs.declared.equipment.Equipment.TheVariants.{Switch}
 use Rattle.nodes.specs.declared.transit.Transit.{Transit}
 use Rattle.nodes.specs.rules.Finding.{Found}
 use Rattle.nodes.specs.rules.Switch.{SwitchState, transit_at}
@@ -35,32 +36,25 @@ use Rattle.port_turns.proofs.Puts.{puts-paced}
 use Rattle.port_turns.proofs.Rising.{AreTo, events-to}
 use Rattle.port_turns.proofs.TracePuts.{put_of, puts_at, trace-sub}
 
-no : {X : Type 0} → false ≡ true → X
-no h = absurd (let z : ⊥ = cc in z)
-
 module _ (byte_ns q v : ℕ) where
   -- a switch asks for a put where a message says so
   switch-puts : (b : Body) (s : SwitchState) → put_of v (switch_asks q b s) ≡ true → is_put q v b ≡ true
-  switch-puts (body.Offer vl size sub) s h = no h
-  switch-puts (body.Release vl) s h = no h
   switch-puts (body.PortFree p) s h = go (p == q) h
     where
       go : (b : Bool) → put_of v (cond b (Some Free) None) ≡ true → false ≡ true
       go true k = k
       go false k = k
-  switch-puts (body.Arrive p frame) s h = no h
   switch-puts (body.Enqueue p frame) s h = go (p == q) (transit_at s frame.vl) h
     where
       go : (b : Bool) (o : Option (Found Transit)) → put_of v (cond b (option_map (λ found. Put frame found.entry.priority) o) None) ≡ true → b && (frame.vl.0 == v) ≡ true
-      go true None k = no k
+      go true None k = absurd (false≢true k)
       go true (Some found) k = k
-      go false o k = no k
-  switch-puts (body.Carry frame) s h = no h
+      go false o k = absurd (false≢true k)
+  switch-puts _ s h = absurd (false≢true h)
 
   node-puts : (m : Message) (e : Equipment) (transit : Transit) → transit_of e v ≡ Some transit → put_of v (asks q m e) ≡ true → is_put q v m.body ≡ true
-  node-puts m (EndSystem s) transit is h = absurd (none-some transit is)
   node-puts m (Switch s) transit is h = switch-puts m.body s h
-  node-puts m (Line s) transit is h = absurd (none-some transit is)
+  node-puts m _ transit is h = absurd (none-some transit is)
 
   stays : (m : Message) (s : NodeState) (transit : Transit) → transit_of s.equipment v ≡ Some transit → (now : Transit) × (transit_of (after s m).equipment v ≡ Some now)
   stays m s transit is = go (node-judges s.sender.number q v m s.equipment transit is)
@@ -82,7 +76,7 @@ module _ (byte_ns q v : ℕ) where
       go : (b c : Bool) → (b ≡ true → c ≡ true) → IsSublist (puts_at v q (after s m) ms) (put_moments p ms) →
           IsSublist (cond b (m.time ∷ puts_at v q (after s m) ms) (puts_at v q (after s m) ms)) (moments_of (map as_wish (cond c (m ∷ filter (is_to (is_put q v) p) ms) (filter (is_to (is_put q v) p) ms))))
       go true true h rest = inl (refl, rest)
-      go true false h rest = no (h refl)
+      go true false h rest = absurd (false≢true (h refl))
       go false true h rest = sub-behind (puts_at v q (after s m) ms) (m.time ∷ []) (put_moments p ms) rest
       go false false h rest = rest
 

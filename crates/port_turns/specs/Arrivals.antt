@@ -2,7 +2,7 @@
 use Rattle.std.specs.Prelude.{◌≡◌, ℕ, ◌<◌, ◌≤◌, ◌==◌, true, if◌then◌else◌, List, [], ◌∷◌, ◌++◌, Some, None}
 use Rattle.vlink.specs.declared.message.Message.{Message}
 use Rattle.vlink.specs.declared.message.Body.{Body}
-use Rattle.vlink.specs.declared.message.Body.TheVariants.{Offer, Release, PortFree, Arrive, Enqueue, Carry}
+use Rattle.vlink.specs.declared.message.Body.TheVariants.{Arrive}
 use Rattle.reverse.specs.Rules.{rules_of}
 use Rattle.reverse.specs.Setting.{Setting, simulation_of}
 use Rattle.virtual_time.specs.Law.{Laws, events}
@@ -24,12 +24,8 @@ use Rattle.port_turns.specs.Nodes.{IsOfNodes}
 
 -- the frame that comes to port j with a message, and what it costs on the line by which it comes
 abbrev pub arrival_in : ℕ → ℕ → ℕ → Body → List PutFrame
-arrival_in byte_ns j t (Offer vl size sub) = []
-arrival_in byte_ns j t (Release vl) = []
-arrival_in byte_ns j t (PortFree p) = []
 arrival_in byte_ns j t (Arrive p frame) = if p == j then put_at byte_ns t j frame ∷ [] else []
-arrival_in byte_ns j t (Enqueue p frame) = []
-arrival_in byte_ns j t (Carry frame) = []
+arrival_in byte_ns j t _ = []
 
 abbrev pub arrivals_in : ℕ → ℕ → List Message → List PutFrame
 arrivals_in byte_ns j [] = []

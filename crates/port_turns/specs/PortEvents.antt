@@ -9,7 +9,7 @@ use Rattle.bag_regulator.specs.Regulator.{regulator}
 use Rattle.bag_regulator.specs.declared.event.RegEvent.{RegEvent}
 use Rattle.bag_regulator.specs.declared.event.RegEvent.TheVariants.{Offer, Release}
 use Rattle.bag_regulator.specs.declared.event.RegAnswer.{RegAnswer}
-use Rattle.bag_regulator.specs.declared.event.RegAnswer.TheVariants.{Released, Kept, Dropped, Nothing}
+use Rattle.bag_regulator.specs.declared.event.RegAnswer.TheVariants.{Released}
 use Rattle.output_port.specs.Port.{port}
 use Rattle.output_port.specs.declared.event.PortEvent.{PortEvent}
 use Rattle.output_port.specs.declared.event.PortEvent.TheVariants.{Put, Free}
@@ -27,9 +27,7 @@ use Rattle.nodes.specs.rules.Node.{handled}
 -- the copy for this network of the frame that a regulator releases, at the port of the network
 abbrev pub copy_asks : ℕ → VlEnd → Net → RegAnswer → Option PortEvent
 copy_asks q end net (Released frame) = if (port_of net == q) && is_on end net then Some (copy net frame) else None
-copy_asks q end net Kept = None
-copy_asks q end net Dropped = None
-copy_asks q end net Nothing = None
+copy_asks q end net _ = None
 
 -- the first, or the second where there is no first
 abbrev pub or_else : Option PortEvent → Option PortEvent → Option PortEvent
@@ -50,18 +48,13 @@ abbrev pub end_system_asks : ℕ → ℕ → Body → EndSystemState → Option 
 end_system_asks q t (body.Offer vl size sub) s = regulated_asks q (Offer t sub (offered_frame t vl size)) (source_at s vl)
 end_system_asks q t (body.Release vl) s = regulated_asks q (Release t) (source_at s vl)
 end_system_asks q t (body.PortFree p) s = free_asks q p
-end_system_asks q t (body.Arrive p frame) s = None
-end_system_asks q t (body.Enqueue p frame) s = None
-end_system_asks q t (body.Carry frame) s = None
+end_system_asks q t _ s = None
 
 -- a switch puts a frame whose virtual link goes through it
 abbrev pub switch_asks : ℕ → Body → SwitchState → Option PortEvent
-switch_asks q (body.Offer vl size sub) s = None
-switch_asks q (body.Release vl) s = None
 switch_asks q (body.PortFree p) s = free_asks q p
-switch_asks q (body.Arrive p frame) s = None
 switch_asks q (body.Enqueue p frame) s = if p == q then option_map (λ found. Put frame found.entry.priority) (transit_at s frame.vl) else None
-switch_asks q (body.Carry frame) s = None
+switch_asks q _ s = None
 
 -- what message m asks of port q
 abbrev pub asks : ℕ → Message → Equipment → Option PortEvent

@@ -3,7 +3,7 @@ use Rattle.std.specs.Prelude.{◌≡◌, ℕ, ◌<◌, ◌≤◌, All, List, [],
 use Rattle.std.specs.Option.{option_map_or}
 use Rattle.vlink.specs.declared.message.Message.{Message}
 use Rattle.vlink.specs.declared.message.Body.{Body}
-use Rattle.vlink.specs.declared.message.Body.TheVariants.{Offer, Release, PortFree, Arrive, Enqueue, Carry}
+use Rattle.vlink.specs.declared.message.Body.TheVariants.{Enqueue}
 use Rattle.output_port.specs.declared.event.PortEvent.{PortEvent}
 use Rattle.reverse.specs.Rules.{rules_of}
 use Rattle.reverse.specs.Setting.{Setting, simulation_of}
@@ -20,7 +20,7 @@ use Rattle.port_bounds.specs.Port.{Event, IsServed, highs_of, idle, lows_of}
 use Rattle.element_bounds.specs.Passages.{IsCounting}
 use Rattle.element_bounds.specs.PortTrace.{PortEventAt, IsSamePort, trace_of}
 use Rattle.nodes.specs.declared.equipment.Equipment.{Equipment}
-use Rattle.nodes.specs.declared.equipment.Equipment.TheVariants.{EndSystem, Switch, Line}
+use Rattle.nodes.specs.declared.equipment.Equipment.TheVariants.{EndSystem, Switch}
 use Rattle.nodes.specs.declared.ports.Outlet.{Outlet}
 use Rattle.nodes.specs.declared.transit.Transit.{Transit}
 use Rattle.nodes.specs.rules.Switch.{SwitchState, transit_at}
@@ -32,17 +32,12 @@ use Rattle.port_turns.specs.SwitchPuts.{IsBrought, transit_of}
 
 -- the input port of a switch by which a frame came that is put; an end system's frames all come by one
 abbrev pub input_in : Body → SwitchState → ℕ
-input_in (Offer vl size sub) s = 0
-input_in (Release vl) s = 0
-input_in (PortFree p) s = 0
-input_in (Arrive p frame) s = 0
 input_in (Enqueue p frame) s = option_map_or (λ found. found.entry.input) (transit_at s frame.vl) 0
-input_in (Carry frame) s = 0
+input_in _ s = 0
 
 abbrev pub input_of : Body → Equipment → ℕ
-input_of b (EndSystem s) = 0
 input_of b (Switch s) = input_in b s
-input_of b (Line s) = 0
+input_of b _ = 0
 
 abbrev pub asked_at : ℕ → ℕ → Option PortEvent → List PortEventAt
 asked_at t line None = []
@@ -82,8 +77,7 @@ AreTracesPaced =
 -- in its regulators each frame that waits is of its virtual link, as where none waits
 abbrev pub AreOwnFrames : Equipment → Type 0
 AreOwnFrames (EndSystem s) = All (λ source. All (λ list. All (λ frame. frame.vl.0 ≡ source.end.vl.0) list.frames) source.regulator.lists) s.sources
-AreOwnFrames (Switch s) = ⊤
-AreOwnFrames (Line s) = ⊤
+AreOwnFrames _ = ⊤
 
 -- at its end system they are one BAG apart, whatever messages come
 abbrev pub AreSourceTracesPaced : Type 0

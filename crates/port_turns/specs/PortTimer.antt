@@ -2,14 +2,13 @@
 use Rattle.std.specs.Prelude.{◌≡◌, ℕ, ◌<◌, ◌==◌, Bool, true, false, if◌then◌else◌, List, [], ◌∷◌, filter, Option, Some, None}
 use Rattle.vlink.specs.declared.message.Message.{Message}
 use Rattle.vlink.specs.declared.message.Body.{Body}
-use Rattle.vlink.specs.declared.message.Body.TheVariants.{Offer, Release, PortFree, Arrive, Enqueue, Carry}
+use Rattle.vlink.specs.declared.message.Body.TheVariants.{PortFree}
 use Rattle.reverse.specs.Sending.{Wish}
 use Rattle.reverse.specs.Rules.{rules_of}
 use Rattle.reverse.specs.Setting.{Setting, simulation_of}
 use Rattle.virtual_time.specs.Law.{Laws, events}
 use Rattle.output_port.specs.Port.{PortState}
 use Rattle.nodes.specs.declared.equipment.Equipment.{Equipment}
-use Rattle.nodes.specs.rules.Ports.{PortsState, port_at}
 use Rattle.nodes.specs.rules.Node.{NodeState, handled, port_in}
 use Rattle.nodes.specs.undoing.Node.{node}
 use Rattle.timers.specs.Timer.{Alarm, AreOnTime}
@@ -17,12 +16,8 @@ use Rattle.port_turns.specs.Nodes.{IsOfNodes}
 
 -- the message frees port q, whichever process gets it
 abbrev pub is_free : ℕ → Body → Bool
-is_free q (Offer vl size sub) = false
-is_free q (Release vl) = false
 is_free q (PortFree p) = p == q
-is_free q (Arrive p frame) = false
-is_free q (Enqueue p frame) = false
-is_free q (Carry frame) = false
+is_free q _ = false
 
 -- and it goes to process p
 abbrev pub is_timer : ℕ → ℕ → Message → Bool
@@ -32,13 +27,10 @@ is_timer p q m = if m.receiver == p then is_free q m.body else false
 abbrev pub frees : ℕ → List Wish → List Wish
 frees q ws = filter (λ w. is_free q w.body) ws
 
--- a frame is in transmission at the port, if there is one; at port q of these ports; and of this equipment
+-- a frame is in transmission at the port, if there is one; and at port q of this equipment
 abbrev pub busy_of : Option PortState → Bool
 busy_of None = false
 busy_of (Some p) = p.busy
-
-abbrev pub is_busy_at : PortsState → ℕ → Bool
-is_busy_at ports q = busy_of (port_at ports q)
 
 abbrev pub is_busy_in : Equipment → ℕ → Bool
 is_busy_in e q = busy_of (port_in e q)

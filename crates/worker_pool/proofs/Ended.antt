@@ -11,7 +11,7 @@ use Rattle.virtual_time.specs.declared.step.Step.{Step}
 use Rattle.network.specs.Words.{Plan, process_count}
 use Rattle.nodes.specs.Words.{NodeState, opening, simulation_of}
 use Rattle.nodes.specs.declared.node.NodeRecord.{NodeRecord}
-use Rattle.group_hand.specs.declared.block.Did.{Did}
+use Rattle.group_hand.specs.declared.block.Word.{Word}
 use Rattle.group_hand.specs.Block.{steps_told}
 use Rattle.group_exchange.specs.Effects.{block_in}
 use Rattle.group_exchange.specs.Keeps.{AreGrouped}
@@ -63,7 +63,7 @@ module _ (plan : Plan) (owners : List ℕ) where
   of-world x n group number seen none parts =
       let f = simulation_of plan in
       let waiting = waiting_in f (world_after f x.steps) in
-      let nothing : block_in f owners x group ≡ [] = ap (λ (words : List Did). map (behind waiting) (steps_told words)) none in
+      let nothing : block_in f owners x group ≡ [] = ap (λ (words : List Word). map (behind waiting) (steps_told words)) none in
       let all : x.steps ++ block_in f owners x group ≡ x.steps = ap (λ (more : List Step). x.steps ++ more) nothing ∙ append-nil x.steps in
       record {
         number = number;

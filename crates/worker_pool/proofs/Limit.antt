@@ -3,10 +3,10 @@ use Rattle.std.proofs.Common.{◌≡◌, ℕ, List, [], ◌∷◌, Bool, true, f
 use Rattle.vlink.specs.declared.message.Message.{Message}
 use Rattle.vlink.specs.declared.note.Note.{Note}
 use Rattle.virtual_time.specs.Law.{Simulation}
-use Rattle.group_hand.specs.declared.block.Did.{Did}
+use Rattle.group_hand.specs.declared.block.Word.{Word}
 use Rattle.journal.specs.declared.fault.PoolFault.{PoolFault}
 use Rattle.group_exchange.specs.Views.{Ledger, GroupState}
-use Rattle.group_exchange.specs.Effects.{Collects, IsGroupAsBefore, Posts, posts, Publishes, publishes}
+use Rattle.group_exchange.specs.Effects.{Collects, CountsDone, IsGroupAsBefore, Posts, posts, Publishes, publishes}
 
 module _ {S K : Type 0} (f : Simulation Message S K Note) (owners : List ℕ) where
   pub collect-limit : (x : Ledger) (h : GroupState S K) (y : Ledger) (k : GroupState S K) (result : Result ℕ PoolFault) →
@@ -14,12 +14,12 @@ module _ {S K : Type 0} (f : Simulation Message S K Note) (owners : List ℕ) wh
   collect-limit x h y k (Ok count) C same = ap (λ (l : Ledger). l.limit) C.exchange
   collect-limit x h y k (Err fault) C same = ap (λ (l : Ledger). l.limit) same.0
 
-  with-words : (words : List Did) (x : Ledger) (h : GroupState S K) (y : Ledger) (k : GroupState S K) → posts f owners words x h y k → y.limit ≡ x.limit
+  with-words : (words : List Word) (x : Ledger) (h : GroupState S K) (y : Ledger) (k : GroupState S K) → posts f owners words x h y k → y.limit ≡ x.limit
   with-words [] x h y k P = ap (λ (l : Ledger). l.limit) P.0
   with-words (d ∷ ds) x h y k P = ap (λ (l : Ledger). l.limit) P.exchange
 
   pub post-limit : {X : Type 0} (x : Ledger) (h : GroupState S K) (y : Ledger) (k : GroupState S K) (result : Result X PoolFault) →
-      OnOk result (Posts f owners x h y k) → OnErr result ((y ≡ x) × IsGroupAsBefore h k) → y.limit ≡ x.limit
+      OnOk result (Posts f owners x h y k) → OnErr result ((y ≡ x) × CountsDone h k) → y.limit ≡ x.limit
   post-limit x h y k (Ok _) P same = with-words h.held.flow.words x h y k P
   post-limit x h y k (Err fault) P same = ap (λ (l : Ledger). l.limit) same.0
 

@@ -1,6 +1,6 @@
 //! A group at its work.
-ghost use Rattle.std.specs.Prelude.{◌≡◌, ◌≢◌, ◌≤◌, IfOk, IfErr};
-ghost use Rattle.journal.specs.declared.fault.PoolFault.TheVariants.{Exhausted, Spawn};
+ghost use Rattle.std.specs.Prelude.{◌≡◌, ◌≤◌, ◌⊎◌, IfOk, IfErr};
+ghost use Rattle.journal.specs.declared.fault.PoolFault.TheVariants.{OutOfMemory, Exhausted};
 ghost use Rattle.worker_pool.specs.Outcomes.{LackNumbers};
 
 use crate::network_run::{NetworkGroup, NetworkRun};
@@ -17,7 +17,7 @@ pub(crate) fn work_ahead<J: NetworkRun, G: Gate>(
 ) -> Result<u32, PoolFault>
     ensures few { IfOk result (λ count. count ≤ most) }
     ensures numbers { IfErr result (λ fault. fault ≡ Exhausted → LackNumbers J.plan J.owners group.new) }
-    ensures no_spawn { IfErr result (λ fault. fault ≢ Spawn) }
+    ensures faults { IfErr result (λ fault. (fault ≡ OutOfMemory) ⊎ (fault ≡ Exhausted)) }
 {
     match work(group, most, ahead_ns, gate) {
         Ok(count) => Ok(count as u32),

@@ -1,6 +1,6 @@
 //! A fault of a run.
 ghost use Rattle.std.specs.Prelude.{◌≡◌, ◌≢◌};
-ghost use Rattle.journal.specs.declared.fault.PoolFault.TheVariants.{Exhausted};
+ghost use Rattle.journal.specs.declared.fault.PoolFault.TheVariants.{Exhausted, Torn};
 ghost use Rattle.worker_pool.specs.Outcomes.{UsesUpNumbers};
 
 use crate::network_run::NetworkRun;
@@ -9,7 +9,7 @@ use std::alloc::AllocError;
 use std::marker::{Model, PhantomData};
 use turns::Refusal;
 
-/// Why a run of a network is refused. By its type it is `Exhausted` only if some run of the network uses up numbers.
+/// Why a run of a network is refused. By its type it is `Exhausted` only if some run of the network uses up numbers, and it is never `Torn`.
 ///
 /// Clauses see it as the fault.
 #[derive(Drop)]
@@ -19,22 +19,23 @@ pub(crate) struct RunFault<J: NetworkRun> {
 }
 
 impl<J: NetworkRun> Model for RunFault<J> {
-    ghost use Rattle.std.specs.Prelude.{◌≡◌};
+    ghost use Rattle.std.specs.Prelude.{◌≡◌, ◌≢◌};
     ghost use Rattle.journal.specs.declared.fault.PoolFault.{PoolFault};
-    ghost use Rattle.journal.specs.declared.fault.PoolFault.TheVariants.{Exhausted};
+    ghost use Rattle.journal.specs.declared.fault.PoolFault.TheVariants.{Exhausted, Torn};
     ghost use Rattle.worker_pool.specs.Outcomes.{UsesUpNumbers};
 
     ghost Value = { PoolFault };
 
     ghost view = { λ f. f.fault };
 
-    ghost invariant = { λ f. f.fault ≡ Exhausted → UsesUpNumbers J.plan };
+    ghost invariant = { λ f. (f.fault ≡ Exhausted → UsesUpNumbers J.plan) × (f.fault ≢ Torn) };
 }
 
 impl<J: NetworkRun> RunFault<J> {
     /// Makes a fault of the run.
     pub(crate) fn new(fault: PoolFault) -> Self
-        requires { fault ≡ Exhausted → UsesUpNumbers J.plan }
+        requires numbers { fault ≡ Exhausted → UsesUpNumbers J.plan }
+        requires no_torn { fault ≢ Torn }
         ensures { result ≡ fault }
     {
         RunFault {
@@ -43,9 +44,10 @@ impl<J: NetworkRun> RunFault<J> {
         }
     }
 
-    /// Makes a fault that is not `Exhausted`.
+    /// Makes a fault that is neither `Exhausted` nor `Torn`.
     pub(crate) fn other(fault: PoolFault) -> Self
-        requires { fault ≢ Exhausted }
+        requires enough { fault ≢ Exhausted }
+        requires no_torn { fault ≢ Torn }
         ensures { result ≡ fault }
     {
         RunFault::new(fault)
@@ -84,7 +86,7 @@ impl<J: NetworkRun> From<AllocError> for RunFault<J> {
 }
 
 impl<J: NetworkRun> From<RunFault<J>> for PoolFault {
-    ghost from_gives = { λ run fault. (fault ≡ run) × (fault ≡ Exhausted → UsesUpNumbers J.plan) };
+    ghost from_gives = { λ run fault. (fault ≡ run) × (fault ≡ Exhausted → UsesUpNumbers J.plan) × (fault ≢ Torn) };
 
     fn from(run: RunFault<J>) -> Self {
         run.fault

@@ -1,7 +1,7 @@
 //! The run of a network by workers.
 ghost use Rattle.std.specs.Prelude.{◌≡◌, ◌≢◌, ◌<◌, true, [], IsTrue, IfOk, IfErr};
 ghost use Rattle.network.specs.Words.{process_count};
-ghost use Rattle.journal.specs.declared.fault.PoolFault.TheVariants.{Exhausted, Spawn};
+ghost use Rattle.journal.specs.declared.fault.PoolFault.TheVariants.{Exhausted, Spawn, Torn};
 ghost use Rattle.trace_tables.specs.Tables.{tables_of};
 ghost use Rattle.seqsim.specs.Networks.{AreRowsOf};
 ghost use Rattle.worker_pool.specs.Outcomes.{CanWantWorkers, UsesUpNumbers};
@@ -168,6 +168,7 @@ fn run_named<J: NetworkRun + Send + Sync, G: Gate + Sync, T: Threads + Wait + Sy
     ensures tables { IfOk result (λ o. o.tables ≡ tables_of J.plan o.rows.items) }
     ensures finished { IfOk result (λ o. IsJournalOf J.plan o.journal.items) }
     ensures exhausted { IfErr result (λ fault. fault ≡ Exhausted → UsesUpNumbers J.plan) }
+    ensures no_torn { IfErr result (λ fault. fault ≢ Torn) }
     ensures spawn { IfErr result (λ fault. fault ≡ Spawn → CanWantWorkers start.entry.pace.workers (process_count J.plan)) }
 {
     let start: StartOf<J> = StartOf::of(start);
@@ -204,6 +205,7 @@ pub fn run<G: Gate + Sync, T: Threads + Wait + Sync>(
     ensures tables { IfOk result (λ o. o.tables ≡ tables_of network.now o.rows.items) }
     ensures finished { IfOk result (λ o. IsJournalOf network.now o.journal.items) }
     ensures exhausted { IfErr result (λ fault. fault ≡ Exhausted → UsesUpNumbers network.now) }
+    ensures no_torn { IfErr result (λ fault. fault ≢ Torn) }
     ensures spawn { IfErr result (λ fault. fault ≡ Spawn → CanWantWorkers pace.workers (process_count network.now)) }
 {
     let Ok((grouping, pairs)) = marked_groups(alloc, network, pace.groups) else {

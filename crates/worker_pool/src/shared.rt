@@ -2,7 +2,7 @@
 ghost use Rattle.std.specs.Prelude.{◌≡◌, ◌≢◌, ◌+◌, ◌<◌, ◌≤◌, ◌⊎◌, List, length, IfErr, Err};
 ghost use Rattle.vlink.specs.Letters.{Letter};
 ghost use Rattle.nodes.specs.Words.{simulation_of};
-ghost use Rattle.journal.specs.declared.fault.PoolFault.TheVariants.{OutOfMemory, Exhausted, JournalFull, Spawn};
+ghost use Rattle.journal.specs.declared.fault.PoolFault.TheVariants.{OutOfMemory, Exhausted, JournalFull, Spawn, Torn};
 ghost use Rattle.group_exchange.specs.Views.{block_of};
 ghost use Rattle.group_exchange.specs.Effects.{AreWaiting};
 ghost use Rattle.worker_pool.specs.Outcomes.{LackNumbers};
@@ -138,7 +138,8 @@ impl<J: NetworkRun> Shared<J> {
     /// Makes the fault of a group at its work. If a process of it lacks numbers, it does so in a run: after the steps of the journal and
     /// those of its block.
     pub(crate) fn fault_of(&self, group: &NetworkGroup<J>, fault: PoolFault) -> RunFault<J>
-        requires { fault ≡ Exhausted → LackNumbers J.plan J.owners group.now }
+        requires numbers { fault ≡ Exhausted → LackNumbers J.plan J.owners group.now }
+        requires no_torn { fault ≢ Torn }
         ensures { result ≡ fault }
     {
         let _groups = self.inner.groups();

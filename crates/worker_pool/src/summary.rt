@@ -14,7 +14,6 @@ use crate::grouping::marked_groups;
 use crate::leaving::Leaving;
 use crate::network_run::NetworkRun;
 use crate::pace::Pace;
-use crate::run_fault::RunFault;
 use crate::running::run_to_end;
 use crate::start::{Start, StartOf};
 use actor_run::Watch;
@@ -43,7 +42,7 @@ impl<J: NetworkRun> Unlocked<'_, J> {
         alloc: Global,
         counted: Counted<J>,
         with_steps: bool,
-    ) -> Result<Summary, RunFault<J>>
+    ) -> Result<Summary, PoolFault>
         requires ended { IsEnded J.plan J.owners self.now.exchange.steps self.now.groups.items }
         requires keeps { with_steps ≡ J.keeps }
         ensures found { IfOk result (λ s. IsSummaryOf J.plan J.keeps s.tables s.journal.items) }
@@ -52,18 +51,18 @@ impl<J: NetworkRun> Unlocked<'_, J> {
     {
         if counted.tables.is_none() {
             drop(counted);
-            return Err(RunFault::other(PoolFault::OutOfMemory));
+            return Err(PoolFault::OutOfMemory);
         }
         if !self.have_gone_by(counted.own.as_slice(), counted.end) {
             drop(counted);
-            return Err(RunFault::other(PoolFault::Torn));
+            return Err(PoolFault::Torn);
         }
         let tables = self.tables(counted)?;
         match self.steps_asked(alloc, with_steps) {
             Ok(journal) => Ok(Summary { tables, journal }),
             Err(fault) => {
                 drop(tables);
-                Err(RunFault::from(fault))
+                Err(PoolFault::from(fault))
             }
         }
     }
@@ -88,7 +87,7 @@ pub(crate) fn summary_of<J: NetworkRun>(
     ended: Unlocked<'_, J>,
     counted: Counted<J>,
     with_steps: bool,
-) -> Result<Summary, RunFault<J>>
+) -> Result<Summary, PoolFault>
     requires ended { IsEnded J.plan J.owners ended.exchange.steps ended.groups.items }
     requires keeps { with_steps ≡ J.keeps }
     ensures found { IfOk result (λ s. IsSummaryOf J.plan J.keeps s.tables s.journal.items) }
@@ -118,11 +117,12 @@ fn summary_named<J: NetworkRun + Send + Sync, G: Gate + Sync, T: Threads + Wait 
     let counted = Mutex::new(Counted::each(alloc, start.network, start.grouping.groups)?);
     let leaving = Leaving::Counted(&counted);
     let ended = run_to_end::<J, G, T, W>(rt, alloc, start, gate, &leaving, false, watch)?;
-    Ok(summary_of(alloc, ended, counted.into_inner(), keeps)?)
+    summary_of(alloc, ended, counted.into_inner(), keeps)
 }
 
 /// Simulates a network by workers, as `run` does, and lists no rows. The steps that were done are listed if they are asked for. Its
-/// refusals are those of `run`. `watch` is shown GVT, at most four times a second, and no count of events.
+/// refusals are those of `run`, and `Torn` if rows left that were not counted. `watch` is shown GVT, at most four times a second, and no
+/// count of events.
 pub fn run_summary<G: Gate + Sync, T: Threads + Wait + Sync, W: Watch>(
     rt: &T,
     alloc: Global,

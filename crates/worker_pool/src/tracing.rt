@@ -78,30 +78,33 @@ fn summary_told<J: NetworkRun>(
     ended: Result<Unlocked<'_, J>, RunFault<J>>,
     counted: Counted<J>,
     with_steps: bool,
-) -> Result<Summary, RunFault<J>>
+) -> Result<Summary, PoolFault>
     requires ended { IfOk ended (λ r. IsEnded J.plan J.owners r.exchange.steps r.groups.items) }
     requires keeps { with_steps ≡ J.keeps }
-    ensures { IfOk result (λ s. IsSummaryOf J.plan J.keeps s.tables s.journal.items) }
+    ensures found { IfOk result (λ s. IsSummaryOf J.plan J.keeps s.tables s.journal.items) }
+    ensures exhausted { IfErr result (λ fault. fault ≡ Exhausted → UsesUpNumbers J.plan) }
 {
     match ended {
         Ok(ended) => summary_of(alloc, ended, counted, with_steps),
         Err(fault) => {
             drop(counted);
-            Err(fault)
+            Err(PoolFault::from(fault))
         }
     }
 }
 
 /// Returns the results of a run, if it was not refused, with the result of writing its trace and this first fault of a segment.
 fn traced_of<'a, J: NetworkRun, K: TraceRun, S: Sink + Drop>(
-    summary: Result<Summary, RunFault<J>>,
+    summary: Result<Summary, PoolFault>,
     writing: Writing<'a, J, K, S>,
     fault: Option<SegmentFault>,
-) -> Result<Traced<S>, RunFault<J>>
+) -> Result<Traced<S>, PoolFault>
     requires found { IfOk summary (λ s. IsSummaryOf J.plan J.keeps s.tables s.journal.items) }
     requires fault { IfSome fault IsPlaceFault }
+    requires exhausted { IfErr summary (λ fault. fault ≡ Exhausted → UsesUpNumbers J.plan) }
     ensures found { IfOk result (λ t. IsSummaryOf J.plan J.keeps t.outcome.tables t.outcome.journal.items) }
     ensures written { IfOk result (λ t. IsWritten J.plan K.taken K.failures t.written (S.taken t.sink) (S.failures t.sink)) }
+    ensures exhausted { IfErr result (λ fault. fault ≡ Exhausted → UsesUpNumbers J.plan) }
 {
     match summary {
         Ok(outcome) => {
@@ -136,9 +139,10 @@ fn run_beside<
     trace: TraceLock<J>,
     watch: W,
     writer: JoinHandle<(Writing<'a, J, K, S>, Counted<J>)>,
-) -> (Result<Traced<S>, RunFault<J>>, W)
+) -> (Result<Traced<S>, PoolFault>, W)
     ensures found { IfOk result.0 (λ t. IsSummaryOf J.plan J.keeps t.outcome.tables t.outcome.journal.items) }
     ensures written { IfOk result.0 (λ t. IsWritten J.plan K.taken K.failures t.written (S.taken t.sink) (S.failures t.sink)) }
+    ensures exhausted { IfErr result.0 (λ fault. fault ≡ Exhausted → UsesUpNumbers J.plan) }
     ensures watched { W.becomes watch result.1 }
 {
     let mut watch = watch;
@@ -205,13 +209,14 @@ fn traced_named<
     };
     let network = start.network;
     let writing: Writing<J, K, S> = Writing::new(alloc, network, sink);
-    let (traced, watch) = thread::scope(
+    thread::scope(
         thread::scope_env(),
         rt,
-        |scope| -> (Result<Traced<S>, RunFault<J>>, W)
+        |scope| -> (Result<Traced<S>, PoolFault>, W)
             requires { network.now ≡ J.plan }
             ensures found { IfOk result.0 (λ t. IsSummaryOf J.plan J.keeps t.outcome.tables t.outcome.journal.items) }
             ensures written { IfOk result.0 (λ t. IsWritten J.plan K.taken K.failures t.written (S.taken t.sink) (S.failures t.sink)) }
+            ensures exhausted { IfErr result.0 (λ fault. fault ≡ Exhausted → UsesUpNumbers J.plan) }
             ensures watched { W.becomes watch result.1 }
         {
             match scope.spawn(move || write_batches(rt, network, writing, counted, batches)) {
@@ -219,15 +224,11 @@ fn traced_named<
                 Err(_) => {
                     drop(start);
                     drop(trace);
-                    (Err(RunFault::other(PoolFault::Spawn)), watch)
+                    (Err(PoolFault::Spawn), watch)
                 }
             }
         },
-    );
-    match traced {
-        Ok(traced) => (Ok(traced), watch),
-        Err(fault) => (Err(PoolFault::from(fault)), watch),
-    }
+    )
 }
 
 /// Simulates a network by workers, as `run_summary` does, and writes the trace to the sink while the run goes on. Segments of it leave the

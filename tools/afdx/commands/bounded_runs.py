@@ -25,7 +25,7 @@ from typing import Any
 
 from afdx import files, model
 from afdx.reckon import network_calculus, proved_bounds
-from afdx.runs import second_opinion
+from afdx.runs.measured_hops import Measured
 
 EXAMPLES = """
 examples:
@@ -188,7 +188,7 @@ class Count:
         self.by_program = [0, 0, 0, 0]
         self.program_shares: list[float] = []
 
-    def hold(self, found: network_calculus.Bounds, run: second_opinion.Measured, tell: Callable[[str], None]) -> None:
+    def hold(self, found: network_calculus.Bounds, run: Measured, report: Callable[[str], None]) -> None:
         """Holds a run against the bounds of its network."""
         self.runs += 1
         for key, greatest in greatest_latencies(run).items():
@@ -200,11 +200,11 @@ class Count:
             self.shares.append(greatest / bound)
             if greatest > bound:
                 self.above += 1
-                tell(f"virtual link {key[0]} at {key[1]} took {greatest} ns, and its bound is {bound} ns")
+                report(f"virtual link {key[0]} at {key[1]} took {greatest} ns, and its bound is {bound} ns")
         # None where what was measured is no virtual link's.
         vl: Any
-        for (kind, vl, place), (_, _, greatest, _) in run.found.items():
-            where = run.names[place]
+        for (kind, vl, place), tally in run.found.items():
+            where, greatest = run.names[place], tally.greatest
             bound = found.of_kind(kind, vl, where)
             if bound is None:
                 continue
@@ -216,12 +216,12 @@ class Count:
                 text = f"{kind} of virtual link {vl} at {where} was {greatest} ns, and its bound is {bound} ns"
             if greatest > bound:
                 self.above += 1
-                tell(text)
+                report(text)
 
-    def hold_program(self, proved: proved_bounds.ProvedBounds, run: second_opinion.Measured, tell: Callable[[str], None]) -> None:
+    def hold_program(self, proved: proved_bounds.ProvedBounds, run: Measured, report: Callable[[str], None]) -> None:
         """Holds a run against the bounds that the program prints of its network."""
         held = [(proved.of[key], greatest, f"virtual link {key[0]} at {key[1]} took") for key, greatest in greatest_latencies(run).items()]
-        ports = [(run.names[place], greatest) for (kind, _, place), (_, _, greatest, _) in run.found.items() if kind == "backlog"]
+        ports = [(run.names[place], tally.greatest) for (kind, _, place), tally in run.found.items() if kind == "backlog"]
         for what, rows in enumerate((held, [(proved.waiting[where], most, f"before {where} waited") for where, most in ports])):
             for bound, greatest, text in rows:
                 self.by_program[2 if bound is None else what] += 1
@@ -229,7 +229,7 @@ class Count:
                     self.program_shares.append(greatest / bound)
                 if bound is not None and greatest > bound:
                     self.by_program[3] += 1
-                    tell(f"{text} {greatest}, and the bound by the program is {bound}")
+                    report(f"{text} {greatest}, and the bound by the program is {bound}")
 
     def program_text(self) -> str:
         shares = sorted(self.program_shares) or [0]
@@ -248,7 +248,7 @@ class Count:
         )
 
 
-def greatest_latencies(run: second_opinion.Measured) -> dict[tuple[int, str], int]:
+def greatest_latencies(run: Measured) -> dict[tuple[int, str], int]:
     """The greatest latency of each virtual link and destination where one was delivered."""
     found: dict[tuple[int, str], int] = {}
     for _, place, vl, what, value in run.rows:
@@ -269,7 +269,7 @@ def bounds_by(program: str, net: model.Network, text: str) -> proved_bounds.Prov
         return proved_bounds.ProvedBounds(printed, net)
 
 
-def hold_network(number: int, runs: int, keep: str | None, count: Count, tell: Callable[[str], None], program: str | None = None) -> None:
+def hold_network(number: int, runs: int, keep: str | None, count: Count, report: Callable[[str], None], program: str | None = None) -> None:
     """Makes the runs of a network and holds them against its bounds."""
     drawn = Drawn(number)
     text = model.text_of_tree(drawn.tree())
@@ -277,10 +277,10 @@ def hold_network(number: int, runs: int, keep: str | None, count: Count, tell: C
     found, proved = network_calculus.Bounds(net), bounds_by(program, net, text) if program else None
     for run in range(runs):
         tree = drawn.tree(run, drawn.offsets(run, found))
-        simulation = second_opinion.Measured(tree)
+        simulation = Measured(tree)
         simulation.run()
         again = f"afdx bounded-runs --networks 1 --first {number} --runs {run + 1} --keep DIR"
-        says = lambda text: tell(f"network {number}, run {run}: {text}; again: {again}")
+        says = lambda text: report(f"network {number}, run {run}: {text}; again: {again}")
         count.hold(found, simulation, says)
         if proved:
             count.hold_program(proved, simulation, says)

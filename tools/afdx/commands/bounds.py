@@ -61,7 +61,7 @@ columns (later versions may add others, so read them by their names):
                in ns, or none
   proved_ns, proved_bytes  with --proved: the bound of the latency at the destination, and of the bytes that wait at the
                output port, that `afdxsim bounds` prints, or none. They are proved to be the numbers of the formula in
-               docs/BOUNDS.md, some percent above these
+               docs/BOUNDS.md, on one network within some percent of these
   transmit_rule_ns  what ARINC 664 Part 7 sets beside it: 40 us + the sum over the virtual links of the line of
                (20 + Smax) * 8 bits by its speed, in ns. A jitter is allowed up to this, and up to 500 us
   description  checksum of the description: the first 16 digits of its SHA-256
@@ -125,7 +125,7 @@ def write_fitted(net: model.Network, path: str) -> int:
     for it in stays:
         line = net.description.line(it.section, it.row, it.key)
         who = f"virtual link {it.name}" if it.section == "vl" else it.name
-        files.tell("afdx bounds", model.Fault(net.path, line, f"{who}, {it.key} stays {it.before}: {it.why}"))
+        files.report("afdx bounds", model.Fault(net.path, line, f"{who}, {it.key} stays {it.before}: {it.why}"))
     return 1 if stays else 0
 
 

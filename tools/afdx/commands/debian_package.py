@@ -11,7 +11,6 @@ It needs `dpkg-deb`, a clone without changes, and the program that ./test has le
 import argparse
 import gzip
 import hashlib
-import json
 import os
 import re
 import shutil
@@ -19,7 +18,6 @@ import subprocess
 import sys
 import tempfile
 import time
-from typing import Any
 
 from afdx import files
 from afdx.commands import help_texts
@@ -66,7 +64,7 @@ def git(*words: str, root: str = ROOT) -> str:
     return run.stdout
 
 
-def what_is_packed(root: str = ROOT) -> tuple[str, dict[str, Any], int]:
+def what_is_packed(root: str = ROOT) -> tuple[str, program.Record, int]:
     """The proved program, its record for the package, and the moment of the commit."""
     if not shutil.which("dpkg-deb"):
         raise NoProgram("`dpkg-deb` makes the package, and it is not here")
@@ -76,11 +74,11 @@ def what_is_packed(root: str = ROOT) -> tuple[str, dict[str, Any], int]:
     it = program.proved(root)
     assert it.path is not None
     record = program.record_of(it.path)
-    if not record.get("gate"):
+    if not record.gate:
         raise NoProgram("the record of the program has no line of `rt ci`: ./test proves all, and writes it down")
-    if record.get("judged") != program.sum_of_judged(record.get("kit"), root):
+    if record.judged != program.sum_of_judged(record.kit, root):
         raise NoProgram("the line of `rt ci` in the record is of other edits or data of tests than this commit has: ./test tries them")
-    return it.path, record | {"commit": commit}, int(git("show", "-s", "--format=%ct", "HEAD", root=root))
+    return it.path, record._replace(commit=commit), int(git("show", "-s", "--format=%ct", "HEAD", root=root))
 
 
 # ---- texts ----
@@ -193,17 +191,16 @@ def for_package(text: str) -> str:
     return re.sub(r"^    .*$|`[^`\n]+`", renamed, text, flags=re.MULTILINE)
 
 
-def fill(tree: Tree, path: str, record: dict[str, Any], begin: int, root: str = ROOT) -> None:
+def fill(tree: Tree, path: str, record: program.Record, begin: int, root: str = ROOT) -> None:
     """Puts into the tree what the package has."""
-    told = json.dumps(record, indent=1, sort_keys=True) + "\n"
     tree.copy(path, "usr/bin/afdxsim", 0o755)
     with open(os.path.join(root, "afdx"), encoding="utf-8") as file:
         tree.write("usr/lib/afdxsim/afdx", file.read().replace("#!/usr/bin/env python3", "#!" + PYTHON, 1), 0o755)
     tree.link("usr/bin/afdx", "../lib/afdxsim/afdx")
     tree.link("usr/lib/python3/dist-packages/afdx", "../../afdxsim/tools/afdx")
     tree.link(f"usr/lib/afdxsim/{program.BUILT}", "../../../../../bin/afdxsim")
-    tree.write(f"usr/lib/afdxsim/{program.BUILT}{program.RECORD}", told)
-    tree.write("usr/share/doc/afdxsim/proof.json", told)
+    tree.write(f"usr/lib/afdxsim/{program.BUILT}{program.RECORD}", record.text())
+    tree.write("usr/share/doc/afdxsim/proof.json", record.text())
     # What is in the commit, and not what happens to lie beside it.
     for name in sorted(git("ls-files", "-z", "tools", "docs", "examples", "README.md", "CHANGELOG.md", root=root).split("\0")):
         source = os.path.join(root, name)
@@ -216,12 +213,12 @@ def fill(tree: Tree, path: str, record: dict[str, Any], begin: int, root: str = 
                 tree.write(place, for_package(file.read()))
         else:
             tree.copy(source, place)
-    for name, text in manuals(path, begin, record["version"], root).items():
+    for name, text in manuals(path, begin, record.version or "unknown", root).items():
         tree.write(f"usr/share/man/man1/{name}.1.gz", zipped(text))
     tree.write("usr/share/bash-completion/completions/afdx", help_texts.completion_text(is_clone=False))
 
 
-def close(tree: Tree, path: str, record: dict[str, Any], root: str = ROOT) -> None:
+def close(tree: Tree, path: str, record: program.Record, root: str = ROOT) -> None:
     """Puts the files that describe the package into the tree."""
     names = tree.names()
     size = sum(os.path.getsize(os.path.join(tree.folder, name)) for name in names)
@@ -234,7 +231,7 @@ def close(tree: Tree, path: str, record: dict[str, Any], root: str = ROOT) -> No
         tree.write(f"DEBIAN/{name}", text, 0o755)
     maintainer = git("log", "-1", "--format=%an <%ae>", root=root).strip()
     tree.write("DEBIAN/control", CONTROL.format(
-        version=record["version"], maintainer=maintainer, size=-(-size // 1024), libc=libc_of(path)
+        version=record.version, maintainer=maintainer, size=-(-size // 1024), libc=libc_of(path)
     ))
 
 
@@ -242,7 +239,7 @@ def make(folder: str, root: str = ROOT) -> str:
     """Makes the package, and answers its path."""
     path, record, begin = what_is_packed(root)
     os.makedirs(folder, exist_ok=True)
-    package = os.path.join(folder, f"afdxsim_{record['version']}_amd64.deb")
+    package = os.path.join(folder, f"afdxsim_{record.version}_amd64.deb")
     with tempfile.TemporaryDirectory(prefix="afdx-package-") as room:
         tree, made = Tree(os.path.join(room, "tree")), os.path.join(room, "made.deb")
         fill(tree, path, record, begin, root)

@@ -44,26 +44,26 @@ file cannot be read.
 """
 
 # Of more warnings of one kind than the first number, the second number are printed, and how many more there are.
-MOST_OF_A_KIND, TOLD_OF_A_KIND = 10, 3
+MOST_OF_A_KIND, PRINTED_OF_A_KIND = 10, 3
 
 
-def told_of(path: str, warnings: list[judge.Finding], tells_all: bool) -> tuple[list[str], str]:
+def printed_of(path: str, warnings: list[judge.Finding], prints_all: bool) -> tuple[list[str], str]:
     """The lines of warnings, and lines that count them. Of many of one kind the first ones are printed."""
     kinds = Counter(it.kind for it in warnings)
-    many = {} if tells_all else {kind: count for kind, count in kinds.items() if count > MOST_OF_A_KIND}
+    many = {} if prints_all else {kind: count for kind, count in kinds.items() if count > MOST_OF_A_KIND}
     lines: list[str] = []
     seen: Counter[str] = Counter()
     for it in warnings:
         seen[it.kind] += 1
-        if it.kind not in many or seen[it.kind] <= TOLD_OF_A_KIND:
+        if it.kind not in many or seen[it.kind] <= PRINTED_OF_A_KIND:
             lines.append(judge.line_of(path, it))
-    lines += (f"{path}: warning: {kind}: {count - TOLD_OF_A_KIND:,} more (--all)" for kind, count in many.items())
+    lines += (f"{path}: warning: {kind}: {count - PRINTED_OF_A_KIND:,} more (--all)" for kind, count in many.items())
     more = f" of {counted(kinds, 'kind')}" if many else ""
     return lines, f", {counted(warnings, 'warning')}{more}" if warnings else ""
 
 
-def explain(path: str, bounds: str | None = None, tells_all: bool = False) -> tuple[str, int]:
-    """The faults or warnings of a file, as text, and the status. `bounds` names a file of bounds; `tells_all`: each warning."""
+def explain(path: str, bounds: str | None = None, prints_all: bool = False) -> tuple[str, int]:
+    """The faults or warnings of a file, as text, and the status. `bounds` names a file of bounds; `prints_all`: each warning."""
     try:
         text = model.text_of(path)
     except Fault as fault:
@@ -82,7 +82,7 @@ def explain(path: str, bounds: str | None = None, tells_all: bool = False) -> tu
         warnings = description_warnings.Warnings(net).findings
         if bounds:
             warnings += description_warnings.WorstCase(net, bounds_file.Bounds(bounds, net)).findings
-        lines, count = told_of(path, warnings, tells_all)
+        lines, count = printed_of(path, warnings, prints_all)
         lines.append(f"{path}: accepted{count}")
     return "".join(line + "\n" for line in lines), 1 if found else 0
 
@@ -98,11 +98,11 @@ def main(arguments: list[str] | None = None) -> int:
     )
     parser.add_argument("net", metavar="NET", help="the description (TOML)")
     parser.add_argument("--bounds", metavar="FILE", help="warns of the worst case too: the bounds that afdx bounds printed for NET")
-    says = f"prints each warning; else of more than {MOST_OF_A_KIND} of one kind the first {TOLD_OF_A_KIND}, and how many more there are"
+    says = f"prints each warning; else of more than {MOST_OF_A_KIND} of one kind the first {PRINTED_OF_A_KIND}, and how many more there are"
     parser.add_argument("--all", action="store_true", help=says)
     words = parser.parse_args(arguments)
-    told, status = explain(words.net, words.bounds, words.all)
-    files.write_out(told)
+    printed, status = explain(words.net, words.bounds, words.all)
+    files.write_out(printed)
     return status
 
 

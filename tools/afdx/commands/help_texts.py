@@ -1,12 +1,26 @@
 """What `afdx` can do: its commands, which tool does each, and the texts of help and of the completion of words."""
 import re
 import subprocess
-from collections import namedtuple
+from typing import NamedTuple
 
 from afdx.files import program
 
-# Of a command of the program: which of its words are files that it reads, in order, and what it says.
-OfProgram = namedtuple("OfProgram", "files usage says")
+
+class Command(NamedTuple):
+    """A command: its usage, and what it does."""
+
+    usage: str
+    says: str
+
+
+class OfProgram(NamedTuple):
+    """A command of the program: how many of its first words are files that it reads, its usage, and what it does."""
+
+    files: int
+    usage: str
+    says: str
+
+
 OF_PROGRAM = {
     "check": OfProgram(1, "NET", "check a description, and count its contents"),
     "seq": OfProgram(1, "NET [--trace FILE] [--progress]", "simulate the network on one thread; prints tables as CSV"),
@@ -16,8 +30,17 @@ OF_PROGRAM = {
     ),
     "replay": OfProgram(2, "NET STEPS", "simulate the network by the steps of a journal"),
 }
-# Of a tool: its module, the option that it has in any case, and what it says.
-OfTool = namedtuple("OfTool", "module option usage says")
+
+
+class OfTool(NamedTuple):
+    """A tool: its module, the option that it gets in any case or None, its usage, and what it does."""
+
+    module: str
+    option: str | None
+    usage: str
+    says: str
+
+
 OF_TOOLS = {
     "explain": OfTool("afdx.commands.explain", None, "NET", "print all faults of a description with their lines, or its warnings"),
     "bounds": OfTool("afdx.commands.bounds", None, "NET [-o FILE]", "compute worst-case bounds of latencies and ports, as CSV"),
@@ -40,10 +63,10 @@ OF_TOOLS = {
 # The tools that have the program run.
 RUN_IT = ("campaign", "outages")
 OWN = {
-    "page": ("NET [TABLES] -o FILE", "check, simulate, bound and draw: makes one page"),
-    "build": ("[--jobs N]", "prove and build the program"),
-    "package": ("[-o DIR]", "make a Debian package of the proved program and the tools"),
-    "completion": ("bash", "print the completion of words for a shell"),
+    "page": Command("NET [TABLES] -o FILE", "check, simulate, bound and draw: makes one page"),
+    "build": Command("[--jobs N]", "prove and build the program"),
+    "package": Command("[-o DIR]", "make a Debian package of the proved program and the tools"),
+    "completion": Command("bash", "print the completion of words for a shell"),
 }
 # The options of the program that have a value, and those that name a file which it writes.
 VALUED = ("--trace", "--journal", "--workers", "--groups", "--turn", "--window")
@@ -90,16 +113,16 @@ status: that of the program or the tool; 2 if a word is wrong, or if there is no
 """
 
 
-def commands(is_clone: bool = program.is_clone()) -> dict[str, tuple[str, str]]:
+def commands(is_clone: bool = program.is_clone()) -> dict[str, Command]:
     """Each command with its words and what it says, in the order of the help. A package has no sources to build."""
     found = {"page": OWN["page"]}
-    found |= {name: (it.usage, it.says) for name, it in OF_PROGRAM.items()}
-    found |= {name: (it.usage, it.says) for name, it in OF_TOOLS.items()}
+    found |= {name: Command(it.usage, it.says) for name, it in OF_PROGRAM.items()}
+    found |= {name: Command(it.usage, it.says) for name, it in OF_TOOLS.items()}
     return found | {name: it for name, it in OWN.items() if name != "page" and (is_clone or name == "completion")}
 
 
 def help_text(is_clone: bool = program.is_clone()) -> str:
-    lines = [f"  {name:<16}{says}" for name, (_, says) in commands(is_clone).items()]
+    lines = [f"  {name:<16}{it.says}" for name, it in commands(is_clone).items()]
     which, only = (IN_A_CLONE, "; with --by proved and --by try just that one") if is_clone else (IN_A_PACKAGE, "")
     return HELP.format(commands="\n".join(lines), which=which, only=only, of_run=OF_RUN)
 

@@ -259,8 +259,8 @@ def write_virtual_link(number: int, vl: VirtualLink, stretch: Fraction, out: Cal
         out(f"{net.lower()} = [" + ", ".join(paths) + "]\n")
 
 
-def write_network(words: argparse.Namespace, out: Callable[[str], object], tell: Callable[[str], object]) -> str | None:
-    """Writes the description by out, and a summary by tell. Answers why it is refused, or None."""
+def write_network(words: argparse.Namespace, out: Callable[[str], object], report: Callable[[str], object]) -> str | None:
+    """Writes the description by out, and a summary by report. Answers why it is refused, or None."""
     draw = Draw(words.seed)
     wiring = Wiring(words)
     refusal = wiring.refusal()
@@ -277,7 +277,7 @@ def write_network(words: argparse.Namespace, out: Callable[[str], object], tell:
         write_virtual_link(number, vl, stretch, out)
     paths = sum(len(vl.ways) for vl in virtual_links)
     longest = max((len(way) + 2 for vl in virtual_links for way in vl.ways.values()), default=0)
-    tell(
+    report(
         f"{wiring.processes()} processes, {len(virtual_links)} virtual links, {paths} paths on each network, "
         f"longest path {longest} nodes, load of the busiest line {float(natural / stretch * 100):.1f} percent\n"
     )
@@ -326,7 +326,7 @@ def main(arguments: list[str] | None = None) -> int:
     pieces: list[str] = []
     refusal = write_network(words_of(arguments), pieces.append, sys.stderr.write)
     if refusal:
-        files.tell("afdx large-network", refusal)
+        files.report("afdx large-network", refusal)
         return 1
     files.write_out("".join(pieces))
     return 0

@@ -20,8 +20,7 @@ from typing import Any
 
 from afdx import files
 from afdx.model import judge
-from afdx.runs.second_opinion import BODIES, Simulation
-
+from afdx.runs.plain_simulator import BODIES, Simulation
 
 # Its process, the event that sent its message, and who receives what it sends.
 Event = tuple[int, int | None, list[int]]

@@ -14,12 +14,13 @@ import os
 import struct
 import sys
 from collections.abc import Iterable, Iterator, Mapping, Sequence
-from typing import Any
+from typing import Any, NamedTuple
 
 from afdx import files, model
 from afdx.files import Fault, program
 from afdx.model import judge
-from afdx.runs import second_opinion
+from afdx.runs.plain_simulator import Frame, Simulation
+from afdx.runs.second_opinion import small_enough
 
 EXAMPLES = """
 examples:
@@ -58,9 +59,13 @@ PORT = 49152
 NETWORKS = {"A": 0x20, "B": 0x40, None: 0}
 
 
-# A frame as the second opinion has it, and a packet: its moment, its place, its frame and its comments.
-Frame = Any
-Packet = tuple[int, int, Frame, list[str]]
+class Packet(NamedTuple):
+    """A packet of the capture: its moment, the place where it is seen, its frame and its comments."""
+
+    moment: int
+    place: int
+    frame: Frame
+    comments: list[str]
 
 
 # ---- frames ----
@@ -122,20 +127,17 @@ def packet_of(interface: int, moment: int, frame: bytes, comments: list[str]) ->
 # ---- what was when where ----
 
 
-class Seen(second_opinion.Simulation):
+class Seen(Simulation):
     """A run whose frames are noted: `packets` has for each the moment, the place, the frame and its comments."""
 
     def __init__(self, tree: Mapping[str, Any]) -> None:
         self.packets: list[Packet] = []
         super().__init__(tree)
 
-    def net_of(self, frame: Frame) -> str | None:
-        return frame[5] if len(frame) > 5 else None
-
     def deliver(self, t: int, p: int, frame: Frame) -> None:
         super().deliver(t, p, frame)
-        wait = frame[4] - frame[3]
-        self.happens(t, p, frame, f"delivered at {self.names[p]}: latency {t - frame[3]} ns, {wait} ns of it in the regulator")
+        wait = frame.released - frame.offered
+        self.happens(t, p, frame, f"delivered at {self.names[p]}: latency {t - frame.offered} ns, {wait} ns of it in the regulator")
 
     def lose(self, t: int, p: int, frame: Frame, cause: str) -> None:
         super().lose(t, p, frame, cause)
@@ -143,12 +145,12 @@ class Seen(second_opinion.Simulation):
         self.happens(t, p, frame, f"{what} at {self.names[p]}: {cause}")
 
     def happens(self, t: int, p: int, frame: Frame, text: str) -> None:
-        self.packets.append((t, p, frame, [text]))
+        self.packets.append(Packet(t, p, frame, [text]))
 
     def interfaces(self, net: model.Network) -> dict[int, tuple[str, int | None]]:
         """The places that have an interface: who receives, and where a frame was lost. Each with what is said of it."""
         receivers = {place for _, place in self.destinations}
-        places = sorted(receivers | {place for _, place, _, _ in self.packets})
+        places = sorted(receivers | {packet.place for packet in self.packets})
         return {place: (f"frames delivered or lost at {self.names[place]}", None) for place in places}
 
 
@@ -164,21 +166,21 @@ class SeenOnLines(Seen):
     def handle(self, t: int, p: int, variant: str, fields: tuple[Any, ...]) -> None:
         if variant == "Carry":
             (frame,) = fields
-            packet: Packet = (t, p, frame, [])
+            packet = Packet(t, p, frame, [])
             self.packets.append(packet)
-            self.before[frame, p] = self.before[frame, self.place[self.lines[p - len(self.nodes)][1]]] = packet
+            self.before[frame, p] = self.before[frame, self.place[self.lines[p - len(self.nodes)].there]] = packet
         super().handle(t, p, variant, fields)
 
     def happens(self, t: int, p: int, frame: Frame, text: str) -> None:
         packet = self.before.get((frame, p))
         if packet:
-            packet[3].append(text)
+            packet.comments.append(text)
         else:
             super().happens(t, p, frame, text)
 
     def interfaces(self, net: model.Network) -> dict[int, tuple[str, int | None]]:
         lines = {self.names.index(line) for vl in net.vls.values() for line in vl.lines}
-        places = sorted(lines | {place for _, place, _, _ in self.packets})
+        places = sorted(lines | {packet.place for packet in self.packets})
         said: dict[int, tuple[str, int | None]] = {}
         for place in places:
             name = self.names[place]
@@ -196,10 +198,10 @@ def blocks_of(net: model.Network, simulation: Seen) -> Iterator[bytes]:
     for place, (says, mbit) in simulation.interfaces(net).items():
         number[place] = len(number)
         yield interface_of(simulation.names[place], says, mbit)
-    for t, place, frame, comments in simulation.packets:
-        vl, sequence, size = frame[:3]
-        frame_bytes = bytes_of(vl, simulation.source[vl], simulation.net_of(frame), sequence, size)
-        yield packet_of(number[place], t, frame_bytes, comments)
+    for packet in simulation.packets:
+        frame = packet.frame
+        frame_bytes = bytes_of(frame.vl, simulation.source[frame.vl], frame.net, frame.number, frame.size)
+        yield packet_of(number[packet.place], packet.moment, frame_bytes, packet.comments)
 
 
 def compare(path: str, found: Iterable[str], simulation: Seen) -> None:
@@ -232,7 +234,7 @@ def main(arguments: list[str] | None = None) -> None:
     description = judge.accepted(words.net)
     found = model.lines_of(words.trace, [model.TRACE_HEAD], "a trace")
     files.ready([words.output])
-    simulation = KINDS[words.each](second_opinion.small_enough(description))
+    simulation = KINDS[words.each](small_enough(description))
     simulation.run()
     compare(words.trace, found, simulation)
     net = model.Network(words.net, description=description)

@@ -70,7 +70,7 @@ whole; so an earlier page stays until then.
 
 
 # This many latencies above their bounds have a line each at most.
-MOST_TOLD = 10
+MOST_PRINTED = 10
 
 
 def words_of(arguments: list[str] | None = None) -> argparse.Namespace:
@@ -111,17 +111,19 @@ def words_of(arguments: list[str] | None = None) -> argparse.Namespace:
     return words
 
 
-def tell_above(given: Given) -> bool:
+def report_above(given: Given) -> bool:
     """Prints the latencies above their bounds, and returns whether there are any."""
-    above = given.bounds.above(given.tables.latencies) if given.bounds else []
-    for row in above[:MOST_TOLD]:
-        told = f"virtual link {row.vl} at {row.where} took {row.greatest} ns, and its bound is {given.bounds.of[row.vl, row.where].ns} ns"
-        files.tell("afdx report", f"{told}: one of the two is wrong")
-    if len(above) > MOST_TOLD:
-        files.tell("afdx report", f"so are {len(above) - MOST_TOLD:,} more latencies above their bounds")
+    bounds = given.bounds
+    above = bounds.above(given.tables.latencies) if bounds else []
+    for row in above[:MOST_PRINTED]:
+        assert bounds is not None
+        text = f"virtual link {row.vl} at {row.where} took {row.greatest} ns, and its bound is {bounds.of[row.vl, row.where].ns} ns"
+        files.report("afdx report", f"{text}: one of the two is wrong")
+    if len(above) > MOST_PRINTED:
+        files.report("afdx report", f"so are {len(above) - MOST_PRINTED:,} more latencies above their bounds")
     on_the_way = given.way.above() if given.way else 0
     if on_the_way:
-        files.tell("afdx report", f"{on_the_way:,} of what was measured on the way are above their bounds: one of the two is wrong")
+        files.report("afdx report", f"{on_the_way:,} of what was measured on the way are above their bounds: one of the two is wrong")
     return bool(above or on_the_way)
 
 
@@ -131,15 +133,16 @@ def main(arguments: list[str] | None = None) -> int:
     outputs: list[str] = list(filter(None, [words.output, words.junit]))
     files.ready(outputs, prints=bool(words.limits))
     given = given_by(words)
+    margins = list(given.margins.values())
     files.judge(outputs, prints=bool(words.limits))
     files.write_pieces(words.output, (piece.encode("utf-8", "backslashreplace") for piece in Page(given).pieces()))
     if words.junit:
-        text = limits.junit_text(list(given.margins.values()), words.strict, os.path.basename(words.net))
+        text = limits.junit_text(margins, words.strict, os.path.basename(words.net))
         files.write_whole(words.junit, text)
     if words.limits:
-        files.write_out(limits.margins_text(given.margins.values()))
-    is_above = tell_above(given)
-    return 1 if is_above or limits.has_failed(given.margins.values(), words.strict) else 0
+        files.write_out(limits.margins_text(margins))
+    is_above = report_above(given)
+    return 1 if is_above or limits.has_failed(margins, words.strict) else 0
 
 
 if __name__ == "__main__":

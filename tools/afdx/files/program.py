@@ -12,22 +12,19 @@ import re
 import shutil
 import subprocess
 import sys
-from typing import Any, NamedTuple
+from typing import NamedTuple
 
 # The folder of the packages, and that above it: the top of a clone, or /usr/lib/afdxsim.
 TOOLS = os.path.dirname(os.path.dirname(os.path.dirname(os.path.realpath(__file__))))
 ROOT = os.path.dirname(TOOLS)
 # In a package this is a link to /usr/bin/afdxsim.
 BUILT = os.path.join("crates", "afdxsim", "out", "afdxsim")
+PROGRAM = os.path.join(ROOT, BUILT)
 # What a record is called, beside the program.
 RECORD = ".record.json"
 # Where the number of the version stands, once for all.
 VERSION_STANDS = os.path.join("crates", "command_line", "src", "program.rt")
 SECONDS_FOR_GIT = 60
-# What a record has, by name.
-Record = dict[str, Any]
-
-
 
 # ---- other processes ----
 
@@ -85,21 +82,17 @@ def maker_of(path: str) -> Maker:
     own = sum_of_file(path)
     for place in filter(None, (path, os.path.join(ROOT, BUILT), installed())):
         record = record_of(place)
-        if record.get("program") == own:
-            return maker_by_record(record)
+        if record.program == own:
+            return record.maker()
     says = first_line([path, "--version"], None) or os.path.basename(path)
     name, _, number = says.partition(" ")
     return Maker(name, number or None, None, own, None, None, False)
 
 
-def maker_by_record(record: Record) -> Maker:
-    return Maker("afdxsim", record.get("version"), record.get("commit"), record["program"], None, record.get("kit"), True)
-
-
 @functools.cache
 def tool(name: str) -> Maker:
     """Who made what a tool works out by itself: the tool, of the commit that it stands in."""
-    return Maker(f"afdx {name}", version(), commit() if is_clone() else record_of(os.path.join(ROOT, BUILT)).get("commit"), None, None, None, False)
+    return Maker(f"afdx {name}", version(), commit() if is_clone() else record_of(os.path.join(ROOT, BUILT)).commit, None, None, None, False)
 
 
 def is_clone(root: str = ROOT) -> bool:
@@ -110,7 +103,7 @@ def is_clone(root: str = ROOT) -> bool:
 def version(root: str = ROOT) -> str:
     """The number of the version."""
     if not is_clone(root):
-        return record_of(os.path.join(root, BUILT)).get("version", "unknown")
+        return record_of(os.path.join(root, BUILT)).version or "unknown"
     with open(os.path.join(root, VERSION_STANDS), encoding="utf-8") as file:
         found = re.search(r'^const VERSION: &str = "([0-9.]+)";$', file.read(), re.MULTILINE)
     return found[1] if found else "unknown"
@@ -200,35 +193,64 @@ def sum_of_judged(kit_line: str | None, root: str = ROOT) -> str:
 # ---- records ----
 
 
+class Record(NamedTuple):
+    """What a program was built of and proved with: the number of its version, the commit, the line of the kit and its logic, and
+    the checksums of the sources and of the program. `gate` is the line by which all proofs and tests passed, and `judged` the
+    checksum of what that line is of. What is not known is None."""
+
+    version: str | None
+    commit: str | None
+    kit: str | None
+    logic: str | None
+    sources: str | None
+    program: str | None
+    gate: str | None
+    judged: str | None
+
+    def text(self) -> str:
+        """The record as JSON."""
+        return json.dumps(self._asdict(), indent=1) + "\n"
+
+    def maker(self) -> Maker:
+        """Who made what the program prints."""
+        return Maker("afdxsim", self.version, self.commit, self.program, None, self.kit, True)
+
+    def in_words(self) -> str:
+        """What the record says, in a few words."""
+        at = f"commit {self.commit[:8]}{'+' if self.commit.endswith('+') else ''}, " if self.commit else ""
+        return f"afdxsim {self.version or 'unknown'}, proved, {at}{kit_in_words(self.kit)}"
+
+
+NO_RECORD = Record(*[None] * len(Record._fields))
+
 
 def record_of(path: str) -> Record:
-    """The record beside a program, or an empty one."""
+    """The record beside a program; NO_RECORD if none can be read."""
     try:
         with open(path + RECORD, encoding="utf-8") as file:
             found = json.load(file)
     except (OSError, ValueError):
-        return {}
-    return found if isinstance(found, dict) else {}
+        return NO_RECORD
+    if not isinstance(found, dict):
+        return NO_RECORD
+    return Record(*(it if isinstance(it := found.get(name), str) else None for name in Record._fields))
 
 
 def write_record(kit_line: str | None, sources: str, gate: str | None = None, root: str = ROOT) -> Record:
     """Writes down beside the program of this clone what it was built of. `gate` is the line by which all proofs and tests
     passed, where they did; then `judged` is the checksum of what that line is of."""
     path = os.path.join(root, BUILT)
-    found = {
-        "version": version(root), "commit": commit(root), "kit": kit_line, "logic": logic(kit_line), "sources": sources,
-        "program": sum_of_file(path), "gate": gate, "judged": sum_of_judged(kit_line, root) if gate else None,
-    }
+    judged = sum_of_judged(kit_line, root) if gate else None
+    found = Record(version(root), commit(root), kit_line, logic(kit_line), sources, sum_of_file(path), gate, judged)
     with open(path + RECORD, "w", encoding="utf-8") as out:
-        json.dump(found, out, indent=1)
-        out.write("\n")
+        out.write(found.text())
     return found
 
 
-def is_recorded(path: str) -> Record:
-    """The record of a program, where it is of this very program; else an empty one."""
+def recorded(path: str) -> Record | None:
+    """The record of a program if it is of this very program; else None."""
     record = record_of(path)
-    return record if os.path.isfile(path) and record.get("program") == sum_of_file(path) else {}
+    return record if os.path.isfile(path) and record.program == sum_of_file(path) else None
 
 
 def installed() -> str | None:
@@ -250,30 +272,24 @@ class Program(NamedTuple):
     maker: Maker
 
 
-def in_words(record: Record) -> str:
-    """What a record says, in a few words."""
-    at = f"commit {record['commit'][:8]}{'+' if record['commit'].endswith('+') else ''}, " if record.get("commit") else ""
-    return f"afdxsim {record.get('version', 'unknown')}, proved, {at}{kit_in_words(record.get('kit'))}"
-
-
 def proved(root: str = ROOT) -> Program:
     """The proved program of these sources, or why there is none."""
     here = os.path.join(root, BUILT)
     if not is_clone(root):
-        record = is_recorded(here)
+        record = recorded(here)
         if record:
-            return Program("proved", here, in_words(record), maker_by_record(record))
+            return Program("proved", here, record.in_words(), record.maker())
         raise NoProgram(f"{os.path.normpath(here)} is not the program that its record is of: install the package anew")
     kit_line = kit(root)
     sources = None
     for path in filter(None, (here, installed())):
-        record = is_recorded(path)
+        record = recorded(path)
         if not record:
             continue
         # Without a kit here the record's own is taken: the sources are what counts.
-        sources = sum_of_sources(kit_line or record.get("kit"), root)
-        if record.get("sources") == sources:
-            return Program("proved", path, in_words(record), maker_by_record(record))
+        sources = sum_of_sources(kit_line or record.kit, root)
+        if record.sources == sources:
+            return Program("proved", path, record.in_words(), record.maker())
     if sources:
         raise NoProgram("the proved program that is here is of other sources, or of another logic of the kit")
     if os.path.isfile(here):
@@ -289,8 +305,8 @@ def given(path: str) -> Program:
     if says is None or not says.startswith("afdxsim "):
         raise NoProgram(f"{path} cannot be run, or is no afdxsim")
     maker = maker_of(path)
-    record = is_recorded(path)
-    said = in_words(record) if record else f"{says}, at {path}, of which no record is there"
+    record = recorded(path)
+    said = record.in_words() if record else f"{says}, at {path}, of which no record is there"
     return Program("given", path, said, maker)
 
 

@@ -10,9 +10,9 @@ are from:
 """
 import difflib
 import re
-from collections import namedtuple
-from collections.abc import Callable
+from collections.abc import Callable, Mapping
 from fractions import Fraction
+from typing import NamedTuple
 
 from afdx.model import KEYS, judge
 
@@ -34,9 +34,16 @@ NS = {"ns": 1, "us": 10**3, "ms": 10**6, "s": 10**9}
 LIMITS = ["limit_us", "limit_ms", "limit_ns", "limit_s"]
 HERTZ = {"hz": 1, "khz": 1000}
 
-# A column: how it is called without a unit, what it is called with each unit, the unit that is meant where none is named
-# (None: one must be named), its headings, and where they are from.
-Column = namedtuple("Column", "name units usual headings source")
+
+class Column(NamedTuple):
+    """A column: its name without a unit, the words of each unit, the unit that is meant if none is named (None: one must be
+    named), its headings, and where they are from."""
+
+    name: str
+    units: Mapping[str, tuple[str, ...]]
+    usual: str | None
+    headings: tuple[str, ...]
+    source: str
 
 
 def plain(name: str, source: str, *headings: str) -> Column:

@@ -65,8 +65,8 @@ class Back:
     def text(self) -> str:
         blocks = [block for section in ("top", *SECTIONS) if (block := self.block(section))]
         used = {name for block in blocks for name in block[0]}
-        told = [line for line, name, _ in self.said if name in used]
-        return "".join(line + "\n" for line in told) + "\n".join(map(table, blocks))
+        said = [line for line, name, _ in self.said if name in used]
+        return "".join(line + "\n" for line in said) + "\n".join(map(table, blocks))
 
     def block(self, section: str) -> list[list[str]]:
         """The lines of a section, the first with the names of the columns; none where it has no row."""

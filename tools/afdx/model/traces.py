@@ -167,9 +167,9 @@ class Trace:
         other = f"so it is the trace of another run than {self.tables.path}"
         for key, row in self.tables.latencies.items():
             found: Sequence[int] = self.came[key].latencies if key in self.came else ()
-            told = (len(found), min(found, default=0), max(found, default=0), sum(found))
-            if told != row[2:6]:
-                text = f"{told[0]} frames of virtual link {row.vl} came to {row.where} with a sum of {told[3]} ns, "
+            seen = (len(found), min(found, default=0), max(found, default=0), sum(found))
+            if seen != row[2:6]:
+                text = f"{seen[0]} frames of virtual link {row.vl} came to {row.where} with a sum of {seen[3]} ns, "
                 text += f"and line {row.line} of the tables has {row.count} and {row.total}, "
                 raise Fault(self.path, last, text + other)
         losses = {(vl, *key): it.count for vl, found in self.lost.items() for key, it in found.items()}

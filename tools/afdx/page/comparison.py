@@ -4,32 +4,32 @@ from typing import Any
 
 from afdx import model
 from afdx.files.page_text import hundredths, mean_ns, one_or_range
-from afdx.page.given import Given
+from afdx.page.given import Given, Other
 from afdx.reckon.bounds_file import Bounds
 
 
-def of_both(given: Given) -> dict[str, list[Any]]:
+def of_both(given: Given, other: Other) -> dict[str, list[Any]]:
     """For each virtual link and destination of both runs: before and now, and what changed, column by column."""
     found: dict[str, list[Any]] = {}
     for key, row in given.tables.latencies.items():
-        before = given.other.tables.latencies.get(key)
+        before = other.tables.latencies.get(key)
         if before is None:
             continue
         change = row.greatest - before.greatest if row.count and before.count else None
         lost = before.count - row.count
-        told = {"vl": row.vl, "where": row.where, "change": change, "fall": None if change is None else -change}
-        told |= {"before": before.greatest if before.count else None, "greatest": row.greatest if row.count else None}
-        told["percent"] = hundredths(Fraction(row.greatest * 100, before.greatest)) if change is not None else None
-        told |= {"mean_before": mean_ns(before) if before.count else None, "mean": mean_ns(row) if row.count else None}
-        told |= {"count_before": before.count, "count": row.count}
-        if given.ends and given.other.ends:
-            now, then = given.ends.of[key].missing, given.other.ends.of[key].missing
-            told |= {"missing_before": one_or_range(then), "missing": one_or_range(now)}
+        shown = {"vl": row.vl, "where": row.where, "change": change, "fall": None if change is None else -change}
+        shown |= {"before": before.greatest if before.count else None, "greatest": row.greatest if row.count else None}
+        shown["percent"] = hundredths(Fraction(row.greatest * 100, before.greatest)) if change is not None else None
+        shown |= {"mean_before": mean_ns(before) if before.count else None, "mean": mean_ns(row) if row.count else None}
+        shown |= {"count_before": before.count, "count": row.count}
+        if given.ends and other.ends:
+            now, then = given.ends.of[key].missing, other.ends.of[key].missing
+            shown |= {"missing_before": one_or_range(then), "missing": one_or_range(now)}
             # Of what is left open, the change that is sure.
             sure, fewer = now.least - then.most, then.least - now.most
             lost = max(0, sure) - max(0, fewer)
-        told |= {"lost": lost, "kept": -lost}
-        for name, value in told.items():
+        shown |= {"lost": lost, "kept": -lost}
+        for name, value in shown.items():
             found.setdefault(name, []).append(value)
     return found or {"vl": [], "change": [], "fall": [], "lost": [], "kept": []}
 

@@ -50,8 +50,9 @@ class Drawing:
         self.home: dict[tuple[str, str], str] = {}
         for link in net.links:
             for here, there in ((link.a, link.b), (link.b, link.a)):
-                if net.nodes[here].kind == "es":
-                    self.home[here, net.nodes[there].net] = there
+                side = net.nodes[there].net
+                if net.nodes[here].kind == "es" and side:
+                    self.home[here, side] = there
         self.outages: dict[str, list[Outage]] = {}
         for outage in net.outages:
             self.outages.setdefault(outage.line, []).append(outage)
@@ -124,13 +125,13 @@ class Drawing:
         load, out = self.net.load[line], self.outages.get(line, [])
         colour, wide = heat(load), 2.2 + 3 * min(1, float(load) / 100)
         users = counted(self.net.users[line], "virtual link")
-        told = f"{line}: {two_places(load)} % of {self.net.mbit[line]} Mbit/s, {users}"
-        told += "".join(f", out from {span(o.from_ns)} to {span(o.to_ns)}" for o in out)
+        said = f"{line}: {two_places(load)} % of {self.net.mbit[line]} Mbit/s, {users}"
+        said += "".join(f", out from {span(o.from_ns)} to {span(o.to_ns)}" for o in out)
         x, y, dx, dy = tip
         arrow = f"M{x:.1f} {y:.1f}l{-7 * dx - 3.5 * dy:.1f} {-7 * dy - 3.5 * dx:.1f}l{7 * dy:.1f} {7 * dx:.1f}z"
         dash = ' stroke-dasharray="5 3"' if out else ""
         self.out.append(
-            f'<g class="line" data-line="{esc(line)}" data-load="{two_places(load)}"><title>{esc(told)}</title>'
+            f'<g class="line" data-line="{esc(line)}" data-load="{two_places(load)}"><title>{esc(said)}</title>'
             f'<path class="case" d="{path}"/><path d="{path}" stroke="{colour}" stroke-width="{wide:.1f}"{dash}/>'
             f'<path class="tip" d="{arrow}" style="fill:{colour}"/>'
         )
@@ -146,11 +147,13 @@ class Drawing:
     def head(self, name: str, place: Place, y: float, above: bool) -> None:
         """A switch: its box, and the bar along its end systems."""
         node, x = self.net.nodes[name], place.left
+        # A switch has a network.
+        assert node.net is not None
         look = node.net.lower()
         reach = self.rows * self.ROW + 10
         bar_x, bar_y = (x, y + self.HEAD - 6) if above else (x + self.column - self.COMB, y - reach)
-        told = f"switch {name} of network {node.net}, latency {span(node.latency_ns)}"
-        self.out.append(f'<g class="switch {look}" data-node="{esc(name)}"><title>{esc(told)}</title>')
+        said = f"switch {name} of network {node.net}, latency {span(node.latency_ns)}"
+        self.out.append(f'<g class="switch {look}" data-node="{esc(name)}"><title>{esc(said)}</title>')
         if place.end_systems:
             self.out.append(
                 f'<rect x="{bar_x:.1f}" y="{bar_y:.1f}" width="{self.COMB}" height="{reach + 6:.1f}" rx="3"/>'
@@ -295,10 +298,10 @@ def chart_over_time(net: Network, parts: list[tuple[str, list[int], str]], high:
     out = []
     for outage in net.outages:
         x1, x2 = (min(1, ns / net.until_ns) * wide + left for ns in (outage.from_ns, outage.to_ns))
-        told = f"{outage.line} out from {span(outage.from_ns)} to {span(outage.to_ns)}"
+        said = f"{outage.line} out from {span(outage.from_ns)} to {span(outage.to_ns)}"
         out.append(
             f'<rect class="shade" x="{x1:.1f}" y="4" width="{max(1, x2 - x1):.1f}" height="{high}">'
-            f"<title>{esc(told)}</title></rect>"
+            f"<title>{esc(said)}</title></rect>"
         )
     for count in steps_to(top, high // 30):
         y = 4 + high - high * count / top
@@ -322,10 +325,10 @@ def chart_over_time(net: Network, parts: list[tuple[str, list[int], str]], high:
             if counts[i]:
                 tall = high * counts[i] / top
                 y -= tall
-                told = f"{frame_count(counts[i])} {cause}, {span(begin)} to {span(end)}"
+                said = f"{frame_count(counts[i])} {cause}, {span(begin)} to {span(end)}"
                 out.append(
                     f'<rect x="{left + i * step + 0.5:.1f}" y="{y:.1f}" width="{step - 1:.1f}" height="{tall:.1f}" '
-                    f'fill="{colour}" data-count="{counts[i]}"><title>{esc(told)}</title></rect>'
+                    f'fill="{colour}" data-count="{counts[i]}"><title>{esc(said)}</title></rect>'
                 )
     return (
         f'<svg class="time" id="{name}" viewBox="0 0 {wide + left + 8} {high + foot - 8}" role="img" '

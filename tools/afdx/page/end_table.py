@@ -103,8 +103,9 @@ class EndTable:
                 yield f"p{percent}", percentile(rising, percent) if rising else None
             yield "histogram", histogram(rising) if key in self.drawn else None
         elif given.percentiles:
-            for percent, value in zip(PERCENTS, given.percentiles[key] or [None] * len(PERCENTS)):
-                yield f"p{percent}", value
+            found = given.percentiles[key]
+            for i, percent in enumerate(PERCENTS):
+                yield f"p{percent}", found[i] if found else None
 
     def needed_ns(self, vl: VirtualLink, row: Latency) -> int | None:
         """How long a run must be for ten frames, where this one is too short for them."""

@@ -1,8 +1,8 @@
 """What a page is made of: the files that the words name, held against each other."""
 import argparse
 import os
-from collections import namedtuple
-from typing import Any
+from collections.abc import Sequence
+from typing import Any, NamedTuple
 
 from afdx import files, model
 from afdx.files import cut
@@ -13,18 +13,41 @@ from afdx.reckon import bounds_file, frames, hops, limits, transmit_jitter
 from afdx.reckon.frames import Ends
 from afdx.runs import campaign_record
 
-# What a page is made of. `ends` is what became of all frames, where it can be known; `other` has the latencies of the
-# run to compare with and its Ends.
-# `margins` has those of the destinations that have a limit, the least first, and `files` all files that it is made of.
-# `way` has what was measured on the way and its bounds, or is None where there is neither. `percentiles` has those of all frames
-# of merged tables, where their campaign has counted each latency.
-# `transmit` has what is known of the transmit jitter of end systems.
-Given = namedtuple("Given", "net tables trace percentiles ends margins bounds other way transmit files made_by date")
-Other = namedtuple("Other", "tables ends bounds")
+
+class Other(NamedTuple):
+    """The run with which a page compares: its tables, what became of its frames, and its bounds, each None if not known."""
+
+    tables: Tables
+    ends: Ends | None
+    bounds: bounds_file.Bounds | None
 
 
-# The seeds of the runs of merged tables, and whether their offsets were drawn.
-Runs = namedtuple("Runs", "seeds draws_offsets")
+class Given(NamedTuple):
+    """What a page is made of. `ends` is what became of all frames, if it can be known. `margins` has those of the destinations
+    with a limit, the least first, and `files` all files that the page is made of. `way` has what was measured on the way and its
+    bounds, and is None if there is neither. `percentiles` has those of all frames of merged tables if their campaign has counted
+    each latency. `transmit` has what is known of the transmit jitter of end systems."""
+
+    net: Network
+    tables: Tables
+    trace: Trace | None
+    percentiles: dict[tuple[int, str], list[int] | None] | None
+    ends: Ends | None
+    margins: dict[tuple[int, str], limits.Margin]
+    bounds: bounds_file.Bounds | None
+    other: Other | None
+    way: hops.OnTheWay | None
+    transmit: transmit_jitter.TransmitJitter
+    files: list[str]
+    made_by: str | None
+    date: str | None
+
+
+class Runs(NamedTuple):
+    """The seeds of the runs that tables are of, and whether their offsets were drawn."""
+
+    seeds: Sequence[int]
+    draws_offsets: bool
 
 
 def tables_of(path: str, net: Network) -> tuple[Tables, campaign_record.Record | None]:
@@ -36,8 +59,8 @@ def tables_of(path: str, net: Network) -> tuple[Tables, campaign_record.Record |
     if is_folder and found is None:
         raise files.Fault(os.path.dirname(path), None, f"has no {campaign_record.NAME} that is the record of its {campaign_record.MERGED}")
     if found and found.description != model.checksum(net.text):
-        told = f"its checksum is {cut(found.description)}, and that of {net.path} is {model.checksum(net.text)}"
-        raise files.Fault(path, None, f"these are tables of a campaign with another description: {told}")
+        why = f"its checksum is {cut(found.description)}, and that of {net.path} is {model.checksum(net.text)}"
+        raise files.Fault(path, None, f"these are tables of a campaign with another description: {why}")
     if found:
         # The runs of a campaign may have an end of their own.
         net.until_ns = found.until_ns
@@ -69,8 +92,8 @@ def runs_of(words: argparse.Namespace, tables: Tables, found: campaign_record.Re
     row: Any
     for row in (*tables.latencies.values(), *tables.losses.values()):
         if row.seed is not None and row.seed not in seeds:
-            told = f"the seed {row.seed} is none of the {counted(words.seeds, 'seed')} from {first} on"
-            raise files.Fault(tables.path, row.line, f"{told}, so the campaign had others")
+            why = f"the seed {row.seed} is none of the {counted(words.seeds, 'seed')} from {first} on"
+            raise files.Fault(tables.path, row.line, f"{why}, so the campaign had others")
     return Runs(seeds, words.offsets)
 
 
@@ -98,7 +121,7 @@ def given_by(words: argparse.Namespace) -> Given:
     made_of = [net.path, tables.path, words.trace, words.limits, words.bounds, words.hops]
     made_of += [words.against, words.against_net, words.against_bounds]
     made_by = words.made_by or (f"{found.program.in_words()}, as their campaign says" if found else None)
-    margins = {it.limit[:2]: it for it in held}
+    margins = {(it.limit.vl, it.limit.where): it for it in held}
     percentiles = campaign_record.percentiles(found, tables) if tables.merged else None
     made_of += [os.path.join(os.path.dirname(tables.path), campaign_record.GREATEST)] if percentiles else []
     ends, made_of = ends_of(words, tables, found, trace), list(filter(None, made_of))

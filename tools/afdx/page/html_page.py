@@ -9,7 +9,7 @@ from afdx import files, model
 from afdx.files import program
 from afdx.files.page_text import counted, esc, hundredths, span
 from afdx.page import comparison_panels, json_text, loss_panels, panels, worst_case_panels
-from afdx.page.columns import WARN, Column, Rows
+from afdx.page.columns import WARN, AnyRows, Column, Rows
 from afdx.page.drawing import heat
 from afdx.page.end_table import BARS, ENOUGH_FOR_BARS, EndTable
 from afdx.page.given import Given
@@ -43,7 +43,7 @@ class Page:
         self.tables: model.Tables = given.tables
         self.ends: Rows = EndTable(given).columns
         self.grids: list[dict[str, Any]] = []
-        self.rows: dict[str, Rows | json_text.Blocks] = {}
+        self.rows: dict[str, AnyRows | json_text.Blocks] = {}
         self.lost: dict[int, list[model.Loss]] = {}
         for row in self.tables.losses.values():
             if row.cause != "duplicate":
@@ -59,7 +59,7 @@ class Page:
     ) -> str:
         """A table: its columns, the one by which it is sorted, the greatest first or (`up`) the least, and where its values
         stand. It has all rows, or those of these numbers alone."""
-        spec: dict[str, Any] = {"name": name, "columns": columns, "sort": sort, "rows": rows, "what": what}
+        spec: dict[str, Any] = {"name": name, "columns": [it.data() for it in columns], "sort": sort, "rows": rows, "what": what}
         spec |= {"up": True} if up else {}
         self.grids.append(spec if only is None else spec | {"only": only})
         return f'<div class="grid" id="grid-{name}"></div>'
@@ -138,12 +138,12 @@ class Page:
     def parts(self) -> list[str]:
         given = self.given
         found = [panels.network(self), panels.end_to_end(self), panels.latency(self)]
-        found += [worst_case_panels.worst_case(self)] if given.bounds else []
-        found += [worst_case_panels.on_the_way(self)] if given.way else []
+        found += [worst_case_panels.worst_case(self, given.bounds, given.way)] if given.bounds and given.way else []
+        found += [worst_case_panels.on_the_way(self, given.way)] if given.way else []
         found += [worst_case_panels.transmit_jitter(self)]
-        found += [comparison_panels.against(self)] if given.other else []
+        found += [comparison_panels.against(self, given.other)] if given.other else []
         found += [panels.distribution(self)] if given.trace or given.percentiles else []
-        found += [loss_panels.losses(self)] + ([loss_panels.over_time(self)] if given.trace else []) + [loss_panels.second_copies(self)]
+        found += [loss_panels.losses(self)] + ([loss_panels.over_time(self, given.trace)] if given.trace else []) + [loss_panels.second_copies(self)]
         return [it for it in found if it]
 
     def pieces(self) -> Iterator[str]:
@@ -191,7 +191,7 @@ class Page:
     def made_of(self) -> str:
         given = self.given
         runs = "these runs" if self.tables.merged else "this run"
-        told = f"Made of {esc(', '.join(map(files.printable, given.files)))}. It tells what happened in {runs}"
+        said = f"Made of {esc(', '.join(map(files.printable, given.files)))}. It shows what happened in {runs}"
         if given.bounds:
-            return told + ". Bounds are bounds of this model, computed outside the proofs."
-        return told + ", and is no bound on what can happen."
+            return said + ". Bounds are bounds of this model, computed outside the proofs."
+        return said + ", and is no bound on what can happen."

@@ -5,8 +5,8 @@ from typing import Any
 
 from afdx.files.page_text import span
 from afdx.model import CAUSES, Loss
-from afdx.model.traces import MOMENTS
-from afdx.page.columns import DESTINATION_COLUMN, VL_COLUMN, column, count_column, seed_column
+from afdx.model.traces import MOMENTS, Trace
+from afdx.page.columns import DESTINATION_COLUMN, VL_COLUMN, Column, count_column, seed_column
 from afdx.page.drawing import chart_over_time
 from afdx.page.panels import OfPage, panel
 from afdx.reckon.frames import Journey, Route
@@ -33,15 +33,15 @@ def losses_by_place(page: OfPage, lost: list[Loss]) -> str:
     order = sorted(places, key=page.net.process.__getitem__)
     rows: dict[str, list[Any]] = {cause: [places[where][cause] for where in order] for cause in causes}
     rows |= {"where": order, "together": [places[where].total() for where in order]}
-    columns = [column("where", "text", "place")]
+    columns = [Column("where", "text", "place")]
     columns += [count_column(cause, cause, look="heat") for cause in causes]
     columns.append(count_column("together", "together"))
     return page.grid("heat", columns, "together", rows, what="places")
 
 
 def losses_of_each(page: OfPage, lost: list[Loss]) -> str:
-    columns = [VL_COLUMN, column("where", "text", "place"), column("net", "text", "network")]
-    columns += [column("cause", "text", "cause"), count_column("count", "lost")]
+    columns = [VL_COLUMN, Column("where", "text", "place"), Column("net", "text", "network")]
+    columns += [Column("cause", "text", "cause"), count_column("count", "lost")]
     rows = {name: [getattr(row, name) for row in lost] for name in ("vl", "where", "cause", "count")}
     rows["net"] = [side_of(page, row) for row in lost]
     if page.tables.merged:
@@ -53,7 +53,7 @@ def losses_of_each(page: OfPage, lost: list[Loss]) -> str:
 def side_of(page: OfPage, loss: Loss) -> str:
     """The network on which copies were lost; of an end system tables may leave it open."""
     vl = page.net.vls[loss.vl]
-    found = {page.net.nodes[name].net for name in page.ends_of.get(loss.where, (loss.where,))} - {None}
+    found = {net for name in page.ends_of.get(loss.where, (loss.where,)) if (net := page.net.nodes[name].net)}
     if found:
         return found.pop()
     if loss.cause == "integrity":
@@ -61,8 +61,8 @@ def side_of(page: OfPage, loss: Loss) -> str:
     return " or ".join(side for side in "AB" if vl.paths[side])
 
 
-def over_time(page: OfPage) -> str:
-    lost = page.given.trace.over_time
+def over_time(page: OfPage, trace: Trace) -> str:
+    lost = trace.over_time
     parts = [(cause, lost[cause], COLOURS[cause]) for cause in LOSSES if any(lost[cause])]
     step = span(Fraction(page.net.until_ns, MOMENTS).__ceil__())
     words = f"From the trace: frames and copies in each hundredth of the run, {step}, by cause."

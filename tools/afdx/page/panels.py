@@ -1,15 +1,16 @@
 """The parts of every page: the network, what became of the frames, latencies and their distribution."""
-from typing import Protocol
+from typing import Any, Protocol
 
 from afdx.files.page_text import counted
 from afdx.model import Loss, Network, Tables
 from afdx.page.columns import (
-    COPIES_COLUMN, DELIVERED_COLUMN, DESTINATION_COLUMN, VL_COLUMN, Column, Rows, column, count_column, seed_column, time_column,
+    COPIES_COLUMN, DELIVERED_COLUMN, DESTINATION_COLUMN, VL_COLUMN, AnyRows, Column, Rows, count_column, seed_column, time_column,
 )
 from afdx.page.drawing import Drawing, legend_of_loads
 from afdx.page.end_table import BARS, ENOUGH_FOR_BARS, FEW
 from afdx.page.given import Given
 from afdx.page.json_text import Blocks
+from afdx.reckon.frames import Ends
 from afdx.runs.campaign_record import PERCENTS
 
 
@@ -20,7 +21,7 @@ class OfPage(Protocol):
     net: Network
     tables: Tables
     ends: Rows
-    rows: dict[str, Rows | Blocks]
+    rows: dict[str, AnyRows | Blocks]
     lost: dict[int, list[Loss]]
     ends_of: dict[str, tuple[str, str]]
 
@@ -55,9 +56,9 @@ def network(page: OfPage) -> str:
     if net.outages:
         pieces += ["<h3>Outages</h3>", outages(page)]
     columns = [
-        column("name", "line", "line"),
-        column("load", "load", "load", "%"),
-        column("carries", "percent", "carries", "Mbit/s", "what its virtual links can put on it"),
+        Column("name", "line", "line"),
+        Column("load", "load", "load", "%"),
+        Column("carries", "percent", "carries", "Mbit/s", "what its virtual links can put on it"),
         count_column("mbit", "speed", unit="Mbit/s"),
         count_column("users", "virtual links", unit="number"),
     ]
@@ -72,9 +73,9 @@ def network(page: OfPage) -> str:
 
 def outages(page: OfPage) -> str:
     found = sorted(page.net.outages, key=lambda it: it.from_ns - it.to_ns)
-    columns = [column("line", "line", "line"), column("from", "ms", "out from", "ms")]
-    columns += [column("to", "ms", "to", "ms"), column("for", "ms", "for", "ms")]
-    rows = {"line": [it.line for it in found], "from": [it.from_ns for it in found]}
+    columns = [Column("line", "line", "line"), Column("from", "ms", "out from", "ms")]
+    columns += [Column("to", "ms", "to", "ms"), Column("for", "ms", "for", "ms")]
+    rows: dict[str, list[Any]] = {"line": [it.line for it in found], "from": [it.from_ns for it in found]}
     rows |= {"to": [it.to_ns for it in found], "for": [it.to_ns - it.from_ns for it in found]}
     return page.grid("outages", columns, "for", rows)
 
@@ -86,48 +87,49 @@ def end_to_end(page: OfPage) -> str:
             "<code>--seeds</code>, and <code>--first</code> and <code>--offsets</code> where the campaign had them."
         )
         return panel("ends", "End to end", words)
-    wide = {"look": "range_of_counts"}
+    wide = "range_of_counts"
     columns = [
         VL_COLUMN,
         DESTINATION_COLUMN,
         count_column("offered", "offered", "offered by the application until the end, drawn anew"),
         DELIVERED_COLUMN,
-        count_column("under_way", "under way", "not delivered yet at the end, and may still come", **wide),
-        count_column("missing", "missing", "lost end to end", "missing_tone", **wide),
+        count_column("under_way", "under way", "not delivered yet at the end, and may still come", look=wide),
+        count_column("missing", "missing", "lost end to end", "missing_tone", look=wide),
     ]
     if any(found != 0 for found in page.ends["again"]):
-        columns.append(count_column("again", "twice", "delivered a second time: SkewMax is too small", **wide))
+        columns.append(count_column("again", "twice", "delivered a second time: SkewMax is too small", look=wide))
     for side in "AB":
         hint = f"on the way by network {side}, or refused at the destination"
-        columns.append(count_column("lost" + side, "lost on " + side, hint, unit="copies", **wide))
+        columns.append(count_column("lost" + side, "lost on " + side, hint, unit="copies", look=wide))
     columns.append(COPIES_COLUMN)
     if any(page.ends["needed"]):
         hint = "how long a run must be to bring ten frames"
-        columns.append(column("needed", "ms", "ten frames take", "ms", hint))
+        columns.append(Column("needed", "ms", "ten frames take", "ms", hint))
     if any(page.ends["why"]):
-        columns.append(column("why", "words", "why it is open", hint="if missing is a range"))
+        columns.append(Column("why", "words", "why it is open", hint="if missing is a range"))
     words = (
         "What the application offered, and what became of it at each destination. A frame is missing where no copy "
         "of it came and none can come any more; copies that were lost while the other one came are counted apart."
     )
-    return panel("ends", "End to end", words, page.grid("end-to-end", columns, "missing", only=by_trouble(page)))
+    return panel("ends", "End to end", words, page.grid("end-to-end", columns, "missing", only=by_trouble(page.given.ends)))
 
 
-def by_trouble(page: OfPage) -> list[int]:
+def by_trouble(ends: Ends) -> list[int]:
     """The destinations, those first that lack most: frames, copies, or enough frames to show anything."""
     found = []
-    for i, end in enumerate(page.given.ends.of.values()):
+    for i, end in enumerate(ends.of.values()):
         lost = sum(count.least for count in end.lost.values())
         found.append((-end.missing.least, -lost, min(FEW, end.delivered), i))
     return [i for *_, i in sorted(found)]
 
 
 def latency(page: OfPage) -> str:
-    has_limits, has_bounds = bool(page.given.margins), bool(page.given.bounds)
+    bounds = page.given.bounds
+    has_limits, has_bounds = bool(page.given.margins), bounds is not None
     columns = [
         VL_COLUMN,
         DESTINATION_COLUMN,
-        column("greatest", "range", "range"),
+        Column("greatest", "range", "range"),
         time_column("least", "least"),
         time_column("mean", "mean"),
         time_column("greatest", "greatest"),
@@ -137,15 +139,15 @@ def latency(page: OfPage) -> str:
         columns.append(time_column("limit", "limit", "", "limit_tone"))
     if has_bounds:
         columns.append(time_column("bound", "bound", "a bound of this model, computed outside the proofs", "bound_tone"))
-    if has_bounds and page.given.bounds.has_proved():
+    if bounds and bounds.has_proved():
         hint = "the bound that the program prints: proved to be the number of the formula in docs/BOUNDS.md"
         columns.append(time_column("proved", "bound by the program", hint, "proved_tone"))
     if has_limits:
         hint = "the limit less " + ("the bound" if has_bounds else "the greatest")
-        columns.append(time_column("margin", "margin", hint, "limit_tone") | {"order": "margin_order"})
+        columns.append(time_column("margin", "margin", hint, "limit_tone")._replace(order="margin_order"))
     closer = "policing_jitter_ns: how much closer than a BAG frames may come to a switch"
     columns += [
-        column("bag", "bag", "BAG", "ms"),
+        Column("bag", "bag", "BAG", "ms"),
         time_column("jitter", "jitter", "jitter_ns: how late the application may offer a frame"),
         time_column("policing", "policing jitter", closer),
         DELIVERED_COLUMN,
@@ -174,7 +176,7 @@ def marks_of_ranges(has_limits: bool, has_bounds: bool) -> str:
 
 
 def distribution(page: OfPage) -> str:
-    drawn = [column("histogram", "histogram", "histogram")] if page.given.trace else []
+    drawn = [Column("histogram", "histogram", "histogram")] if page.given.trace else []
     percents = [time_column(f"p{it}", f"{it}th", f"{it} % of the frames took no longer") for it in PERCENTS]
     columns = [VL_COLUMN, DESTINATION_COLUMN, *drawn, *percents, time_column("greatest", "greatest"), DELIVERED_COLUMN]
     title, grid = "Distribution of the latencies", page.grid("percentiles", columns, "greatest")

@@ -402,8 +402,8 @@ const headOf = (title, words, more) =>
 
 const vlHead = vl => {
   const own = endsOf.get(vl.id) ?? [], where = own.map(i => esc(ends.where[i]));
-  const told = `from <b>${esc(vl.source)}</b> to <b>${where.join(", ")}</b>: ${vl.size} bytes, BAG ${span(vl.bag_ns)}`;
-  return headOf(`Virtual link ${vl.id}`, told, strips(vl));
+  const said = `from <b>${esc(vl.source)}</b> to <b>${where.join(", ")}</b>: ${vl.size} bytes, BAG ${span(vl.bag_ns)}`;
+  return headOf(`Virtual link ${vl.id}`, said, strips(vl));
 };
 
 const lineHead = line => {
@@ -412,8 +412,8 @@ const lineHead = line => {
     : `at most ${whole(lines.waiting[line])} bytes wait before it`);
   const waiting = most ? `; ${most}, and its port holds ${whole(lines.holds[line])}` : "";
   const users = counted(usersOf[line].length, "virtual link");
-  const told = `${percent(lines.load[line])} % of ${lines.mbit[line]} Mbit/s by ${users}`;
-  return headOf(`Line ${esc(lines.name[line])}`, told + out + waiting, "");
+  const said = `${percent(lines.load[line])} % of ${lines.mbit[line]} Mbit/s by ${users}`;
+  return headOf(`Line ${esc(lines.name[line])}`, said + out + waiting, "");
 };
 
 // ---- the drawing ----
@@ -491,10 +491,10 @@ const search = () => {
   const rows = found.slice(0, MOST_FOUND).map(vl => {
     const where = (endsOf.get(vl.id) ?? []).map(i => ends.where[i]);
     const more = where.length > 6 ? ` and ${where.length - 6} more` : "";
-    const told = `<b>${vl.id}</b> ${esc(vl.source)} to ${esc(where.slice(0, 6).join(", "))}${more}`;
-    return `<li>${toVl(vl.id, told)}</li>`;
+    const said = `<b>${vl.id}</b> ${esc(vl.source)} to ${esc(where.slice(0, 6).join(", "))}${more}`;
+    return `<li>${toVl(vl.id, said)}</li>`;
   });
-  const head = `<li class="told">${text ? counted(found.length, "virtual link") : ""}${
+  const head = `<li class="count">${text ? counted(found.length, "virtual link") : ""}${
     found.length > MOST_FOUND ? `, of which the first ${MOST_FOUND}` : ""}</li>`;
   list.innerHTML = head + rows.join("");
   list.hidden = !text;

@@ -43,10 +43,12 @@ def tiles(given: Given, ends: Rows) -> str:
 
 def tile_of_above(given: Given) -> str:
     """The latencies above their bounds."""
-    above = given.bounds.above(given.tables.latencies) if given.bounds else []
-    if not above:
+    bounds = given.bounds
+    above = bounds.above(given.tables.latencies) if bounds else []
+    if not bounds or not above:
         return ""
-    worst = max(above, key=lambda row: row.greatest - given.bounds.of[row.vl, row.where].ns)
+    of = bounds.of
+    worst = max(above, key=lambda row: row.greatest - of[row.vl, row.where].ns)
     more = f"most virtual link {worst.vl} at {worst.where}: one of the two is wrong"
     return tile("above their bound", counted(len(above), "latency", "latencies"), more, "bad", "latency")
 
@@ -74,8 +76,8 @@ def tiles_of_bounds(bounds: Bounds | None) -> Iterator[str]:
     ]
     for name, found, all_of, more in kinds:
         where = "loads" if found is small else "worst"
-        told = f"in the worst case: {more}" if found else "in the worst case"
-        yield tile(name, f"{len(found):,} of {len(all_of):,}", told, "warn" if found else "good", where)
+        said = f"in the worst case: {more}" if found else "in the worst case"
+        yield tile(name, f"{len(found):,} of {len(all_of):,}", said, "warn" if found else "good", where)
 
 
 def tile_of_lost(given: Given, ends: Rows) -> str:
@@ -108,28 +110,28 @@ def tiles_of_limits(given: Given, ends: Rows) -> Iterator[str]:
     broken = sum(ends["limit_tone"][i] == BAD for i in found)
     below = sum(ends["limit_tone"][i] == WARN for i in found)
     silent = sum(ends["count"][i] == 0 for i in found)
-    told = [f"{broken} broken"] if broken else []
-    told += [f"{below} below the bound"] if below else []
-    told += [f"nothing was delivered at {silent}"] if silent else []
+    said = [f"{broken} broken"] if broken else []
+    said += [f"{below} below the bound"] if below else []
+    said += [f"nothing was delivered at {silent}"] if silent else []
     look = "bad" if broken else "warn" if below or silent else "good"
     kept = f"{len(found) - broken - silent:,} of {len(found):,}"
-    yield tile("limits kept", kept, ", ".join(told) or "none is broken", look, "latency")
+    yield tile("limits kept", kept, ", ".join(said) or "none is broken", look, "latency")
 
 
 def tile_of_few(given: Given, ends: Rows) -> str:
     few = [i for i, count in enumerate(ends["count"]) if count < FEW]
     if not few:
         return ""
-    told = []
+    said = []
     none = sum(ends["count"][i] == 0 for i in few)
     if none:
-        told.append(f"nothing came at {none:,}")
+        said.append(f"nothing came at {none:,}")
     needed = [ends["needed"][i] for i in few if ends["needed"][i]]
     if needed:
-        told.append(f"run {span(max(needed))} (until_ns = {max(needed):_}) for ten frames each")
+        said.append(f"run {span(max(needed))} (until_ns = {max(needed):_}) for ten frames each")
     if len(needed) < len(few):
-        told.append(f"at {len(few) - len(needed):,} too many are lost for that")
-    return tile("fewer than ten frames", f"at {len(few):,} of {len(ends['count']):,}", "; ".join(told), "warn", "ends")
+        said.append(f"at {len(few) - len(needed):,} too many are lost for that")
+    return tile("fewer than ten frames", f"at {len(few):,} of {len(ends['count']):,}", "; ".join(said), "warn", "ends")
 
 
 def tiles_of_run(given: Given) -> Iterator[str]:
@@ -142,16 +144,16 @@ def tiles_of_run(given: Given) -> Iterator[str]:
     worst = max(tables.latencies.values(), key=lambda row: row.greatest, default=None)
     if worst and worst.count:
         seed = f", seed {worst.seed}" if worst.seed is not None else ""
-        told = f"virtual link {worst.vl} at {worst.where}{seed}"
-        yield tile("greatest latency", span(worst.greatest), told, "", f"vl-{worst.vl}")
+        said = f"virtual link {worst.vl} at {worst.where}{seed}"
+        yield tile("greatest latency", span(worst.greatest), said, "", f"vl-{worst.vl}")
     if net.load:
-        line = max(net.load, key=net.load.get)
+        line = max(net.load, key=net.load.__getitem__)
         load = two_places(net.load[line]) + " %"
         look = "bad" if net.load[line] > 100 else ""
         yield tile("busiest line", load, f"{line}, of {net.mbit[line]} Mbit/s", look, "line-" + quote(line, safe=""))
     if net.outages:
         count = len(net.outages)
-        told = f"on {len({outage.line for outage in net.outages})} of {len(net.mbit)} lines"
+        said = f"on {len({outage.line for outage in net.outages})} of {len(net.mbit)} lines"
         after = sum(outage.from_ns > net.until_ns for outage in net.outages)
-        told += f"; {after} begin{'s' if after == 1 else ''} after the end of the run" if after else ""
-        yield tile("outages", str(count), told, "warn" if after else "", "grid-outages")
+        said += f"; {after} begin{'s' if after == 1 else ''} after the end of the run" if after else ""
+        yield tile("outages", str(count), said, "warn" if after else "", "grid-outages")

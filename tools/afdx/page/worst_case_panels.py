@@ -1,17 +1,18 @@
 """The parts of a page that bounds and measures on the way give it."""
 from collections.abc import Callable
 
-from afdx.page.columns import DESTINATION_COLUMN, VL_COLUMN, Column, column, count_column, time_column
+from afdx.page.columns import DESTINATION_COLUMN, VL_COLUMN, Column, count_column, time_column
 from afdx.page.panels import OfPage, panel
+from afdx.reckon.bounds_file import Bounds
+from afdx.reckon.hops import OnTheWay
 
 
-def worst_case(page: OfPage) -> str:
+def worst_case(page: OfPage, bounds: Bounds, way: OnTheWay) -> str:
     """What the bounds show of the worst case beside latencies."""
-    bounds = page.given.bounds
-    refusing, of_each = set(bounds.refusing()), page.given.way.switches()
+    refusing, of_each = set(bounds.refusing()), way.switches()
     # They are rows of the jitters at switches.
     only = [i for i, key in enumerate(zip(of_each["vl"], of_each["where"])) if key in refusing]
-    columns = [VL_COLUMN, column("where", "text", "switch")]
+    columns = [VL_COLUMN, Column("where", "text", "switch")]
     columns.append(time_column("jitter_bound", "jitter there", "by how much frames may come closer than a BAG; – where it has no bound"))
     columns.append(time_column("allowed", "policing jitter", "policing_jitter_ns: how much of it the account allows"))
     pieces = [f"<h3>Accounts that may refuse a frame ({len(refusing):,} of {len(bounds.accounts):,})</h3>"]
@@ -22,7 +23,7 @@ def worst_case(page: OfPage) -> str:
     pieces.append(f"<h3>Destinations where a frame may be lost, or delivered twice ({len(only):,} of {len(bounds.of):,})</h3>")
     if only:
         sure = "the networks by which each frame comes, also in the worst case"
-        columns = [VL_COLUMN, DESTINATION_COLUMN, column("sure", "text", "sure by", "network", sure, "sure_tone")]
+        columns = [VL_COLUMN, DESTINATION_COLUMN, Column("sure", "text", "sure by", "network", sure, "sure_tone")]
         hint = "the longest time between the two copies of a frame; – where there is one network, or no bound"
         columns += [time_column("skew", "skew of A and B", hint, "skew_tone"), time_column("skew_max", "SkewMax")]
         pieces.append(page.grid("unsure", columns, "skew", only=only, what="destinations"))
@@ -34,9 +35,8 @@ def worst_case(page: OfPage) -> str:
     return panel("worst", "In the worst case", words, *pieces)
 
 
-def on_the_way(page: OfPage) -> str:
+def on_the_way(page: OfPage, way: OnTheWay) -> str:
     """What was measured on the way, and its bounds."""
-    way = page.given.way
     sides = [("", "measured")] * way.is_measured + [("_bound", "bound")] * way.is_bounded
 
     def pair(kind: str, name: str, hint: str, make: Callable[[str, str, str, str], Column] = time_column) -> list[Column]:
@@ -49,13 +49,13 @@ def on_the_way(page: OfPage) -> str:
     parts += pair("network_a", "by A", "from the release to the arrival of a copy by network A")
     parts += pair("network_b", "by B", "from the release to the arrival of a copy by network B")
     parts += [*pair("skew", "skew", "from the arrival of the first copy to that of the second"), time_column("skew_max", "SkewMax")]
-    delays = [VL_COLUMN, column("line", "line", "line")]
+    delays = [VL_COLUMN, Column("line", "line", "line")]
     delays += pair("delay", "delay", "from the arrival at the output port before the line to the last bit on the line")
-    jitters = [VL_COLUMN, column("where", "text", "switch")]
+    jitters = [VL_COLUMN, Column("where", "text", "switch")]
     jitters += pair("jitter", "jitter", "by how much frames come closer than a BAG")
     jitters.append(time_column("allowed", "allowed", "policing_jitter_ns"))
     in_bytes = lambda key, name, hint, tone: count_column(key, name, hint, tone, "bytes")
-    backlogs = [column("line", "line", "line"), *pair("backlog", "waits", "bytes of frames at the output port", in_bytes)]
+    backlogs = [Column("line", "line", "line"), *pair("backlog", "waits", "bytes of frames at the output port", in_bytes)]
     backlogs.append(count_column("holds", "port holds", unit="bytes"))
     words = {
         (True, True): "The greatest that was measured in this run, and its bound; red where it is above.",
@@ -78,7 +78,7 @@ def transmit_jitter(page: OfPage) -> str:
     if not of.users or not (of.is_measured or of.is_bounded or of.broken()):
         return ""
     page.rows["transmit"] = of.columns()
-    columns = [column("line", "line", "line"), count_column("users", "virtual links", unit="number")]
+    columns = [Column("line", "line", "line"), count_column("users", "virtual links", unit="number")]
     if of.is_measured:
         columns.append(time_column("jitter", "measured", "from the release of a frame to its first bit, the greatest of this run", "jitter_tone"))
     if of.is_bounded:

@@ -7,7 +7,7 @@ from typing import Any, NamedTuple
 from afdx import files, model
 from afdx.files import Fault, cut
 from afdx.model import Latency, Network, VirtualLink
-from afdx.reckon.network_calculus import OnDemand
+from afdx.reckon.on_demand import OnDemand
 
 # Of a destination: the greatest latency in ns or None, and why there is none; the networks by which each frame comes; the
 # longest time between the copies of a frame in ns or None, and whether the second one may be delivered too.

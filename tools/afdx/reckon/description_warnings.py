@@ -4,8 +4,8 @@ from collections.abc import Callable, Iterable
 
 from afdx import model
 from afdx.model import Link, Network, VirtualLink
-from afdx.model.judge import Finding
-from afdx.reckon import network_calculus, transmit_jitter
+from afdx.model.findings import Finding
+from afdx.reckon import output_ports, transmit_jitter
 from afdx.reckon.bounds_file import Bounds
 
 class Warnings:
@@ -77,7 +77,7 @@ class Warnings:
         if most > depth:
             text = f"is {vl.jitter_ns}: {most} frames may wait in the regulator, and it holds {depth} (queue_full)"
             add("jitter_ns", text, "more frames may wait in the regulator than it holds")
-        elif (wait := network_calculus.longest_wait(vl)) > vl.bag_ns:
+        elif (wait := output_ports.longest_wait(vl)) > vl.bag_ns:
             text = f"is {vl.jitter_ns}: up to {wait} ns of a latency, which begins at the offer, are the regulator's"
             add("jitter_ns", text, "much of a latency may be the regulator's")
 
@@ -110,30 +110,30 @@ class WorstCase(Warnings):
             self.too_small(line)
         self.findings.sort(key=lambda it: it.line)
 
-    def of_each(self, keys: Iterable[tuple[int, str]], tell: Callable[[VirtualLink, list[str]], None]) -> None:
+    def of_each(self, keys: Iterable[tuple[int, str]], warn: Callable[[VirtualLink, list[str]], None]) -> None:
         """Warns of each virtual link, with the places where it is so."""
         places: dict[int, list[str]] = {}
         for vl, where in keys:
             places.setdefault(vl, []).append(where)
         for vl, found in places.items():
-            tell(self.net.vls[vl], sorted(found, key=self.net.process.__getitem__))
+            warn(self.net.vls[vl], sorted(found, key=self.net.process.__getitem__))
 
-    def tell(self, vl: VirtualLink, key: str | None, text: str, kind: str) -> None:
+    def warn(self, vl: VirtualLink, key: str | None, text: str, kind: str) -> None:
         self.add("vl", vl.row, key, f"virtual link {vl.id}", text, f"in the worst case {kind}")
 
     def refusing(self, vl: VirtualLink, places: list[str]) -> None:
-        told = [f"{where} ({ns_or_none(self.bounds.accounts[vl.id, where].jitter_ns)})" for where in places]
-        text = f"is {vl.policing_ns}, and in the worst case frames come closer than a BAG by more than that at {few(told)}: "
-        self.tell(vl, "policing_jitter_ns", text + "the accounts there may refuse them (policed)", "accounts may refuse frames")
+        shown = [f"{where} ({ns_or_none(self.bounds.accounts[vl.id, where].jitter_ns)})" for where in places]
+        text = f"is {vl.policing_ns}, and in the worst case frames come closer than a BAG by more than that at {few(shown)}: "
+        self.warn(vl, "policing_jitter_ns", text + "the accounts there may refuse them (policed)", "accounts may refuse frames")
 
     def not_sure(self, vl: VirtualLink, places: list[str]) -> None:
         networks = "neither network brings" if all(vl.paths.values()) else "its network does not bring"
-        self.tell(vl, None, f"{networks} each frame to {few(places)} in the worst case", "no network brings each frame")
+        self.warn(vl, None, f"{networks} each frame to {few(places)} in the worst case", "no network brings each frame")
 
     def twice(self, vl: VirtualLink, places: list[str]) -> None:
-        told = [f"{where} ({ns_or_none(self.bounds.of[vl.id, where].skew_ns)})" for where in places]
-        text = f"is {vl.skew_ns}, and in the worst case the copies of a frame are further apart at {few(told)}: "
-        self.tell(vl, "skew_max_ns", text + "the second one would be delivered too", "copies are further apart than SkewMax")
+        shown = [f"{where} ({ns_or_none(self.bounds.of[vl.id, where].skew_ns)})" for where in places]
+        text = f"is {vl.skew_ns}, and in the worst case the copies of a frame are further apart at {few(shown)}: "
+        self.warn(vl, "skew_max_ns", text + "the second one would be delivered too", "copies are further apart than SkewMax")
 
     def too_small(self, line: str) -> None:
         most, name = self.bounds.waiting[line].most, line.split(">")[0]

@@ -6,21 +6,30 @@ the most that may wait at one of its ports, and room for the longest frame at th
 refused anything: what is cut by a tight account would hide how late frames come.
 """
 import copy
-from collections import namedtuple
 from collections.abc import Callable, Iterable, Iterator
-from typing import Any
+from typing import Any, NamedTuple
 
 from afdx import model
 from afdx.files import toml_lines
 from afdx.model import Network, VirtualLink
 from afdx.reckon import network_calculus
 
-# A value that is proposed: the section, the name or number of the row, the key, what it is and what it is to be. Where there
-# is none, `after` is None, and `why` says why.
-Proposal = namedtuple("Proposal", "section row name key before after why")
+
+class Proposal(NamedTuple):
+    """A value that is proposed: the section, the row from 1, its name or number, the key, what it is and what it is to be. If
+    there is none, `after` is None, and `why` says why."""
+
+    section: str
+    row: int
+    name: str | int
+    key: str
+    before: int
+    after: int | None
+    why: str
+
 
 POLICING, PORT = "policing_jitter_ns", "port_bytes"
-MOST = {key.name: key.greatest for section in ("vl", "node") for key in model.KEYS[section] if key.name in (POLICING, PORT)}
+MOST = {key.name: key.limits()[1] for section in ("vl", "node") for key in model.KEYS[section] if key.name in (POLICING, PORT)}
 STEP_NS = 1000
 
 
@@ -86,7 +95,7 @@ def replaced(text: str, proposed: Iterable[Proposal]) -> str:
     tree = reader.document()
     edits: list[tuple[int, int, int]] = []
     for it in proposed:
-        if it.after not in (None, it.before):
+        if it.after is not None and it.after != it.before:
             edits.append((*reader.places[id(tree[it.section][it.row - 1]), it.key], it.after))
     pieces: list[str] = []
     last = 0

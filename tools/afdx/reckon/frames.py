@@ -9,9 +9,9 @@ from __future__ import annotations
 import functools
 import random
 from bisect import bisect_left
-from collections import Counter, deque, namedtuple
-from collections.abc import Callable, Iterable, Iterator
-from typing import Any, NoReturn
+from collections import Counter, deque
+from collections.abc import Callable, Iterable, Iterator, Sequence
+from typing import Any, NamedTuple, NoReturn
 
 from afdx import model
 from afdx.files.page_text import counted
@@ -23,8 +23,11 @@ from afdx.reckon import many_seeds
 BYTES_BEFORE_A_FRAME = 8
 
 
-class Range(namedtuple("Range", "least most")):
+class Range(NamedTuple):
     """A count of which it may be known only that it is from `least` to `most`."""
+
+    least: int
+    most: int
 
     def __add__(self, other: Range) -> Range:  # type: ignore[override]
         return Range(self.least + other.least, self.most + other.most)
@@ -42,16 +45,32 @@ def exactly(count: int) -> Range:
     return Range(count, count)
 
 
-# Of the frames of a virtual link in one run: how many are offered; those that its regulator let go, each with the
-# moments when it was offered and released; how many still wait there at the end, and how many it refused.
-Sent = namedtuple("Sent", "offered released waiting refused")
+class Sent(NamedTuple):
+    """Of the frames of a virtual link in one run: how many are offered; those that its regulator let go, each with the
+    moments when it was offered and released; how many still wait there at the end, and how many it refused."""
 
-# What became of the frames of a virtual link at one of its destinations: `again` were delivered a second time, since
-# their second copy came later than SkewMax; `under_way` has those that wait in the regulator too; `copies` are the
-# second copies that were dropped; `lost` has for each network the copies that were lost on it. `too_long` is how many are
-# said to be under way at the end for longer than twice the time that any took. `why` says why it is open how many are missing,
-# or nothing where it is not.
-End = namedtuple("End", "offered delivered again under_way missing copies lost too_long why")
+    offered: int
+    released: list[tuple[int, int]]
+    waiting: int
+    refused: int
+
+
+class End(NamedTuple):
+    """What became of the frames of a virtual link at one of its destinations: `again` were delivered a second time, since
+    their second copy came later than SkewMax; `under_way` has those that wait in the regulator too; `copies` are the
+    second copies that were dropped; `lost` has for each network the copies that were lost on it. `too_long` is how many are
+    said to be under way at the end for longer than twice the time that any took. `why` says why it is open how many are missing,
+    or nothing where it is not."""
+
+    offered: int
+    delivered: int
+    again: Range
+    under_way: Range
+    missing: Range
+    copies: int
+    lost: dict[str, Range]
+    too_long: int
+    why: str
 
 
 def through_regulator(vl: VirtualLink, offers: Iterable[tuple[int, int]], until_ns: int) -> Sent:
@@ -172,7 +191,7 @@ class Ends:
     missing, it is under way at the end."""
 
     def __init__(
-        self, tables: Tables, seeds: list[int], draws_offsets: bool = False, trace: Trace | None = None, known: dict[int | tuple[int, str], Any] | None = None
+        self, tables: Tables, seeds: Sequence[int], draws_offsets: bool = False, trace: Trace | None = None, known: dict[int | tuple[int, str], Any] | None = None
     ) -> None:
         self.tables, self.net, self.trace = tables, tables.net, trace
         # What does not depend on the tables, for those who reckon with the same seeds again.
@@ -199,7 +218,7 @@ class Ends:
             self.known[key] = make(*given)
         return self.known[key]
 
-    def all_sent(self, seeds: list[int], draws_offsets: bool) -> Iterator[tuple[VirtualLink, many_seeds.SentOfAll]]:
+    def all_sent(self, seeds: Sequence[int], draws_offsets: bool) -> Iterator[tuple[VirtualLink, many_seeds.SentOfAll]]:
         """For each virtual link what its regulator did in the runs of all seeds together."""
         numpy = many_seeds.library(seeds)
         offsets = [drawn_offsets(self.net, seed) if draws_offsets else {} for seed in seeds]
@@ -222,8 +241,8 @@ class Ends:
         loss = self.tables.losses.get((vl.id, vl.source, "queue_full"))
         if refused != (loss.count if loss else 0):
             line = loss.line if loss else self.tables.latencies[vl.id, next(iter(vl.destinations))].line
-            told = f"{refused} frames of virtual link {vl.id} would be lost as queue_full"
-            self.refuse(line, f"{told}, and the tables have {loss.count if loss else 0}")
+            said = f"{refused} frames of virtual link {vl.id} would be lost as queue_full"
+            self.refuse(line, f"{said}, and the tables have {loss.count if loss else 0}")
 
     def end(self, journey: Journey, sent: many_seeds.SentOfAll) -> End:
         """What became of the frames of all runs at one destination: what is known of each count is narrowed by what
@@ -250,9 +269,9 @@ class Ends:
         missing = missing.within(gone - under_way)
         under_way = under_way.within(gone - missing)
         if missing.least > missing.most or under_way.least > under_way.most:
-            told = f"{counted(released, 'frame')} of virtual link {key[0]} would be sent to {key[1]}"
+            said = f"{counted(released, 'frame')} of virtual link {key[0]} would be sent to {key[1]}"
             self.refuse(
-                row.line, f"{told}, and the tables have {row.count} delivered, {copies} copies and {total.most} lost"
+                row.line, f"{said}, and the tables have {row.count} delivered, {copies} copies and {total.most} lost"
             )
         again = again.within(missing + under_way - exactly(released - row.count))
         too_long = 0 if self.trace else max(0, under_way.least - self.may_be_under_way(journey, sent, row))

@@ -1,8 +1,7 @@
 """What afdx second-opinion --hops has measured on the way, as a file of a run, and beside it what afdx bounds reckons."""
 import functools
-from collections import namedtuple
 from collections.abc import Callable, Collection, Iterable, Iterator, Sequence
-from typing import Any
+from typing import Any, NamedTuple
 
 from afdx import model
 from afdx.files import Fault
@@ -11,8 +10,15 @@ from afdx.model import Network, Tables, VirtualLink
 HOPS_HEAD = "kind,vl,where,count,least,greatest,sum"
 KINDS = ["wait", "network", "network_a", "network_b", "skew", "delay", "jitter", "backlog"]
 
-# Of what was measured how often, the least, the greatest and the sum.
-Measured = namedtuple("Measured", "count least greatest total line")
+
+class Measured(NamedTuple):
+    """Of what was measured: how often, the least, the greatest and the sum; and the line of the file."""
+
+    count: int  # type: ignore[assignment]
+    least: int
+    greatest: int
+    total: int
+    line: int
 
 
 class Hops:

@@ -7,11 +7,12 @@ from __future__ import annotations
 
 import re
 from array import array
-from collections import Counter
 from collections.abc import Iterable, Iterator
+from itertools import islice
+from typing import NamedTuple
 
 from afdx.files import Fault
-from afdx.model import Latency, Tables
+from afdx.model import Tables
 
 DIGITS = 11
 HALF = 2 ** (DIGITS - 1)
@@ -20,9 +21,7 @@ HALF = 2 ** (DIGITS - 1)
 TOGETHER = HALF
 SIZES = ["B", "H", "I", "Q"]
 BLOCK = 2**22
-# The numbers of bins in which frames came, and how many came in each.
-Bins = tuple["array[int]", "array[int]"]
-DELIVERED = re.compile(rb"^[0-9]+,([^,\n]+,[0-9]+),delivered,([0-9]{1,19})$", re.MULTILINE)
+DELIVERED = re.compile(rb"\n[0-9]+,([^,\n]+,[0-9]+),delivered,([0-9]{1,19})(?=\n)")
 
 
 def bin_of(ns: int) -> int:
@@ -88,31 +87,53 @@ class Counts:
         return found
 
 
-def of_trace(path: str, tables: Tables) -> list[Bins]:
-    """For each virtual link and destination, in the order of the tables, how many frames came in each bin, as `bins_of` has it. A trace that has not
+class Bins(NamedTuple):
+    """The bins of several destinations, one after another: in how many bins frames of each came; the numbers of these bins; and how
+    many frames came in each. As three arrays another process is soon given them."""
+
+    lengths: array[int]
+    numbers: array[int]
+    counts: array[int]
+
+    def add(self, latencies: Iterable[int]) -> None:
+        """Adds a destination, by its latencies."""
+        found: dict[int, int] = {}
+        for ns in latencies:
+            # As bin_of does, without a call for each.
+            shift = ns.bit_length() - DIGITS
+            number = ns if shift <= 0 else shift * HALF + (ns >> shift)
+            found[number] = found.get(number, 0) + 1
+        self.lengths.append(len(found))
+        self.numbers.extend(found)
+        self.counts.extend(found.values())
+
+    def each(self) -> Iterator[list[tuple[int, int]]]:
+        """Of each destination the numbers of its bins, with how many frames came in each."""
+        pairs = zip(self.numbers, self.counts)
+        for length in self.lengths:
+            yield list(islice(pairs, length))
+
+
+def of_trace(path: str, tables: Tables) -> Bins:
+    """How many frames of each virtual link at each destination came in each bin, in the order of the tables. A trace that has not
     what the tables have is refused."""
     found = {f"{where},{vl}".encode(): array("Q") for vl, where in tables.latencies}
     with open(path, "rb") as file:
-        rest = b""
+        # Of a block the last line feed begins the next one.
+        rest = b"\n"
         while block := file.read(BLOCK):
             block = rest + block
             end = block.rfind(b"\n") + 1
-            rest = block[end:]
+            rest = block[end - 1 :]
             try:
                 for key, latency in DELIVERED.findall(block, 0, end):
                     found[key].append(int(latency))
             except KeyError as fault:
                 raise Fault(path, None, f"{fault.args[0].decode('utf-8', 'replace')} is no destination in {tables.net.path}") from None
-    return [bins_of(path, latencies, row) for latencies, row in zip(found.values(), tables.latencies.values())]
-
-
-def bins_of(path: str, latencies: array[int], row: Latency) -> Bins:
-    """How many of these latencies are in each bin, as the numbers of the bins and the counts, which another process is soon given;
-    they must be those of a row of the tables."""
-    count = len(latencies)
-    if (count, min(latencies, default=0), max(latencies, default=0), sum(latencies)) != row[2:6]:
-        raise Fault(path, None, f"is of another run than the tables: {count} frames of virtual link {row.vl} came to {row.where}")
-    # As bin_of does, without a call for each.
-    numbers = [ns if (shift := ns.bit_length() - DIGITS) <= 0 else shift * HALF + (ns >> shift) for ns in latencies]
-    found = Counter(numbers)
-    return array("H", found), array("I", found.values())
+    bins = Bins(array("I"), array("H"), array("I"))
+    for latencies, row in zip(found.values(), tables.latencies.values()):
+        if (len(latencies), min(latencies, default=0), max(latencies, default=0), sum(latencies)) != row[2:6]:
+            text = f"is of another run than the tables: {len(latencies)} frames of virtual link {row.vl} came to {row.where}"
+            raise Fault(path, None, text)
+        bins.add(latencies)
+    return bins

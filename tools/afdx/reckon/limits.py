@@ -3,10 +3,9 @@ and as a build server takes them (JUnit's XML)."""
 import csv
 import re
 import xml.etree.ElementTree as xml
-from collections import namedtuple
 from collections.abc import Callable, Mapping
 from fractions import Fraction
-from typing import Any
+from typing import Any, NamedTuple
 
 from afdx import model
 from afdx.files import Fault, cut, sheets
@@ -14,8 +13,15 @@ from afdx.model import Latency, Network, VirtualLink, headings
 
 # ---- limits ----
 
-# The greatest latency in ns that a destination of a virtual link may have, and the line that says so.
-Limit = namedtuple("Limit", "vl where ns line")
+
+class Limit(NamedTuple):
+    """The greatest latency in ns that a destination of a virtual link may have, and the line that says so."""
+
+    vl: int
+    where: str
+    ns: int
+    line: int
+
 
 # The names of the columns where none stand above.
 LIMIT_COLUMNS = ["vl", "destination", "limit_ns"]
@@ -137,9 +143,14 @@ MARGINS_HEAD = "vl,destination,limit_ns,greatest_ns,bound_ns,margin_ns,verdict"
 BROKEN, BELOW, KEPT, UNKNOWN = "broken", "below its bound", "kept", "not known"
 
 
-class Margin(namedtuple("Margin", "limit greatest has_bound bound")):
+class Margin(NamedTuple):
     """How far a limit is from what is known of a destination: the greatest latency of a run, or None, and the bound, or
     None where there is none, if bounds are given (`has_bound`)."""
+
+    limit: Limit
+    greatest: int | None
+    has_bound: bool
+    bound: int | None
 
     def ns(self) -> int | None:
         """The limit less the worst that is known; None where nothing is, or a bound is given as none."""
@@ -154,10 +165,10 @@ class Margin(namedtuple("Margin", "limit greatest has_bound bound")):
         return UNKNOWN if self.greatest is None else KEPT
 
     def in_words(self) -> str:
-        told = [f"limit {self.limit.ns} ns"]
-        told += [f"greatest latency {self.greatest} ns"] if self.greatest is not None else []
-        told += [f"bound {'none' if self.bound is None else f'{self.bound} ns'}"] if self.has_bound else []
-        return f"{self.verdict()}: {', '.join(told)}"
+        parts = [f"limit {self.limit.ns} ns"]
+        parts += [f"greatest latency {self.greatest} ns"] if self.greatest is not None else []
+        parts += [f"bound {'none' if self.bound is None else f'{self.bound} ns'}"] if self.has_bound else []
+        return f"{self.verdict()}: {', '.join(parts)}"
 
     def line(self) -> str:
         show = lambda number: "" if number is None else number

@@ -6,18 +6,23 @@ the release before it and a BAG, whichever sub-virtual link has its turn. This h
 which is so where fewer wait than one queue holds; a seed in which that may be otherwise is drawn by itself.
 """
 from bisect import bisect_right
-from collections import namedtuple
-from collections.abc import Callable
-from typing import Any
+from collections.abc import Callable, Sequence
+from typing import Any, NamedTuple
 
 from afdx.files import debian_modules
 from afdx.model import VirtualLink
 
 
-class SentOfAll(namedtuple("SentOfAll", "offered refused waiting releases one")):
+class SentOfAll(NamedTuple):
     """Of the runs of several seeds together: how many frames of a virtual link are offered, refused by its regulator, and wait
     there at the end; and the moments of all releases, rising. Of one run alone also the frames that were released, each with
     the moments when it was offered and released, in the order of their release."""
+
+    offered: int
+    refused: int
+    waiting: int
+    releases: Any
+    one: list[tuple[int, int]] | None
 
     def released_after(self, moment: int) -> int:
         """How many frames are released later than a moment."""
@@ -31,7 +36,7 @@ AT_ONCE = 2**21
 NONE = 2**63 - 1
 
 
-def library(seeds: list[int]) -> Any:
+def library(seeds: Sequence[int]) -> Any:
     """The library, if it is installed and pays for this number of seeds; else None."""
     return debian_modules.found("numpy") if len(seeds) >= ENOUGH else None
 
@@ -44,7 +49,7 @@ def together(runs: list[Any]) -> SentOfAll:
 
 
 def sent_of_all(
-    numpy: Any, vl: VirtualLink, seeds: list[int], offsets: list[int], until_ns: int, sent_of_one: Callable[[int, int], Any]
+    numpy: Any, vl: VirtualLink, seeds: Sequence[int], offsets: list[int], until_ns: int, sent_of_one: Callable[[int, int], Any]
 ) -> SentOfAll:
     """What the regulator of a virtual link does in the runs of seeds, each with its offset. `sent_of_one` draws a seed by itself,
     with an offset."""
@@ -57,7 +62,7 @@ def sent_of_all(
 
 
 def sent_of_some(
-    numpy: Any, vl: VirtualLink, seeds: list[int], offsets: list[int], until_ns: int, sent_of_one: Callable[[int, int], Any]
+    numpy: Any, vl: VirtualLink, seeds: Sequence[int], offsets: list[int], until_ns: int, sent_of_one: Callable[[int, int], Any]
 ) -> SentOfAll:
     """The same of the seeds that are drawn at once; the releases in any order."""
     offers = offers_of(numpy, vl, seeds, offsets, until_ns)
@@ -74,8 +79,8 @@ def sent_of_some(
     return SentOfAll(offered + plain.offered, plain.refused, offered - released.size + plain.waiting, moments, None)
 
 
-def offers_of(numpy: Any, vl: VirtualLink, seeds: list[int], offsets: list[int], until_ns: int) -> Any:
-    """The moments of the offers of each seed, rising, and NONE behind them: drawn by PCG XSH RR 64/32, as tools/afdx/model does."""
+def offers_of(numpy: Any, vl: VirtualLink, seeds: Sequence[int], offsets: list[int], until_ns: int) -> Any:
+    """The moments of the offers of each seed, rising, and NONE behind them: drawn by PCG XSH RR 64/32, as tools/afdx/model/drawn_offers.py does."""
     first = numpy.array(offsets, numpy.int64)
     count = max(0, (until_ns - min(offsets)) // vl.period_ns + 1)
     found = numpy.full((len(seeds), count), NONE, numpy.int64)

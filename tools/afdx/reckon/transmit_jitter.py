@@ -6,10 +6,9 @@ of a BAG to the first bit of the frame that is sent in it is at most
 The 40 us are for the end system's own work, which this model does not have: there a frame that finds its port idle starts in
 the moment of its release. So what is measured, and its bound, is the wait for frames of the other virtual links.
 """
-from collections import namedtuple
 from collections.abc import Callable
 from fractions import Fraction
-from typing import Any
+from typing import Any, NamedTuple
 
 from afdx import model
 from afdx.model import Network, VirtualLink
@@ -18,9 +17,15 @@ OWN_NS, MOST_NS = 40_000, 500_000
 # How a cell is marked, as the page numbers it.
 BAD = 2
 
-# Of the line by which an end system sends: how many virtual links it has, what the rule's sum gives in ns, and what is
-# allowed, which is at most MOST_NS.
-Allowed = namedtuple("Allowed", "users sum_ns most_ns")
+
+class Allowed(NamedTuple):
+    """Of the line by which an end system sends: how many virtual links it has, what the rule's sum gives in ns, and what is
+    allowed, which is at most MOST_NS."""
+
+    users: int
+    sum_ns: int
+    most_ns: int
+
 
 # Answers the longest delay of a virtual link on a line in ns, or None.
 Delay = Callable[[int, str], int | None]

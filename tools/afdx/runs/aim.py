@@ -15,9 +15,11 @@ from typing import Any, NamedTuple
 from afdx import files, model
 from afdx.files import Fault
 from afdx.files.program import Maker
-from afdx.reckon import network_calculus
+from afdx.reckon import network_calculus, output_ports
 from afdx.reckon.limits import Limit
-from afdx.runs import reading_processes, run_results, second_opinion, side_by_side
+from afdx.runs import reading_processes, run_results, side_by_side
+from afdx.runs.campaign_network import CampaignNetwork
+from afdx.runs.plain_simulator import Frame, Simulation
 from afdx.runs.side_by_side import Keep, Run, Runs, Shown
 
 # How often an offset is moved to see whether the frame comes later, and how often all are set right again: with this number
@@ -30,21 +32,21 @@ Way = tuple[int, str, str]
 Met = dict[tuple[int, str] | tuple[int, str, str], int]
 
 
-class Meeting(second_opinion.Simulation):
+class Meeting(Simulation):
     """A run that notes when the first frame of each virtual link comes to each line's port, and to nodes by each network."""
 
     def __init__(self, tree: Mapping[str, Any]) -> None:
         self.came: Met = {}
         super().__init__(tree)
 
-    def put(self, t: int, p: int, q: int, frame: second_opinion.Copy, high: bool) -> None:
-        self.came.setdefault((frame[0], self.names[self.out[p, q]]), t)
+    def put(self, t: int, p: int, q: int, frame: Frame, high: bool) -> None:
+        self.came.setdefault((frame.vl, self.names[self.out[p, q]]), t)
         super().put(t, p, q, frame, high)
 
     def handle(self, t: int, p: int, variant: str, fields: tuple[Any, ...]) -> None:
         if variant == "Arrive":
             frame = fields[1]
-            self.came.setdefault((frame[0], self.names[p], frame[5]), t)
+            self.came.setdefault((frame.vl, self.names[p], frame.net), t)
         super().handle(t, p, variant, fields)
 
 
@@ -59,7 +61,7 @@ class Aim:
         ports = [found.ports[line] for line in self.lines]
         # For each of the others where it meets the way first, how long it takes to come there if nothing delays it, and by
         # which line it comes.
-        self.meets: dict[int, tuple[int, int, network_calculus.Port | None]] = {}
+        self.meets: dict[int, tuple[int, int, output_ports.Port | None]] = {}
         for place, port in enumerate(ports):
             for hop in port.hops:
                 other = hop.link.vl.id
@@ -108,7 +110,7 @@ class Aim:
     def set_group(self, came: int, behind: int, others: list[int]) -> int:
         """Sets some of those that meet the frame at a port, of each line one behind the other, so that the last ones are
         there the given ns before it. Returns how many ns before it the first of them is there."""
-        lines: dict[network_calculus.Port | None, int] = {}
+        lines: dict[output_ports.Port | None, int] = {}
         first = behind
         # The longest frame comes last, so that most of it is still to be sent.
         for other in sorted(others, key=lambda it: (-self.net.vls[it].size, it)):
@@ -219,15 +221,15 @@ class Search(reading_processes.Reckoner):
         aim, frame = aimed(self.net, vl, where, side, self.bounds, self.moves)
         return aim.offers, frame
 
-    def courses(self, ways: Sequence[Way], jobs: int, tell: Callable[[int], object]) -> list[Course]:
-        """For each way whom the runs are aimed at and how late the frame is; `tell` hears how many were found."""
+    def courses(self, ways: Sequence[Way], jobs: int, report: Callable[[int], object]) -> list[Course]:
+        """For each way whom the runs are aimed at and how late the frame is; `report` hears how many were found."""
         found: list[Course] = []
         with contextlib.closing(reading_processes.answers(self, ways, jobs)) as answers:
             for way, (offers, frame) in zip(ways, answers):
                 aim = Aim(self.net, self.bounds, *way)
                 aim.offers = offers
                 found.append((aim, frame))
-                tell(len(found))
+                report(len(found))
         return found
 
 
@@ -235,9 +237,8 @@ class AimedRuns:
     """The runs of a campaign that aims at destinations of virtual links, and what came of them: one for each of them, each
     network and each seed, beside that of the description with this seed. Limits are held against them."""
 
-    # A network here can be changed: commands/campaign.py has its class.
     def __init__(
-        self, net: Any, wanted: Iterable[Key], seeds: Sequence[int], limits: Mapping[Key, Limit] | tuple[()] = (), moves: int = MOVES
+        self, net: CampaignNetwork, wanted: Iterable[Key], seeds: Sequence[int], limits: Mapping[Key, Limit] | tuple[()] = (), moves: int = MOVES
     ) -> None:
         self.net, self.seeds = net, seeds
         self.limits: dict[Key, Limit] = dict(limits)
@@ -257,9 +258,9 @@ class AimedRuns:
     def count(self) -> int:
         return len(self.seeds) * (1 + len(self.ways))
 
-    def aim(self, jobs: int, tell: Callable[[int], object] = lambda done: None) -> None:
+    def aim(self, jobs: int, report: Callable[[int], object] = lambda done: None) -> None:
         """Looks for the offsets of all runs."""
-        self.courses = self.search.courses(self.ways, jobs, tell)
+        self.courses = self.search.courses(self.ways, jobs, report)
 
     def plan(self) -> Iterator[tuple[int, Course | None]]:
         """For each run its seed, and whom it is aimed at, or None."""
@@ -289,8 +290,8 @@ class AimedRuns:
         reader, jobs = run_results.Reader([self.net]), min(jobs, self.count())
         with reading_processes.beside(reader, maker, self.runs(), repeat(0), jobs) as results:
             try:
-                for (seed, course), (_, run, printed, told) in zip(self.plan(), results):
-                    greatest = dict(zip(keys, told.greatest))
+                for (seed, course), (_, run, printed, result) in zip(self.plan(), results):
+                    greatest = dict(zip(keys, result.greatest))
                     if course is None:
                         plain, name = greatest, f"seed-{seed}"
                     else:
@@ -298,7 +299,7 @@ class AimedRuns:
                         self.lines.append(self.line(seed, *course, plain, greatest))
                     keep(name, run.text, printed.tables)
                     self.done += 1
-                    progress.tell(self.done, None)
+                    progress.update(self.done, None)
             except side_by_side.Failure as failure:
                 self.status, self.failure = 1, str(failure)
             except Fault as fault:

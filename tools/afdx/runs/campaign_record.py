@@ -3,8 +3,7 @@ seeds of merged tables need not be given again."""
 import hashlib
 import json
 import os
-from collections import namedtuple
-from typing import Any
+from typing import Any, NamedTuple
 
 from afdx.files import Fault, cut, program, text_of
 from afdx.model import Latency, Tables, lines_of, whole_number
@@ -18,10 +17,19 @@ PERCENTS = [50, 95, 99]
 COUNTED_HEAD = GREATEST_HEAD + "".join(f",percent_{percent}_ns" for percent in PERCENTS)
 
 
-class Record(namedtuple("Record", "description program until_ns first_seed seeds offsets words files")):
+class Record(NamedTuple):
     """Of a campaign: the checksum of its description; who made its runs, as tools/afdx/files/program.py knows it; the end of its runs, the
     first of its seeds and how many of them were run, and whether offsets were drawn; its words as far as what comes of it depends
     on them; and the SHA-256 of each other file that it has written into its folder."""
+
+    description: str
+    program: program.Maker
+    until_ns: int
+    first_seed: int
+    seeds: int
+    offsets: bool
+    words: list[str]
+    files: dict[str, str]
 
     def text(self) -> str:
         return json.dumps(self._asdict() | {"program": self.program._asdict()}, indent=2) + "\n"
@@ -53,7 +61,9 @@ def read(path: str) -> Record:
     maker = maker_of(found["program"])
     if maker is None:
         raise Fault(path, None, f"is no record of a campaign: program is {cut(repr(found['program']))}")
-    return Record(**{name: found[name] for name in TYPES} | {"program": maker})
+    return Record(
+        found["description"], maker, found["until_ns"], found["first_seed"], found["seeds"], found["offsets"], found["words"], found["files"]
+    )
 
 
 def maker_of(found: dict[str, Any]) -> program.Maker | None:

@@ -69,8 +69,8 @@ def made_for_workers() -> Callable[[str, str, str, bool], tuple[int | None, Any]
                 with open(program, "rb") as file:
                     found = hashlib.file_digest(file, "sha256").hexdigest()
                 if found != wanted:
-                    told = f"{program} of {os.uname().nodename} is another program: its SHA-256 is {found[:16]}.."
-                    return None, f"{told}, and here it is {wanted[:16]}..; AFDXSIM in the environment of a worker names its program"
+                    said = f"{program} of {os.uname().nodename} is another program: its SHA-256 is {found[:16]}.."
+                    return None, f"{said}, and here it is {wanted[:16]}..; AFDXSIM in the environment of a worker names its program"
                 run = subprocess.run(words, stdin=subprocess.DEVNULL, capture_output=True)
             except OSError as fault:
                 return None, f"{program} cannot be run on {os.uname().nodename}: {fault.strerror}"

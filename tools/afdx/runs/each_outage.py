@@ -3,16 +3,16 @@ what becomes late is shown beside the same runs without it, as a table and as a 
 import html
 import itertools
 import re
-from collections import namedtuple
 from collections.abc import Iterable, Iterator, Mapping, Sequence
 from fractions import Fraction
-from typing import Any
+from typing import NamedTuple
 
 from afdx import files, model
 from afdx.files import program
 from afdx.reckon.frames import Range, exactly
 from afdx.reckon.limits import Limit
 from afdx.runs import reading_processes, side_by_side
+from afdx.runs.campaign_network import CampaignNetwork
 from afdx.runs.outage_frames import CameOf, OfOutages
 from afdx.runs.side_by_side import Failure, Keep, Run, Runs, Shown
 
@@ -28,8 +28,12 @@ Key = tuple[int, str]
 Cell = tuple[str, str]
 
 
-# What is out: a link or a switch, with the lines that go with it.
-Element = namedtuple("Element", "what names lines")
+class Element(NamedTuple):
+    """What is out: a link or a switch, with its names and the lines that go with it."""
+
+    what: str
+    names: tuple[str, ...]
+    lines: tuple[str, ...]
 
 
 def name_of(element: Element) -> str:
@@ -76,8 +80,18 @@ class Course:
         return sum(it.count for it in came), missing, max(it.greatest for it in came)
 
 
-# What an outage does to a virtual link at a destination: the counts and latencies without it and with it.
-Change = namedtuple("Change", "vl where delivered_before delivered lost_before lost greatest_before greatest later")
+class Change(NamedTuple):
+    """What an outage does to a virtual link at a destination: the counts and latencies without it and with it."""
+
+    vl: int
+    where: str
+    delivered_before: int
+    delivered: int
+    lost_before: Range
+    lost: Range
+    greatest_before: int
+    greatest: int
+    later: int
 
 
 def more_lost(change: Change) -> Range:
@@ -122,9 +136,8 @@ class EachOutage:
 
     An element that no virtual link passes changes nothing, and is not run."""
 
-    # A network here can be changed: commands/campaign.py has its class.
     def __init__(
-        self, net: Any, limits: Mapping[Key, Limit], seeds: Sequence[int], draws_offsets: bool, from_ns: int,
+        self, net: CampaignNetwork, limits: Mapping[Key, Limit], seeds: Sequence[int], draws_offsets: bool, from_ns: int,
         least_later: int | Fraction = USUAL_LATER,
     ) -> None:
         self.net, self.limits, self.seeds, self.draws_offsets, self.from_ns = net, limits, seeds, draws_offsets, from_ns
@@ -161,7 +174,7 @@ class EachOutage:
                         self.compare(course)
                     keep(f"outage-{course.number}-seed-{seed}", run.text, printed.tables)
                     self.done += 1
-                    progress.tell(self.done, None)
+                    progress.update(self.done, None)
             except Failure as failure:
                 self.status, self.failure = 1, str(failure)
             except files.ENDS as ended:
@@ -178,8 +191,8 @@ class EachOutage:
         first, changed = self.courses[0], set().union(*course.came)
         for key in sorted(changed, key=lambda it: (it[0], self.net.process[it[1]])):
             before, now = first.together(key, first), course.together(key, first)
-            counts = before[0], now[0], before[1], now[1], before[2], now[2]
-            change = Change(*key, *counts, growth_that_counts(before[2], now[2], self.least_later))
+            grown = growth_that_counts(before[2], now[2], self.least_later)
+            change = Change(key[0], key[1], before[0], now[0], before[1], now[1], before[2], now[2], grown)
             if more_lost(change).most or now[2] > before[2]:
                 course.changes.append(change)
         for key, limit in self.limits.items():
@@ -189,8 +202,9 @@ class EachOutage:
 
     def summaries(self) -> list["Summary"]:
         """Each outage with what it does, the worst first."""
-        found = [Summary(course, course.changes, course.broken) for course in self.courses[1:]]
-        return sorted(found, key=lambda it: (-it.lost().least, -it.lost().most, -it.latest(), it.course.number))
+        # Only the first course has no element.
+        found = [Summary(course.number, course.element, course.changes, course.broken) for course in self.courses if course.element]
+        return sorted(found, key=lambda it: (-it.lost().least, -it.lost().most, -it.latest(), it.number))
 
     def table(self, maker: program.Maker) -> str:
         """The table; its last column names the program."""
@@ -204,11 +218,16 @@ class EachOutage:
         return "\n".join(lines) + "\n"
 
 
-class Summary(namedtuple("Summary", "course changes broken")):
-    """What an outage does."""
+class Summary(NamedTuple):
+    """What an outage does: its number, what is out, what it changes, and the limits that it breaks."""
+
+    number: int
+    element: Element
+    changes: list[Change]
+    broken: list[Limit]
 
     def name(self) -> str:
-        return name_of(self.course.element)
+        return name_of(self.element)
 
     def lost(self) -> Range:
         """How many frames more are lost end to end at all destinations together."""
@@ -276,8 +295,8 @@ def tile(name: str, value: object, look: str = "") -> str:
 
 def changes_table(changes: list[Change]) -> str:
     """The destinations of an outage, the worst first."""
-    told = [it for it in changes if more_lost(it).most or later(it)]
-    worst = sorted(told, key=lambda it: (-more_lost(it).least, -more_lost(it).most, -later(it), it.vl))
+    shown = [it for it in changes if more_lost(it).most or later(it)]
+    worst = sorted(shown, key=lambda it: (-more_lost(it).least, -more_lost(it).most, -later(it), it.vl))
     heads = plain("virtual link", "destination", "delivered before", "delivered", "lost before", "lost", "greatest before", "greatest")
     rows = []
     for it in worst[:MOST_ON_THE_PAGE]:
@@ -295,8 +314,8 @@ def changes_table(changes: list[Change]) -> str:
 
 def summary_row(it: Summary, has_limits: bool) -> str:
     name = html.escape(it.name())
-    is_told = any(more_lost(change).most or later(change) for change in it.changes)
-    first = f"<details><summary>{name}</summary>{changes_table(it.changes)}</details>" if is_told else name
+    is_shown = any(more_lost(change).most or later(change) for change in it.changes)
+    first = f"<details><summary>{name}</summary>{changes_table(it.changes)}</details>" if is_shown else name
     latest = max(it.late(), key=later, default=None)
     cells = [("", first), *plain(said(it.lost()), said(it.losing()), f"{len(it.late()):,}", f"{it.latest():,} ns" if latest else "")]
     if it.lost().most:
@@ -311,7 +330,7 @@ def page(found: EachOutage, path: str, made_by: str) -> str:
     summaries = found.summaries()
     losing = sum(it.lost().most > 0 for it in summaries)
     late = sum(bool(it.late()) for it in summaries)
-    links, switches = (sum(it.course.element.what == what for it in summaries) for what in ("link", "switch"))
+    links, switches = (sum(it.element.what == what for it in summaries) for what in ("link", "switch"))
     unused = len(found.elements) - (len(found.courses) - 1) if not found.failure else None
     tiles = [tile("links and switches out in turn", f"{links} and {switches}")]
     tiles.append(tile("outages that cost frames end to end", losing, "bad" if losing else "good"))

@@ -10,6 +10,7 @@ from afdx.model import CAUSES, TABLES_HEAD, long_form
 from afdx.reckon import latency_counts
 from afdx.runs import run_results
 from afdx.runs.campaign_record import COUNTED_HEAD, GREATEST_HEAD, PERCENTS
+from afdx.runs.side_by_side import Worst
 
 
 class OverSeeds:
@@ -30,53 +31,79 @@ class OverSeeds:
         return floor(Fraction(self.total, self.runs) + Fraction(1, 2))
 
 
+class MergedLatency:
+    """The latencies of a virtual link at a destination in all runs, in ns, and the seed of the run with the greatest one."""
+
+    __slots__ = ("count", "least", "greatest", "total", "seed")
+
+    def __init__(self) -> None:
+        self.count, self.least, self.greatest, self.total = 0, 0, 0, 0
+        self.seed: int | None = None
+
+    def add(self, seed: int, count: int, least: int, greatest: int, total: int) -> None:
+        """Adds those of a run in which a frame was delivered."""
+        if self.count == 0 or greatest > self.greatest:
+            self.greatest, self.seed = greatest, seed
+        self.least = least if self.count == 0 else min(self.least, least)
+        self.count += count
+        self.total += total
+
+
+class MergedLoss:
+    """The frames of a virtual link that were lost at a place for a cause in all runs: how many, the most in one run, and its seed."""
+
+    __slots__ = ("count", "most", "seed")
+
+    def __init__(self) -> None:
+        self.count, self.most = 0, 0
+        self.seed: int | None = None
+
+    def add(self, seed: int, count: int) -> None:
+        self.count += count
+        if count > self.most:
+            self.most, self.seed = count, seed
+
+
 class Merged:
     """The tables of several runs together."""
 
     def __init__(self, net: model.Network) -> None:
         self.net = net
-        # For each virtual link and destination, in the order of the tables: count, least, greatest, sum, and the seed of the
-        # greatest.
-        self.latencies: dict[tuple[int, str], list[Any]] = {}
+        # For each virtual link and destination, in the order of the tables.
+        self.latencies: dict[tuple[int, str], MergedLatency] = {}
         self.over_seeds: dict[tuple[int, str], OverSeeds] = {}
-        # For each virtual link, place and cause: count, the greatest count of one run, and its seed.
-        self.losses: dict[tuple[int, str, str], list[Any]] = {}
+        # For each virtual link, place and cause.
+        self.losses: dict[tuple[int, str, str], MergedLoss] = {}
 
-    def add(self, seed: int, told: run_results.Told) -> None:
+    def add(self, seed: int, result: run_results.RunResult) -> None:
         """Adds what the run of a later seed says."""
         if not self.latencies:
             for key in run_results.keys_of(self.net):
-                self.latencies[key], self.over_seeds[key] = [0, 0, 0, 0, None], OverSeeds()
-        rows = zip(self.latencies.values(), self.over_seeds.values(), told.count, told.least, told.greatest, told.total)
+                self.latencies[key], self.over_seeds[key] = MergedLatency(), OverSeeds()
+        rows = zip(self.latencies.values(), self.over_seeds.values(), result.count, result.least, result.greatest, result.total)
         for mine, over, count, least, greatest, total in rows:
-            if count == 0:
-                continue
-            over.add(greatest)
-            if mine[0] == 0 or greatest > mine[2]:
-                mine[2], mine[4] = greatest, seed
-            mine[1] = least if mine[0] == 0 else min(mine[1], least)
-            mine[0] += count
-            mine[3] += total
-        for over, times in zip(self.over_seeds.values(), told.times or ()):
-            over.counts.add(zip(*times))
-        for of, count in told.losses.items():
-            mine = self.losses.setdefault(of, [0, 0, None])
-            mine[0] += count
-            if count > mine[1]:
-                mine[1], mine[2] = count, seed
+            if count:
+                over.add(greatest)
+                mine.add(seed, count, least, greatest, total)
+        for over, times in zip(self.over_seeds.values(), result.times.each() if result.times else ()):
+            over.counts.add(times)
+        for of, count in result.losses.items():
+            if of not in self.losses:
+                self.losses[of] = MergedLoss()
+            self.losses[of].add(seed, count)
 
     def greatest_text(self, has_counts: bool) -> str:
         """Of the greatest latencies of the runs the least, the mean and the greatest; and the percentiles of all frames,
         where each is counted."""
         lines = [COUNTED_HEAD if has_counts else GREATEST_HEAD]
         for vl, where in self.latencies:
-            over, (_, _, greatest, _, seed) = self.over_seeds[vl, where], self.latencies[vl, where]
-            numbers: list[int | str] = [over.runs, over.least, over.mean(), greatest, over.total] if over.runs else [0] * 5
-            numbers += [] if seed is None else [seed]
+            over, row = self.over_seeds[vl, where], self.latencies[vl, where]
+            numbers: list[int | str] = [over.runs, over.least, over.mean(), row.greatest, over.total] if over.runs else [0] * 5
+            numbers += [] if row.seed is None else [row.seed]
             numbers += [""] * (len(GREATEST_HEAD.split(",")) - 2 - len(numbers))
             if has_counts:
                 blank: list[int | str] = [""] * len(PERCENTS)
-                numbers += over.counts.percentiles(PERCENTS, greatest) or blank
+                numbers += over.counts.percentiles(PERCENTS, row.greatest) or blank
             lines.append(f"{vl},{where},{','.join(map(str, numbers))}")
         return "\n".join(lines) + "\n"
 
@@ -95,11 +122,12 @@ class Merged:
         process = self.net.process
         lines = [TABLES_HEAD + ",seed"]
         for vl, where in self.latencies:
-            *numbers, seed = self.latencies[vl, where]
-            lines.append(f"latency,{vl},{where},,{','.join(map(str, numbers))},{'' if seed is None else seed}")
+            row = self.latencies[vl, where]
+            seed = "" if row.seed is None else row.seed
+            lines.append(f"latency,{vl},{where},,{row.count},{row.least},{row.greatest},{row.total},{seed}")
         for vl, where, cause in sorted(self.losses, key=lambda it: (it[0], process[it[1]], CAUSES.index(it[2]))):
-            count, _, seed = self.losses[vl, where, cause]
-            lines.append(f"dropped,{vl},{where},{cause},{count},,,,{seed}")
+            loss = self.losses[vl, where, cause]
+            lines.append(f"dropped,{vl},{where},{cause},{loss.count},,,,{loss.seed}")
         return "\n".join(lines) + "\n"
 
     def long_rows(self) -> Iterator[tuple[Any, ...]]:
@@ -109,7 +137,14 @@ class Merged:
         measures = ["runs", "least_greatest_ns", "mean_greatest_ns", "sum_greatest_ns"]
         yield from long_form.rows_of_csv("greatest", self.greatest_text(False), measures)
 
-    def worst(self) -> tuple[int, int, str, int] | None:
-        """The greatest latency of all as (ns, virtual link, destination, seed), or None where nothing was delivered."""
-        rows = [(row[2], vl, where, row[4]) for (vl, where), row in self.latencies.items() if row[0]]
-        return max(rows, key=lambda row: row[0]) if rows else None
+    def copies_lost(self, vl: int | None = None) -> int:
+        """How many frames or copies were lost, those of a virtual link or all; second copies that were dropped do not count."""
+        return sum(loss.count for (of, _, cause), loss in self.losses.items() if vl in (None, of) and cause != "duplicate")
+
+    def worst(self) -> Worst | None:
+        """The greatest latency of all, or None if nothing was delivered."""
+        found = [(key, row, row.seed) for key, row in self.latencies.items() if row.seed is not None]
+        if not found:
+            return None
+        (vl, where), row, seed = max(found, key=lambda it: it[1].greatest)
+        return Worst(row.greatest, vl, where, seed)

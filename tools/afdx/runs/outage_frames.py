@@ -3,25 +3,33 @@ in the processes of reading_processes.py."""
 import collections
 import copy
 from bisect import bisect_left
-from collections.abc import Callable, Iterable, Iterator
+from collections.abc import Iterable, Iterator
 from io import BufferedReader
-from typing import Any
+from typing import Any, NamedTuple
 
 from afdx.model import Network, Tables, VirtualLink
 from afdx.model.traces import Trace
-from afdx.reckon.frames import Ends, drawn_offsets
+from afdx.reckon.frames import Ends, Range, drawn_offsets
 from afdx.runs import reading_processes, run_results
-from afdx.runs.side_by_side import Failure, Printed, Run
+from afdx.runs.reading_processes import Kept
+from afdx.runs.side_by_side import Failure, Run
 
-# Of one destination in one run: how many frames were delivered, how many are missing, and the greatest latency.
-Came = collections.namedtuple("Came", "count missing greatest")
+
+class Came(NamedTuple):
+    """Of one destination in one run: how many frames were delivered, how many are missing, and the greatest latency."""
+
+    count: int  # type: ignore[assignment]
+    missing: Range
+    greatest: int
+
+
 # By virtual link and destination.
 CameOf = dict[tuple[int, str], Came]
 # What became of the frames of a virtual link: at each destination, and what was lost by place and cause.
-Told = tuple[list[tuple[Any, ...]], dict[tuple[str, str], tuple[int, Any]]]
+Observed = tuple[list[tuple[Any, ...]], dict[tuple[str, str], tuple[int, Any]]]
 
 
-def told_of(vl: VirtualLink, tables: Tables, trace: Trace) -> Told:
+def observed(vl: VirtualLink, tables: Tables, trace: Trace) -> Observed:
     """All that what became of the frames of a virtual link follows from: which frames came, what was lost when and where."""
     came: list[tuple[Any, ...]] = []
     for where in vl.destinations:
@@ -76,11 +84,12 @@ def vls_of(lines: Iterable[bytes], field: int) -> set[bytes]:
     return {line.split(b",", field + 1)[field] for line in lines}
 
 
-def differing(one: Printed, other: Printed) -> set[bytes] | None:
+def differing(one: Kept, other: Kept) -> set[bytes] | None:
     """The virtual links, as the bytes of their numbers, of which two runs have other lines: each is the paths of its tables
     and its trace. None where lines are not as they should be."""
     with open(one.tables, "rb") as before, open(other.tables, "rb") as now:
         tables = lines_of_one(before.readlines(), now.readlines())
+    assert one.trace is not None and other.trace is not None
     with open(one.trace, "rb") as before, open(other.trace, "rb") as now:
         heads = before.readline(), now.readline()
         before_lines, now_lines = Lines(before), Lines(now)
@@ -111,12 +120,12 @@ def lines_of_vls(path: str, vls: set[bytes], field: int) -> Iterator[bytes]:
 class First:
     """The run of a seed without an outage. Of another run with this seed only what has other lines is reckoned anew."""
 
-    def __init__(self, net: Network, seed: int, draws_offsets: bool, kept: Printed) -> None:
+    def __init__(self, net: Network, seed: int, draws_offsets: bool, kept: Kept) -> None:
         drawn = drawn_offsets(net, seed) if draws_offsets else {}
         self.net, self.seed, self.kept = copy.copy(net), seed, kept
         self.drawn: dict[Any, Any] = {}
         self.net.vls = {vl.id: vl._replace(offset_ns=drawn.get(vl.id, vl.offset_ns)) for vl in net.vls.values()}
-        self.told: dict[int, Told] = {}
+        self.observed: dict[int, Observed] = {}
         self.came: CameOf | None = None
 
     def net_of(self, vls: Iterable[int]) -> Network:
@@ -125,27 +134,28 @@ class First:
         net.vls = {number: self.net.vls[number] for number in vls}
         return net
 
-    def changed(self, kept: Printed) -> tuple[list[int], Printed] | None:
+    def changed(self, kept: Kept) -> tuple[list[int], Kept] | None:
         """The virtual links of which a run has other lines, and files of these; None if it has to be read whole."""
         found = differing(self.kept, kept)
         if found is None or not all(len(it) < 6 and it.isdigit() and int(it) in self.net.vls for it in found):
             return None
-        part = Printed(kept.tables + ".part", kept.trace + ".part")
-        for path, field, to in ((kept.tables, 1, part.tables), (kept.trace, 2, part.trace)):
+        assert kept.trace is not None
+        tables, trace = kept.tables + ".part", kept.trace + ".part"
+        for path, field, to in ((kept.tables, 1, tables), (kept.trace, 2, trace)):
             with open(to, "wb") as out:
                 out.writelines(lines_of_vls(path, found, field))
-        return sorted(map(int, found)), part
+        return sorted(map(int, found)), Kept(tables, trace)
 
     def came_of(self, tables: Tables, trace: Trace | None) -> CameOf:
         """What became of the frames of a run, by virtual link and destination, where that is not as in the first one, which is
         this run itself when it is asked for the first time."""
         assert trace is not None
-        told = {vl.id: told_of(vl, tables, trace) for vl in tables.net.vls.values()}
+        seen = {vl.id: observed(vl, tables, trace) for vl in tables.net.vls.values()}
         part = copy.copy(tables)
-        part.net = self.net_of(number for number in told if told[number] != self.told.get(number))
+        part.net = self.net_of(number for number in seen if seen[number] != self.observed.get(number))
         ends = Ends(part, [self.seed], trace=trace, known=self.drawn).of
         if self.came is None:
-            self.told, self.came = told, {}
+            self.observed, self.came = seen, {}
         found: CameOf = {}
         for key, row in tables.latencies.items():
             missing = ends[key].missing if key in ends else self.came[key].missing
@@ -162,15 +172,15 @@ class OfOutages(reading_processes.Reckoner):
     def __init__(self, net: Network, draws_offsets: bool) -> None:
         self.net, self.draws_offsets = net, draws_offsets
         # What is kept of the first run of each seed; and in a process what it has read of it.
-        self.kept: dict[int, tuple[Run, Printed]] = {}
+        self.kept: dict[int, tuple[Run, Kept]] = {}
         self.first: dict[int, First] = {}
 
-    def asked(self, seed: int, run: Run, kept: Printed) -> tuple[Any, ...]:
+    def asked(self, seed: int, run: Run, kept: Kept) -> tuple[Any, ...]:
         """A process that has not read the first run of the seed does so, so it gets that, too."""
         first = self.kept.setdefault(seed, (run, kept))
         return seed, first, *(() if first[1] is kept else (run, kept))
 
-    def answer(self, seed: int, first: tuple[Run, Printed], run: Run | None = None, kept: Printed | None = None) -> CameOf:  # type: ignore[override]
+    def answer(self, seed: int, first: tuple[Run, Kept], run: Run | None = None, kept: Kept | None = None) -> CameOf:  # type: ignore[override]
         """What became of the frames of a run where that is not as in the first one of its seed, which is a run and where it is
         kept too; of the first one itself all."""
         if seed not in self.first:
@@ -185,7 +195,7 @@ class OfOutages(reading_processes.Reckoner):
         finally:
             reading_processes.drop(kept)
 
-    def read_changed(self, first: First, run: Run, kept: Printed) -> tuple[Tables, Trace | None]:
+    def read_changed(self, first: First, run: Run, kept: Kept) -> tuple[Tables, Trace | None]:
         """The tables and the trace of a run, as far as they are other than those of the first one of its seed."""
         changed = first.changed(kept)
         if changed:

@@ -12,7 +12,7 @@ import signal
 import tempfile
 from collections.abc import Generator, Iterable, Iterator, Sequence
 from multiprocessing.context import ForkContext
-from typing import Any
+from typing import Any, NamedTuple
 
 from afdx import files
 from afdx.runs.side_by_side import Failure, Printed, Run, Runs
@@ -23,10 +23,17 @@ SHARED = "/dev/shm"
 PATIENCE = 10
 
 
+class Kept(NamedTuple):
+    """The files that are kept of a run: the path of its tables, and that of its trace if it has one."""
+
+    tables: str
+    trace: str | None
+
+
 class Reckoner:
     """What a process that reckons has. It is made before the processes begin, each of which has a copy of it."""
 
-    def asked(self, key: Any, run: Run, kept: Printed) -> tuple[Any, ...]:
+    def asked(self, key: Any, run: Run, kept: Kept) -> tuple[Any, ...]:
         """What a process is given of a run and of the files that are kept of it."""
         return key, run, kept
 
@@ -63,8 +70,17 @@ def answer(path: str, *asked: Any) -> None:
 
 # ---- in the campaign ----
 
-# A run that a process is asked about: what is returned with the answer, the file of that, and what shows that it is there.
-Asked = collections.namedtuple("Asked", "key run printed path future")
+
+class Asked(NamedTuple):
+    """A run that a process is asked about: what is returned with the answer, the file of that, and what shows that it is there."""
+
+    key: Any
+    run: Run
+    printed: Printed
+    path: str
+    future: concurrent.futures.Future[Any]
+
+
 # Of each run its key, the run, what it printed and what was answered.
 Results = Generator[tuple[Any, Run, Printed, Any], None, None]
 
@@ -96,11 +112,11 @@ def results(reckoner: Reckoner, runs: Iterable[tuple[Any, Run, Printed]], jobs: 
                 except BaseException as fault:
                     ended = fault
                 while waiting and (len(waiting) > 2 * jobs or waiting[0].future.done()):
-                    yield told(waiting)
+                    yield answered(waiting)
             if isinstance(ended, KeyboardInterrupt):
                 concurrent.futures.wait([it.future for it in waiting], PATIENCE)
             while waiting and (isinstance(ended, Exception) or waiting[0].future.done()):
-                yield told(waiting)
+                yield answered(waiting)
             if not isinstance(ended, StopIteration):
                 raise ended
         finally:
@@ -113,7 +129,7 @@ def pool_of(jobs: int, forks: ForkContext, reckoner: Reckoner) -> concurrent.fut
     try:
         return concurrent.futures.ProcessPoolExecutor(jobs, forks, begin, (reckoner,))
     except OSError as fault:
-        text = f"holds no semaphore for processes side by side: {fault.strerror}. Mount it: mount -t tmpfs -o mode=1777 tmpfs {SHARED}"
+        text = f"holds no semaphore for processes side by side: {fault.strerror}. `mount -t tmpfs -o mode=1777 tmpfs {SHARED}` mounts it"
         raise files.Fault(SHARED, None, text) from None
 
 
@@ -149,21 +165,21 @@ def own_answer(*asked: Any) -> Any:
 def ask(pool: concurrent.futures.Executor, reckoner: Reckoner, path: str, key: Any, run: Run, printed: Printed) -> Asked:
     """Asks a process about a run, whose files get this name and more behind it."""
     # Its description is long, and not needed there.
-    asked = reckoner.asked(key, run._replace(text=None), keep(path, printed))
+    asked = reckoner.asked(key, run._replace(text=""), keep(path, printed))
     return Asked(key, run, printed, path + ".answer", future_of(pool, answer, path + ".answer", *asked))
 
 
-def keep(path: str, printed: Printed) -> Printed:
+def keep(path: str, printed: Printed) -> Kept:
     """Keeps what a run printed for the process that reckons on it: whoever made the run keeps its trace no longer."""
-    kept = Printed(path + ".tables.csv", path + ".trace.csv" if printed.trace else None)
-    with open(kept.tables, "w", encoding="utf-8", newline="") as out:
+    tables, trace = path + ".tables.csv", path + ".trace.csv" if printed.trace else None
+    with open(tables, "w", encoding="utf-8", newline="") as out:
         out.write(printed.tables)
-    if printed.trace:
-        shutil.move(printed.trace, kept.trace)
-    return kept
+    if printed.trace and trace:
+        shutil.move(printed.trace, trace)
+    return Kept(tables, trace)
 
 
-def drop(kept: Printed) -> None:
+def drop(kept: Kept) -> None:
     """Removes what was kept of a run."""
     for path in kept:
         if path:
@@ -178,7 +194,7 @@ def future_of(pool: concurrent.futures.Executor, *call: Any) -> concurrent.futur
         raise Failure(f"no process can reckon: {fault}") from None
 
 
-def told(waiting: collections.deque[Asked]) -> tuple[Any, Run, Printed, Any]:
+def answered(waiting: collections.deque[Asked]) -> tuple[Any, Run, Printed, Any]:
     """The first of those that wait, with its answer. Until that is there it is among those that the end of all ends."""
     key, run, printed, path, future = waiting[0]
     try:

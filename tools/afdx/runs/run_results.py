@@ -1,6 +1,6 @@
 """What a campaign needs of one run. Its tables and its trace are read in a process beside the runs, which answers that."""
-from collections import namedtuple
 from collections.abc import Sequence
+from typing import NamedTuple
 
 from afdx import model
 from afdx.files import Fault
@@ -8,12 +8,21 @@ from afdx.model import TABLES_HEAD
 from afdx.model.traces import Trace
 from afdx.reckon import latency_counts
 from afdx.runs import reading_processes
-from afdx.runs.side_by_side import Failure, Printed, Run
+from afdx.runs.reading_processes import Kept
+from afdx.runs.side_by_side import Failure, Run
 
-# What a run says. Of each virtual link at each destination, in the order of `keys_of`: how many frames came, the least and the
-# greatest of their latencies and the sum of all, and how many there were in each bin of latencies (`times`, None without a trace).
-# And `losses` has the count of each virtual link, place and cause.
-Told = namedtuple("Told", "count least greatest total times losses")
+
+class RunResult(NamedTuple):
+    """What a run gives. Of each virtual link at each destination, in the order of `keys_of`: how many frames came, the least and
+    the greatest of their latencies and the sum of all, and how many there were in each bin of latencies (`times`, None without
+    a trace). `losses` has the count of each virtual link, place and cause."""
+
+    count: list[int]  # type: ignore[assignment]
+    least: list[int]
+    greatest: list[int]
+    total: list[int]
+    times: latency_counts.Bins | None
+    losses: dict[tuple[int, str, str], int]
 
 
 def keys_of(net: model.Network) -> list[tuple[int, str]]:
@@ -27,7 +36,7 @@ class Reader(reading_processes.Reckoner):
     def __init__(self, nets: Sequence[model.Network]) -> None:
         self.nets = nets
 
-    def answer(self, number: int, run: Run, kept: Printed) -> Told:  # type: ignore[override]
+    def answer(self, number: int, run: Run, kept: Kept) -> RunResult:  # type: ignore[override]
         net = self.nets[number]
         keys = keys_of(net)
         try:
@@ -38,13 +47,13 @@ class Reader(reading_processes.Reckoner):
         finally:
             reading_processes.drop(kept)
         rows = list(tables.latencies.values())
-        return Told(
+        return RunResult(
             [row.count for row in rows], [row.least for row in rows], [row.greatest for row in rows], [row.total for row in rows],
             times, {key: row.count for key, row in tables.losses.items()},
         )
 
 
-def counted(tables: model.Tables, run: Run, path: str) -> list[latency_counts.Bins]:
+def counted(tables: model.Tables, run: Run, path: str) -> latency_counts.Bins:
     """How many frames of each virtual link and destination there are in each bin of latencies, by the trace of a run."""
     try:
         return latency_counts.of_trace(path, tables)
@@ -52,13 +61,13 @@ def counted(tables: model.Tables, run: Run, path: str) -> list[latency_counts.Bi
         raise Failure(f"{run.name}: {Fault('what it traced', fault.line, fault.text)}") from None
 
 
-def read(net: model.Network, run: Run, kept: Printed) -> tuple[model.Tables, Trace | None]:
+def read(net: model.Network, run: Run, kept: Kept) -> tuple[model.Tables, Trace | None]:
     """The tables and the trace of a run, by the paths of its files. Without a file of a trace there is none."""
     tables = read_tables(net, run, kept)
     return tables, trace_of(tables, run, kept.trace) if kept.trace else None
 
 
-def read_tables(net: model.Network, run: Run, kept: Printed) -> model.Tables:
+def read_tables(net: model.Network, run: Run, kept: Kept) -> model.Tables:
     with open(kept.tables, encoding="utf-8", newline="") as file:
         return tables_of(net, run, file.read())
 

@@ -6,21 +6,30 @@ import re
 import subprocess
 import tempfile
 import threading
-from collections import deque, namedtuple
+from collections import deque
 from collections.abc import Callable, Generator, Iterable, Sequence
-from typing import Protocol
+from typing import NamedTuple, Protocol
 
 from afdx import files
 
-# A run that is to be made: what it is called, and its description.
-Run = namedtuple("Run", "name text")
+
+class Run(NamedTuple):
+    """A run that is to be made: its name, and its description."""
+
+    name: str
+    text: str
+
 
 # A line of the program that prints how far a run is.
 FAR = re.compile(rb"afdxsim: (\d+ of \d+ ms.*)\n")
 
-# What a run printed: the text of its tables and, where it was asked for, the path of its trace, a file that is there until the
-# next run is asked for: who needs it longer puts it elsewhere.
-Printed = namedtuple("Printed", "tables trace")
+
+class Printed(NamedTuple):
+    """What a run printed: the text of its tables and, if one was asked for, the path of its trace. This file exists until the
+    next run is asked for: who needs it longer puts it elsewhere."""
+
+    tables: str
+    trace: str | None
 
 
 # Who keeps the texts of a run: gets the beginning of the name of its files, its description and its tables.
@@ -37,12 +46,21 @@ class Runs(Protocol):
     def results(self, runs: Iterable[Run]) -> Results: ...
 
 
+class Worst(NamedTuple):
+    """The greatest latency of runs in ns, with its virtual link, destination and seed."""
+
+    ns: int
+    vl: int
+    where: str
+    seed: int
+
+
 class Shown(Protocol):
     """What shows how far runs are."""
 
     def listen(self, maker: Runs) -> None: ...
 
-    def tell(self, done: int, worst: tuple[int, int, str, int] | None) -> None: ...
+    def update(self, done: int, worst: Worst | None) -> None: ...
 
     def end(self) -> None: ...
 
@@ -59,11 +77,11 @@ def failure_of(status: int, said: bytes) -> str:
 
 
 class Here:
-    """Makes runs on this machine, at most `jobs` side by side, by a command before the path of a description. `tells`: whether it
-    knows --progress."""
+    """Makes runs on this machine, at most `jobs` side by side, by a command before the path of a description. `knows_progress`: whether
+    it has the option --progress."""
 
-    def __init__(self, command: Sequence[str], jobs: int, is_traced: bool = False, tells: bool = True) -> None:
-        self.command, self.jobs, self.is_traced, self.tells = command, jobs, is_traced, tells
+    def __init__(self, command: Sequence[str], jobs: int, is_traced: bool = False, knows_progress: bool = True) -> None:
+        self.command, self.jobs, self.is_traced, self.knows_progress = command, jobs, is_traced, knows_progress
         self.lock = threading.Lock()
         self.going: dict[int, subprocess.Popen[bytes]] = {}
         self.last: int | None = None
@@ -111,7 +129,7 @@ class Here:
         traced = os.path.join(folder, f"{number}.csv")
         if self.is_traced:
             words += ["--trace", traced]
-        if self.hear and self.tells:
+        if self.hear and self.knows_progress:
             words.append("--progress")
         with open(path, "w", encoding="utf-8", newline="\n") as out:
             out.write(run.text)

@@ -9,11 +9,10 @@ import argparse
 import copy
 import itertools
 import re
-from collections import namedtuple
-from collections.abc import Collection, Iterable, Iterator, Sequence
+from collections.abc import Iterable, Iterator, Sequence
 from fractions import Fraction
 from math import floor
-from typing import Any, Protocol
+from typing import Any, NamedTuple
 
 from afdx import files, model
 from afdx.files import Fault, program
@@ -21,7 +20,7 @@ from afdx.files.page_text import esc, span
 from afdx.model import judge
 from afdx.runs import reading_processes, run_results
 from afdx.runs.each_outage import STYLE, plain, row, tile
-from afdx.runs.merged import Merged
+from afdx.runs.seeds_campaign import Campaign
 from afdx.runs.side_by_side import Failure, Keep, Run, Runs, Shown
 
 # More combinations are hardly meant.
@@ -30,8 +29,16 @@ MOST_COMBINATIONS = 10_000
 MOST_ON_THE_PAGE = 200
 HEAD = "vl,where,runs,delivered,least_greatest_ns,mean_greatest_ns,greatest_ns,seed,copies_lost"
 
-# A key of a row that is set, with the values: `who` is the number or the name of the row, `text` the word that said it.
-Setting = namedtuple("Setting", "name section who key values text")
+
+class Setting(NamedTuple):
+    """A key of a row that is set, with the values: `who` is the number or the name of the row, `text` the word that said it."""
+
+    name: str
+    section: str
+    who: str
+    key: model.Key
+    values: list[int | str]
+    text: str
 
 
 def setting(text: str) -> Setting:
@@ -46,12 +53,12 @@ def setting(text: str) -> Setting:
         raise argparse.ArgumentTypeError(f"{name} is no key of {judge.A_ROW[section]} that can be set{judge.meant(name, known)}")
     if section != "node" and not (model.NUMBER.fullmatch(who) and len(who) < 20):
         raise argparse.ArgumentTypeError(f"{who!r} is no number of {judge.A_ROW[section]}")
-    values = texts.split(",")
+    values: list[int | str] = [*texts.split(",")]
     if key.value_type == "integer":
-        for value in values:
+        for value in texts.split(","):
             if not model.NUMBER.fullmatch(value.replace("_", "")):
                 raise argparse.ArgumentTypeError(f"{name} is {value!r}, and no whole number")
-        values = [int(value.replace("_", "")) for value in values]
+        values = [int(value.replace("_", "")) for value in texts.split(",")]
     if len(set(values)) < len(values):
         raise argparse.ArgumentTypeError(f"{text!r} has a value twice")
     return Setting(f"{section}.{who}.{name}", section, who, key, values, text)
@@ -74,7 +81,13 @@ def place_of(description: model.Description, it: Setting) -> int:
     return found[0]
 
 
-Combination = namedtuple("Combination", "number values name description")
+class Combination(NamedTuple):
+    """A combination of values: its number from 1, a value of each setting, these in words, and the description with them."""
+
+    number: int
+    values: tuple[int | str, ...]
+    name: str
+    description: model.Description
 
 
 def combinations_of(description: model.Description, settings: Sequence[Setting]) -> list[Combination]:
@@ -107,26 +120,28 @@ def combinations_of(description: model.Description, settings: Sequence[Setting])
     return found
 
 
-class Campaign(Protocol):
-    """What came of the runs of a combination so far, as commands/campaign.py has it."""
+class Outcome(NamedTuple):
+    """What the runs of a combination gave of a virtual link at a destination: how many runs delivered a frame, how many frames
+    came, the least, the mean and the greatest of the greatest latencies, the seed of that, and how many copies were lost."""
 
-    merged: Merged
-    done: int
+    combination: Combination
+    vl: int
+    where: str
+    runs: int
+    delivered: int
+    least: int
+    mean: int
+    greatest: int
+    seed: int | None
+    copies_lost: int
 
-    @property
-    def net(self) -> model.Network: ...
-
-    @property
-    def seeds(self) -> Sequence[int]: ...
-
-    @property
-    def broken(self) -> Collection[tuple[int, str]]: ...
-
-    def runs(self) -> Iterable[Run]: ...
-
-    def take(self, told: run_results.Told) -> int: ...
+    def numbers(self) -> list[int | str]:
+        """The cells of a line of the table behind virtual link and destination."""
+        *numbers, seed, lost = self[3:]
+        return [*numbers, "" if seed is None else seed, lost]
 
 
+# A combination and its runs.
 Course = tuple[Combination, Campaign]
 
 
@@ -153,12 +168,12 @@ class Sweep:
         numbers = (number for number, (_, campaign) in enumerate(self.courses) for _ in campaign.seeds)
         with reading_processes.beside(reader, maker, self.runs(), numbers, jobs) as results:
             try:
-                for number, run, printed, told in results:
+                for number, run, printed, result in results:
                     combination, campaign = self.courses[number]
-                    seed = campaign.take(told)
+                    seed = campaign.take(result)
                     keep(f"set-{combination.number}-seed-{seed}", run.text, printed.tables)
                     self.done += 1
-                    progress.tell(self.done, None)
+                    progress.update(self.done, None)
             except Failure as failure:
                 self.status, self.failure = 1, str(failure)
             except files.ENDS as ended:
@@ -171,46 +186,52 @@ class Sweep:
         """The courses of which all runs were made."""
         return [(combination, campaign) for combination, campaign in self.courses if campaign.done == len(campaign.seeds)]
 
-    def rows(self) -> Iterator[tuple[Combination, int, str, list[int | str]]]:
-        """For each whole course, virtual link and destination what a line of the table has."""
+    def outcomes(self) -> Iterator[Outcome]:
+        """For each whole course, virtual link and destination what came of its runs."""
         for combination, campaign in self.whole():
             merged = campaign.merged
-            for vl, where in merged.latencies:
-                count, _, greatest, _, seed = merged.latencies[vl, where]
+            for (vl, where), of_all in merged.latencies.items():
                 over = merged.over_seeds[vl, where]
-                spread = [over.least, over.mean()] if over.runs else [0, 0]
-                lost = sum(row[0] for (of, _, cause), row in merged.losses.items() if of == vl and cause != "duplicate")
-                yield combination, vl, where, [over.runs, count, *spread, greatest, "" if seed is None else seed, lost]
+                least, mean = (over.least, over.mean()) if over.runs else (0, 0)
+                yield Outcome(
+                    combination, vl, where, over.runs, of_all.count, least, mean, of_all.greatest, of_all.seed, merged.copies_lost(vl)
+                )
 
     def table(self, maker: program.Maker) -> str:
         """The table; its last column names the program."""
         lines = [",".join(["set", *(it.name for it in self.settings), HEAD, "program"])]
-        for combination, vl, where, numbers in self.rows():
-            lines.append(",".join(map(str, [combination.number, *combination.values, vl, where, *numbers, maker.cell()])))
+        for it in self.outcomes():
+            cells = [it.combination.number, *it.combination.values, it.vl, it.where, *it.numbers(), maker.cell()]
+            lines.append(",".join(map(str, cells)))
         return "\n".join(lines) + "\n"
 
     def long_rows(self) -> Iterator[tuple[Any, ...]]:
         """The rows of the table in the long form, with the combination and its values as further keys."""
         measures = HEAD.split(",")[2:]
-        for combination, vl, where, numbers in self.rows():
+        for outcome in self.outcomes():
+            combination = outcome.combination
             more = {"set": combination.number} | {it.name: value for it, value in zip(self.settings, combination.values)}
-            for measure, number in zip(measures, numbers):
+            for measure, number in zip(measures, outcome.numbers()):
                 if number != "":
-                    yield "set", vl, where, measure, number, more
+                    yield "set", outcome.vl, outcome.where, measure, number, more
 
     def effects(self) -> list["Effect"]:
         """For each virtual link and destination what the values do, the greatest effect first."""
         found: dict[tuple[int, str], list[Bar]] = {}
-        for combination, vl, where, numbers in self.rows():
-            runs, _, least, mean, greatest, _, _ = numbers
-            if runs:
-                found.setdefault((vl, where), []).append(Bar(combination, least, mean, greatest))
+        for it in self.outcomes():
+            if it.runs:
+                found.setdefault((it.vl, it.where), []).append(Bar(it.combination, it.least, it.mean, it.greatest))
         effects = [Effect(self.settings, *key, bars) for key, bars in found.items()]
         return sorted(effects, key=lambda it: (-it.effect, it.vl, it.where))
 
 
-# Of the greatest latencies of the runs of a combination the least, the mean and the greatest.
-Bar = namedtuple("Bar", "combination least mean greatest")
+class Bar(NamedTuple):
+    """Of the greatest latencies of the runs of a combination the least, the mean and the greatest."""
+
+    combination: Combination
+    least: int
+    mean: int
+    greatest: int
 
 
 class Effect:
@@ -280,8 +301,8 @@ def combinations_table(sweep: Sweep, has_limits: bool) -> str:
     rows = []
     for combination, campaign in sweep.whole():
         worst = campaign.merged.worst()
-        lost = sum(found[0] for (_, _, cause), found in campaign.merged.losses.items() if cause != "duplicate")
-        late = [span(worst[0]), f"VL {worst[1]} at {worst[2]}, seed {worst[3]}"] if worst else ["nothing came", ""]
+        lost = campaign.merged.copies_lost()
+        late = [span(worst.ns), f"VL {worst.vl} at {worst.where}, seed {worst.seed}"] if worst else ["nothing came", ""]
         cells = plain(combination.number, *combination.values, campaign.done, *late, f"{lost:,}")
         if lost:
             cells[-1] = ' class="lost"', cells[-1][1]

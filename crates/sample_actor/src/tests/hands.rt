@@ -9,7 +9,7 @@
 //! to a member arrived at once, or waits; `A`: the front of the tray arrived; `C`: an event was committed.
 use super::player::{moment, number, split_at_colon, tell, tell_number, tell_refused};
 use crate::Passing;
-use group_hand::{Did, Hand, HandFault};
+use group_hand::{Word, Hand, HandFault};
 use std::alloc::Global;
 use std::fmt::Write;
 use std::mem::forget;
@@ -137,19 +137,19 @@ fn tell_block(alloc: Global, hand: &mut Hand<Passing>, steps: &mut u64, told: &m
     tell(told, ". ");
 }
 
-fn tell_words(words: &[Did], told: &mut String) {
+fn tell_words(words: &[Word], told: &mut String) {
     for did in words {
         tell_did(*did, told);
     }
 }
 
-fn tell_did(did: Did, told: &mut String) {
+fn tell_did(did: Word, told: &mut String) {
     let (letter, process) = match did {
-        Did::Ran { process } => ("R", process),
-        Did::Home { process } => ("H", process),
-        Did::Taken { process } => ("T", process),
-        Did::Arrived { process } => ("A", process),
-        Did::Committed { process } => ("C", process),
+        Word::Ran { process } => ("R", process),
+        Word::Home { process } => ("H", process),
+        Word::Taken { process } => ("T", process),
+        Word::Arrived { process } => ("A", process),
+        Word::Committed { process } => ("C", process),
     };
     tell(told, letter);
     tell_number(told, u64::from(process));

@@ -42,8 +42,8 @@ events-preserved g c =
             one-more f n now.0 now.4 (λ z. let u : c.handle_first.result ≡ Err Exhausted = c.handle_first.ensures.used_up now.1 now.2 x L now.0 now.3 z in cc),
           );
       purpose = c.in_ok-handle_first.ensures.purpose ∙ c.events.invariant.purpose;
-      unseen = c.show_event-unseen.ensures.few;
-      watched = g.met.W.Watch.goes_on _ _ _ c.events.invariant.watched c.show_event-unseen.ensures.watched;
+      unseen = c.show_events-unseen.ensures.few;
+      watched = g.met.W.Watch.goes_on _ _ _ c.events.invariant.watched c.show_events-unseen.ensures.watched;
     }
 
 pub returns-clause-whole : goal.returns-clause-whole

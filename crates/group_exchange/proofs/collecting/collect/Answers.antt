@@ -15,14 +15,14 @@ use Rattle.group_exchange.specs.declared.mark.Standing.{Standing}
 use Rattle.group_exchange.specs.Views.{box_of, is_of, last_in, marks_in, with_letters}
 use Rattle.group_exchange.specs.Keeps.{Holds, IsMarked}
 use Rattle.group_exchange.specs.Effects.{AreWaiting, IsGroupAsBefore, TookLetters, takes_of}
-use Rattle.group_exchange.proofs.Again.{group-as-before, group-same, same-keeps, same-words}
+use Rattle.group_exchange.proofs.Again.{group-as-before}
 use Rattle.group_exchange.proofs.Collected.{kept-collected, holds-collected}
 use Rattle.group_exchange.proofs.Gathers.{collects-none, collects-shown, kept-none, holds-none, waiting}
 use Rattle.group_exchange.proofs.Going.{not-full}
 use Rattle.group_exchange.proofs.Halves.{marked-by, recorded-as}
 use Rattle.group_exchange.proofs.Holding.{holds-again, holds-as}
 use Rattle.group_exchange.proofs.RowsKept.{rows-again}
-use Rattle.group_exchange.proofs.Trays.{took-keeps, took-letters, took-words, tray-all}
+use Rattle.group_exchange.proofs.Trays.{took-letters, tray-all}
 use Rattle.group_exchange.proofs.collecting.collect.Given.{Over}
 use Rattle.group_exchange.proofs.collecting.collect.Goals.{After-deliver_all, After-join_law, After-reserve_collect, After-collect, After-stand_here}
 use Rattle.group_exchange.proofs.collecting.collect.Goals as goal
@@ -49,7 +49,7 @@ roomy g c =
     let same = c.reserve_collect.ensures.same in
     let h = c.group.inside.hand in
     let new = c.reserve_collect.new.hand in
-    holds-again c.group.invariant.0 new same.members (same-words h new same) (c.hand_law.ensures.as_before h new same g.J.GroupRun.setting)
+    holds-again c.group.invariant.0 new (ap (λ z. z.members) same) (ap (λ z. z.flow.words) same) (c.hand_law.ensures.as_before h new same g.J.GroupRun.setting)
 
 -- no letter is there
 none-there : (g : Over) (c : After-stand_here g) → box_of c.exchange.inside.boxes.boxes c.group.inside.number ≡ []
@@ -94,10 +94,10 @@ invariant_of-group-in-Err g c =
     let same = c.reserve_collect.ensures.same in (
       roomy g (goal.at.invariant_of-group-in-Err g c).After-reserve_collect,
       c.group.invariant.1,
-      same-keeps c.group.inside.hand c.reserve_collect.new.hand same ∙ c.group.invariant.2,
+      ap (λ z. z.flow.keeps) same ∙ c.group.invariant.2,
       c.group.invariant.3,
       c.group.invariant.4,
-      rows-again c.group.invariant.5 c.reserve_collect.new.hand same.rows same.done c.group.inside.standing.seen (omega arith),
+      rows-again c.group.invariant.5 c.reserve_collect.new.hand (ap (λ z. z.rows) same) (ap (λ z. z.done) same) c.group.inside.standing.seen (omega arith),
     )
 
 -- the steps that joined the journal
@@ -156,15 +156,15 @@ invariant_of-group-2 g c =
     let in_time = subst (All (λ (l : Letter). l.message.time ≤ x.until)) (sym letters) (k.in_time n c.group.invariant.0.number_is) in (
       holds-as
           (holds-collected k n c.group.invariant.0.number_is c.collect.new.self.steps (longer g at.After-collect) (c.actor_law.ensures x k.laid) m c.group.invariant.0 none
-          new t.members (took-words h new box t ∙ none)
+          new (ap (λ z. z.members) t) (ap (λ z. z.flow.words) t ∙ none)
           (λ v s. subst (λ ls. StandsForGroup (rules_of g.R.Reversible.plain) g.R.Reversible.is_value x (with_letters message_order ls v) new) letters
           (c.deliver_all.ensures.stands x v in_time (c.hand_law.ensures.as_before h c.reserve_collect.new.hand c.reserve_collect.ensures.same x v s))))
           c.stand_here-2.new.standing.seen (last_in c.stand_here-2.new.standing) now.seen now.last,
       record { name = c.stand_here-2.ensures.name ∙ c.group.invariant.1.name; value = c.stand_here-2.ensures.mark },
-      took-keeps h new box t ∙ c.group.invariant.2,
+      ap (λ z. z.flow.keeps) t ∙ c.group.invariant.2,
       now.steps ∙ ap length (sym now.last),
       c.group.invariant.4,
-      rows-again c.group.invariant.5 new t.rows t.done c.stand_here-2.new.standing.seen (let a = m.seen_low in let b = now.seen in omega arith),
+      rows-again c.group.invariant.5 new (ap (λ z. z.rows) t) (ap (λ z. z.done) t) c.stand_here-2.new.standing.seen (let a = m.seen_low in let b = now.seen in omega arith),
     )
 
 pub returns-clause-ok : goal.returns-clause-ok
@@ -197,7 +197,7 @@ pub returns-then-exchange-len-clause-ok : goal.returns-then-exchange-len-clause-
 returns-then-exchange-len-clause-ok g c = tt
 
 pub returns-then-exchange-len-clause-unchanged : goal.returns-then-exchange-len-clause-unchanged
-returns-then-exchange-len-clause-unchanged g c = (refl, group-same _)
+returns-then-exchange-len-clause-unchanged g c = (refl, refl)
 
 pub returns-then-exchange-len-clause-full : goal.returns-then-exchange-len-clause-full
 returns-then-exchange-len-clause-full g c =
@@ -307,7 +307,7 @@ deliver_all-requires-clause-ours g c =
     let n = c.group.inside.number in
     let letters = c.letters-letters.result.now in
     let home = subst (All (λ (l : Letter). is_of g.J.GroupRun.owners n l.message.receiver ≡ true)) (sym c.letters-letters.ensures) (c.exchange.invariant.3.home n c.group.invariant.0.number_is) in
-    λ i d w. ap (λ ms. is_ours ms (get_or letters i d).message.receiver) c.reserve_collect.ensures.same.members ∙ (c.group.invariant.0.ours (get_or letters i d).message.receiver ∙ home i d w)
+    λ i d w. ap (λ h. is_ours h.members (get_or letters i d).message.receiver) c.reserve_collect.ensures.same ∙ (c.group.invariant.0.ours (get_or letters i d).message.receiver ∙ home i d w)
 
 pub deliver_all-requires-clause-room : goal.deliver_all-requires-clause-room
 deliver_all-requires-clause-room g c = omega (arith, c.in_default.ensures.room, ap length c.letters-letters.ensures, ap length c.letters-count.ensures)

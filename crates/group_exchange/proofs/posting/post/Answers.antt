@@ -5,16 +5,15 @@ use Rattle.virtual_time.specs.Law.{AreBy, behind, waiting_in}
 use Rattle.reverse.specs.Rules.{rules_of}
 use Rattle.reverse.specs.Setting.{simulation_of}
 use Rattle.group_hand.specs.Block.{steps_told}
-use Rattle.group_hand.specs.Flow.{Flow}
 use Rattle.group_boxes.specs.Boxing.{waiting_for}
 use Rattle.halves.specs.declared.LeftHalf.{LeftHalf}
 use Rattle.halves.proofs.InLists.{half-within}
 use Rattle.journal.proofs.Refused.{not-ok}
 use Rattle.group_exchange.specs.declared.mark.Standing.{Standing}
-use Rattle.group_exchange.specs.Effects.{IsGroupAsBefore}
+use Rattle.group_exchange.specs.Effects.{CountsDone}
 use Rattle.group_exchange.specs.Views.{block_of, box_of, for_group, is_of, last_in, marks_in, world_after}
 use Rattle.group_exchange.specs.Keeps.{Holds, IsMarked}
-use Rattle.group_exchange.proofs.Again.{group-counted, group-same, left-block}
+use Rattle.group_exchange.proofs.Again.{group-counted, left-block}
 use Rattle.group_exchange.proofs.Ends.{posts-some}
 use Rattle.group_exchange.proofs.Gathers.{posts-shown}
 use Rattle.group_exchange.proofs.Going.{not-full}
@@ -58,7 +57,7 @@ posted g c by =
     let e = c.reserve_post.ensures in
     let boxes = c.reserve_post.new.boxes in
     c.post_reserved.ensures.steps ∙
-    ((λ i. e.steps i ++ map (behind (waiting_for boxes)) (steps_told (ap (λ (z : Flow). z.words) c.floor-floor.ensures.same.flow i))) ∙
+    ((λ i. e.steps i ++ map (behind (waiting_for boxes)) (steps_told (ap (λ z. z.flow.words) c.floor-floor.ensures.same i))) ∙
     ap (λ xs. c.exchange.inside.journal.steps ++ xs)
     (behind-waiting (recorded-mail c.exchange.invariant.3 boxes e.owners e.boxes) refl c.group.inside.number (steps_told c.reserve_post.new.hand.flow.words) by))
 
@@ -91,14 +90,14 @@ post_reserved-requires g c =
     let L = c.actor_law.ensures g.J.GroupRun.setting k.laid in
     let x = g.J.GroupRun.setting in
     let e = c.reserve_post.ensures in
-    let same = c.floor-floor.ensures.same.flow in
-    let words = ap (λ (z : Flow). length (steps_told z.words)) same ∙ counted g at.After-reserve_post in
-    let abroad = ap (λ (z : Flow). z.abroad) same in
+    let same = c.floor-floor.ensures.same in
+    let words = ap (λ z. length (steps_told z.flow.words)) same ∙ counted g at.After-reserve_post in
+    let abroad = ap (λ z. z.flow.abroad) same in
     let lawful = abroad-lawful k c.group.inside.number (marked g at.After-join_law) (held g at.After-reserve_post) _ refl L in
     let goes = subst (λ ls. All (λ (l : Letter). (l.message.receiver < x.processes) × (l.message.time ≤ x.until)) ls) (sym abroad) lawful in
     record {
       some = omega (arith, words, c.if-count-eq0.false);
-      kept = λ t. ap (λ (z : Flow). z.keeps) same ∙ (ap (λ z. z.flow.keeps) e.counted ∙ (c.group.invariant.2 ∙ (sym (e.keeps ∙ c.exchange.invariant.5) ∙ t)));
+      kept = λ t. ap (λ z. z.flow.keeps) same ∙ (ap (λ z. z.flow.keeps) e.counted ∙ (c.group.invariant.2 ∙ (sym (e.keeps ∙ c.exchange.invariant.5) ∙ t)));
       step_room = omega (arith, words, c.in_default.ensures.step_room);
       few = omega (arith, words, ap length e.steps, c.if-exchange-len.false, c.len.ensures, c.exchange.invariant.0, c.exchange.invariant.1);
       receivers = λ i d w. (let a = goes i d w in omega (arith, a.0, ap length (e.owners ∙ k.owners_is), k.grouped.each));
@@ -116,10 +115,10 @@ invariant_of-exchange-2 g c =
     let p = c.post_reserved.ensures in
     let floor = c.floor-floor.ensures in
     let now = c.stand_here.ensures in
-    let abroad = ap (λ (z : Flow). z.abroad) floor.same.flow in
+    let abroad = ap (λ z. z.flow.abroad) floor.same in
     let waiting = waiting_for c.reserve_post.new.boxes in
     let block = steps_told c.floor-floor.new.self.flow.words in
-    let words = ap (λ (z : Flow). length (steps_told z.words)) floor.same.flow ∙ counted g at.After-reserve_post in (
+    let words = ap (λ z. length (steps_told z.flow.words)) floor.same ∙ counted g at.After-reserve_post in (
       omega (
         arith,
         ap length p.steps,
@@ -156,14 +155,14 @@ invariant_of-group-2 g c =
     let now = c.stand_here.ensures in
     let new = c.post_reserved.new.hand in (
       holds-as (holds-posted c.exchange.invariant.3 c.group.inside.number (marked g at.After-join_law) h c.post_reserved.new.journal.steps (posted g at.After-post_reserved h.by)
-          new (ap (λ z. z.members) left ∙ same.members) (ap (λ z. z.flow.words) left)
+          new (ap (λ z. z.members) left ∙ ap (λ z. z.members) same) (ap (λ z. z.flow.words) left)
           (λ v t. c.post_reserved.ensures.stands g.J.GroupRun.setting v (c.hand_law.ensures.as_before c.reserve_post.new.hand c.floor-floor.new.self same g.J.GroupRun.setting v t)))
           c.stand_here.new.standing.seen (last_in c.stand_here.new.standing) now.seen now.last,
       record { name = c.stand_here.ensures.name ∙ c.group.invariant.1.name; value = c.stand_here.ensures.mark },
-      ap (λ z. z.flow.keeps) left ∙ (ap (λ (z : Flow). z.keeps) same.flow ∙ (ap (λ z. z.flow.keeps) e ∙ c.group.invariant.2)),
+      ap (λ z. z.flow.keeps) left ∙ (ap (λ z. z.flow.keeps) same ∙ (ap (λ z. z.flow.keeps) e ∙ c.group.invariant.2)),
       now.steps ∙ sym (ap length now.last),
       c.group.invariant.4,
-      rows-again c.group.invariant.5 new (ap (λ z. z.rows) left ∙ (same.rows ∙ ap (λ z. z.rows) e)) (ap (λ z. z.done) left ∙ (same.done ∙ ap (λ z. z.done) e))
+      rows-again c.group.invariant.5 new (ap (λ z. z.rows) left ∙ (ap (λ z. z.rows) same ∙ ap (λ z. z.rows) e)) (ap (λ z. z.done) left ∙ (ap (λ z. z.done) same ∙ ap (λ z. z.done) e))
           c.stand_here.new.standing.seen (omega (arith, now.seen)),
     )
 
@@ -195,7 +194,7 @@ pub returns-then-exchange-len-clause-ok : goal.returns-then-exchange-len-clause-
 returns-then-exchange-len-clause-ok g c = tt
 
 pub returns-then-exchange-len-clause-unchanged : goal.returns-then-exchange-len-clause-unchanged
-returns-then-exchange-len-clause-unchanged g c = (refl, group-same _)
+returns-then-exchange-len-clause-unchanged g c = (refl, refl)
 
 pub returns-then-exchange-len-clause-full : goal.returns-then-exchange-len-clause-full
 returns-then-exchange-len-clause-full g c =
@@ -220,7 +219,7 @@ returns-in-Err-clause-unchanged g c =
     let e = c.reserve_post.ensures in
     let new = c.reserve_post.new.hand in (
       (λ i. record { steps = e.steps i; marks = marks_in (map (λ (b : LeftHalf Standing). b.value) c.exchange.inside.marks.items); limit = c.exchange.inside.limit }) ∙ c.exchange.view_is,
-      subst (IsGroupAsBefore c.args.group.now) (λ i. record (sym c.group.view_is i) { held = new }) (group-counted c.args.group.now new (subst (λ h. new ≡ record h.held { flow = record h.held.flow { queue = new.flow.queue; extra = new.flow.extra; room = new.flow.room } }) c.group.view_is e.counted)),
+      subst (CountsDone c.args.group.now) (λ i. record (sym c.group.view_is i) { held = new }) (group-counted c.args.group.now new (subst (λ h. new ≡ record h.held { flow = record h.held.flow { queue = new.flow.queue; extra = new.flow.extra; room = new.flow.room } }) c.group.view_is e.counted)),
     )
 
 pub returns-in-Err-clause-full : goal.returns-in-Err-clause-full

@@ -1,5 +1,5 @@
 use Rattle.std.proofs.Common.{◌++◌, ◌∷◌, [], take, get_or, sym, ap, ◌∙◌, arith, append_assoc}
-use Rattle.group_hand.specs.declared.block.Did.TheVariants.{Committed}
+use Rattle.group_hand.specs.declared.block.Word.TheVariants.{Committed}
 use Rattle.group_hand.specs.Sealing.{words_of}
 use Rattle.group_hand.proofs.Forgetting.{as-seen, seen-at, word-next}
 use Rattle.group_hand.proofs.committing.tell_committed.Goals as goal

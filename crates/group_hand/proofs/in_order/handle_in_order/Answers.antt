@@ -1,4 +1,5 @@
-use Rattle.std.proofs.Common.{ℕ, ◌∷◌, [], ◌++◌, Some, set, refl, subst, sym, ap, ◌∙◌}
+use Rattle.std.proofs.Common.{ℕ, ◌∷◌, [], ◌++◌, Some, set, IsPermutation, refl, subst, sym, ap, ◌∙◌}
+use Rattle.std.proofs.lemmas.List.Sorted.{IsPermutation-refl}
 use Rattle.vlink.specs.Order.{message_order}
 use Rattle.virtual_time.specs.Law.{rows_of}
 use Rattle.reverse.specs.Rules.{rules_of}
@@ -29,7 +30,7 @@ returns-clause-did g c = λ rows before took.
     subst (λ ms. DoesSent r V (held c.args.members.now c.args.done.now.events rows before) [] (held ms c.push_reserved.new.self.events rows c.send_all.new.letters) []) (sym members)
     (handles plain V c.actor_rules_law.ensures.order c.actor_rules_law.ensures.undoes c.args.members.now c.args.done.now.events c.push_reserved.new.self.events rows
     before c.args.letters.now c.tell.new.self c.send_all.new.letters m s at (c.act-kept.ensures.valid s at) took.first c.requires.early
-    took.taken (ap (λ z. z.extra) took.others) (ap (λ z. z.tray) took.others) (ap (λ z. z.abroad) took.others)
+    (subst (IsPermutation before.queue) took.taken (IsPermutation-refl before.queue)) (ap (λ z. z.extra) took.others) (ap (λ z. z.tray) took.others) (ap (λ z. z.abroad) took.others)
     (ap (λ z. z.words) took.others) (ap (λ z. z.keeps) took.others) c.tell.ensures.told later gone)
 
 pub returns-clause-came : goal.returns-clause-came

@@ -5,7 +5,7 @@ use Rattle.vlink.specs.Order.{message_order}
 use Rattle.virtual_time.specs.Law.{rows_of, plus_of}
 use Rattle.reverse.specs.Rules.{rules_of}
 use Rattle.group_hand.specs.Arriving.{WentOn, to_members}
-use Rattle.group_hand.specs.declared.block.Did.TheVariants.{Ran}
+use Rattle.group_hand.specs.declared.block.Word.TheVariants.{Ran}
 use Rattle.group_hand.specs.DoneEvents.{DoneEvent, done_event_of, messages_of}
 use Rattle.group_hand.specs.Hands.{DoesSent}
 use Rattle.group_hand.specs.Passing.{held}

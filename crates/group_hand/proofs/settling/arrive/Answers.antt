@@ -1,7 +1,7 @@
 use Rattle.std.proofs.Common.{[], ◌∷◌, ◌++◌, map, refl, ap, ◌∙◌, arith}
 use Rattle.reverse.specs.Rules.{rules_of}
 use Rattle.virtual_time.specs.Law.{minus_of}
-use Rattle.group_hand.specs.declared.block.Did.TheVariants.{Arrived}
+use Rattle.group_hand.specs.declared.block.Word.TheVariants.{Arrived}
 use Rattle.group_hand.specs.Arriving.{to_members, words_taken}
 use Rattle.group_hand.specs.Passing.{held}
 use Rattle.group_hand.proofs.Adding.{adds-arrival}

@@ -1,5 +1,5 @@
 use Rattle.std.proofs.Common.{◌≡◌, ap, ◌∙◌, sym, add-one, arith}
-use Rattle.network_bounds.specs.Mixing.{mixed_at, mixed_below, share_at, weight_of, with_share}
+use Rattle.network_bounds.specs.Mixing.{gaps_in, mixed_at, mixed_below, share_at, weight_of, with_share}
 use Rattle.network_bounds.proofs.CapLemmas.{share-more}
 use Rattle.network_bounds.proofs.mixing.mixed_at.Goals as goal
 
@@ -11,8 +11,8 @@ loop-input-preserved c =
     let high = c.args.is_high in
     c.with_share-all.ensures
     ∙ ap (λ w. with_share c.loop-input.all w c.share_at-share.result) c.weight_of.ensures.value
-    ∙ ap (λ share. with_share c.loop-input.all (weight_of choice j share) share) c.share_at-share.ensures
-    ∙ ap (λ all. with_share all (weight_of choice j (share_at port j high)) (share_at port j high)) c.loop-input.invariant
+    ∙ ap (λ share. with_share c.loop-input.all (weight_of choice j share) share) (c.share_at-share.ensures ∙ ap (λ b. share_at port b j high) c.by_gap.ensures)
+    ∙ ap (λ all. with_share all (weight_of choice j (share_at port (gaps_in choice) j high)) (share_at port (gaps_in choice) j high)) c.loop-input.invariant
     ∙ share-more port choice high j
     ∙ ap (mixed_below port choice high) (sym (add-one j))
 

@@ -1,23 +1,19 @@
 use Rattle.std.proofs.Common.{subst, IfErr}
 use Rattle.nodes.specs.Words.{simulation_of}
 use Rattle.group_exchange.specs.Effects.{WorksSome}
-use Rattle.worker_pool.proofs.UsedUp.{lacking-at, not-spawn}
+use Rattle.worker_pool.proofs.UsedUp.{lacking-at}
+use Rattle.worker_pool.proofs.group_work.work_ahead.Given.{Over}
+use Rattle.worker_pool.proofs.group_work.work_ahead.Goals.{In-Err}
 use Rattle.worker_pool.proofs.group_work.work_ahead.Goals as goal
+
+-- what the group did before the refusal
+some : (g : Over) (c : In-Err g) → WorksSome (simulation_of g.J.NetworkRun.plan) g.J.NetworkRun.owners c.args.ahead_ns c.args.group.now c.work.new.group c.in-Err.fault
+some g c =
+    subst (λ r. IfErr r (λ fault. WorksSome (simulation_of g.J.NetworkRun.plan) g.J.NetworkRun.owners c.args.ahead_ns c.args.group.now c.work.new.group fault)) c.in-Err.is c.work.ensures.some
 
 pub returns-in-Err-clause-numbers : goal.returns-in-Err-clause-numbers
 returns-in-Err-clause-numbers g c =
-    let plan = g.J.NetworkRun.plan in
-    let owners = g.J.NetworkRun.owners in
-    let old = c.args.group.now in
-    let new = c.work.new.group in
-    lacking-at plan owners old new c.in-Err.fault
-    (subst (λ r. IfErr r (λ fault. WorksSome (simulation_of plan) owners old new fault)) c.in-Err.is c.work.ensures.some)
+    lacking-at g.J.NetworkRun.plan g.J.NetworkRun.owners c.args.ahead_ns c.args.group.now c.work.new.group c.in-Err.fault (some g (goal.at.returns-in-Err-clause-numbers g c).In-Err)
 
-pub returns-in-Err-clause-no_spawn : goal.returns-in-Err-clause-no_spawn
-returns-in-Err-clause-no_spawn g c =
-    let plan = g.J.NetworkRun.plan in
-    let owners = g.J.NetworkRun.owners in
-    let old = c.args.group.now in
-    let new = c.work.new.group in
-    let some = subst (λ r. IfErr r (λ fault. WorksSome (simulation_of plan) owners old new fault)) c.in-Err.is c.work.ensures.some in
-    not-spawn c.in-Err.fault some.faults
+pub returns-in-Err-clause-faults : goal.returns-in-Err-clause-faults
+returns-in-Err-clause-faults g c = (some g (goal.at.returns-in-Err-clause-faults g c).In-Err).faults

@@ -1,4 +1,4 @@
-use Rattle.std.proofs.Common.{◌≤◌, All, OnOk, sym, ◌∙◌, subst, arith}
+use Rattle.std.proofs.Common.{◌≤◌, All, OnOk, ap, sym, ◌∙◌, subst, arith}
 use Rattle.vlink.specs.declared.message.Message.{Message}
 use Rattle.vlink.specs.Order.{message_order}
 use Rattle.virtual_time.proofs.Lists.{times-append}
@@ -32,7 +32,7 @@ invariant_of-self g c =
             rows-committed L.order h.stands h.ours k new s.0 s.1 s.2 s.3
             (all-late g.R.Reversible.plain L.order g.R.Reversible.is_value g.J.GroupRun.setting _ new t.holds.stands (is_of g.J.GroupRun.owners c.self.inside.number) t.holds.ours
             c.self.inside.standing.seen t.holds.safe (rw seen at w.in-Ok.ensures.left)))
-        | in-Err w ↦ (let a = w.in-Err.ensures.unchanged in rows-again k new a.rows a.done c.self.inside.standing.seen (omega arith))
+        | in-Err w ↦ (let a = w.in-Err.ensures.unchanged in rows-again k new (ap (λ z. z.rows) a) (ap (λ z. z.done) a) c.self.inside.standing.seen (omega arith))
       ],
     )
 

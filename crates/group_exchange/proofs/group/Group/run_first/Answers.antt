@@ -1,4 +1,4 @@
-use Rattle.std.proofs.Common.{true, false, inl, inr, Ok, refl, ap, ◌∙◌, arith}
+use Rattle.std.proofs.Common.{true, inl, inr, Ok, refl, ap, ◌∙◌, arith}
 use Rattle.group_hand.specs.Block.{runs_in}
 use Rattle.journal.proofs.Refused.{not-ok}
 use Rattle.group_hand.proofs.Answering.{not-both}
@@ -39,7 +39,7 @@ pub returns-in-Idle-clause-tray : goal.returns-in-Idle-clause-tray
 returns-in-Idle-clause-tray g c = λ _. c.in_ok-run_in_order.ensures.tray (inl (λ j. Ok (c.in-Idle.is j)))
 
 pub returns-in-Idle-clause-short : goal.returns-in-Idle-clause-short
-returns-in-Idle-clause-short g c = λ e. not-ok false _ _ refl e
+returns-in-Idle-clause-short g c = λ e. not-ok _ _ _ refl e
 
 pub returns-in-Ran-clause-idle : goal.returns-in-Ran-clause-idle
 returns-in-Ran-clause-idle g c = λ e. not-both _ refl e

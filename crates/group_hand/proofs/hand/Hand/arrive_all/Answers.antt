@@ -27,7 +27,7 @@ returns-clause-did g c =
     (still g.R.Reversible.plain V c.actor_rules_law.ensures.order c.actor_rules_law.ensures.undoes c.arrive_front.new.self c.sort_many.new.self c.sort_many.ensures)
 
 pub returns-clause-quiet : goal.returns-clause-quiet
-returns-clause-quiet g c = ap (λ f. f.tray) c.sort_many.ensures.flow ∙ c.arrive_front.ensures.quiet (search rules)
+returns-clause-quiet g c = ap (λ h. h.flow.tray) c.sort_many.ensures ∙ c.arrive_front.ensures.quiet (search rules)
 
 pub returns-in_err-arrive_front-clause-words : goal.returns-in_err-arrive_front-clause-words
 returns-in_err-arrive_front-clause-words g c = adds-both _ _ _ c.letters.invariant.1 c.arrive_front.ensures.words
@@ -35,4 +35,4 @@ returns-in_err-arrive_front-clause-words g c = adds-both _ _ _ c.letters.invaria
 pub returns-clause-words : goal.returns-clause-words
 returns-clause-words g c =
     adds-both c.args.self.now.flow.words c.arrive_front.new.self.flow.words c.sort_many.new.self.flow.words (adds-both _ _ _ c.letters.invariant.1 c.arrive_front.ensures.words)
-    (adds-none _ _ (ap (λ f. f.words) c.sort_many.ensures.flow))
+    (adds-none _ _ (ap (λ h. h.flow.words) c.sort_many.ensures))

@@ -7,7 +7,7 @@ use Rattle.group_hand.specs.Passing.{held}
 use Rattle.group_hand.proofs.Adding.{adds-both, adds-none}
 use Rattle.group_hand.proofs.Telling.{does-nothing, does-both}
 use Rattle.group_hand.proofs.Answering.{no-err, not-both, not-err}
-use Rattle.group_hand.proofs.Still.{as-roomy, on-err, still}
+use Rattle.group_hand.proofs.Still.{as-roomy, on-err, roomy-both, still}
 use Rattle.group_hand.proofs.Came.{came-alike}
 use Rattle.group_hand.proofs.hand.Hand.arrive_front.Given.{Over}
 use Rattle.group_hand.proofs.hand.Hand.arrive_front.Goals.{After-make_room, After-arrive, in-Ok-arrive, in-Err}
@@ -16,8 +16,7 @@ use Rattle.group_hand.proofs.hand.Hand.arrive_front.Goals as goal
 -- after room was made
 as-it-was : (g : Over) (c : After-make_room g) → IsAsBefore c.args.self.now (held c.self.inside.members.items c.self.inside.done.events c.self.inside.rows c.make_room.new.letters)
 as-it-was g c =
-    subst (λ h. IsAsBefore h (held c.self.inside.members.items c.self.inside.done.events c.self.inside.rows c.make_room.new.letters)) c.self.view_is
-    (as-roomy c.self.inside.members.items c.self.inside.done.events c.self.inside.done.events c.self.inside.rows c.self.inside.letters c.make_room.new.letters refl c.make_room.ensures.letters)
+    as-roomy c.args.self.now c.self.inside.members.items c.self.inside.done.events c.self.inside.done.events c.self.inside.rows c.self.inside.letters c.make_room.new.letters c.self.view_is refl c.make_room.ensures.letters
 
 roomy : (g : Over) (c : After-make_room g) → DoesSent (rules_of g.R.Reversible.plain) g.R.Reversible.is_value c.args.self.now []
     (held c.self.inside.members.items c.self.inside.done.events c.self.inside.rows c.make_room.new.letters) []
@@ -35,9 +34,8 @@ returns-in_default-make_room-clause-did g c = roomy g (goal.at.returns-in_defaul
 refused : (g : Over) (c : After-arrive g) → c.arrive.new.done.events ≡ c.self.inside.done.events → c.arrive.new.letters ≡ record c.make_room.new.letters { room = c.arrive.new.letters.room } →
     IsAsBefore c.args.self.now (held c.self.inside.members.items c.arrive.new.done.events c.self.inside.rows c.arrive.new.letters)
 refused g c d e =
-    subst (λ h. IsAsBefore h (held c.self.inside.members.items c.arrive.new.done.events c.self.inside.rows c.arrive.new.letters)) c.self.view_is
-    (as-roomy c.self.inside.members.items c.self.inside.done.events c.arrive.new.done.events c.self.inside.rows c.self.inside.letters c.arrive.new.letters d
-    (e ∙ ap {A = Flow} (λ (z : Flow). record z { room = c.arrive.new.letters.room }) c.make_room.ensures.letters))
+    as-roomy c.args.self.now c.self.inside.members.items c.self.inside.done.events c.arrive.new.done.events c.self.inside.rows c.self.inside.letters c.arrive.new.letters c.self.view_is d
+    (roomy-both c.self.inside.letters c.make_room.new.letters c.arrive.new.letters c.make_room.ensures.letters e)
 
 pub returns-in_default-make_room-clause-quiet : goal.returns-in_default-make_room-clause-quiet
 returns-in_default-make_room-clause-quiet g c = λ e. not-err false _ _ e refl
@@ -139,7 +137,7 @@ pub returns-in_default-clause-words : goal.returns-in_default-clause-words
 returns-in_default-clause-words g c = adds-none c.args.self.now.flow.words c.args.self.now.flow.words refl
 
 made : (g : Over) (c : After-make_room g) → c.make_room.new.letters.words ≡ c.args.self.now.flow.words
-made g c = ap (λ (z : Flow). z.words) (as-it-was g c).flow
+made g c = ap (λ h. h.flow.words) (as-it-was g c)
 
 pub returns-in_default-make_room-clause-words : goal.returns-in_default-make_room-clause-words
 returns-in_default-make_room-clause-words g c = adds-none _ _ (made g (goal.at.returns-in_default-make_room-clause-words g c).After-make_room)

@@ -1,9 +1,9 @@
-use Rattle.std.proofs.Common.{ℕ, ◌≡◌, ◌<◌, ◌++◌, All, IsPermutation, List, take, drop, IfSome, slice_get, refl, sym, ap, ◌∙◌, subst}
+use Rattle.std.proofs.Common.{ℕ, ◌≡◌, ◌<◌, ◌++◌, All, List, take, drop, IfSome, slice_get, refl, sym, ap, ◌∙◌, subst}
 use Rattle.std.proofs.lemmas.List.{take-append-drop, take-map}
 use Rattle.std.proofs.lemmas.List.Elements.{All-weaker}
 use Rattle.reverse.specs.Rules.{rules_of}
-use Rattle.group_hand.specs.declared.block.Did.{Did}
-use Rattle.group_hand.specs.Flow.{Flow}
+use Rattle.group_hand.specs.declared.block.Word.{Word}
+use Rattle.group_hand.specs.Flow.{Flow, IsFirst}
 use Rattle.group_hand.specs.Hands.{IsAsBefore}
 use Rattle.group_hand.specs.Undoing.{CameTo}
 use Rattle.group_hand.specs.Passing.{held}
@@ -11,7 +11,7 @@ use Rattle.group_hand.specs.DoneEvents.{messages_of}
 use Rattle.group_hand.specs.Sealing.{CanCommit, Stays, rows_in}
 use Rattle.group_hand.proofs.Adding.{adds-commits, adds-no-commit}
 use Rattle.group_hand.proofs.Answering.{no-err, no-ok, where-ok}
-use Rattle.group_hand.proofs.Still.{as-first, as-both, as-roomy, first-again, on-err, told-after, waits-after}
+use Rattle.group_hand.proofs.Still.{as-roomy, is-first, on-err, roomy-both}
 use Rattle.group_hand.proofs.Came.{dropped-came}
 use Rattle.group_hand.proofs.Forgetting.{of-messages, oldest-then}
 use Rattle.group_hand.proofs.Sealed.{commits-nothing, commits-both, commits-many}
@@ -21,34 +21,28 @@ use Rattle.group_hand.proofs.hand.Hand.commit_below.Goals as goal
 
 pub count_early-count-requires : goal.count_early-count-requires
 count_early-count-requires g c =
-    first-again c.first-first.result c.self.inside.letters.queue c.first-first.new.self.queue c.first-first.ensures.same
-    c.first-first.ensures.among c.first-first.ensures.first c.first-first.ensures.none
+    subst (λ (z : Flow). IsFirst c.first-first.result z.queue) (sym c.first-first.ensures.unchanged)
+    (is-first c.first-first.result c.self.inside.letters.queue c.first-first.ensures.among c.first-first.ensures.first c.first-first.ensures.none)
 
 -- after a look at the first message
 looked : (g : Over) (c : After-first-first g) → IsAsBefore c.args.self.now (held c.self.inside.members.items c.self.inside.done.events c.self.inside.rows c.first-first.new.self)
 looked g c =
-    subst (λ h. IsAsBefore h (held c.self.inside.members.items c.self.inside.done.events c.self.inside.rows c.first-first.new.self)) c.self.view_is
-    (as-first c.self.inside.members.items c.self.inside.done.events c.self.inside.rows c.self.inside.letters c.first-first.new.self c.first-first.ensures.same c.first-first.ensures.others)
+    as-roomy c.args.self.now c.self.inside.members.items c.self.inside.done.events c.self.inside.done.events c.self.inside.rows c.self.inside.letters c.first-first.new.self c.self.view_is refl c.first-first.ensures.unchanged
 
 -- and then room was made
 refused : (g : Over) (c : After-first-first g) (done : _) (rows : _) (flow : _) → done ≡ c.self.inside.done.events → rows ≡ c.self.inside.rows →
     flow ≡ record c.first-first.new.self { room = flow.room } → IsAsBefore c.args.self.now (held c.self.inside.members.items done rows flow)
 refused g c done rows flow d r e =
     subst (λ z. IsAsBefore c.args.self.now (held c.self.inside.members.items done z flow)) (sym r)
-    (as-both c.args.self.now (held c.self.inside.members.items c.self.inside.done.events c.self.inside.rows c.first-first.new.self)
-    (held c.self.inside.members.items done c.self.inside.rows flow) (looked g c)
-    (as-roomy c.self.inside.members.items c.self.inside.done.events done c.self.inside.rows c.first-first.new.self flow d e))
+    (as-roomy c.args.self.now c.self.inside.members.items c.self.inside.done.events done c.self.inside.rows c.self.inside.letters flow c.self.view_is d
+    (roomy-both c.self.inside.letters c.first-first.new.self flow c.first-first.ensures.unchanged e))
 
 -- what became of the letters, whatever joined the block
-changed : (g : Over) (c : After-first-first g) (now : Flow) (ws : List Did) → now ≡ record c.first-first.new.self { words = ws; room = now.room } →
-    now ≡ record c.args.self.now.flow { queue = now.queue; words = now.words; room = now.room }
+changed : (g : Over) (c : After-first-first g) (now : Flow) (ws : List Word) → now ≡ record c.first-first.new.self { words = ws; room = now.room } →
+    now ≡ record c.args.self.now.flow { words = now.words; room = now.room }
 changed g c now ws e =
-    told-after c.self.inside.letters c.first-first.new.self now ws c.first-first.ensures.others e ∙
-    (λ j. record (c.self.view_is j).flow { queue = now.queue; words = now.words; room = now.room })
-
-waiting : (g : Over) (c : After-first-first g) (now : Flow) (ws : List Did) → now ≡ record c.first-first.new.self { words = ws; room = now.room } → IsPermutation c.args.self.now.flow.queue now.queue
-waiting g c now ws e =
-    subst (λ h. IsPermutation h.flow.queue now.queue) c.self.view_is (waits-after c.self.inside.letters c.first-first.new.self now ws c.first-first.ensures.same e)
+    subst (λ (z : List Word). now ≡ record c.first-first.new.self { words = z; room = now.room }) (sym (ap (λ (z : Flow). z.words) e)) e ∙
+    ap (λ (z : Flow). record z { words = now.words; room = now.room }) (c.first-first.ensures.unchanged ∙ ap (λ h. record h.flow { room = c.first-first.new.self.room }) c.self.view_is)
 
 pub returns-clause-did : goal.returns-clause-did
 returns-clause-did g c =
@@ -116,14 +110,6 @@ returns-clause-sealed g c =
       | in-Err w ↦ no-ok _ _ _ w.result-is
     ]
 
-pub returns-clause-queue : goal.returns-clause-queue
-returns-clause-queue g c =
-    let at = (goal.at.returns-clause-queue g c).After-first-first in
-    elim c.match-commit_first.branch [
-      | in-Ok w ↦ waiting g at c.commit_first.new.self _ w.in-Ok.ensures.told
-      | in-Err w ↦ waiting g at c.commit_first.new.self c.first-first.new.self.words w.in-Err.ensures.letters_stay
-    ]
-
 pub returns-clause-flow : goal.returns-clause-flow
 returns-clause-flow g c =
     let at = (goal.at.returns-clause-flow g c).After-first-first in
@@ -134,7 +120,7 @@ returns-clause-flow g c =
 
 pub returns-clause-words : goal.returns-clause-words
 returns-clause-words g c =
-    let before = ap (λ (z : Flow). z.words) (looked g (goal.at.returns-clause-words g c).After-first-first).flow in
+    let before = ap (λ h. h.flow.words) (looked g (goal.at.returns-clause-words g c).After-first-first) in
     elim c.match-commit_first.branch [
       | in-Ok w ↦ adds-commits c.args.self.now.flow.words c.first-first.new.self.words c.commit_first.new.self.words (take c.count_early-count.result c.self.inside.done.events) before
           (ap (λ (z : Flow). z.words) w.in-Ok.ensures.told)

@@ -1,5 +1,5 @@
-use Rattle.std.proofs.Common.{◌≡◌, ◌∷◌, Contains, IsPermutation, length, false, sym, ap, subst, refl, arith, true}
-use Rattle.std.proofs.lemmas.List.Sorted.{Contains-permutation, All-permutation, length_permutation}
+use Rattle.std.proofs.Common.{◌≡◌, ◌∷◌, ◌∙◌, All, Contains, IsPermutation, length, false, sym, ap, subst, refl, arith, true}
+use Rattle.std.proofs.lemmas.List.Sorted.{length_permutation}
 use Rattle.vlink.specs.declared.message.Message.{Message}
 use Rattle.vlink.specs.Order.{message_order}
 use Rattle.reverse.specs.Rules.{rules_of, is_before}
@@ -7,14 +7,13 @@ use Rattle.virtual_time.specs.Law.{plus_of}
 use Rattle.antimessages.specs.Counting.{HaveSameCounts}
 use Rattle.group_hand.specs.DoneEvents.{messages_of}
 use Rattle.group_hand.specs.Flow.{Flow}
-use Rattle.group_hand.specs.Hands.{IsAsBefore}
 use Rattle.group_hand.specs.Passing.{held}
 use Rattle.group_hand.proofs.Answering.{not-both, not-err}
 use Rattle.group_hand.proofs.Among.{contains-in}
-use Rattle.group_hand.proofs.FrontWaits.{CountedBeside, counted-again, counted-as, counted-both, first-least, front-waits, nothing-left, nothing-waits}
-use Rattle.group_hand.proofs.Still.{as-first}
+use Rattle.group_hand.proofs.FrontWaits.{CountedBeside, counted-again, counted-as, counted-both, first-least, front-waits, nothing-waits}
+use Rattle.group_hand.proofs.Still.{as-roomy}
 use Rattle.group_hand.proofs.hand.Hand.count_first_done.Given.{Over}
-use Rattle.group_hand.proofs.hand.Hand.count_first_done.Goals.{After-first, in-Ok, in-Err}
+use Rattle.group_hand.proofs.hand.Hand.count_first_done.Goals.{After-first, In-Some, in-Ok, in-Err}
 use Rattle.group_hand.proofs.hand.Hand.count_first_done.Goals as goal
 
 -- after a look at the first message
@@ -23,8 +22,13 @@ looked : (g : Over) (c : After-first g) → CountedBeside (rules_of g.R.Reversib
 looked g c =
     counted-as g.R.Reversible.plain g.R.Reversible.is_value c.actor_rules_law.ensures.order c.actor_rules_law.ensures.undoes c.args.self.now
     (held c.self.inside.members.items c.self.inside.done.events c.self.inside.rows c.first.new.self)
-    (subst (λ h. IsAsBefore h (held c.self.inside.members.items c.self.inside.done.events c.self.inside.rows c.first.new.self)) c.self.view_is
-    (as-first c.self.inside.members.items c.self.inside.done.events c.self.inside.rows c.self.inside.letters c.first.new.self c.first.ensures.same c.first.ensures.others))
+    (as-roomy c.args.self.now c.self.inside.members.items c.self.inside.done.events c.self.inside.done.events c.self.inside.rows c.self.inside.letters c.first.new.self c.self.view_is refl c.first.ensures.unchanged)
+
+-- the first message is still the first
+first : (g : Over) (c : In-Some g) → Contains c.first.new.self.queue c.in-Some.message × All (λ x. is_before x c.in-Some.message ≡ false) c.first.new.self.queue
+first g c =
+    subst (λ (z : Flow). Contains z.queue c.in-Some.message × All (λ x. is_before x c.in-Some.message ≡ false) z.queue) (sym c.first.ensures.unchanged)
+    (c.in-Some.ensures.among, c.in-Some.ensures.first)
 
 pub returns-in_default-clause-stands : goal.returns-in_default-clause-stands
 returns-in_default-clause-stands g c = (looked g (goal.at.returns-in_default-clause-stands g c).After-first).stands
@@ -35,7 +39,7 @@ returns-in_default-clause-others g c = (looked g (goal.at.returns-in_default-cla
 pub returns-in_default-clause-waits : goal.returns-in_default-clause-waits
 returns-in_default-clause-waits g c = λ e up.
     nothing-waits (held c.self.inside.members.items c.self.inside.done.events c.self.inside.rows c.first.new.self)
-    (nothing-left c.self.inside.letters.queue c.first.new.self.queue c.first.ensures.same c.in_default.ensures.none)
+    (ap (λ (z : Flow). z.queue) c.first.ensures.unchanged ∙ c.in_default.ensures.none)
 
 pub returns-then-not-has-clause-stands : goal.returns-then-not-has-clause-stands
 returns-then-not-has-clause-stands g c = (looked g (goal.at.returns-then-not-has-clause-stands g c).After-first).stands
@@ -46,16 +50,14 @@ returns-then-not-has-clause-others g c = (looked g (goal.at.returns-then-not-has
 pub returns-then-not-has-clause-waits : goal.returns-then-not-has-clause-waits
 returns-then-not-has-clause-waits g c = λ e up.
     front-waits c.actor_rules_law.ensures.order (held c.self.inside.members.items c.self.inside.done.events c.self.inside.rows c.first.new.self) c.in-Some.message
-    (first-least c.actor_rules_law.ensures.order c.in-Some.message c.self.inside.letters.queue c.first.new.self.queue c.first.ensures.same c.in-Some.ensures.among c.in-Some.ensures.first)
+    (first-least c.actor_rules_law.ensures.order c.in-Some.message c.first.new.self.queue (first g (goal.at.returns-then-not-has-clause-waits g c).In-Some).0 (first g (goal.at.returns-then-not-has-clause-waits g c).In-Some).1)
     (c.if-not-has.ensures.no refl up)
 
 pub count_again-requires-clause-among : goal.count_again-requires-clause-among
-count_again-requires-clause-among g c =
-    Contains-permutation c.self.inside.letters.queue c.first.new.self.queue c.in-Some.message c.first.ensures.same c.in-Some.ensures.among
+count_again-requires-clause-among g c = (first g (goal.at.count_again-requires-clause-among g c).In-Some).0
 
 pub count_again-requires-clause-first : goal.count_again-requires-clause-first
-count_again-requires-clause-first g c =
-    All-permutation (λ (x : Message). is_before x c.in-Some.message ≡ false) c.self.inside.letters.queue c.first.new.self.queue c.first.ensures.same c.in-Some.ensures.first
+count_again-requires-clause-first g c = (first g (goal.at.count_again-requires-clause-first g c).In-Some).1
 
 -- nothing was counted
 refused : (g : Over) (c : After-first g) (now : Flow) → now ≡ c.first.new.self → CountedBeside (rules_of g.R.Reversible.plain) g.R.Reversible.is_value c.args.self.now
@@ -121,7 +123,7 @@ pub returns-clause-fewer : goal.returns-clause-fewer
 returns-clause-fewer g c = elim c.match-count_again.branch [
   | in-Ok w ↦ λ e.
       let a = length_permutation c.first.new.self.queue (c.in-Some.message ∷ c.count_again.new.self.queue) w.in-Ok.ensures.queue in
-      let b = length_permutation c.self.inside.letters.queue c.first.new.self.queue c.first.ensures.same in
+      let b = ap (λ (z : Flow). length z.queue) c.first.ensures.unchanged in
       let d = ap (λ h. length h.flow.queue) c.self.view_is in
       omega arith
   | in-Err w ↦ λ e. not-err true _ _ e w.result-is

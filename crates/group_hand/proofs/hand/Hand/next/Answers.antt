@@ -1,14 +1,11 @@
-use Rattle.std.proofs.Common.{subst, ◌≡◌, [], false, All, Contains, IfSome, IfNone}
-use Rattle.group_hand.specs.Hands.{IsAsBefore}
-use Rattle.group_hand.specs.Passing.{held}
-use Rattle.group_hand.proofs.Still.{as-first}
+use Rattle.std.proofs.Common.{refl, subst, ◌≡◌, [], false, All, Contains, IfSome, IfNone}
+use Rattle.group_hand.proofs.Still.{as-roomy}
 use Rattle.reverse.specs.Rules.{is_before}
 use Rattle.group_hand.proofs.hand.Hand.next.Goals as goal
 
 pub returns-clause-same : goal.returns-clause-same
 returns-clause-same g c =
-    subst (λ h. IsAsBefore h (held c.self.inside.members.items c.self.inside.done.events c.self.inside.rows c.first.new.self)) c.self.view_is
-    (as-first c.self.inside.members.items c.self.inside.done.events c.self.inside.rows c.self.inside.letters c.first.new.self c.first.ensures.same c.first.ensures.others)
+    as-roomy c.args.self.now c.self.inside.members.items c.self.inside.done.events c.self.inside.done.events c.self.inside.rows c.self.inside.letters c.first.new.self c.self.view_is refl c.first.ensures.unchanged
 
 pub returns-clause-among : goal.returns-clause-among
 returns-clause-among g c = subst (λ h. IfSome c.first.result (Contains h.flow.queue)) c.self.view_is c.first.ensures.among

@@ -1,27 +1,29 @@
-use Rattle.std.proofs.Common.{◌≡◌, ◌≢◌, ℕ, ◌<◌, ◌≤◌, List, [], ◌∷◌, ◌++◌, Some, Ok, false, All, Contains, slice_get, subst, sym, ap, ◌∙◌, refl, rules, arith}
+use Rattle.std.proofs.Common.{◌≡◌, ℕ, ◌≤◌, List, [], ◌∷◌, ◌++◌, Some, Result, Ok, Err, false, All, Contains, slice_get, subst, sym, ap, ◌∙◌, refl, rules, arith}
 use Rattle.std.proofs.lemmas.List.{with_items_is}
 use Rattle.std.proofs.lemmas.List.Elements.{All-weaker, All-nil}
 use Rattle.vlink.specs.declared.message.Message.{Message}
 use Rattle.vlink.specs.Order.{message_order}
-use Rattle.virtual_time.specs.Law.{IsAscending, IsOrder}
+use Rattle.virtual_time.specs.Law.{IsOrder}
 use Rattle.virtual_time.proofs.Order.{not_less-time}
 use Rattle.reverse.specs.Rules.{is_before, rules_of}
 use Rattle.reverse.specs.declared.sends.TheConstants.{MOST_SENT}
-use Rattle.antimessages.specs.Counting.{is_after, newest_of}
+use Rattle.group_hand.specs.Answered.{RunsInOrder}
+use Rattle.group_hand.specs.Becoming.{Becomes}
 use Rattle.group_hand.specs.DoneEvents.{messages_of}
-use Rattle.group_hand.specs.Hands.{DoesSent, IsAsBefore}
+use Rattle.group_hand.specs.Hands.{DoesSent, Held, IsAsBefore}
 use Rattle.group_hand.specs.Passing.{held}
 use Rattle.group_hand.specs.declared.in_order.InOrder.TheVariants.{Ran, Idle, Late}
-use Rattle.group_hand.specs.declared.fault.HandFault.TheVariants.{Exhausted}
+use Rattle.group_hand.specs.declared.in_order.InOrder.{InOrder}
+use Rattle.group_hand.specs.declared.fault.HandFault.{HandFault}
+use Rattle.group_hand.specs.declared.fault.HandFault.TheVariants.{Exhausted, OutOfMemory}
 use Rattle.group_hand.proofs.Adding.{adds-run-again}
-use Rattle.group_hand.proofs.Answering.{not-both-faults, not-err, not-idle-late, not-idle-ran, not-ran-late}
 use Rattle.group_hand.proofs.NewestDone.{after-none}
-use Rattle.group_hand.proofs.Still.{as-both, as-empty, as-put_back, as-roomy, on-err, still, took-first}
+use Rattle.group_hand.proofs.Still.{as-roomy, none-back, put-back, roomy-both, still, took-first}
 use Rattle.group_hand.proofs.Telling.{does-both}
 use Rattle.group_hand.proofs.Came.{came-alike}
 use Rattle.group_hand.proofs.Rooms.{room-still, some-room}
 use Rattle.group_hand.proofs.hand.Hand.run_in_order.Given.{Over}
-use Rattle.group_hand.proofs.hand.Hand.run_in_order.Goals.{After-make_room, After-wait_again, In-Some}
+use Rattle.group_hand.proofs.hand.Hand.run_in_order.Goals.{After-in_order_of-outcome, After-make_room, After-pop, After-wait_again, In-Some}
 use Rattle.group_hand.proofs.hand.Hand.run_in_order.Goals as goal
 
 -- where the first message is not earlier than the limit, none is
@@ -32,8 +34,15 @@ all-late O limit m queue first late =
 -- after room was made
 roomy : (g : Over) (c : After-make_room g) → IsAsBefore c.args.self.now (held c.self.inside.members.items c.make_room.new.done.events c.self.inside.rows c.make_room.new.letters)
 roomy g c =
-    subst (λ h. IsAsBefore h (held c.self.inside.members.items c.make_room.new.done.events c.self.inside.rows c.make_room.new.letters)) c.self.view_is
-    (as-roomy c.self.inside.members.items c.self.inside.done.events c.make_room.new.done.events c.self.inside.rows c.self.inside.letters c.make_room.new.letters c.make_room.ensures.done c.make_room.ensures.letters)
+    as-roomy c.args.self.now c.self.inside.members.items c.self.inside.done.events c.make_room.new.done.events c.self.inside.rows c.self.inside.letters c.make_room.new.letters
+    c.self.view_is c.make_room.ensures.done c.make_room.ensures.letters
+
+-- there was no message
+empty : (g : Over) (c : After-pop g) → c.make_room.new.letters.queue ≡ [] → c.pop.new.self.queue ≡ [] → IsAsBefore c.args.self.now (held c.self.inside.members.items c.make_room.new.done.events c.self.inside.rows c.pop.new.self)
+empty g c was is =
+    as-roomy c.args.self.now c.self.inside.members.items c.self.inside.done.events c.make_room.new.done.events c.self.inside.rows c.self.inside.letters c.pop.new.self c.self.view_is c.make_room.ensures.done
+    (roomy-both c.self.inside.letters c.make_room.new.letters c.pop.new.self c.make_room.ensures.letters
+    (none-back c.make_room.new.letters c.pop.new.self was is c.pop.ensures.others))
 
 pub returns-in_default-clause-did : goal.returns-in_default-clause-did
 returns-in_default-clause-did g c =
@@ -42,22 +51,15 @@ returns-in_default-clause-did g c =
 
 pub returns-in_default-pop-clause-did : goal.returns-in_default-pop-clause-did
 returns-in_default-pop-clause-did g c =
-    let members = c.self.inside.members.items in
-    let events = c.make_room.new.done.events in
-    let rows = c.self.inside.rows in
-    still g.R.Reversible.plain g.R.Reversible.is_value c.actor_rules_law.ensures.order c.actor_rules_law.ensures.undoes c.args.self.now (held members events rows c.pop.new.self)
-    (as-both c.args.self.now (held members events rows c.make_room.new.letters) (held members events rows c.pop.new.self) (roomy g (goal.at.returns-in_default-pop-clause-did g c).After-make_room)
-    (as-empty members events rows c.make_room.new.letters c.pop.new.self c.in_default-pop.ensures.none c.in_default-pop.ensures.empty c.pop.ensures.others))
+    still g.R.Reversible.plain g.R.Reversible.is_value c.actor_rules_law.ensures.order c.actor_rules_law.ensures.undoes c.args.self.now
+    (held c.self.inside.members.items c.make_room.new.done.events c.self.inside.rows c.pop.new.self) (empty g (goal.at.returns-in_default-pop-clause-did g c).After-pop c.in_default-pop.ensures.none c.in_default-pop.ensures.empty)
 
 -- the first message waits again
-back : (g : Over) (c : After-wait_again g) (before : IsAsBefore c.args.self.now (held c.self.inside.members.items c.make_room.new.done.events c.self.inside.rows c.make_room.new.letters)) →
-    IsAsBefore c.args.self.now (held c.self.inside.members.items c.make_room.new.done.events c.self.inside.rows c.wait_again.new.self)
-back g c before =
-    let members = c.self.inside.members.items in
-    let events = c.make_room.new.done.events in
-    let rows = c.self.inside.rows in
-    as-both c.args.self.now (held members events rows c.make_room.new.letters) (held members events rows c.wait_again.new.self) before
-    (as-put_back members events rows c.make_room.new.letters c.pop.new.self c.wait_again.new.self c.in-Some.message c.in-Some.ensures.taken c.wait_again.ensures.waits c.wait_again.ensures.others)
+back : (g : Over) (c : After-wait_again g) → IsAsBefore c.args.self.now (held c.self.inside.members.items c.make_room.new.done.events c.self.inside.rows c.wait_again.new.self)
+back g c =
+    as-roomy c.args.self.now c.self.inside.members.items c.self.inside.done.events c.make_room.new.done.events c.self.inside.rows c.self.inside.letters c.wait_again.new.self c.self.view_is c.make_room.ensures.done
+    (roomy-both c.self.inside.letters c.make_room.new.letters c.wait_again.new.self c.make_room.ensures.letters
+    (put-back c.make_room.new.letters c.pop.new.self c.wait_again.new.self c.in-Some.message c.in-Some.ensures.taken c.wait_again.ensures.placed c.wait_again.ensures.others))
 
 -- it is the first of the queue
 first : (g : Over) (c : In-Some g) → Contains c.args.self.now.flow.queue c.in-Some.message × All (λ x. is_before x c.in-Some.message ≡ false) c.args.self.now.flow.queue
@@ -68,140 +70,8 @@ first g c =
 
 pub returns-in_default-outcome-clause-did : goal.returns-in_default-outcome-clause-did
 returns-in_default-outcome-clause-did g c =
-    let at = goal.at.returns-in_default-outcome-clause-did g c in
     still g.R.Reversible.plain g.R.Reversible.is_value c.actor_rules_law.ensures.order c.actor_rules_law.ensures.undoes c.args.self.now
-    (held c.self.inside.members.items c.make_room.new.done.events c.self.inside.rows c.wait_again.new.self) (back g at.After-wait_again (roomy g at.After-make_room))
-
-pub returns-in_default-outcome-clause-late : goal.returns-in_default-outcome-clause-late
-returns-in_default-outcome-clause-late g c = λ e.
-    let k = first g (goal.at.returns-in_default-outcome-clause-late g c).In-Some in
-    let b = rw e at c.in_order_of-outcome.ensures in (
-      c.in-Some.message,
-      subst (λ ds. is_after message_order (newest_of (messages_of ds)) c.in-Some.message ≡ false) (c.make_room.ensures.done ∙ ap (λ h. h.done) c.self.view_is) b.1,
-      k.0,
-      k.1,
-    )
-
-pub returns-in_default-outcome-clause-exhausted : goal.returns-in_default-outcome-clause-exhausted
-returns-in_default-outcome-clause-exhausted g c = λ e.
-    let k = first g (goal.at.returns-in_default-outcome-clause-exhausted g c).In-Some in
-    let b = rw e at c.in_order_of-outcome.ensures in (
-      c.in-Some.message,
-      k.0,
-      k.1,
-      subst (λ ds. IsAscending message_order (messages_of ds) → All (λ x. x ≢ c.in-Some.message) (messages_of ds)) (c.make_room.ensures.done ∙ ap (λ h. h.done) c.self.view_is)
-          (λ up. after-none c.actor_rules_law.ensures.order c.in-Some.message (messages_of c.make_room.new.done.events) up b.1),
-      λ s i. b.2 s (subst (λ ms. slice_get ms c.in-Some.message.receiver ≡ Some (Some s)) (sym c.deref.ensures.value)
-          (subst (λ h. slice_get h.members c.in-Some.message.receiver ≡ Some (Some s)) (sym c.self.view_is) i)),
-    )
-
-pub returns-in_default-outcome-clause-unchanged : goal.returns-in_default-outcome-clause-unchanged
-returns-in_default-outcome-clause-unchanged g c =
-    let at = goal.at.returns-in_default-outcome-clause-unchanged g c in
-    on-err c.in_order_of-outcome.result _ (back g at.After-wait_again (roomy g at.After-make_room))
-
-pub returns-in_default-outcome-clause-still : goal.returns-in_default-outcome-clause-still
-returns-in_default-outcome-clause-still g c = λ e.
-    let at = goal.at.returns-in_default-outcome-clause-still g c in
-    back g at.After-wait_again (roomy g at.After-make_room)
-
-pub returns-in_default-pop-clause-idle_still : goal.returns-in_default-pop-clause-idle_still
-returns-in_default-pop-clause-idle_still g c = λ _.
-    let members = c.self.inside.members.items in
-    let events = c.make_room.new.done.events in
-    let rows = c.self.inside.rows in
-    as-both c.args.self.now (held members events rows c.make_room.new.letters) (held members events rows c.pop.new.self) (roomy g (goal.at.returns-in_default-pop-clause-idle_still g c).After-make_room)
-    (as-empty members events rows c.make_room.new.letters c.pop.new.self c.in_default-pop.ensures.none c.in_default-pop.ensures.empty c.pop.ensures.others)
-
-pub returns-in_default-outcome-clause-idle_still : goal.returns-in_default-outcome-clause-idle_still
-returns-in_default-outcome-clause-idle_still g c = λ e.
-    let at = goal.at.returns-in_default-outcome-clause-idle_still g c in
-    back g at.After-wait_again (roomy g at.After-make_room)
-
-pub returns-in_default-outcome-clause-soon : goal.returns-in_default-outcome-clause-soon
-returns-in_default-outcome-clause-soon g c = λ e.
-    let k = first g (goal.at.returns-in_default-outcome-clause-soon g c).In-Some in
-    let b = rw e at c.in_order_of-outcome.ensures in
-    (c.in-Some.message, k.0, b.0)
-
-pub returns-in-Ok-Ran-clause-ran : goal.returns-in-Ok-Ran-clause-ran
-returns-in-Ok-Ran-clause-ran g c = λ _.
-    let q = c.args.self.now.flow.queue in
-    let k = first g (goal.at.returns-in-Ok-Ran-clause-ran g c).In-Some in
-    let d = c.handle_in_order.ensures.done in
-    let e : c.in_order_of-outcome.result ≡ Ok Ran = search rules in
-    let b = rw e at c.in_order_of-outcome.ensures in
-    let w = subst (λ (m : Message). Contains q m × All (λ x. is_before x m ≡ false) q × (m.time < c.args.limit)) (sym d.2) (k.0, k.1, b.0) in
-    (d.0, d.1 ∙ ap (λ z. z ++ d.0 ∷ []) (c.make_room.ensures.done ∙ ap (λ h. h.done) c.self.view_is), w.0, w.1, w.2)
-
--- nothing was answered, and the fault is want of memory
-pub returns-in_default-clause-idle : goal.returns-in_default-clause-idle
-returns-in_default-clause-idle g c = λ e. not-err Idle _ _ e refl
-
-pub returns-in_default-clause-late : goal.returns-in_default-clause-late
-returns-in_default-clause-late g c = λ e. not-err Late _ _ e refl
-
-pub returns-in_default-clause-still : goal.returns-in_default-clause-still
-returns-in_default-clause-still g c = λ e. not-err Late _ _ e refl
-
-pub returns-in_default-clause-idle_still : goal.returns-in_default-clause-idle_still
-returns-in_default-clause-idle_still g c = λ e. not-err Idle _ _ e refl
-
-pub returns-in_default-clause-ran : goal.returns-in_default-clause-ran
-returns-in_default-clause-ran g c = λ e. not-err Ran _ _ e refl
-
-pub returns-in_default-clause-soon : goal.returns-in_default-clause-soon
-returns-in_default-clause-soon g c = λ e. not-err Late _ _ e refl
-
-pub returns-in_default-clause-exhausted : goal.returns-in_default-clause-exhausted
-returns-in_default-clause-exhausted g c = λ e. not-both-faults _ refl e
-
-pub returns-in_default-clause-unchanged : goal.returns-in_default-clause-unchanged
-returns-in_default-clause-unchanged g c = roomy g (goal.at.returns-in_default-clause-unchanged g c).After-make_room
-
-pub returns-in_default-pop-clause-late : goal.returns-in_default-pop-clause-late
-returns-in_default-pop-clause-late g c = λ e. not-idle-late _ refl e
-
-pub returns-in_default-pop-clause-still : goal.returns-in_default-pop-clause-still
-returns-in_default-pop-clause-still g c = λ e. not-idle-late _ refl e
-
-pub returns-in_default-pop-clause-soon : goal.returns-in_default-pop-clause-soon
-returns-in_default-pop-clause-soon g c = λ e. not-idle-late _ refl e
-
-pub returns-in_default-pop-clause-ran : goal.returns-in_default-pop-clause-ran
-returns-in_default-pop-clause-ran g c = λ e. not-idle-ran _ refl e
-
-pub returns-in_default-pop-clause-exhausted : goal.returns-in_default-pop-clause-exhausted
-returns-in_default-pop-clause-exhausted g c = λ e. not-err Idle Exhausted _ refl e
-
-pub returns-in_default-pop-clause-unchanged : goal.returns-in_default-pop-clause-unchanged
-returns-in_default-pop-clause-unchanged g c = tt
-
-pub returns-in-Ok-Ran-clause-late : goal.returns-in-Ok-Ran-clause-late
-returns-in-Ok-Ran-clause-late g c = λ e. not-ran-late _ refl e
-
-pub returns-in-Ok-Ran-clause-still : goal.returns-in-Ok-Ran-clause-still
-returns-in-Ok-Ran-clause-still g c = λ e. not-ran-late _ refl e
-
-pub returns-in-Ok-Ran-clause-soon : goal.returns-in-Ok-Ran-clause-soon
-returns-in-Ok-Ran-clause-soon g c = λ e. not-ran-late _ refl e
-
-pub returns-in-Ok-Ran-clause-idle : goal.returns-in-Ok-Ran-clause-idle
-returns-in-Ok-Ran-clause-idle g c = λ e. not-idle-ran _ e refl
-
-pub returns-in-Ok-Ran-clause-idle_still : goal.returns-in-Ok-Ran-clause-idle_still
-returns-in-Ok-Ran-clause-idle_still g c = λ e. not-idle-ran _ e refl
-
-pub returns-in-Ok-Ran-clause-exhausted : goal.returns-in-Ok-Ran-clause-exhausted
-returns-in-Ok-Ran-clause-exhausted g c = λ e. not-err Ran Exhausted _ refl e
-
-pub returns-in-Ok-Ran-clause-unchanged : goal.returns-in-Ok-Ran-clause-unchanged
-returns-in-Ok-Ran-clause-unchanged g c = tt
-
-pub returns-in_default-outcome-clause-idle : goal.returns-in_default-outcome-clause-idle
-returns-in_default-outcome-clause-idle g c = λ e.
-    let k = first g (goal.at.returns-in_default-outcome-clause-idle g c).In-Some in
-    all-late c.actor_rules_law.ensures.order c.args.limit c.in-Some.message c.args.self.now.flow.queue k.1 (rw e at c.in_order_of-outcome.ensures)
+    (held c.self.inside.members.items c.make_room.new.done.events c.self.inside.rows c.wait_again.new.self) (back g (goal.at.returns-in_default-outcome-clause-did g c).After-wait_again)
 
 pub returns-in-Ok-Ran-clause-did : goal.returns-in-Ok-Ran-clause-did
 returns-in-Ok-Ran-clause-did g c =
@@ -279,31 +149,55 @@ handle_in_order-requires-clause-room g c = room-still _ _ _ c.in-Ok.ensures.room
 pub wait_again-requires : goal.wait_again-requires
 wait_again-requires g c = some-room MOST_SENT _ _ c.in-Ok.ensures.room c.pop.ensures.room
 
-pub returns-in_default-pop-clause-idle : goal.returns-in_default-pop-clause-idle
-returns-in_default-pop-clause-idle g c = λ _.
-    subst (λ (q : List Message). All (λ m. c.args.limit ≤ m.time) q)
-    (sym c.in_default-pop.ensures.none ∙ (ap (λ z. z.queue) c.make_room.ensures.letters ∙ ap (λ h. h.flow.queue) c.self.view_is)) (All-nil (λ (m : Message). c.args.limit ≤ m.time))
+-- what is told of the first message where it waits again
+told-back : {S K : Type 0} → IsOrder message_order → (counter : S → ℕ) (limit : ℕ) (h new : Held S K) (m : Message) → IsAsBefore h new → Contains h.flow.queue m × All (λ x. is_before x m ≡ false) h.flow.queue →
+    (told : Result InOrder HandFault) → (told ≡ Ok Ran → ⊥) → Becomes counter h.members h.done m limit told → RunsInOrder counter limit h new told
+told-back O counter limit h new m a k (Ok Ran) other b = absurd (other refl)
+told-back O counter limit h new m a k (Ok Idle) other b = (a, all-late O limit m h.flow.queue k.1 b)
+told-back O counter limit h new m a k (Ok Late) other b = (a, (m, k.0, k.1, b.0, b.1))
+told-back O counter limit h new m a k (Err OutOfMemory) other b = a
+told-back O counter limit h new m a k (Err Exhausted) other b = (a, (m, k.0, k.1, (λ up. after-none O m (messages_of h.done) up b.1), b.2))
 
--- the first message of the queue, which is not done, was handled
-pub returns-in-Ok-Ran-clause-first : goal.returns-in-Ok-Ran-clause-first
-returns-in-Ok-Ran-clause-first g c = λ _.
-    let k = first g (goal.at.returns-in-Ok-Ran-clause-first g c).In-Some in
-    let e : c.in_order_of-outcome.result ≡ Ok Ran = search rules in
-    let b = rw e at c.in_order_of-outcome.ensures in
+-- the result for it, as the group is seen
+becomes : (g : Over) (c : After-in_order_of-outcome g) →
+    Becomes (λ s. g.R.Reversible.plain.counter s) c.args.self.now.members c.args.self.now.done c.in-Some.message c.args.limit c.in_order_of-outcome.result
+becomes g c =
+    subst (λ ms. Becomes (λ s. g.R.Reversible.plain.counter s) ms c.args.self.now.done c.in-Some.message c.args.limit c.in_order_of-outcome.result) (c.deref.ensures.value ∙ ap (λ h. h.members) c.self.view_is)
+    (subst (λ ds. Becomes (λ s. g.R.Reversible.plain.counter s) c.deref.result.now ds c.in-Some.message c.args.limit c.in_order_of-outcome.result) (c.make_room.ensures.done ∙ ap (λ h. h.done) c.self.view_is)
+    c.in_order_of-outcome.ensures)
+
+pub returns-in_default-clause-told : goal.returns-in_default-clause-told
+returns-in_default-clause-told g c = roomy g (goal.at.returns-in_default-clause-told g c).After-make_room
+
+pub returns-in_default-pop-clause-told : goal.returns-in_default-pop-clause-told
+returns-in_default-pop-clause-told g c =
+    let none = sym c.in_default-pop.ensures.none ∙ (ap (λ z. z.queue) c.make_room.ensures.letters ∙ ap (λ h. h.flow.queue) c.self.view_is) in (
+      empty g (goal.at.returns-in_default-pop-clause-told g c).After-pop c.in_default-pop.ensures.none c.in_default-pop.ensures.empty,
+      subst (λ (q : List Message). All (λ m. c.args.limit ≤ m.time) q) none (All-nil (λ (m : Message). c.args.limit ≤ m.time)),
+    )
+
+pub returns-in_default-outcome-clause-told : goal.returns-in_default-outcome-clause-told
+returns-in_default-outcome-clause-told g c =
+    let at = goal.at.returns-in_default-outcome-clause-told g c in
+    told-back c.actor_rules_law.ensures.order (λ s. g.R.Reversible.plain.counter s) c.args.limit c.args.self.now _ c.in-Some.message (back g at.After-wait_again) (first g at.In-Some)
+    c.in_order_of-outcome.result (search rules) (becomes g at.After-in_order_of-outcome)
+
+-- the first message, which is not done, was handled
+pub returns-in-Ok-Ran-clause-told : goal.returns-in-Ok-Ran-clause-told
+returns-in-Ok-Ran-clause-told g c =
+    let here = goal.at.returns-in-Ok-Ran-clause-told g c in
+    let k = first g here.In-Some in
+    let is : c.in_order_of-outcome.result ≡ Ok Ran = search rules in
+    let b = rw is at (becomes g here.After-in_order_of-outcome) in
+    let d = c.handle_in_order.ensures.done in
     let words = ap (λ z. z.words) c.in-Some.ensures.taken.others ∙ (ap (λ z. z.words) c.make_room.ensures.letters ∙ ap (λ h. h.flow.words) c.self.view_is) in (
       c.in-Some.message,
       b.0,
       record {
         among = k.0;
         first = k.1;
-        not_done = subst (λ ds. IsAscending message_order (messages_of ds) → All (λ x. x ≢ c.in-Some.message) (messages_of ds)) (c.make_room.ensures.done ∙ ap (λ h. h.done) c.self.view_is)
-            (λ up. after-none c.actor_rules_law.ensures.order c.in-Some.message (messages_of c.make_room.new.done.events) up b.1);
+        not_done = λ up. after-none c.actor_rules_law.ensures.order c.in-Some.message (messages_of c.args.self.now.done) up b.1;
         words = adds-run-again c.in-Some.message.receiver c.args.self.now.flow.words c.pop.new.self.words c.handle_in_order.new.letters.words words c.handle_in_order.ensures.words;
       },
+      (d.0, d.2, d.1 ∙ ap (λ z. z ++ d.0 ∷ []) (c.make_room.ensures.done ∙ ap (λ h. h.done) c.self.view_is)),
     )
-
-pub returns-in_default-clause-first : goal.returns-in_default-clause-first
-returns-in_default-clause-first g c = λ e. not-err Ran _ _ e refl
-
-pub returns-in_default-pop-clause-first : goal.returns-in_default-pop-clause-first
-returns-in_default-pop-clause-first g c = λ e. not-idle-ran _ refl e

@@ -1,25 +1,23 @@
 use Rattle.std.proofs.Common.{ℕ, ◌≡◌, ◌≢◌, ◌+◌, [], ◌∷◌, List, Some, inl, inr, false, All, Contains, IsPermutation, length, slice_get, subst, sym, ap, ◌∙◌, refl, rules}
 use Rattle.std.proofs.lemmas.List.{with_items_is}
-use Rattle.std.proofs.lemmas.List.Sorted.{Contains-permutation, IsPermutation-trans, All-permutation}
 use Rattle.vlink.specs.declared.message.Message.{Message}
 use Rattle.vlink.specs.Order.{message_order}
 use Rattle.virtual_time.specs.Law.{IsAscending}
 use Rattle.reverse.specs.Rules.{rules_of, is_before}
+use Rattle.group_hand.specs.Answered.{RunsOutOfOrder}
 use Rattle.group_hand.specs.DoneEvents.{messages_of}
 use Rattle.group_hand.specs.Flow.{Flow}
 use Rattle.group_hand.specs.Handling.{HasLater}
 use Rattle.group_hand.specs.Hands.{DoesSent, IsAsBefore}
 use Rattle.group_hand.specs.Passing.{held}
 use Rattle.group_hand.specs.Undoing.{CameTo}
-use Rattle.group_hand.specs.declared.fault.HandFault.TheVariants.{Exhausted}
 use Rattle.group_hand.proofs.Adding.{adds-run-again}
 use Rattle.group_hand.proofs.Among.{contains-in}
-use Rattle.group_hand.proofs.Answering.{no-err, no-ok, not-both-faults, not-err, where-ok}
 use Rattle.group_hand.proofs.CountsAgain.{counts-again}
 use Rattle.group_hand.proofs.FrontWaits.{not-waiting}
 use Rattle.group_hand.proofs.NotLater.{not-later}
 use Rattle.group_hand.proofs.Telling.{does-both}
-use Rattle.group_hand.proofs.Still.{as-both, as-first, as-roomy, on-err, still}
+use Rattle.group_hand.proofs.Still.{as-roomy, roomy-both, still}
 use Rattle.group_hand.proofs.Came.{came-alike}
 use Rattle.group_hand.proofs.hand.Hand.run_out_of_order.Given.{Over}
 use Rattle.group_hand.proofs.hand.Hand.run_out_of_order.Goals.{After-first, After-make_late_room, In-Some, in-Ok, in-Err}
@@ -28,8 +26,13 @@ use Rattle.group_hand.proofs.hand.Hand.run_out_of_order.Goals as goal
 -- after a look at the first message
 as-looked : (g : Over) (c : After-first g) → IsAsBefore c.args.self.now (held c.self.inside.members.items c.self.inside.done.events c.self.inside.rows c.first.new.self)
 as-looked g c =
-    subst (λ h. IsAsBefore h (held c.self.inside.members.items c.self.inside.done.events c.self.inside.rows c.first.new.self)) c.self.view_is
-    (as-first c.self.inside.members.items c.self.inside.done.events c.self.inside.rows c.self.inside.letters c.first.new.self c.first.ensures.same c.first.ensures.others)
+    as-roomy c.args.self.now c.self.inside.members.items c.self.inside.done.events c.self.inside.done.events c.self.inside.rows c.self.inside.letters c.first.new.self c.self.view_is refl c.first.ensures.unchanged
+
+-- the first message is still the first
+ahead : (g : Over) (c : In-Some g) → Contains c.first.new.self.queue c.in-Some.message × All (λ x. is_before x c.in-Some.message ≡ false) c.first.new.self.queue
+ahead g c =
+    subst (λ (z : Flow). Contains z.queue c.in-Some.message × All (λ x. is_before x c.in-Some.message ≡ false) z.queue) (sym c.first.ensures.unchanged)
+    (c.in-Some.ensures.among, c.in-Some.ensures.first)
 
 looked : (g : Over) (c : After-first g) → DoesSent (rules_of g.R.Reversible.plain) g.R.Reversible.is_value c.args.self.now []
     (held c.self.inside.members.items c.self.inside.done.events c.self.inside.rows c.first.new.self) []
@@ -39,37 +42,19 @@ looked g c =
     (as-looked g c)
 
 pub count_again-requires-clause-among : goal.count_again-requires-clause-among
-count_again-requires-clause-among g c =
-    Contains-permutation c.self.inside.letters.queue c.first.new.self.queue c.in-Some.message c.first.ensures.same c.in-Some.ensures.among
+count_again-requires-clause-among g c = (ahead g (goal.at.count_again-requires-clause-among g c).In-Some).0
 
 pub count_again-requires-clause-first : goal.count_again-requires-clause-first
-count_again-requires-clause-first g c =
-    All-permutation (λ (x : Message). is_before x c.in-Some.message ≡ false) c.self.inside.letters.queue c.first.new.self.queue c.first.ensures.same c.in-Some.ensures.first
+count_again-requires-clause-first g c = (ahead g (goal.at.count_again-requires-clause-first g c).In-Some).1
 
 pub returns-then-not-has_numbers-clause-did : goal.returns-then-not-has_numbers-clause-did
 returns-then-not-has_numbers-clause-did g c = looked g (goal.at.returns-then-not-has_numbers-clause-did g c).After-first
 
-pub returns-then-not-has_numbers-clause-exhausted : goal.returns-then-not-has_numbers-clause-exhausted
-returns-then-not-has_numbers-clause-exhausted g c = λ e. (
-  c.in-Some.message,
-  subst (λ h. Contains h.flow.queue c.in-Some.message) c.self.view_is c.in-Some.ensures.among,
-  subst (λ h. All (λ x. is_before x c.in-Some.message ≡ false) h.flow.queue) c.self.view_is c.in-Some.ensures.first,
-  subst (λ ds. IsAscending message_order (messages_of ds) → All (λ x. x ≢ c.in-Some.message) (messages_of ds)) (ap (λ h. h.done) c.self.view_is) (c.has.ensures.no (search rules)),
-  λ s i. c.if-not-has_numbers.ensures.no refl s
-      (subst (λ ms. slice_get ms c.in-Some.message.receiver ≡ Some (Some s)) (sym c.deref.ensures.value)
-      (subst (λ h. slice_get h.members c.in-Some.message.receiver ≡ Some (Some s)) (sym c.self.view_is) i)),
-)
-
 -- after room was made
 as-it-was : (g : Over) (c : After-make_late_room g) → IsAsBefore c.args.self.now (held c.self.inside.members.items c.make_late_room.new.done.events c.self.inside.rows c.make_late_room.new.letters)
 as-it-was g c =
-    let members = c.self.inside.members.items in
-    let done = c.self.inside.done.events in
-    let rows = c.self.inside.rows in
-    as-both c.args.self.now (held members done rows c.first.new.self) (held members c.make_late_room.new.done.events rows c.make_late_room.new.letters)
-    (subst (λ h. IsAsBefore h (held members done rows c.first.new.self)) c.self.view_is
-    (as-first members done rows c.self.inside.letters c.first.new.self c.first.ensures.same c.first.ensures.others))
-    (as-roomy members done c.make_late_room.new.done.events rows c.first.new.self c.make_late_room.new.letters c.make_late_room.ensures.done c.make_late_room.ensures.letters)
+    as-roomy c.args.self.now c.self.inside.members.items c.self.inside.done.events c.make_late_room.new.done.events c.self.inside.rows c.self.inside.letters c.make_late_room.new.letters
+    c.self.view_is c.make_late_room.ensures.done (roomy-both c.self.inside.letters c.first.new.self c.make_late_room.new.letters c.first.ensures.unchanged c.make_late_room.ensures.letters)
 
 roomy : (g : Over) (c : After-make_late_room g) → DoesSent (rules_of g.R.Reversible.plain) g.R.Reversible.is_value c.args.self.now []
     (held c.self.inside.members.items c.make_late_room.new.done.events c.self.inside.rows c.make_late_room.new.letters) []
@@ -83,12 +68,12 @@ returns-in_default-make_late_room-clause-did g c = roomy g (goal.at.returns-in_d
 pub handle_out_of_order-requires-clause-among : goal.handle_out_of_order-requires-clause-among
 handle_out_of_order-requires-clause-among g c =
     subst (λ (xs : List Message). Contains xs c.in-Some.message) (sym (ap (λ z. z.queue) c.make_late_room.ensures.letters))
-    (Contains-permutation c.self.inside.letters.queue c.first.new.self.queue c.in-Some.message c.first.ensures.same c.in-Some.ensures.among)
+    (ahead g (goal.at.handle_out_of_order-requires-clause-among g c).In-Some).0
 
 pub handle_out_of_order-requires-clause-first : goal.handle_out_of_order-requires-clause-first
 handle_out_of_order-requires-clause-first g c =
     subst (λ (xs : List Message). All (λ x. is_before x c.in-Some.message ≡ false) xs) (sym (ap (λ z. z.queue) c.make_late_room.ensures.letters))
-    (All-permutation (λ (x : Message). is_before x c.in-Some.message ≡ false) c.self.inside.letters.queue c.first.new.self.queue c.first.ensures.same c.in-Some.ensures.first)
+    (ahead g (goal.at.handle_out_of_order-requires-clause-first g c).In-Some).1
 
 pub returns-clause-did : goal.returns-clause-did
 returns-clause-did g c =
@@ -115,46 +100,6 @@ first : (g : Over) (c : In-Some g) → Contains c.args.self.now.flow.queue c.in-
 first g c =
     subst (λ (q : List Message). Contains q c.in-Some.message × All (λ x. is_before x c.in-Some.message ≡ false) q) (ap (λ h. h.flow.queue) c.self.view_is)
     (c.in-Some.ensures.among, c.in-Some.ensures.first)
-
-pub returns-clause-ran : goal.returns-clause-ran
-returns-clause-ran g c = λ x v stands.
-    let m = c.in-Some.message in
-    let k = first g (goal.at.returns-clause-ran g c).In-Some in
-    let same = c.make_late_room.ensures.done ∙ ap (λ h. h.done) c.self.view_is in
-    let able : (s : g.row.R.Denot) × (slice_get c.args.self.now.members m.receiver ≡ Some (Some s)) =
-    let a = c.if-not-has_numbers.ensures.yes refl in
-    (a.0, subst (λ ms. slice_get ms m.receiver ≡ Some (Some a.0)) (c.deref.ensures.value ∙ ap (λ h. h.members) c.self.view_is) a.1) in
-    let not_done = subst (λ ds. IsAscending message_order (messages_of ds) → All (λ y. y ≢ m) (messages_of ds)) (ap (λ h. h.done) c.self.view_is) (c.if-has.ensures.no refl) in (
-      m,
-      k.0,
-      k.1,
-      elim c.handle_out_of_order.ensures.handled [
-        | inl e ↦ inl (e ∙ ap (λ z. length z + 1) same)
-        | inr l ↦ absurd (not-later g.R.Reversible.plain g.R.Reversible.is_value c.actor_rules_law.ensures.order x v c.args.self.now m able.0 stands able.1 k.0 not_done
-            (subst (HasLater message_order m) same l))
-      ],
-    )
-
-pub returns-then-not-has_numbers-clause-ran : goal.returns-then-not-has_numbers-clause-ran
-returns-then-not-has_numbers-clause-ran g c = tt
-
-pub returns-then-not-has_numbers-clause-unchanged : goal.returns-then-not-has_numbers-clause-unchanged
-returns-then-not-has_numbers-clause-unchanged g c = as-looked g (goal.at.returns-then-not-has_numbers-clause-unchanged g c).After-first
-
-pub returns-in_default-make_late_room-clause-ran : goal.returns-in_default-make_late_room-clause-ran
-returns-in_default-make_late_room-clause-ran g c = tt
-
-pub returns-in_default-make_late_room-clause-exhausted : goal.returns-in_default-make_late_room-clause-exhausted
-returns-in_default-make_late_room-clause-exhausted g c = λ e. not-both-faults _ refl e
-
-pub returns-in_default-make_late_room-clause-unchanged : goal.returns-in_default-make_late_room-clause-unchanged
-returns-in_default-make_late_room-clause-unchanged g c = as-it-was g (goal.at.returns-in_default-make_late_room-clause-unchanged g c).After-make_late_room
-
-pub returns-clause-exhausted : goal.returns-clause-exhausted
-returns-clause-exhausted g c = λ e. not-err _ Exhausted _ refl e
-
-pub returns-clause-unchanged : goal.returns-clause-unchanged
-returns-clause-unchanged g c = tt
 
 pub handle_out_of_order-requires-clause-able : goal.handle_out_of_order-requires-clause-able
 handle_out_of_order-requires-clause-able g c =
@@ -226,70 +171,71 @@ returns-then-has-clause-did g c =
       | in-Err w ↦ subst (λ ls. DoesSent r V c.args.self.now [] (held members done rows ls) []) (sym w.in-Err.ensures.unchanged) before
     ]
 
-pub returns-then-has-clause-ran : goal.returns-then-has-clause-ran
-returns-then-has-clause-ran g c =
-    let k = first g (goal.at.returns-then-has-clause-ran g c).In-Some in
-    elim c.match-count_again.branch [
-      | in-Ok w ↦ where-ok _ _ w.result-is (λ x v s. (
+pub returns-then-not-has_numbers-clause-told : goal.returns-then-not-has_numbers-clause-told
+returns-then-not-has_numbers-clause-told g c =
+    let at = goal.at.returns-then-not-has_numbers-clause-told g c in
+    let k = first g at.In-Some in (
+      as-looked g at.After-first,
+      (
         c.in-Some.message,
         k.0,
         k.1,
-        inr (subst (λ (q : List Message). IsPermutation q (c.in-Some.message ∷ c.count_again.new.self.queue)) (ap (λ h. h.flow.queue) c.self.view_is)
-            (IsPermutation-trans c.self.inside.letters.queue c.first.new.self.queue (c.in-Some.message ∷ c.count_again.new.self.queue) c.first.ensures.same w.in-Ok.ensures.queue)),
-      ))
-      | in-Err w ↦ no-ok _ _ _ w.result-is
-    ]
+        subst (λ ds. IsAscending message_order (messages_of ds) → All (λ x. x ≢ c.in-Some.message) (messages_of ds)) (ap (λ h. h.done) c.self.view_is) (c.has.ensures.no (search rules)),
+        λ s i. c.if-not-has_numbers.ensures.no refl s
+            (subst (λ ms. slice_get ms c.in-Some.message.receiver ≡ Some (Some s)) (sym c.deref.ensures.value)
+            (subst (λ h. slice_get h.members c.in-Some.message.receiver ≡ Some (Some s)) (sym c.self.view_is) i)),
+      ),
+    )
 
-pub returns-then-has-clause-exhausted : goal.returns-then-has-clause-exhausted
-returns-then-has-clause-exhausted g c = λ e. elim c.match-count_again.branch [
-  | in-Ok w ↦ not-err _ Exhausted _ w.result-is e
-  | in-Err w ↦ not-both-faults _ w.result-is e
-]
+pub returns-in_default-make_late_room-clause-told : goal.returns-in_default-make_late_room-clause-told
+returns-in_default-make_late_room-clause-told g c = as-it-was g (goal.at.returns-in_default-make_late_room-clause-told g c).After-make_late_room
 
-pub returns-then-has-clause-unchanged : goal.returns-then-has-clause-unchanged
-returns-then-has-clause-unchanged g c =
-    elim c.match-count_again.branch [
-      | in-Ok w ↦ no-err _ _ _ w.result-is
-      | in-Err w ↦ on-err _ _ (subst (λ ls. IsAsBefore c.args.self.now (held c.self.inside.members.items c.self.inside.done.events c.self.inside.rows ls))
-          (sym w.in-Err.ensures.unchanged) (as-looked g (goal.at.returns-then-has-clause-unchanged g c).After-first))
-    ]
-
--- the first message of the queue was handled, if it was not done
-pub returns-clause-first : goal.returns-clause-first
-returns-clause-first g c = λ waits x v stands.
+-- a message that is done already counts beside
+pub returns-then-has-clause-told : goal.returns-then-has-clause-told
+returns-then-has-clause-told g c =
+    let at = goal.at.returns-then-has-clause-told g c in
+    let r = rules_of g.R.Reversible.plain in
+    let V = g.R.Reversible.is_value in
+    let k = first g at.In-Some in
     let m = c.in-Some.message in
-    let k = first g (goal.at.returns-clause-first g c).In-Some in
+    let there = subst (λ ds. Contains (messages_of ds) m) (ap (λ h. h.done) c.self.view_is) (c.if-has.ensures.yes refl) in
+    let new = held c.self.inside.members.items c.self.inside.done.events c.self.inside.rows c.count_again.new.self in
+    elim c.match-count_again.branch [
+      | in-Ok w ↦ subst (RunsOutOfOrder r V (λ s. g.R.Reversible.plain.counter s) c.args.self.now new) (sym w.result-is) (λ x v stands. (
+        m,
+        k.1,
+        k.0,
+        inr (subst (λ (q : List Message). IsPermutation q (m ∷ c.count_again.new.self.queue)) (ap (λ (z : Flow). z.queue) c.first.ensures.unchanged ∙ ap (λ h. h.flow.queue) c.self.view_is) w.in-Ok.ensures.queue),
+        λ waits. absurd (not-waiting c.actor_rules_law.ensures.order c.args.self.now m k.0 k.1 there (waits stands.ascending)),
+      ))
+      | in-Err w ↦ subst (RunsOutOfOrder r V (λ s. g.R.Reversible.plain.counter s) c.args.self.now new) (sym w.result-is)
+          (subst (λ ls. IsAsBefore c.args.self.now (held c.self.inside.members.items c.self.inside.done.events c.self.inside.rows ls)) (sym w.in-Err.ensures.unchanged) (as-looked g at.After-first))
+    ]
+
+pub returns-clause-told : goal.returns-clause-told
+returns-clause-told g c = λ x v stands.
+    let at = goal.at.returns-clause-told g c in
+    let m = c.in-Some.message in
+    let k = first g at.In-Some in
     let same = c.make_late_room.ensures.done ∙ ap (λ h. h.done) c.self.view_is in
     let able : (s : g.row.R.Denot) × (slice_get c.args.self.now.members m.receiver ≡ Some (Some s)) =
     let a = c.if-not-has_numbers.ensures.yes refl in
     (a.0, subst (λ ms. slice_get ms m.receiver ≡ Some (Some a.0)) (c.deref.ensures.value ∙ ap (λ h. h.members) c.self.view_is) a.1) in
     let not_done = subst (λ ds. IsAscending message_order (messages_of ds) → All (λ y. y ≢ m) (messages_of ds)) (ap (λ h. h.done) c.self.view_is) (c.if-has.ensures.no refl) in
-    let words = ap (λ (z : Flow). z.words) (as-it-was g (goal.at.returns-clause-first g c).After-make_late_room).flow in (
+    let words = ap (λ h. h.flow.words) (as-it-was g at.After-make_late_room) in
+    let never : HasLater message_order m c.make_late_room.new.done.events → ⊥ =
+    λ l. not-later g.R.Reversible.plain g.R.Reversible.is_value c.actor_rules_law.ensures.order x v c.args.self.now m able.0 stands able.1 k.0 not_done (subst (HasLater message_order m) same l) in (
       m,
-      record {
+      k.1,
+      k.0,
+      elim c.handle_out_of_order.ensures.handled [ inl e ↦ inl (e ∙ ap (λ z. length z + 1) same) | inr l ↦ absurd (never l) ],
+      λ waits. record {
         among = k.0;
         first = k.1;
         not_done = not_done;
         words = elim c.handle_out_of_order.ensures.words [
           | inl e ↦ adds-run-again m.receiver c.args.self.now.flow.words c.make_late_room.new.letters.words c.handle_out_of_order.new.letters.words words e
-          | inr l ↦ absurd (not-later g.R.Reversible.plain g.R.Reversible.is_value c.actor_rules_law.ensures.order x v c.args.self.now m able.0 stands able.1 k.0 not_done
-              (subst (HasLater message_order m) same l))
+          | inr l ↦ absurd (never l)
         ];
       },
     )
-
-pub returns-then-not-has_numbers-clause-first : goal.returns-then-not-has_numbers-clause-first
-returns-then-not-has_numbers-clause-first g c = tt
-
-pub returns-in_default-make_late_room-clause-first : goal.returns-in_default-make_late_room-clause-first
-returns-in_default-make_late_room-clause-first g c = tt
-
-pub returns-then-has-clause-first : goal.returns-then-has-clause-first
-returns-then-has-clause-first g c =
-    let O = c.actor_rules_law.ensures.order in
-    let k = first g (goal.at.returns-then-has-clause-first g c).In-Some in
-    let there = subst (λ ds. Contains (messages_of ds) c.in-Some.message) (ap (λ h. h.done) c.self.view_is) (c.if-has.ensures.yes refl) in
-    elim c.match-count_again.branch [
-      | in-Ok w ↦ where-ok _ _ w.result-is (λ waits x v stands. absurd (not-waiting O c.args.self.now c.in-Some.message k.0 k.1 there (waits stands.ascending)))
-      | in-Err w ↦ no-ok _ _ _ w.result-is
-    ]

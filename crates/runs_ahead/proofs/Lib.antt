@@ -1,0 +1,5 @@
+pub mod Passing
+pub mod Standing
+pub mod Running
+pub mod Beginnings
+pub mod Answered

@@ -1,0 +1,3 @@
+pub mod Ahead
+pub mod Standing
+pub mod Laws

@@ -1,0 +1,4 @@
+pub mod Marks
+pub mod Carries
+pub mod Premises
+pub mod RowLemmas

@@ -1,0 +1,21 @@
+use Rattle.std.proofs.Common.{◌≡◌, ◌∙◌, ◌-◌, ◌+◌, ◌<◌, length, sym, arith, eqb-true}
+use Rattle.actor_run.proofs.Passing.{item-there}
+use Rattle.network.specs.Words.{lines_of}
+use Rattle.network.proofs.BuildLemmas.{length-lines}
+use Rattle.seq_tables.proofs.Marks.{none-long}
+use Rattle.seq_tables.proofs.lines.is_open_line.Goals as goal
+
+pub returns : goal.returns
+returns c = λ e.
+    let plan = c.args.network.now in
+    let k = c.from.result - c.node_count.result in
+    let place : c.args.process ≡ length plan.nodes + k = (let a = c.from.ensures in let b = c.node_count.ensures in let d = c.if-from.false in omega arith) in
+    let inside : k < length (lines_of plan) = (let a = c.requires in let b = length-lines plan.nodes [] plan.links in omega arith) in
+    let at = item-there (lines_of plan) k inside in
+    record {
+      k = k;
+      line = at.0;
+      read = at.1;
+      process = place;
+      is_open = sym c.outages.ensures ∙ none-long c.outages.result.now (eqb-true (length c.outages.result.now) 0 (sym c.is_empty.ensures ∙ e));
+    }

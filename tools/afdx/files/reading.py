@@ -1,0 +1,37 @@
+"""Reads files of text: whole, or line by line."""
+import os
+from collections.abc import Iterator
+
+from afdx.files import watch
+from afdx.files.faults import Fault, printable
+from afdx.files.identities import KNOWN
+
+
+def text_of(path: str) -> str:
+    """The text of a file."""
+    watch.stage(f"reads {printable(path)}")
+    try:
+        with open(path, "rb") as file:
+            KNOWN.note(KNOWN.read, path, os.fstat(file.fileno()))
+            found = file.read()
+    except OSError as fault:
+        raise Fault(path, None, f"cannot be read: {fault.strerror}") from None
+    try:
+        return found.decode("utf-8")
+    except UnicodeDecodeError as fault:
+        raise Fault(path, found.count(b"\n", 0, fault.start) + 1, "is no UTF-8") from None
+
+
+def lines_of(path: str) -> Iterator[str]:
+    """The lines of a file with their line feeds, one by one: no more of it is in memory."""
+    number = 0
+    try:
+        with open(path, "rb") as file:
+            KNOWN.note(KNOWN.read, path, os.fstat(file.fileno()))
+            for line in file:
+                number += 1
+                yield line.decode("utf-8")
+    except OSError as fault:
+        raise Fault(path, None, f"cannot be read: {fault.strerror}") from None
+    except UnicodeDecodeError:
+        raise Fault(path, number, "is no UTF-8") from None

@@ -1,0 +1,24 @@
+"""A mapping whose values are not kept."""
+import collections.abc
+from collections.abc import Callable, Iterator
+from typing import Any
+
+
+class OnDemand(collections.abc.Mapping):
+    """A mapping whose values are worked out when they are asked for; the last one is kept. `keys` gives the keys in order, and `make`
+    makes the value of one, or raises KeyError."""
+
+    def __init__(self, keys: Callable[[], Iterator[Any]], make: Callable[..., Any]) -> None:
+        self.keys_in_order, self.make = keys, make
+        self.last: tuple[Any, Any] = (None, None)
+
+    def __getitem__(self, key: Any) -> Any:
+        if self.last[0] != key:
+            self.last = key, self.make(*key)
+        return self.last[1]
+
+    def __iter__(self) -> Iterator[Any]:
+        return self.keys_in_order()
+
+    def __len__(self) -> int:
+        return sum(1 for _ in self.keys_in_order())
