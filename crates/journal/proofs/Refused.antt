@@ -4,13 +4,13 @@ use Rattle.journal.specs.declared.fault.PoolFault.{PoolFault}
 use Rattle.journal.specs.declared.fault.PoolFault.TheVariants.{OutOfMemory, Exhausted, JournalFull, Torn}
 
 -- what a growth of the journal is refused for
-module _ (fault : PoolFault) (kept : Bool) (why : (fault ≡ OutOfMemory) ⊎ ((fault ≡ Torn) × (kept ≡ true))) where
+module _ (fault : PoolFault) (kept shared : Bool) (why : (fault ≡ OutOfMemory) ⊎ ((fault ≡ Torn) × (kept ≡ true) × (shared ≡ true))) where
   -- it is one of the faults that are told, where the run says whether the journal is kept
-  pub faults-told : (keeps : Bool) → kept ≡ keeps → (fault ≡ OutOfMemory) ⊎ ((fault ≡ JournalFull) ⊎ ((fault ≡ Torn) × (keeps ≡ true)))
+  pub faults-told : (keeps : Bool) → kept ≡ keeps → (fault ≡ OutOfMemory) ⊎ ((fault ≡ JournalFull) ⊎ ((fault ≡ Torn) × (keeps ≡ true) × (shared ≡ true)))
   faults-told keeps same =
       elim why [
         | inl a ↦ inl a
-        | inr t ↦ inr (inr (t.0, sym same ∙ t.1))
+        | inr t ↦ inr (inr (t.0, sym same ∙ t.1, t.2))
       ]
 
   -- it is not that there are too many steps

@@ -1,6 +1,7 @@
 //! The list of a journal's entries.
 ghost use Rattle.std.specs.Prelude.{◌≡◌, ◌<◌, ◌⊎◌, [], ◌∷◌, ◌++◌, true, Some, is_some, length, slice_get, vec_len, vec_capacity, OnOk, IfErr};
 ghost use Rattle.journal.specs.declared.fault.PoolFault.TheVariants.{OutOfMemory, Torn};
+ghost use Rattle.journal.specs.Listing.{is_shared};
 
 use crate::entry::Entry;
 use crate::fault::PoolFault;
@@ -26,13 +27,14 @@ pub struct Entries {
 
 impl Model for Entries {
     ghost use Rattle.std.specs.Prelude.{◌≡◌, ◌-◌, map, is_some, option_map, vec_len, vec_capacity, IfSome};
-    ghost use Rattle.journal.specs.Listing.{Listing, room_of};
+    ghost use Rattle.journal.specs.Listing.{Listing, is_shared, room_of};
 
     ghost Value = { Listing };
 
     ghost view = { λ e. record {
       entries = map (λ s. s.value) e.told.items;
       keeps = is_some e.kept;
+      shared = is_shared (option_map (λ k. k.table) e.kept);
       room = room_of (vec_capacity e.told - vec_len e.told) (option_map (λ k. vec_capacity k.entries - vec_len k.entries) e.kept);
     } };
 
@@ -44,10 +46,11 @@ impl Kept {
     fn reserve(&mut self, place: u64) -> Result<(), PoolFault>
         ensures room { OnOk result (vec_len self.new.entries < vec_capacity self.new.entries) }
         ensures entries { self.new.entries.items ≡ self.old.entries.items }
-        ensures faults { IfErr result (λ fault. (fault ≡ OutOfMemory) ⊎ (fault ≡ Torn)) }
+        ensures table { self.new.table ≡ self.old.table }
+        ensures faults { IfErr result (λ fault. (fault ≡ OutOfMemory) ⊎ ((fault ≡ Torn) × (self.old.table.shared ≡ true))) }
     {
         self.entries.reserve(1)?;
-        if !self.table.write(place, 1) {
+        if !self.table.write(place) {
             return Err(PoolFault::Torn);
         }
         Ok(())
@@ -59,6 +62,7 @@ impl Entries {
     pub fn new(alloc: Global, table: Option<Table>) -> Self
         ensures entries { result.entries ≡ [] }
         ensures keeps { result.keeps ≡ is_some table }
+        ensures shared { result.shared ≡ is_shared table }
     {
         let told = Vec::new(alloc);
         match table {
@@ -81,12 +85,13 @@ impl Entries {
     }
 
     /// Makes room for one more entry, and then writes its place in the table. If entries are not stored, it takes no memory and writes
-    /// nothing. `Torn` means that another journal wrote there before; this is checked after the room is made.
+    /// nothing. `Torn` means that the table is shared and another journal wrote there before; this is checked after the room is made.
     pub fn reserve(&mut self) -> Result<(), PoolFault>
         ensures room { OnOk result (0 < self.new.room) }
         ensures entries { self.new.entries ≡ self.old.entries }
         ensures keeps { self.new.keeps ≡ self.old.keeps }
-        ensures faults { IfErr result (λ fault. (fault ≡ OutOfMemory) ⊎ ((fault ≡ Torn) × (self.old.keeps ≡ true))) }
+        ensures shared { self.new.shared ≡ self.old.shared }
+        ensures faults { IfErr result (λ fault. (fault ≡ OutOfMemory) ⊎ ((fault ≡ Torn) × (self.old.keeps ≡ true) × (self.old.shared ≡ true))) }
     {
         self.told.reserve(1)?;
         let place = self.told.len() as u64;
@@ -101,6 +106,7 @@ impl Entries {
         requires { 0 < self.old.room }
         ensures entries { self.new.entries ≡ self.old.entries ++ entry ∷ [] }
         ensures keeps { self.new.keeps ≡ self.old.keeps }
+        ensures shared { self.new.shared ≡ self.old.shared }
     {
         self.told.push_reserved(Snapshot::of(&entry));
         if let Some(kept) = &mut self.kept {

@@ -1,5 +1,5 @@
 -- The one-thread run of a network: its setting, and what a run of all its events has found.
-use Rattle.std.specs.Prelude.{◌≡◌, ℕ, [], map, List}
+use Rattle.std.specs.Prelude.{◌≡◌, ℕ, [], List}
 use Rattle.vlink.specs.Letters.{Row}
 use Rattle.virtual_time.specs.Law.{one}
 use Rattle.reverse.specs.Setting.{Setting}

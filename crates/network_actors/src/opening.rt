@@ -1,5 +1,5 @@
 //! The nodes and lines of a network at the start.
-ghost use Rattle.std.specs.Prelude.{ℕ, IfOk};
+ghost use Rattle.std.specs.Prelude.{IfOk};
 ghost use Rattle.reverse.specs.Setting.{AreInStates};
 ghost use Rattle.network.specs.Words.{process_count};
 ghost use Rattle.nodes.specs.Words.{opening};

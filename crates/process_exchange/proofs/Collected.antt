@@ -113,13 +113,13 @@ stands-collected f is_value p own own' block xs q q' none more stands does =
 module _ {S K : Type 0} (f : Simulation Message S K Note) (x : Ledger) (h : HeldState S) (y : Ledger) (k : HeldState S) where
   -- some were there
   pub collects-some : (xs ys : List Letter) → ys ≡ xs → 0 < length ys →
-      y ≡ record { entries = x.entries ++ entry_by h.number h.mark.place (Collected ys) ∷ []; marks = set x.marks h.number (mark_at (Some (length x.entries)) (reach f x.entries).gvt); limit = x.limit } →
+      y ≡ record { entries = x.entries ++ entry_by h.number h.mark.place (Collected ys) ∷ []; marks = set x.marks h.number (mark_at (Some (length x.entries)) (reach f x.entries).gvt); shared = x.shared; limit = x.limit } →
       k ≡ record h { part = local f.rules (f.opening h.number) (acts_of (Collected ys)) h.part; block = []; own = h.own ++ acts_of (Collected ys); mark = mark_at (Some (length x.entries)) (reach f x.entries).gvt } →
       collects f xs x h y k
   collects-some xs ys is some a b = subst (λ z. collects f z x h y k) is (go ys some a b)
     where
       go : (zs : List Letter) → 0 < length zs →
-          y ≡ record { entries = x.entries ++ entry_by h.number h.mark.place (Collected zs) ∷ []; marks = set x.marks h.number (mark_at (Some (length x.entries)) (reach f x.entries).gvt); limit = x.limit } →
+          y ≡ record { entries = x.entries ++ entry_by h.number h.mark.place (Collected zs) ∷ []; marks = set x.marks h.number (mark_at (Some (length x.entries)) (reach f x.entries).gvt); shared = x.shared; limit = x.limit } →
           k ≡ record h { part = local f.rules (f.opening h.number) (acts_of (Collected zs)) h.part; block = []; own = h.own ++ acts_of (Collected zs); mark = mark_at (Some (length x.entries)) (reach f x.entries).gvt } →
           collects f zs x h y k
       go [] some a b = absurd (omega arith)
@@ -127,7 +127,7 @@ module _ {S K : Type 0} (f : Simulation Message S K Note) (x : Ledger) (h : Held
 
   -- none was there
   pub collects-none : (most : ℕ) → min most (length ((reach f x.entries).mail h.number)) ≡ 0 →
-      y ≡ record { entries = x.entries; marks = set x.marks h.number (mark_at h.mark.place (reach f x.entries).gvt); limit = x.limit } → k ≡ record h { mark = mark_at h.mark.place (reach f x.entries).gvt } →
+      y ≡ record { entries = x.entries; marks = set x.marks h.number (mark_at h.mark.place (reach f x.entries).gvt); shared = x.shared; limit = x.limit } → k ≡ record h { mark = mark_at h.mark.place (reach f x.entries).gvt } →
       Collects f most x h y k 0
   collects-none most none a b =
       let letters = (reach f x.entries).mail h.number in

@@ -1,5 +1,5 @@
 -- An entry that a process in hand wrote behind the journal, and that both marks name.
-use Rattle.std.proofs.Common.{◌≡◌, ℕ, List, [], ◌∷◌, ◌++◌, set, length, Option, Some, sym, ap, ◌∙◌}
+use Rattle.std.proofs.Common.{◌≡◌, ℕ, Bool, List, [], ◌∷◌, ◌++◌, set, length, Option, Some, sym, ap, ◌∙◌}
 use Rattle.std.proofs.lemmas.List.{map-set}
 use Rattle.vlink.specs.declared.message.Message.{Message}
 use Rattle.vlink.specs.declared.note.Note.{Note}
@@ -43,11 +43,12 @@ module _ {es : List (Entry Message)} {standings : List Standing} {p : ℕ} {prio
     mark-now : mark_in now ≡ mark_at (Some (length es)) g
     mark-now = λ i. mark_at (w.place i) (same i)
 
-    pub ledger-now : (limit : ℕ) → ◌≡◌ {A = Ledger} (record { entries = es'; marks = marks_in standings'; limit = limit })
-        (record { entries = es ++ entry_by p prior d ∷ []; marks = set (marks_in standings) p (mark_at (Some (length es)) g); limit = limit })
-    ledger-now limit = λ i. record {
+    pub ledger-now : (shared shared' : Bool) → shared' ≡ shared → (limit : ℕ) → ◌≡◌ {A = Ledger} (record { entries = es'; marks = marks_in standings'; shared = shared'; limit = limit })
+        (record { entries = es ++ entry_by p prior d ∷ []; marks = set (marks_in standings) p (mark_at (Some (length es)) g); shared = shared; limit = limit })
+    ledger-now shared shared' same limit = λ i. record {
       entries = w.journal i;
       marks = (ap marks_in w.marked ∙ (map-set mark_in standings p now ∙ ap (set (marks_in standings) p) mark-now)) i;
+      shared = same i;
       limit = limit;
     }
 

@@ -1,14 +1,13 @@
 -- What a process does alone, one step after another.
-use Rattle.std.proofs.Common.{◌≡◌, ℕ, zero, suc, ◌+◌, ◌<◌, Bool, true, false, ◌&&◌, cond, List, [], ◌∷◌, ◌++◌, length, replicate, slice_get, Option, Some, refl, sym, ap, ◌∙◌, subst, arith, append_assoc, append-nil, eq-eqb, option_map, ltb-true}
+use Rattle.std.proofs.Common.{◌≡◌, ℕ, zero, suc, ◌+◌, ◌<◌, Bool, true, false, cond, List, [], ◌∷◌, ◌++◌, length, replicate, Option, Some, refl, sym, ap, ◌∙◌, subst, arith, append_assoc, append-nil}
 use Rattle.std.proofs.lemmas.Bool.{and_parts}
 use Rattle.std.proofs.lemmas.List.{replicate_more}
 use Rattle.vlink.specs.declared.message.Message.{Message}
 use Rattle.vlink.specs.declared.note.Note.{Note}
 use Rattle.vlink.specs.Letters.{Letter}
-use Rattle.virtual_time.specs.Law.{IsIn, pluses, minuses, Simulation, Laws, Part, Act, next_of, can_commit, oldest_committed, tallied, is_toggled, rolled_back, arrived, is_early, after_moves, IsSafePart, after_own, can_move}
+use Rattle.virtual_time.specs.Law.{Simulation, Part, Act, next_of, can_commit, oldest_committed, tallied, is_toggled, rolled_back, arrived, after_moves, after_own, can_move}
 use Rattle.virtual_time.specs.declared.moved.Move.{Move}
 use Rattle.virtual_time.specs.declared.moved.Move.TheVariants.{Arrived, Ran, Committed}
-use Rattle.virtual_time.proofs.Lists.{in-head}
 use Rattle.process_exchange.specs.Views.{HeldState}
 use Rattle.process_exchange.specs.Effects.{moved_by, mark_at, RanEarly}
 use Rattle.process_exchange.proofs.Holding.{moved-then}

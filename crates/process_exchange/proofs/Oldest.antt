@@ -1,5 +1,5 @@
 -- Whether a done event is earlier than a moment is told by the oldest one.
-use Rattle.std.proofs.Common.{◌≡◌, ◌≢◌, ◌↔◌, ℕ, ◌+◌, ◌<◌, ◌≤◌, Bool, true, false, ◌&&◌, IsTrue, cond, nat_lt, List, [], ◌∷◌, slice_get, refl, sym, ap, ◌∙◌, subst, arith, Option, IfSome, option_map, le-ltb, ltb-true, ltb-false, eq-eqb}
+use Rattle.std.proofs.Common.{◌≡◌, ◌≢◌, ◌↔◌, ℕ, ◌+◌, ◌≤◌, Bool, true, false, ◌&&◌, IsTrue, cond, nat_lt, List, [], ◌∷◌, slice_get, refl, sym, ap, ◌∙◌, subst, arith, Option, IfSome, option_map, le-ltb, ltb-true, ltb-false, eq-eqb}
 use Rattle.vlink.specs.declared.message.Message.{Message}
 use Rattle.vlink.specs.declared.note.Note.{Note}
 use Rattle.virtual_time.specs.Law.{Rules, IsOrder, IsAscending, IsIn, pluses, minuses, Simulation, Laws, Part, IsSafePart, can_commit, can_move, earlier, is_early}

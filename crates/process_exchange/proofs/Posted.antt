@@ -1,5 +1,5 @@
 -- A block goes to the journal, and an outbox to the mail.
-use Rattle.std.proofs.Common.{◌≡◌, ℕ, ◌+◌, ◌<◌, ◌≤◌, All, List, [], ◌∷◌, ◌++◌, map, length, slice_get, Option, Some, refl, sym, ap, ◌∙◌, subst, arith, length-append, set}
+use Rattle.std.proofs.Common.{◌≡◌, ℕ, Bool, ◌+◌, ◌<◌, ◌≤◌, All, List, [], ◌∷◌, ◌++◌, map, length, slice_get, Option, Some, refl, sym, ap, ◌∙◌, subst, arith, length-append, set}
 use Rattle.std.proofs.lemmas.List.{length-map}
 use Rattle.std.proofs.lemmas.List.Elements.{All-nil, All-cons}
 use Rattle.vlink.specs.declared.message.Message.{Message}
@@ -114,7 +114,7 @@ module _ {S K : Type 0} {r : Rules Message S K Note} {number end : S → ℕ} {i
 
 module _ {S K : Type 0} (f : Simulation Message S K Note) (x : Ledger) (h : HeldState S) (y : Ledger) (k : HeldState S) where
   posts-some : (ms : List Move) → 0 < length ms →
-      y ≡ record { entries = x.entries ++ entry_by h.number h.mark.place (Posted ms) ∷ []; marks = set x.marks h.number (mark_at (Some (length x.entries)) h.mark.seen); limit = x.limit } →
+      y ≡ record { entries = x.entries ++ entry_by h.number h.mark.place (Posted ms) ∷ []; marks = set x.marks h.number (mark_at (Some (length x.entries)) h.mark.seen); shared = x.shared; limit = x.limit } →
       k ≡ record h { part = emptied h.part; block = []; own = h.own ++ acts_of (Posted ms); mark = mark_at (Some (length x.entries)) h.mark.seen } →
       posts-effect f ms x h y k
   posts-some [] some a b = absurd (omega arith)
@@ -127,10 +127,10 @@ module _ {S K : Type 0} (f : Simulation Message S K Note) (x : Ledger) (h : Held
 
 -- what was done
 pub block-posted : {S K : Type 0} (f : Simulation Message S K Note) {es : List (Entry Message)} {standings : List Standing} {p seen : ℕ} {own : List (Act Message)} {prior : Option ℕ} {block : List Move} {es' : List (Entry Message)}
-    {standings' : List Standing} {now : Standing} → Entered es standings p prior own (Posted block) es' standings' now → now.seen ≡ seen → 0 < length block → (limit gone : ℕ) (block' : List Move) → block' ≡ [] →
+    {standings' : List Standing} {now : Standing} → Entered es standings p prior own (Posted block) es' standings' now → now.seen ≡ seen → 0 < length block → (shared shared' : Bool) → shared' ≡ shared → (limit gone : ℕ) (block' : List Move) → block' ≡ [] →
     posts-effect f block
-    (record { entries = es; marks = marks_in standings; limit = limit }) (in_hand f p own prior seen gone block)
-    (record { entries = es'; marks = marks_in standings'; limit = limit }) (in_hand f p (own_of p now.last) (place_of now.last) now.seen gone block')
-block-posted f {p = p} {seen = seen} {own = own} {block = block} {now = now} w sees some limit gone block' none =
+    (record { entries = es; marks = marks_in standings; shared = shared; limit = limit }) (in_hand f p own prior seen gone block)
+    (record { entries = es'; marks = marks_in standings'; shared = shared'; limit = limit }) (in_hand f p (own_of p now.last) (place_of now.last) now.seen gone block')
+block-posted f {p = p} {seen = seen} {own = own} {block = block} {now = now} w sees some shared shared' same limit gone block' none =
     let part-is = part-posted f p own (own_of p now.last) block (own-more w) in
-    posts-some f _ _ _ _ block some (ledger-now w seen sees limit) (held-now w seen sees f _ part-is block' none gone)
+    posts-some f _ _ _ _ block some (ledger-now w seen sees shared shared' same limit) (held-now w seen sees f _ part-is block' none gone)

@@ -50,7 +50,7 @@ module _ {S K : Type 0} {r : Rules Message S K Note} {number end : S → ℕ} {i
         (marks-stay es (entry_by 0 None Published) k.marked (λ q. refl) refl gvt' (subst (λ g. gvt ≤ g) (sym gvt-is) gvt-rises)))
 
 -- GVT is another one than before
-pub publishes-more : {S K : Type 0} (f : Simulation Message S K Note) (b : Bool) (x y : Ledger) → b ≡ false → y ≡ record { entries = x.entries ++ entry_by 0 None Published ∷ []; marks = x.marks; limit = x.limit } →
+pub publishes-more : {S K : Type 0} (f : Simulation Message S K Note) (b : Bool) (x y : Ledger) → b ≡ false → y ≡ record { entries = x.entries ++ entry_by 0 None Published ∷ []; marks = x.marks; shared = x.shared; limit = x.limit } →
     publishes-effect f b x y
 publishes-more f true x y e h = absurd (cc)
 publishes-more f false x y e h = h

@@ -1,5 +1,5 @@
 -- All that a call gives which collects letters for a process without a block: what the Exchange and the Held keep, and what it did.
-use Rattle.std.proofs.Common.{◌≡◌, ℕ, ◌+◌, ◌<◌, ◌≤◌, min, List, [], ◌∷◌, ◌++◌, set, length, take, drop, slice_get, Option, Some, Result, Ok, Err, refl, sym, ap, ◌∙◌, subst, arith, option_map, IfOk, OnErr, take-append-drop, length-take}
+use Rattle.std.proofs.Common.{◌≡◌, ℕ, Bool, ◌+◌, ◌<◌, ◌≤◌, min, List, [], ◌∷◌, ◌++◌, set, length, take, drop, slice_get, Option, Some, Result, Ok, Err, refl, sym, ap, ◌∙◌, subst, arith, option_map, IfOk, OnErr, take-append-drop, length-take}
 use Rattle.std.proofs.lemmas.List.{length-replicate, take_min}
 use Rattle.vlink.specs.declared.message.Message.{Message}
 use Rattle.vlink.specs.declared.note.Note.{Note}
@@ -84,12 +84,12 @@ module _ {S K : Type 0} {r : Rules Message S K Note} {number end : S → ℕ} {i
         block none)
 
     -- what was done
-    pub collects-taken : (most limit : ℕ) → n ≡ min most (length (letters_for p mail)) →
+    pub collects-taken : (most : ℕ) (shared shared' : Bool) → shared' ≡ shared → (limit : ℕ) → n ≡ min most (length (letters_for p mail)) →
         Collects (simulation_of r x) most
-        (record { entries = es; marks = marks_in standings; limit = limit }) (in_hand (simulation_of r x) p own prior seen gone block)
-        (record { entries = es'; marks = marks_in standings'; limit = limit }) (in_hand (simulation_of r x) p (own_of p now.last) (place_of now.last) now.seen gone block)
+        (record { entries = es; marks = marks_in standings; shared = shared; limit = limit }) (in_hand (simulation_of r x) p own prior seen gone block)
+        (record { entries = es'; marks = marks_in standings'; shared = shared'; limit = limit }) (in_hand (simulation_of r x) p (own_of p now.last) (place_of now.last) now.seen gone block)
         n
-    collects-taken most limit n-is =
+    collects-taken most shared shared' same-table limit n-is =
         let f = simulation_of r x in
         let xs = take n (letters_for p mail) in
         let world = reach f es in
@@ -97,5 +97,5 @@ module _ {S K : Type 0} {r : Rules Message S K Note} {number end : S → ℕ} {i
         let part-is = part-collected f p own (own_of p now.last) block xs none (own-more w) in (
           sym many ∙ ap length same,
           collects-some f _ _ _ _ (take most (world.mail p)) xs same (subst (λ m. 0 < m) (sym many) some)
-              (ledger-now w world.gvt (sees ∙ k.gvt_is) limit) (held-now w world.gvt (sees ∙ k.gvt_is) f _ part-is block none gone),
+              (ledger-now w world.gvt (sees ∙ k.gvt_is) shared shared' same-table limit) (held-now w world.gvt (sees ∙ k.gvt_is) f _ part-is block none gone),
         )

@@ -29,6 +29,7 @@ module _ {S K : Type 0} (f : Simulation Message S K Note) where
       (y ≡ record {
         entries = x.entries;
         marks = set x.marks h.number (mark_at h.mark.place (reach f x.entries).gvt);
+        shared = x.shared;
         limit = x.limit;
       })
       × (k ≡ record h { mark = mark_at h.mark.place (reach f x.entries).gvt })
@@ -36,6 +37,7 @@ module _ {S K : Type 0} (f : Simulation Message S K Note) where
       (y ≡ record {
         entries = x.entries ++ entry_by h.number h.mark.place (Collected (a ∷ more)) ∷ [];
         marks = set x.marks h.number (mark_at (Some (length x.entries)) (reach f x.entries).gvt);
+        shared = x.shared;
         limit = x.limit;
       })
       × (k ≡ record h {
@@ -58,6 +60,7 @@ module _ {S K : Type 0} (f : Simulation Message S K Note) where
       (y ≡ record {
         entries = x.entries ++ entry_by h.number h.mark.place (Posted (m ∷ ms)) ∷ [];
         marks = set x.marks h.number (mark_at (Some (length x.entries)) h.mark.seen);
+        shared = x.shared;
         limit = x.limit;
       })
       × (k ≡ record h {
@@ -73,7 +76,7 @@ module _ {S K : Type 0} (f : Simulation Message S K Note) where
   -- GVT is set; where it is the one of before there is no entry
   abbrev pub publishes : Bool → Ledger → Ledger → Type 0
   publishes true x y = y ≡ x
-  publishes false x y = y ≡ record { entries = x.entries ++ entry_by 0 None Published ∷ []; marks = x.marks; limit = x.limit }
+  publishes false x y = y ≡ record { entries = x.entries ++ entry_by 0 None Published ∷ []; marks = x.marks; shared = x.shared; limit = x.limit }
 
   -- GVT is not what floors and mail tell
   abbrev pub IsHeldBack : Ledger → Type 0

@@ -1,5 +1,5 @@
 -- What contracts see of an Exchange and of a Held.
-use Rattle.std.specs.Prelude.{ℕ, List, [], Option, None, Some, map, get_or}
+use Rattle.std.specs.Prelude.{ℕ, Bool, List, [], Option, None, Some, map, get_or}
 use Rattle.vlink.specs.declared.message.Message.{Message}
 use Rattle.virtual_time.specs.Law.{Part, opened, Act, Entry, own_in}
 use Rattle.virtual_time.specs.declared.moved.Move.{Move}
@@ -7,10 +7,11 @@ use Rattle.process_exchange.specs.declared.mark.Last.{Last}
 use Rattle.process_exchange.specs.declared.mark.Mark.{Mark}
 use Rattle.process_exchange.specs.declared.mark.Standing.{Standing}
 
--- the entries of the journal, the mark of each process, and how many steps the journal can have
+-- the entries of the journal, the mark of each process, whether other journals can write in its table, and how many steps it can have
 pub record Ledger : Type 0 where
   pub entries : List (Entry Message)
   pub marks : List Mark
+  pub shared : Bool
   pub limit : ℕ
 
 -- a process: its number, what it has in hand, the steps that it did alone and that are not in the journal yet, what the journal tells of

@@ -23,8 +23,8 @@ use reverse::{Actor, actor_law};
 /// gets one entry. Both marks note the GVT of the exchange. Returns how many letters were taken.
 ///
 /// Any refusal leaves both as they were. `JournalFull` comes exactly if the steps would pass the limit, which is checked before memory is
-/// requested. `Torn` means that the journal is stored and another one wrote the entry's place in the table, which is checked after the room
-/// is made.
+/// requested. `Torn` comes only if the journal is stored and others share its table: another one wrote the entry's place, which is checked
+/// after the room is made.
 pub fn collect<R: Actor, J: ActorRun<R>>(
     held: &mut Held<R, J>,
     exchange: &mut Exchange<R, J>,
@@ -37,7 +37,7 @@ pub fn collect<R: Actor, J: ActorRun<R>>(
         + min most (length ((reach (simulation_of (rules_of R.plain) J.setting) exchange.old.entries).mail held.old.number)) }
     ensures limited { exchange.old.limit < length (steps exchange.old.entries)
         + min most (length ((reach (simulation_of (rules_of R.plain) J.setting) exchange.old.entries).mail held.old.number)) → result ≡ Err JournalFull }
-    ensures faults { IfErr result (λ fault. (fault ≡ OutOfMemory) ⊎ ((fault ≡ JournalFull) ⊎ ((fault ≡ Torn) × (J.keeps ≡ true)))) }
+    ensures faults { IfErr result (λ fault. (fault ≡ OutOfMemory) ⊎ ((fault ≡ JournalFull) ⊎ ((fault ≡ Torn) × (J.keeps ≡ true) × (exchange.old.shared ≡ true)))) }
 {
     actor_law::<R>();
     let count = exchange.mail.count(held.number).min(most as usize);
@@ -76,6 +76,7 @@ fn see<R: Actor, J: ActorRun<R>>(held: &mut Held<R, J>, exchange: &mut Exchange<
       entries = exchange.old.entries;
       marks = set exchange.old.marks held.old.number (mark_at held.old.mark.place
           (reach (simulation_of (rules_of R.plain) J.setting) exchange.old.entries).gvt);
+      shared = exchange.old.shared;
       limit = exchange.old.limit;
     } }
     ensures held { held.new ≡ record held.old {

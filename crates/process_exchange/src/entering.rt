@@ -24,7 +24,8 @@ pub(crate) fn reserve_to_collect<R: Actor>(
     ensures queues { process.new.queues ≡ process.old.queues }
     ensures entries { journal.new.entries ≡ journal.old.entries }
     ensures keeps { journal.new.keeps ≡ journal.old.keeps }
-    ensures faults { IfErr result (λ fault. (fault ≡ OutOfMemory) ⊎ ((fault ≡ Torn) × (journal.old.keeps ≡ true))) }
+    ensures shared { journal.new.shared ≡ journal.old.shared }
+    ensures faults { IfErr result (λ fault. (fault ≡ OutOfMemory) ⊎ ((fault ≡ Torn) × (journal.old.keeps ≡ true) × (journal.old.shared ≡ true))) }
 {
     match process.reserve_letters(letters) {
         Ok(()) => journal.reserve(),
@@ -45,7 +46,8 @@ pub(crate) fn reserve_to_post<R: Actor>(
     ensures boxes { length mail.new ≡ length mail.old }
     ensures entries { journal.new.entries ≡ journal.old.entries }
     ensures keeps { journal.new.keeps ≡ journal.old.keeps }
-    ensures faults { IfErr result (λ fault. (fault ≡ OutOfMemory) ⊎ ((fault ≡ Torn) × (journal.old.keeps ≡ true))) }
+    ensures shared { journal.new.shared ≡ journal.old.shared }
+    ensures faults { IfErr result (λ fault. (fault ≡ OutOfMemory) ⊎ ((fault ≡ Torn) × (journal.old.keeps ≡ true) × (journal.old.shared ≡ true))) }
 {
     match process.reserve_post(mail) {
         Ok(()) => journal.reserve(),
@@ -69,6 +71,7 @@ pub(crate) fn enter(
     requires one { slice_index (map (λ b. b.name) marks.old.items) process ≡ half.old.name }
     ensures entries { journal.new.entries ≡ journal.old.entries ++ entry ∷ [] }
     ensures keeps { journal.new.keeps ≡ journal.old.keeps }
+    ensures shared { journal.new.shared ≡ journal.old.shared }
     ensures place { place_of standing.new.last ≡ Some (length journal.old.entries) }
     ensures own { (p : ℕ) → own_of p standing.new.last ≡ own_in p journal.new.entries }
     ensures seen { standing.new.seen ≡ seen }

@@ -39,7 +39,7 @@ impl<R: Actor, J: ActorRun<R>> Model for Exchange<R, J> {
 
     ghost Value = { Ledger };
 
-    ghost view = { λ x. record { entries = x.journal.entries; marks = marks_in (map (λ b. b.value) x.marks.items); limit = x.limit } };
+    ghost view = { λ x. record { entries = x.journal.entries; marks = marks_in (map (λ b. b.value) x.marks.items); shared = x.journal.shared; limit = x.limit } };
 
     ghost invariant = { λ x. (x.steps ≤ x.limit) × (x.limit ≤ 2 ^ 62) ×
         IsRecorded (rules_of R.plain) R.number R.end R.is_placed J.setting

@@ -7,6 +7,7 @@ ghost use Rattle.antimessages.specs.Mailing.{letters_for};
 ghost use Rattle.reverse.specs.Rules.{rules_of};
 ghost use Rattle.reverse.specs.Setting.{Opens, IsLaidOut};
 ghost use Rattle.journal.specs.declared.fault.PoolFault.TheVariants.{OutOfMemory};
+ghost use Rattle.journal.specs.Listing.{is_shared};
 ghost use Rattle.process_exchange.specs.Views.{blank, unplaced, opened_held};
 
 use crate::exchange::Exchange;
@@ -47,7 +48,7 @@ impl<R: Actor + Drop, J: ActorRun<R>> Exchange<R, J> {
         requires few { J.setting.processes ≤ 4096 }
         requires some { 1 ≤ limit }
         requires most { limit ≤ 2 ^ 62 }
-        ensures exchange { IfOk result (λ r. r.0 ≡ record { entries = []; marks = replicate J.setting.processes blank; limit = limit }) }
+        ensures exchange { IfOk result (λ r. r.0 ≡ record { entries = []; marks = replicate J.setting.processes blank; shared = is_shared table; limit = limit }) }
         ensures count { IfOk result (λ r. length r.1.items ≡ J.setting.processes) }
         ensures helds { IfOk result (λ r. (p : ℕ) → p < J.setting.processes → slice_get r.1.items p ≡ Some (opened_held J.setting.opening p)) }
         ensures memory { IfErr result (λ fault. fault ≡ OutOfMemory) }
@@ -79,7 +80,7 @@ impl<R: Actor + Drop, J: ActorRun<R>> Exchange<R, J> {
         requires blanks { map (λ b. b.value) marks.items ≡ replicate J.setting.processes unplaced }
         requires some { 1 ≤ limit }
         requires most { limit ≤ 2 ^ 62 }
-        ensures opened { IfOk result (λ exchange. exchange ≡ record { entries = []; marks = replicate J.setting.processes blank; limit = limit }) }
+        ensures opened { IfOk result (λ exchange. exchange ≡ record { entries = []; marks = replicate J.setting.processes blank; shared = is_shared table; limit = limit }) }
         ensures memory { IfErr result (λ fault. fault ≡ OutOfMemory) }
     {
         actor_law::<R>();

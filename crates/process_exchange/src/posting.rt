@@ -18,8 +18,8 @@ use std::mem;
 /// it has left. If the block is empty it changes nothing.
 ///
 /// Any refusal leaves both as they were. `JournalFull` comes exactly if the steps would pass the limit, which is checked before memory is
-/// requested. `Torn` means that the journal is stored and another one wrote the entry's place in the table, which is checked after the room
-/// is made.
+/// requested. `Torn` comes only if the journal is stored and others share its table: another one wrote the entry's place, which is checked
+/// after the room is made.
 pub fn post<R: Actor, J: ActorRun<R>>(
     held: &mut Held<R, J>,
     exchange: &mut Exchange<R, J>,
@@ -30,7 +30,7 @@ pub fn post<R: Actor, J: ActorRun<R>>(
         (0 < length held.old.block) × (exchange.old.limit < length (steps exchange.old.entries) + length held.old.block + 1) }
     ensures limited { 0 < length held.old.block → exchange.old.limit < length (steps exchange.old.entries) + length held.old.block + 1 →
         result ≡ Err JournalFull }
-    ensures faults { IfErr result (λ fault. (fault ≡ OutOfMemory) ⊎ ((fault ≡ JournalFull) ⊎ ((fault ≡ Torn) × (J.keeps ≡ true)))) }
+    ensures faults { IfErr result (λ fault. (fault ≡ OutOfMemory) ⊎ ((fault ≡ JournalFull) ⊎ ((fault ≡ Torn) × (J.keeps ≡ true) × (exchange.old.shared ≡ true)))) }
 {
     actor_law::<R>();
     let moves = held.block.len() as u64;

@@ -17,14 +17,14 @@ use vlink::{Note, Time};
 /// no entry is made. Returns GVT, in ns.
 ///
 /// Any refusal leaves the exchange as it was. `JournalFull` comes exactly if the steps would pass the limit, which is checked before memory
-/// is requested. `Torn` means that the journal is stored and another one wrote the entry's place in the table, which is checked after the
-/// room is made.
+/// is requested. `Torn` comes only if the journal is stored and others share its table: another one wrote the entry's place, which is
+/// checked after the room is made.
 pub fn publish<R: Actor, J: ActorRun<R>>(exchange: &mut Exchange<R, J>) -> Result<Time, PoolFault>
     ensures ok { IfOk result (λ gvt. Publishes (simulation_of (rules_of R.plain) J.setting) exchange.old exchange.new gvt) }
     ensures unchanged { OnErr result (exchange.new ≡ exchange.old) }
     ensures full { result ≡ Err JournalFull → IsHeldBack (simulation_of (rules_of R.plain) J.setting) exchange.old × (exchange.old.limit ≤ length (steps exchange.old.entries)) }
     ensures limited { IsHeldBack (simulation_of (rules_of R.plain) J.setting) exchange.old → exchange.old.limit ≤ length (steps exchange.old.entries) → result ≡ Err JournalFull }
-    ensures faults { IfErr result (λ fault. (fault ≡ OutOfMemory) ⊎ ((fault ≡ JournalFull) ⊎ ((fault ≡ Torn) × (J.keeps ≡ true)))) }
+    ensures faults { IfErr result (λ fault. (fault ≡ OutOfMemory) ⊎ ((fault ≡ JournalFull) ⊎ ((fault ≡ Torn) × (J.keeps ≡ true) × (exchange.old.shared ≡ true)))) }
 {
     actor_law::<R>();
     gvt_law::<R, R::Record, Note>();

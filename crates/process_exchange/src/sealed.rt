@@ -1,5 +1,5 @@
 //! The rows of a process in hand that can no longer change.
-ghost use Rattle.std.specs.Prelude.{◌≡◌, ◌≤◌, ◌↔◌, ℕ, [], map, max, IsTrue, IfSome};
+ghost use Rattle.std.specs.Prelude.{◌≡◌, ◌≤◌, ◌↔◌, ℕ, [], max, IsTrue, IfSome};
 ghost use Rattle.vlink.specs.Order.{message_order};
 ghost use Rattle.virtual_time.specs.Law.{rowed, rows_at, earlier, one};
 ghost use Rattle.reverse.specs.Rules.{rules_of};

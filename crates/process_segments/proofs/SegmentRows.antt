@@ -1,12 +1,12 @@
 -- The rows that a process has for good in an interval are those of the one-thread run.
-use Rattle.std.proofs.Common.{◌≡◌, ◌↔◌, ℕ, ◌+◌, ◌/◌, ◌≤◌, ◌==◌, Bool, true, false, ◌&&◌, cond, max, nat_le, nat_lt, List, [], ◌∷◌, filter, refl, sym, ap, ◌∙◌, subst, arith, mul-div_cancel}
+use Rattle.std.proofs.Common.{◌≡◌, ◌↔◌, ℕ, ◌+◌, ◌≤◌, ◌==◌, Bool, true, false, ◌&&◌, cond, max, nat_le, nat_lt, List, [], ◌∷◌, filter, refl, sym, ap, ◌∙◌, subst, arith}
 use Rattle.vlink.specs.Letters.{Row}
 use Rattle.virtual_time.specs.Law.{earlier, one, rows_at}
 use Rattle.network.specs.Words.{Plan}
 use Rattle.nodes.specs.Words.{NodeState, simulation_of}
 use Rattle.process_exchange.specs.Views.{HeldState}
-use Rattle.trace_segments.specs.Words.{interval_width, cut, HasInterval, rows_within, SegmentRows, segment_of}
-use Rattle.trace_segments.proofs.IntervalLemmas.{cut-inside, cut-rises}
+use Rattle.trace_segments.specs.Words.{cut, HasInterval, rows_within, SegmentRows, segment_of}
+use Rattle.trace_segments.proofs.IntervalLemmas.{cut-rises}
 use Rattle.network_actors.specs.Networks.{AreRowsOf}
 use Rattle.network_runs.proofs.Beginnings.{begins-one}
 use Rattle.process_segments.specs.Segments.{IsIntervalSealed, IsSegmentOfRun}

@@ -3,6 +3,7 @@ ghost use Rattle.std.specs.Prelude.{◌≡◌, ℕ, ◌<◌, ◌≤◌, ◌^◌,
 ghost use Rattle.network.specs.Words.{process_count};
 ghost use Rattle.nodes.specs.Words.{opening};
 ghost use Rattle.journal.specs.declared.fault.PoolFault.TheVariants.{OutOfMemory};
+ghost use Rattle.journal.specs.Listing.{is_shared};
 ghost use Rattle.process_exchange.specs.Views.{blank, opened_held};
 
 use crate::network_run::Of;
@@ -31,7 +32,7 @@ pub fn open_network<J: NetworkRun>(
     requires each { length J.names ≡ process_count network.now }
     requires some { 1 ≤ limit }
     requires most { limit ≤ 2 ^ 62 }
-    ensures exchange { IfOk result (λ r. r.0 ≡ record { entries = []; marks = replicate (process_count network.now) blank; limit = limit }) }
+    ensures exchange { IfOk result (λ r. r.0 ≡ record { entries = []; marks = replicate (process_count network.now) blank; shared = is_shared table; limit = limit }) }
     ensures count { IfOk result (λ r. length r.1.items ≡ process_count network.now) }
     ensures opened { IfOk result (λ r. (p : ℕ) → p < process_count network.now → slice_get r.1.items p ≡ Some (opened_held (opening network.now) p)) }
     ensures memory { IfErr result (λ fault. fault ≡ OutOfMemory) }

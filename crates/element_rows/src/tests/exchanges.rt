@@ -27,7 +27,8 @@ exchange n1 100, collect:0:8 work:0:16:1 post:0 publish collect:0:8 work:0:16:96
 exchange n1 100, collect:0:8 work:0:16:1 post:0 mail:0 mail:3 collect:3:8 work:3:16:10000 post:3 mail:2 mail:3 publish steps => 1 2 1 1 1 1 2 1 1 0 5860 9 | T:0.0 A:0 R:0 P:0 T:3.0 A:3 R:3 P:3 G
 exchange n1 100, collect:0:8 work:0:0:961 work:0:1:961 work:0:1:961 pending:0 before after post:0 => 1 1 1 0 2 1 1 1 | T:0.0 A:0 R:0 P:0";
 
-// Writes the answers of the words of each part; stores which calls are refused memory.
+// Writes the answers of the words of each part; stores which calls are refused memory. A script of one part has a table of its own, and one
+// of two parts shares its table between them.
 pub fn tell_exchange(
     alloc: Global,
     network: &Network,
@@ -36,36 +37,41 @@ pub fn tell_exchange(
     told: &mut String,
     refused: &mut String,
 ) {
-    match Table::new(alloc) {
-        Ok(table) => {
-            tell_parts(alloc, network, &table, limit, script, told, refused);
-            forget(table);
-        }
-        Err(_) => tell(told, "no memory"),
+    let mut table = Table::new();
+    match script.split_once(" other ") {
+        None => tell_part(alloc, network, table, limit, script, told, refused),
+        Some((first, second)) => match table.share(alloc) {
+            Ok(other) => {
+                tell_part(alloc, network, table, limit, first, told, refused);
+                tell_part(alloc, network, other, limit, second, told, refused);
+            }
+            Err(_) => {
+                forget(table);
+                tell(told, "no memory");
+            }
+        },
     }
 }
 
-// Plays each part of a script at an exchange of its own, over one table.
-fn tell_parts(
+// Plays one part of a script at an exchange of its own, over this table.
+fn tell_part(
     alloc: Global,
     network: &Network,
-    table: &Table,
+    table: Table,
     limit: u64,
-    script: &str,
+    part: &str,
     told: &mut String,
     refused: &mut String,
 ) {
-    for part in script.split(" other ") {
-        if play_part(alloc, network, table, limit, part, told, refused).is_err() {
-            tell(told, "no memory");
-        }
+    if play_part(alloc, network, table, limit, part, told, refused).is_err() {
+        tell(told, "no memory");
     }
 }
 
 fn play_part(
     alloc: Global,
     network: &Network,
-    table: &Table,
+    table: Table,
     limit: u64,
     part: &str,
     told: &mut String,
@@ -73,7 +79,6 @@ fn play_part(
 ) -> Result<(), PoolFault> {
     let limit = limit.max(1).min(1 << 26);
     let part = String::from_str(alloc, part)?;
-    let table = table.share()?;
     let pairs = Pairs::new(alloc, usize::from(network.process_count()))?;
     play_at_start::<Brand>(alloc, network, table, pairs, limit, &part, told, refused)
 }

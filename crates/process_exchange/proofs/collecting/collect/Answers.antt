@@ -114,13 +114,14 @@ returns-in-Err-clause-unchanged g c =
       (λ i. record {
         entries = c.reserve_to_collect.ensures.entries i;
         marks = marks_in (map (λ (b : LeftHalf Standing). b.value) c.exchange.inside.marks.items);
+        shared = c.reserve_to_collect.ensures.shared i;
         limit = c.exchange.inside.limit;
       }),
       refl,
     )
 
 pub returns-in-Err-clause-full : goal.returns-in-Err-clause-full
-returns-in-Err-clause-full g c = not-full c.in-Err.fault _ c.in-Err.ensures.faults _ refl
+returns-in-Err-clause-full g c = not-full c.in-Err.fault _ _ c.in-Err.ensures.faults _ refl
 
 pub returns-in-Err-clause-limited : goal.returns-in-Err-clause-limited
 returns-in-Err-clause-limited g c =
@@ -130,7 +131,7 @@ returns-in-Err-clause-limited g c =
     c.exchange.inside.limit c.exchange.invariant.0 c.if-exchange-count.false over))
 
 pub returns-in-Err-clause-faults : goal.returns-in-Err-clause-faults
-returns-in-Err-clause-faults g c = faults-told c.in-Err.fault _ c.in-Err.ensures.faults g.J.ActorRun.keeps c.exchange.invariant.4
+returns-in-Err-clause-faults g c = rw (sym c.exchange.view_is) (faults-told c.in-Err.fault _ _ c.in-Err.ensures.faults g.J.ActorRun.keeps c.exchange.invariant.4)
 
 pub enter-requires-clause-room : goal.enter-requires-clause-room
 enter-requires-clause-room g c = c.in_default.ensures.entry
@@ -182,7 +183,7 @@ returns-clause-ok g c =
     let none = rw (sym c.held.view_is) at c.requires.posted in
     rw (sym c.held.view_is, sym c.exchange.view_is)
     (collects-taken c.exchange.invariant.2 c.held.invariant.0 c.min-count.result (within g at.After-min-count) (omega (arith, c.if-count-eq0.false)) (entered g at.After-enter) c.enter.ensures.seen
-    none c.args.most c.exchange.inside.limit (many g at.After-min-count))
+    none c.args.most _ _ (c.enter.ensures.shared ∙ c.reserve_to_collect.ensures.shared) c.exchange.inside.limit (many g at.After-min-count))
 
 pub returns-clause-unchanged : goal.returns-clause-unchanged
 returns-clause-unchanged g c = tt

@@ -68,6 +68,7 @@ returns-clause-exchange g c =
     rw (sym c.held.view_is, sym c.exchange.view_is) (λ i. record {
       entries = c.exchange.inside.journal.entries;
       marks = (ap marks_in c.tell_both.ensures.marks ∙ (map-set mark_in marks c.held.inside.number s ∙ (λ j. set (marks_in marks) c.held.inside.number (mark_at (place_of s.last) (k.gvt_is j))))) i;
+      shared = c.exchange.inside.journal.shared;
       limit = c.exchange.inside.limit;
     })
 

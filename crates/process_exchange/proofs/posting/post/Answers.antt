@@ -92,7 +92,7 @@ pub returns-clause-ok : goal.returns-clause-ok
 returns-clause-ok g c =
     let f = simulation_of (rules_of g.R.Reversible.plain) g.J.ActorRun.setting in
     rw (sym c.held.view_is, sym c.exchange.view_is)
-    (block-posted f (entered g (goal.at.returns-clause-ok g c).After-enter) c.enter.ensures.seen (omega (arith, c.len-moves.ensures, c.if-moves-eq0.false)) c.exchange.inside.limit c.held.inside.gone
+    (block-posted f (entered g (goal.at.returns-clause-ok g c).After-enter) c.enter.ensures.seen (omega (arith, c.len-moves.ensures, c.if-moves-eq0.false)) _ _ (c.enter.ensures.shared ∙ c.reserve_to_post.ensures.shared) c.exchange.inside.limit c.held.inside.gone
     c.replace-block.new.dest (c.replace-block.ensures.after ∙ c.new.ensures))
 
 pub returns-then-moves-eq0-clause-ok : goal.returns-then-moves-eq0-clause-ok
@@ -153,13 +153,14 @@ returns-in-Err-clause-unchanged g c =
       (λ i. record {
         entries = c.reserve_to_post.ensures.entries i;
         marks = marks_in (map (λ (b : LeftHalf Standing). b.value) c.exchange.inside.marks.items);
+        shared = c.reserve_to_post.ensures.shared i;
         limit = c.exchange.inside.limit;
       }),
       refl,
     )
 
 pub returns-in-Err-clause-full : goal.returns-in-Err-clause-full
-returns-in-Err-clause-full g c = not-full c.in-Err.fault _ c.in-Err.ensures.faults _ refl
+returns-in-Err-clause-full g c = not-full c.in-Err.fault _ _ c.in-Err.ensures.faults _ refl
 
 pub returns-in-Err-clause-limited : goal.returns-in-Err-clause-limited
 returns-in-Err-clause-limited g c =
@@ -167,7 +168,7 @@ returns-in-Err-clause-limited g c =
     more-than-fit c.exchange.invariant.2 c.exchange.inside.limit c.len-moves.result (length c.held.inside.block) c.len-moves.ensures c.if-moves-exchange.false over))
 
 pub returns-in-Err-clause-faults : goal.returns-in-Err-clause-faults
-returns-in-Err-clause-faults g c = faults-told c.in-Err.fault _ c.in-Err.ensures.faults g.J.ActorRun.keeps c.exchange.invariant.4
+returns-in-Err-clause-faults g c = rw (sym c.exchange.view_is) (faults-told c.in-Err.fault _ _ c.in-Err.ensures.faults g.J.ActorRun.keeps c.exchange.invariant.4)
 
 pub enter-requires-clause-room : goal.enter-requires-clause-room
 enter-requires-clause-room g c = c.in_default.ensures.entry

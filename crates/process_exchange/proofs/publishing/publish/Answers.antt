@@ -52,7 +52,7 @@ returns-clause-ok g c =
     let f = simulation_of (rules_of g.R.Reversible.plain) g.J.ActorRun.setting in
     let gvt = c.horizon-gvt.ensures ∙ gvt-told k c.gvt_law.ensures (λ m. refl) in
     let journal = longer g (goal.at.returns-clause-ok g c).After-push_reserved in
-    rw (sym c.exchange.view_is) (gvt, publishes-more f _ _ _ (ap (λ z. c.horizon-gvt.result == z) (sym k.gvt_is) ∙ (sym c.eq.ensures ∙ c.if-eq.false)) (λ i. record { entries = journal i; marks = marks_in (map (λ (b : LeftHalf Standing). b.value) c.exchange.inside.marks.items); limit = c.exchange.inside.limit }))
+    rw (sym c.exchange.view_is) (gvt, publishes-more f _ _ _ (ap (λ z. c.horizon-gvt.result == z) (sym k.gvt_is) ∙ (sym c.eq.ensures ∙ c.if-eq.false)) (λ i. record { entries = journal i; marks = marks_in (map (λ (b : LeftHalf Standing). b.value) c.exchange.inside.marks.items); shared = (c.push_reserved.ensures.shared ∙ c.reserve.ensures.shared) i; limit = c.exchange.inside.limit }))
 
 pub returns-then-eq-clause-limited : goal.returns-then-eq-clause-limited
 returns-then-eq-clause-limited g c =
@@ -95,10 +95,10 @@ returns-in-Err-clause-ok g c = tt
 pub returns-in-Err-clause-unchanged : goal.returns-in-Err-clause-unchanged
 returns-in-Err-clause-unchanged g c =
     rw (sym c.exchange.view_is)
-    (λ i. record { entries = c.reserve.ensures.entries i; marks = marks_in (map (λ (b : LeftHalf Standing). b.value) c.exchange.inside.marks.items); limit = c.exchange.inside.limit })
+    (λ i. record { entries = c.reserve.ensures.entries i; marks = marks_in (map (λ (b : LeftHalf Standing). b.value) c.exchange.inside.marks.items); shared = c.reserve.ensures.shared i; limit = c.exchange.inside.limit })
 
 pub returns-in-Err-clause-full : goal.returns-in-Err-clause-full
-returns-in-Err-clause-full g c = not-full c.in-Err.fault _ c.in-Err.ensures.faults _ refl
+returns-in-Err-clause-full g c = not-full c.in-Err.fault _ _ c.in-Err.ensures.faults _ refl
 
 pub returns-in-Err-clause-limited : goal.returns-in-Err-clause-limited
 returns-in-Err-clause-limited g c =
@@ -106,7 +106,7 @@ returns-in-Err-clause-limited g c =
     rw (sym c.exchange.view_is) (λ back over. absurd (omega (arith, over, c.if-exchange.false, k.count_is)))
 
 pub returns-in-Err-clause-faults : goal.returns-in-Err-clause-faults
-returns-in-Err-clause-faults g c = faults-told c.in-Err.fault _ c.in-Err.ensures.faults g.J.ActorRun.keeps c.exchange.invariant.4
+returns-in-Err-clause-faults g c = rw (sym c.exchange.view_is) (faults-told c.in-Err.fault _ _ c.in-Err.ensures.faults g.J.ActorRun.keeps c.exchange.invariant.4)
 
 pub overflow_add-exchange : goal.overflow_add-exchange
 overflow_add-exchange g c = omega (arith, c.if-exchange.false, c.exchange.invariant.1)

@@ -30,4 +30,4 @@ invariant_of-result g c =
 
 pub returns-clause-opened : goal.returns-clause-opened
 returns-clause-opened g c =
-    λ i. record { entries = c.new-journal.ensures.entries i; marks = (ap marks_in c.requires.blanks ∙ marks-blank g.J.ActorRun.setting.processes) i; limit = c.args.limit }
+    λ i. record { entries = c.new-journal.ensures.entries i; marks = (ap marks_in c.requires.blanks ∙ marks-blank g.J.ActorRun.setting.processes) i; shared = c.new-journal.ensures.shared i; limit = c.args.limit }
