@@ -13,8 +13,8 @@ use network::Network;
 use std::alloc::{AllocError, Global};
 use vlink::process_number;
 
-/// The least number of events that a group should have within a lead.
-const EVENTS_IN_LEAD: u64 = 8;
+/// The least number of events that a group should have within a lead. With fewer, workers wait for each other longer than they work.
+const EVENTS_IN_LEAD: u64 = 48;
 
 /// Returns the number of groups if `asked` are asked for: at least one, and no more than processes. A network without a process has none.
 pub fn groups_asked(network: &Network, asked: u16) -> u16
