@@ -157,7 +157,7 @@ class OfTables(Here):
 
     def test_units_names_of_columns_and_separators(self):
         nodes = NODES.replace("name,net", "Name,Net,Latency [us]").replace("SWA,A", "SWA,a,16.5")
-        links = LINKS.replace("a,b", "a,b,Length (m)").replace("DU,SWA", "DU,SWA,30")
+        links = LINKS.replace("a,b", "a,b,Length (m)").replace("DU,SWA", "DU,SWA,29.9")
         lines = "VL ID;src;dest;BAG (ms);Smax;Sub-links;Policing;Jitter (µs);until_ns\n"
         lines = lines.replace(";until_ns", "") + "7;ADC;DU;8;100;3;Frames;1.5\n"
         tree = self.made("\ufeff" + nodes.replace(",", ";") + links.replace(",", "\t").replace("\t", ";"), lines)

@@ -96,10 +96,10 @@ class Large(unittest.TestCase):
         _, status, used = os.wait4(run.pid, 0)
         run.returncode = os.waitstatus_to_exitcode(status)
         self.assertEqual(run.returncode, 0)
-        data = packed_of(read(page))
-        self.assertGreater(sum(len(block[0]) for block in data["ends"]["blocks"]), 23_000)
         self.assertLess(os.path.getsize(page), 4_000_000)
         self.assertLess(used.ru_maxrss * 1024, 120_000_000)
+        data = packed_of(read(page))
+        self.assertGreater(sum(len(block[0]) for block in data["ends"]["blocks"]), 23_000)
 
 
 if __name__ == "__main__":

@@ -1,4 +1,5 @@
 """The rows of a description, made of the lines of tables, with usual values and shortest paths."""
+import math
 import re
 from collections.abc import Callable
 from fractions import Fraction
@@ -71,7 +72,7 @@ class Maker:
         time = unit_of(column, section)
         if time:
             return self.time(line, column, text, *time)
-        if column in ("length_m", "payload") or any(it.name == column and it.value_type == "integer" for it in KEYS[section]):
+        if column == "payload" or any(it.name == column and it.value_type == "integer" for it in KEYS[section]):
             plain = text.replace("_", "")
             if re.fullmatch(f"[0-9]{{1,{MOST_DIGITS}}}", plain):
                 return int(plain)
@@ -156,12 +157,13 @@ class Maker:
 
     def link(self, line: Line) -> Row:
         row = self.row_of(line, "link", {})
-        if "length_m" in line.cells:
-            metres = self.value(line, "link", "length_m")
+        metres = line.cells.get("length_m")
+        if metres:
+            ns = self.time(line, "length_m", metres, "propagation_ns", lambda length: Fraction(math.ceil(length * NS_A_METRE)))
             if "propagation_ns" in row:
                 self.add(line, "has length_m and propagation_ns, of which one says the other")
-            if metres is not None:
-                row["propagation_ns"] = Value(max(1, metres * NS_A_METRE), f"{metres} m of {NS_A_METRE} ns")
+            if ns is not None:
+                row["propagation_ns"] = Value(max(1, ns), f"{metres} m of {NS_A_METRE} ns")
         for key, value in USUAL["link"].items():
             row.setdefault(key, Value(value, "usual"))
         return row
