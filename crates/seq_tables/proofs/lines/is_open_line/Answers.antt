@@ -1,4 +1,4 @@
-use Rattle.std.proofs.Common.{◌≡◌, ◌∙◌, ◌-◌, ◌+◌, ◌<◌, length, sym, arith, eqb-true}
+use Rattle.std.proofs.Common.{◌≡◌, [], ◌∙◌, ◌-◌, ◌+◌, ◌<◌, length, sym, arith, eqb-true}
 use Rattle.actor_run.proofs.Passing.{item-there}
 use Rattle.network.specs.Words.{lines_of}
 use Rattle.network.proofs.BuildLemmas.{length-lines}
