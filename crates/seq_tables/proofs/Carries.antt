@@ -1,5 +1,5 @@
 -- What goes to a line are frames that are carried into it, and nothing else.
-use Rattle.std.proofs.Common.{◌≡◌, ℕ, ◌==◌, Bool, true, false, cond, List, [], ◌∷◌, filter, All, Option, None, Some, IfSome, refl, ap, eqb-true}
+use Rattle.std.proofs.Common.{◌≡◌, ℕ, ◌+◌, ◌==◌, Bool, true, false, cond, List, [], ◌∷◌, filter, All, Option, None, Some, IfSome, refl, ap, eqb-true}
 use Rattle.std.specs.List.{list_any}
 use Rattle.std.proofs.lemmas.List.Elements.{All-append, All-cons, All-head, All-nil, All-tail}
 use Rattle.vlink.specs.declared.frame.VlId.{VlId}

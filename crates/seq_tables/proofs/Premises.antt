@@ -105,8 +105,8 @@ module _ (plan : Plan) (accepted : IsAccepted plan) (L : Laws (simulation_of pla
     apart-line q None e to = let a = from-below in let b = o.process in omega arith
 
     apart-kind : (q bytes : ℕ) → q < length plan.nodes → (which : NodeKind) → Apart p q (node_opening plan q bytes which)
-    apart-kind q bytes below kind.EndSystem e = let b = o.process in omega arith
-    apart-kind q bytes below (kind.Switch net latency_ns) e = let b = o.process in omega arith
+    apart-kind q bytes below kind.EndSystem = λ e. let b = o.process in omega arith
+    apart-kind q bytes below (kind.Switch net latency_ns) = λ e. let b = o.process in omega arith
 
     apart-node : (q : ℕ) (at : Option NodePlan) → slice_get plan.nodes q ≡ at → Apart p q (equipment_opening plan q at)
     apart-node q (Some node) e = apart-kind q node.port_bytes (slice_get_within plan.nodes q node e) node.kind

@@ -16,13 +16,13 @@ fn is_open_line(network: &Network, process: u16) -> bool
     requires { process < process_count network.now }
     ensures { result ≡ true → IsOpenLine network.now process }
 {
-    let process = usize::from(process);
     let nodes = network.node_count();
-    if process < nodes {
+    if usize::from(process) < nodes {
         return false;
     }
     let _lines = network.line_count();
-    network.outages(process - nodes).is_empty()
+    let line = usize::from(process) - nodes;
+    network.outages(line).is_empty()
 }
 
 /// Marks the processes of a network that run ahead: lines without outages, and no others. Process p is in place p. It fails only if memory

@@ -6,7 +6,10 @@ use Rattle.seq_tables.proofs.Marks.{marked-push}
 use Rattle.seq_tables.proofs.lines.lines_ahead.Goals as goal
 
 pub loop-process-init : goal.loop-process-init
-loop-process-init c = record { count = omega arith; lines = λ p e. absurd (false≢true e) }
+loop-process-init c = record {
+  count = ap length c.new-marks.ensures.items;
+  lines = λ p e. absurd (false≢true (subst (λ z. is_marked z p ≡ true) c.new-marks.ensures.items e));
+}
 
 pub loop-process-preserved : goal.loop-process-preserved
 loop-process-preserved c =
@@ -21,4 +24,4 @@ loop-process-preserved c =
     }
 
 pub returns : goal.returns
-returns c = record { count = let a = c.loop-process.invariant.count in let b = c.process_count.ensures.value in let d = c.loop-process-test.false in omega arith; lines = c.loop-process.invariant.lines }
+returns c = record { count = let a = c.loop-process.invariant.count in let b = c.process_count-process-end.ensures.value in let d = c.loop-process-test.false in omega arith; lines = c.loop-process.invariant.lines }
