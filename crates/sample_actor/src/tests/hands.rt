@@ -9,7 +9,7 @@
 //! to a member arrived at once, or waits; `A`: the front of the tray arrived; `C`: an event was committed.
 use super::player::{moment, number, split_at_colon, tell, tell_number, tell_refused};
 use crate::Passing;
-use group_hand::{Word, Hand, HandFault};
+use group_hand::{Hand, HandFault, Word};
 use std::alloc::Global;
 use std::fmt::Write;
 use std::mem::forget;
