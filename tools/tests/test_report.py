@@ -1056,7 +1056,7 @@ class WithoutABrowser(unittest.TestCase):
                     if least and int(count):
                         row[1:] = [min(row[1], int(least)), max(row[2], int(greatest)), row[3] + int(total)]
                 for vl in run.vls:
-                    number = len(run.released.get(vl, [])) + sum(map(len, run.regulators[vl]["waiting"]))
+                    number = len(run.released.get(vl, [])) + sum(map(len, run.regulators[vl].waiting))
                     offered[vl] += number + sum(it[0] == vl and it[4] == "queue_full" for it in run.died)
             lines = [model.TABLES_HEAD + ",seed"]
             for key, (count, *times) in merged.items():
