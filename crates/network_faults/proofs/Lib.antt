@@ -1,3 +1,5 @@
+pub mod PackLemmas
+pub mod PlanFaults
 pub mod NameLemmas
 pub mod JoinLemmas
 pub mod IdLemmas

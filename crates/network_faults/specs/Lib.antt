@@ -1,2 +1,3 @@
 pub mod RowLists
+pub mod Packed
 pub mod Lookups

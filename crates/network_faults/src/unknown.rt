@@ -1,28 +1,24 @@
 //! Makes rows with numbers in place of names, or finds the first key or name that is unknown.
 ghost use Rattle.std.specs.Prelude.{◌≡◌, ◌+◌, ◌^◌, ◌<◌, ⊤, List, length, map};
-ghost use Rattle.std.specs.List.{list_any};
 ghost use Rattle.network_rows.specs.declared.fault.DescFault.TheVariants.{UnknownName};
 ghost use Rattle.network_rows.specs.declared.rows.LinkRow.{LinkRow};
 ghost use Rattle.network_rows.specs.declared.rows.OutageRow.{OutageRow};
-ghost use Rattle.network_rows.specs.declared.rows.VlRow.{VlRow};
 ghost use Rattle.network.specs.Rows.{when};
 ghost use Rattle.network.specs.Names.{names_of, number_of};
-ghost use Rattle.network.specs.Plan.{byte_ns_of, path_numbers, paths_numbers, link_plan, outage_plan, vl_plan};
-ghost use Rattle.network.specs.Faults.{is_unknown, has_unknown, unknown_at_node, unknown_at_link, unknown_at_outage, unknown_at_vl, unknown_names};
+ghost use Rattle.network.specs.Plan.{byte_ns_of, link_plan, outage_plan};
+ghost use Rattle.network.specs.Faults.{is_unknown, unknown_at_node, unknown_at_link, unknown_at_outage, unknown_names};
 ghost use Rattle.network_paths.specs.Findings.{Finds};
-ghost use Rattle.network.specs.Code.Views.{items_of, lists_of};
-ghost use Rattle.network_faults.specs.RowLists.{row_lists_of, row_lists_in, Gives};
+ghost use Rattle.network_faults.specs.Packed.{no_lists, packed_lists_of, packed_lists_in};
+ghost use Rattle.network_faults.specs.RowLists.{row_lists_in, Gives};
 
 use crate::each::{Review, check_each, key_at, row_at};
 use crate::names::Names;
-use network::{Link, Numbered, Outage, Routed};
-use network_rows::{
-    DescFault, Key, LinkRow, NodeRow, OutageRow, Path, Paths, Place, Rate, Rows, Section, VlRow,
-};
-use std::alloc::Global;
+use crate::packing::{PackedRows, Vls};
+use network::{Link, Outage};
+use network_rows::{DescFault, Key, LinkRow, NodeRow, OutageRow, Place, Rate, Rows, Section};
 
 /// Checks that the row at this place has no unknown key.
-fn check_keys(has_unknown_key: bool, place: Place) -> Result<(), DescFault>
+pub fn check_keys(has_unknown_key: bool, place: Place) -> Result<(), DescFault>
     ensures { Finds result (when has_unknown_key (UnknownName place)) }
 {
     if has_unknown_key {
@@ -32,40 +28,13 @@ fn check_keys(has_unknown_key: bool, place: Place) -> Result<(), DescFault>
 }
 
 /// Returns the number of the node with this name, which is at this place.
-fn node_at(names: &Names, name: &str, place: Place) -> Result<usize, DescFault>
+pub fn node_at(names: &Names, name: &str, place: Place) -> Result<usize, DescFault>
     ensures { Gives (λ n. n) result (when (is_unknown (names_of names.now.nodes.now) name.now) (UnknownName place)) (number_of (names_of names.now.nodes.now) name.now) }
 {
     match names.number(name) {
         Some(number) => Ok(number),
         None => Err(DescFault::UnknownName(place)),
     }
-}
-
-/// Returns the numbers of a path, whose key is at this place.
-fn path_at(alloc: Global, names: &Names, path: &Path, place: Place) -> Result<Vec<usize>, DescFault>
-    ensures { Gives items_of result (when (list_any (is_unknown (names_of names.now.nodes.now)) path.now) (UnknownName place)) (path_numbers (names_of names.now.nodes.now) path.now) }
-{
-    let mut numbers = Vec::with_capacity(alloc, path.len())?;
-    for k in 0..path.len() {
-        numbers.push(node_at(names, path.name(k), place)?)?;
-    }
-    Ok(numbers)
-}
-
-/// Returns the numbers of the paths of one network, whose key is at this place.
-fn paths_at(
-    alloc: Global,
-    names: &Names,
-    paths: &Paths,
-    place: Place,
-) -> Result<Vec<Vec<usize>>, DescFault>
-    ensures { Gives lists_of result (when (has_unknown (names_of names.now.nodes.now) paths.now) (UnknownName place)) (paths_numbers (names_of names.now.nodes.now) paths.now) }
-{
-    let mut numbered = Vec::with_capacity(alloc, paths.len())?;
-    for k in 0..paths.len() {
-        numbered.push(path_at(alloc, names, &paths.path(k), place)?)?;
-    }
-    Ok(numbered)
 }
 
 /// Checks that no row of a node has an unknown key.
@@ -178,45 +147,11 @@ impl<'a, 'b> Review for Outages<'a, 'b> {
     }
 }
 
-/// Makes the virtual link of the row number `i`, counted from 0.
-fn vl_of(alloc: Global, names: &Names, i: usize, row: &VlRow) -> Result<Routed, DescFault>
-    requires { i + 1 < 2 ^ 64 }
-    ensures { (earlier : List VlRow) → length earlier ≡ i →
-        Gives (λ vl. vl) result (unknown_at_vl (names_of names.now.nodes.now) earlier row.now) (vl_plan (names_of names.now.nodes.now) row.now) }
-{
-    check_keys(row.has_unknown_key, row_at(Section::Vl, i))?;
-    let a = paths_at(alloc, names, &row.a, key_at(Section::Vl, i, Key::A))?;
-    let b = paths_at(alloc, names, &row.b, key_at(Section::Vl, i, Key::B))?;
-    Ok(Routed::new(row.link, a, b))
-}
-
-/// Makes the virtual links of rows.
-#[derive(Drop)]
-struct Vls<'a, 'b> {
-    alloc: Global,
-    names: &'a Names<'b>,
-}
-
-impl<'a, 'b> Review for Vls<'a, 'b> {
-    type Row = VlRow;
-
-    type Seen = Vec<Routed>;
-
-    ghost faults = { λ s. unknown_at_vl (names_of s.names.now.nodes.now) };
-
-    ghost saw = { λ s made rows. made.items ≡ map (vl_plan (names_of s.names.now.nodes.now)) rows };
-
-    fn review(&self, made: &mut Vec<Routed>, i: usize, row: &VlRow) -> Result<(), DescFault> {
-        let vl = vl_of(self.alloc, self.names, i, row)?;
-        made.push(vl)?;
-        Ok(())
-    }
-}
-
-/// Makes the rows with numbers in place of names, if each key and each name is known.
-pub fn number_rows(alloc: Global, names: &Names, rows: &Rows) -> Result<Numbered, DescFault>
-    requires { names.now.nodes.now ≡ rows.now.nodes }
-    ensures { Gives row_lists_of result (unknown_names rows.now) (row_lists_in rows.now) }
+/// Packs the rows with numbers in place of names, if each key and each name is known.
+pub fn number_rows(packed: &mut PackedRows, names: &Names, rows: &Rows) -> Result<(), DescFault>
+    requires names { names.now.nodes.now ≡ rows.now.nodes }
+    requires none { packed_lists_of packed.old ≡ no_lists }
+    ensures { Gives (λ _. packed_lists_of packed.new) result (unknown_names rows.now) (packed_lists_in (row_lists_in rows.now)) }
 {
     let top = Place {
         section: Section::Top,
@@ -225,15 +160,11 @@ pub fn number_rows(alloc: Global, names: &Names, rows: &Rows) -> Result<Numbered
     };
     check_keys(rows.has_unknown_key, top)?;
     check_each(&NodeKeys {}, &mut (), rows.nodes.as_slice())?;
-    let mut links = Vec::new(alloc);
-    check_each(&Links { names }, &mut links, rows.links.as_slice())?;
-    let mut outages = Vec::new(alloc);
-    check_each(&Outages { names }, &mut outages, rows.outages.as_slice())?;
-    let mut vls = Vec::new(alloc);
-    check_each(&Vls { alloc, names }, &mut vls, rows.vls.as_slice())?;
-    Ok(Numbered {
-        links,
-        outages,
-        vls,
-    })
+    check_each(&Links { names }, &mut packed.links, rows.links.as_slice())?;
+    check_each(
+        &Outages { names },
+        &mut packed.outages,
+        rows.outages.as_slice(),
+    )?;
+    check_each(&Vls { names }, &mut packed.vls, rows.vls.as_slice())
 }

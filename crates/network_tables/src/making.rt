@@ -20,15 +20,11 @@ pub fn network_of(alloc: Global, rows: Rows) -> Result<Network, DescFault>
     requires { AreWithin rows }
     ensures { MatchResult result (IsPlanOf rows) (λ fault. Tells fault (faults_of rows)) }
 {
-    let mut numbered = numbered_of(alloc, &rows)?;
-    sort_vls(&mut numbered.vls)?;
-    let network = network_with(
-        alloc,
-        rows.until,
-        rows.seed,
-        rows.nodes.into_vec(),
-        numbered,
-    )?;
+    let until = rows.until;
+    let seed = rows.seed;
+    let mut made = numbered_of(alloc, rows)?;
+    sort_vls(&mut made.1.vls)?;
+    let network = network_with(alloc, until, seed, made.0, made.1)?;
     Ok(network)
 }
 
