@@ -18,6 +18,15 @@ use crate::watch::{Watch, show_events};
 use reverse::{Actor, Outbound};
 use vlink::{Message, Time};
 
+/// Whether the receiver of the message runs ahead.
+#[inline(always)]
+fn runs_ahead(ahead: &[bool], message: &Message) -> bool
+    requires { message.now.receiver < length ahead.now }
+    ensures { result ≡ is_marked ahead.now message.now.receiver }
+{
+    ahead[usize::from(message.receiver)]
+}
+
 /// Passes on one message that was sent: an actor that runs ahead handles it, and its answer waits in its place; any other message waits.
 /// `answer` is room for the answer. Returns how many events that was: one, or none.
 #[inline(always)]
@@ -34,7 +43,7 @@ fn pass_on<A: Actor>(
     ensures exhausted { result ≡ Err Exhausted → IsStuck (rules_of A.plain) (is_marked ahead.now) actors.old message.now }
     ensures few { IfOk result (λ events. events ≤ 1) }
 {
-    if !ahead[usize::from(message.receiver)] {
+    if !runs_ahead(ahead, message) {
         waiting.push(message)?;
         return Ok(0);
     }

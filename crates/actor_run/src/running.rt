@@ -30,6 +30,7 @@ fn limits_law<A: Actor>(actor: &A)
 
 /// The receiver handles the message, if it has numbers left for all that it can send; then `out` has what it sends and notes. Returns
 /// whether it had them.
+#[inline(always)]
 pub(crate) fn act<A: Actor>(actors: &mut [A], message: &Message, out: &mut Outbound) -> bool
     requires { message.now.receiver < length actors.old }
     ensures messages { result ≡ true → (s : A) → slice_get actors.old message.now.receiver ≡ Some s →

@@ -1,5 +1,4 @@
-use Rattle.std.proofs.Common.{◌≡◌, ◌∙◌, true, false, ◌<◌, ◌≤◌, All, List, refl, sym, ap, subst, arith, get_or}
-use Rattle.std.proofs.lemmas.Option.{unwrap_or-slice_get}
+use Rattle.std.proofs.Common.{◌≡◌, ◌∙◌, true, false, ◌<◌, ◌≤◌, All, List, refl, sym, subst, arith}
 use Rattle.vlink.specs.declared.message.Message.{Message}
 use Rattle.vlink.specs.declared.time.TheConstants.{GREATEST_NS}
 use Rattle.reverse.specs.Rules.{rules_of}
@@ -8,26 +7,20 @@ use Rattle.actor_run.proofs.Loading.{sends-lighter}
 use Rattle.actor_run.proofs.Passing.{answered, waits-on}
 use Rattle.actor_run.proofs.ahead.pass_on.Goals as goal
 
-pub returns-then-not-ahead-from-clause-passed : goal.returns-then-not-ahead-from-clause-passed
-returns-then-not-ahead-from-clause-passed g c =
-    let e = c.if-not-ahead-from.true in
-    let f = c.from.ensures in
-    let off : is_marked c.args.ahead.now c.args.message.now.receiver ≡ false = unwrap_or-slice_get c.args.ahead.now c.args.message.now.receiver false ∙ (ap (λ p. get_or c.args.ahead.now p false) (sym f) ∙ e) in
+pub returns-then-not-runs_ahead-clause-passed : goal.returns-then-not-runs_ahead-clause-passed
+returns-then-not-runs_ahead-clause-passed g c =
+    let off : is_marked c.args.ahead.now c.args.message.now.receiver ≡ false = sym c.runs_ahead.ensures ∙ c.if-not-runs_ahead.true in
     waits-on (rules_of g.A.Reversible.plain) (is_marked c.args.ahead.now) c.args.actors.now c.args.waiting.now c.push.new.self c.args.message.now off c.in_ok-push.ensures.more
 
 pub returns-then-not-act-clause-exhausted : goal.returns-then-not-act-clause-exhausted
 returns-then-not-act-clause-exhausted g c = λ e x s h.
-    let e = c.if-not-ahead-from.false in
-    let f = c.from.ensures in
-    let on : is_marked c.args.ahead.now c.args.message.now.receiver ≡ true = unwrap_or-slice_get c.args.ahead.now c.args.message.now.receiver false ∙ (ap (λ p. get_or c.args.ahead.now p false) (sym f) ∙ e) in
+    let on : is_marked c.args.ahead.now c.args.message.now.receiver ≡ true = sym c.runs_ahead.ensures ∙ c.if-not-runs_ahead.false in
     let at = h.each c.args.message.now.receiver (let a = h.count in let b = c.requires.receiver in omega arith) in
     (on, c.if-not-act.ensures.exhausted refl (s c.args.message.now.receiver) at)
 
 pub returns-clause-passed : goal.returns-clause-passed
 returns-clause-passed g c =
-    let e = c.if-not-ahead-from.false in
-    let f = c.from.ensures in
-    let on : is_marked c.args.ahead.now c.args.message.now.receiver ≡ true = unwrap_or-slice_get c.args.ahead.now c.args.message.now.receiver false ∙ (ap (λ p. get_or c.args.ahead.now p false) (sym f) ∙ e) in
+    let on : is_marked c.args.ahead.now c.args.message.now.receiver ≡ true = sym c.runs_ahead.ensures ∙ c.if-not-runs_ahead.false in
     answered (rules_of g.A.Reversible.plain) (is_marked c.args.ahead.now) c.args.actors.now c.act.new.actors c.args.waiting.now c.push_all.new.self c.messages.result.now c.args.message.now on c.requires.receiver
     (λ s at. c.if-not-act.ensures.state refl s at)
     (λ s at. c.messages.ensures.messages ∙ c.if-not-act.ensures.messages refl s at)
