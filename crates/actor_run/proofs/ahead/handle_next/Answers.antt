@@ -1,4 +1,4 @@
-use Rattle.std.proofs.Common.{◌∙◌, ◌+◌, ◌<◌, ◌≤◌, ◌++◌, refl, ap, sym, subst, length, length-set, List, All, le-leb}
+use Rattle.std.proofs.Common.{◌∙◌, ◌<◌, ◌≤◌, ◌++◌, refl, ap, sym, subst, length, length-set, List, All, le-leb}
 use Rattle.virtual_time.specs.Law.{rows_of}
 use Rattle.vlink.specs.declared.message.Message.{Message}
 use Rattle.vlink.specs.declared.time.TheConstants.{GREATEST_NS}
