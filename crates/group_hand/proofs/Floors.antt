@@ -1,13 +1,10 @@
 -- The least floor of the members of a group is the least of what waits for it.
-use Rattle.std.proofs.Common.{◌≡◌, ℕ, suc, ◌+◌, ◌<◌, ◌≤◌, ◌⊎◌, inl, inr, min, true, false, List, [], ◌∷◌, ◌++◌, map, length, take, Option, Some, None, All, Contains, IfSome, IfNone, slice_get, refl, sym, ap, ◌∙◌, subst, arith}
+use Rattle.std.proofs.Common.{◌≡◌, ℕ, suc, ◌+◌, ◌<◌, ◌≤◌, ◌⊎◌, inl, inr, min, true, List, [], ◌∷◌, ◌++◌, map, Option, Some, None, All, IfSome, slice_get, refl, sym, ap, ◌∙◌, subst, arith}
 use Rattle.std.proofs.lemmas.Bool.{cases_lt}
-use Rattle.std.proofs.lemmas.List.{take_more, map-append}
-use Rattle.std.proofs.lemmas.Option.{get_or_from_slice_get}
 use Rattle.std.proofs.lemmas.List.Elements.{All-head, All-tail}
 use Rattle.vlink.specs.declared.message.Message.{Message}
 use Rattle.vlink.specs.declared.note.Note.{Note}
 use Rattle.vlink.specs.Letters.{Letter}
-use Rattle.vlink.specs.Order.{message_order}
 use Rattle.virtual_time.specs.Law.{Rules, Order, IsOrder, World, IsIn, IsNamed, times_in, lowest, times_of, received_by, floor_of, least, unhandled}
 use Rattle.virtual_time.proofs.Least.{least-none, least-some}
 use Rattle.virtual_time.proofs.Letters.{received-mine, received-here, named-head}
@@ -15,14 +12,11 @@ use Rattle.virtual_time.proofs.Lists.{times-append, in-head}
 use Rattle.virtual_time.proofs.Lowest.{lowest-top, lowest-letter, lowest-letters, lowest-message, lowest-messages}
 use Rattle.virtual_time.proofs.Order.{not_less-time}
 use Rattle.virtual_time.proofs.Presence.{unhandled-is, unhandled-from}
-use Rattle.reverse.specs.Rules.{is_before}
 use Rattle.reverse.specs.Setting.{Setting}
-use Rattle.reverse.proofs.Members.{in-all}
 use Rattle.group_queues.specs.DoneEvents.{messages_of}
 use Rattle.group_queues.specs.Flow.{floor_in}
 use Rattle.group_hand.specs.Hands.{FirstWaits, Held, IsMember, StandsForSent, is_ours}
 use Rattle.group_hand.proofs.Going.{held-is}
-use Rattle.group_queues.proofs.Among.{at-in}
 use Rattle.group_hand.proofs.Member.{present-here, present-there, done-times, is-for}
 
 module _ (o : Order Message) (O : IsOrder o) where

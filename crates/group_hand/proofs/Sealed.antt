@@ -1,25 +1,21 @@
 -- Done events are committed one after another.
-use Rattle.std.proofs.Common.{◌≡◌, ℕ, ◌<◌, ◌≤◌, ◌⊎◌, inl, inr, min, true, false, List, [], ◌∷◌, ◌++◌, Option, Some, None, IfSome, IfNone, All, pos, refl, sym, ap, ◌∙◌, subst, append_assoc, append-nil, arith}
-use Rattle.std.proofs.lemmas.Bool.{both_ways}
+use Rattle.std.proofs.Common.{◌≡◌, ℕ, ◌<◌, ◌≤◌, List, [], ◌∷◌, ◌++◌, All, pos, refl, sym, ap, ◌∙◌, subst, append_assoc, append-nil, arith}
 use Rattle.std.proofs.lemmas.List.Elements.{All-head, All-tail, All-weaker}
 use Rattle.vlink.specs.declared.message.Message.{Message}
 use Rattle.vlink.specs.declared.note.Note.{Note}
 use Rattle.vlink.specs.Order.{message_order}
 use Rattle.virtual_time.specs.Law.{Simulation, Rules, IsOrder, World, times_in, effect, AreDone, done_by}
 use Rattle.virtual_time.specs.declared.step.Step.TheVariants.{Commit}
-use Rattle.virtual_time.proofs.Lists.{times-none}
 use Rattle.reverse.specs.Plain.{Plain}
-use Rattle.reverse.specs.Rules.{rules_of, is_before}
+use Rattle.reverse.specs.Rules.{rules_of}
 use Rattle.reverse.specs.Setting.{simulation_of}
 use Rattle.reverse.specs.declared.sends.Sends.{Sends}
-use Rattle.reverse.proofs.Members.{in-all}
 use Rattle.antimessages.specs.Counting.{signed_count}
 use Rattle.group_queues.specs.declared.block.Word.TheVariants.{Committed}
 use Rattle.group_queues.specs.Block.{steps_told}
 use Rattle.group_queues.specs.DoneEvents.{DoneEvent}
-use Rattle.group_queues.specs.Flow.{Flow, IsFirst}
 use Rattle.group_hand.specs.Hands.{Held, CommitsTold, StandsForSent, IsAsBefore, is_ours}
-use Rattle.group_queues.specs.Sealing.{CanCommit, Stays, rows_in, words_of}
+use Rattle.group_queues.specs.Sealing.{CanCommit, rows_in, words_of}
 use Rattle.group_hand.proofs.Telling.{done-append, are_done-append, of_members-none, of_members-both}
 use Rattle.group_queues.proofs.Steps.{told-append}
 use Rattle.group_hand.proofs.Sealing.{is-ours, sealed-steps, sealed}

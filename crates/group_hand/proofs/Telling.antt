@@ -7,7 +7,7 @@ use Rattle.virtual_time.specs.Law.{Simulation, Rules, World, AreBy, AreDone, don
 use Rattle.virtual_time.specs.declared.step.Step.{Step}
 use Rattle.reverse.specs.Setting.{simulation_of}
 use Rattle.group_queues.specs.declared.block.Word.{Word}
-use Rattle.group_queues.specs.Block.{steps_of_word, steps_told}
+use Rattle.group_queues.specs.Block.{steps_told}
 use Rattle.group_hand.specs.Hands.{Held, AreOfMembers, DoesSent, StandsForSent, is_ours}
 
 module _ {M S K N : Type 0} (f : Simulation M S K N) where

@@ -1,12 +1,12 @@
 -- Done events that are undone or set aside, the newest first.
-use Rattle.std.specs.Prelude.{◌≡◌, ℕ, ◌+◌, ◌≤◌, ◌==◌, ◌++◌, true, false, not, List, [], ◌∷◌, Option, Some, All, Contains, filter, length, reverse, slice_get, IsPermutation}
+use Rattle.std.specs.Prelude.{◌≡◌, ℕ, ◌+◌, ◌==◌, ◌++◌, true, false, not, List, ◌∷◌, Option, Some, All, Contains, filter, length, reverse, slice_get, IsPermutation}
 use Rattle.vlink.specs.declared.message.Message.{Message}
 use Rattle.vlink.specs.declared.note.Note.{Note}
 use Rattle.virtual_time.specs.Law.{Order, Rules, reached}
 use Rattle.antimessages.specs.Counting.{is_after, newest_of}
 use Rattle.reverse.specs.Rules.{AreValues}
 use Rattle.group_hand.specs.Arriving.{sent_by, undone_events}
-use Rattle.group_queues.specs.DoneEvents.{DoneEvent, Done, done_events_at, done_events_of, messages_of}
+use Rattle.group_queues.specs.DoneEvents.{DoneEvent, done_events_at, done_events_of, messages_of}
 use Rattle.group_hand.specs.Hands.{is_ours}
 use Rattle.group_queues.specs.declared.tray.Way.{Way}
 use Rattle.group_queues.specs.declared.tray.Way.TheVariants.{Beside, Joins, Leaves, Undoes}
