@@ -117,13 +117,7 @@ impl<K: Copy> DoneEvents<K> {
 
     /// Adds one event, the newest. The room for it was made before.
     #[inline(always)]
-    pub fn push_reserved(
-        &mut self,
-        message: &Message,
-        kept: K,
-        sends: &[Message],
-        notes: &[Note],
-    )
+    pub fn push_reserved(&mut self, message: &Message, kept: K, sends: &[Message], notes: &[Note])
         requires events { 1 ≤ self.old.events_room }
         requires sends { (length sends.now ≤ MOST_SENT) × (length sends.now ≤ self.old.sends_room) }
         requires rows { (length notes.now ≤ 2) × (length notes.now ≤ self.old.rows_room) }

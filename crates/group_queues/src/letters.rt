@@ -57,11 +57,7 @@ impl Model for Letters {
 
 impl Letters {
     /// Makes the letters of a group with nothing but these offers.
-    pub fn of_offers(
-        alloc: Global,
-        offers: Vec<Message>,
-        keeps: bool,
-    ) -> Result<Self, AllocError>
+    pub fn of_offers(alloc: Global, offers: Vec<Message>, keeps: bool) -> Result<Self, AllocError>
         ensures queue { IfOk result (λ letters. IsPermutation offers.items letters.queue) }
         ensures extra { IfOk result (λ letters. letters.extra ≡ []) }
         ensures tray { IfOk result (λ letters. letters.tray ≡ []) }
