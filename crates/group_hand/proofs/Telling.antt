@@ -9,6 +9,7 @@ use Rattle.reverse.specs.Setting.{simulation_of}
 use Rattle.group_queues.specs.declared.block.Word.{Word}
 use Rattle.group_queues.specs.Block.{steps_told}
 use Rattle.group_hand.specs.Hands.{Held, AreOfMembers, DoesSent, StandsForSent, is_ours}
+use Rattle.group_queues.proofs.Steps.{told-append}
 
 module _ {M S K N : Type 0} (f : Simulation M S K N) where
   pub done-append : (xs ys : List Step) (v : World M S) → done_by f (xs ++ ys) v ≡ done_by f ys (done_by f xs v)

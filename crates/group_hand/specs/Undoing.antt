@@ -1,5 +1,5 @@
 -- Done events that are undone or set aside, the newest first.
-use Rattle.std.specs.Prelude.{◌≡◌, ℕ, ◌+◌, ◌==◌, ◌++◌, true, false, not, List, ◌∷◌, Option, Some, All, Contains, filter, length, reverse, slice_get, IsPermutation}
+use Rattle.std.specs.Prelude.{◌≡◌, ℕ, ◌==◌, ◌++◌, true, false, not, List, ◌∷◌, Option, Some, All, Contains, filter, length, reverse, slice_get, IsPermutation}
 use Rattle.vlink.specs.declared.message.Message.{Message}
 use Rattle.vlink.specs.declared.note.Note.{Note}
 use Rattle.virtual_time.specs.Law.{Order, Rules, reached}
