@@ -18,12 +18,12 @@ use Rattle.reverse.specs.Setting.{Setting, simulation_of}
 use Rattle.reverse.specs.declared.sends.Sends.{Sends}
 use Rattle.reverse.proofs.Members.{in-all}
 use Rattle.antimessages.specs.Counting.{signed_count}
-use Rattle.group_hand.specs.Block.{steps_told}
-use Rattle.group_hand.specs.DoneEvents.{done_events_at, done_events_of, messages_of}
+use Rattle.group_queues.specs.Block.{steps_told}
+use Rattle.group_queues.specs.DoneEvents.{done_events_at, done_events_of, messages_of}
 use Rattle.group_hand.specs.Handling.{FirstLacksNumbers}
 use Rattle.group_hand.specs.Hands.{Held, IsAsBefore, IsMember, StandsForGroup, StaysDone, counted, is_ours}
-use Rattle.group_hand.specs.Sealing.{Stays}
-use Rattle.group_hand.proofs.Among.{contains-in, none-among}
+use Rattle.group_queues.specs.Sealing.{Stays}
+use Rattle.group_queues.proofs.Among.{contains-in, none-among}
 use Rattle.group_hand.proofs.Going.{held-is}
 use Rattle.group_hand.proofs.Member.{all-minuses, all-pluses, done-times, messages-of, next-here, present-here}
 use Rattle.group_exchange.specs.Views.{world_after}

@@ -9,7 +9,7 @@ use Rattle.virtual_time.specs.declared.step.Step.{Step}
 use Rattle.virtual_time.proofs.Journal.{run-then}
 use Rattle.reverse.specs.Setting.{Setting, simulation_of}
 use Rattle.gvt.specs.Horizon.{Floors}
-use Rattle.group_hand.specs.Block.{steps_told}
+use Rattle.group_queues.specs.Block.{steps_told}
 use Rattle.group_hand.specs.Hands.{Held, StandsForGroup, is_ours}
 use Rattle.group_exchange.specs.declared.mark.Standing.{Standing}
 use Rattle.group_exchange.specs.Views.{Boxes, box_of, is_of, last_in, with_letters, world_after}

@@ -5,9 +5,9 @@ use Rattle.vlink.specs.Letters.{Letter}
 use Rattle.vlink.specs.declared.note.Note.{Note}
 use Rattle.virtual_time.specs.Law.{Order, Simulation}
 use Rattle.virtual_time.specs.declared.step.Step.{Step}
-use Rattle.group_hand.specs.declared.block.Word.{Word}
-use Rattle.group_hand.specs.declared.block.Word.TheVariants.{Ran, Home, Taken, Arrived, Committed}
-use Rattle.group_hand.specs.Block.{steps_told}
+use Rattle.group_queues.specs.declared.block.Word.{Word}
+use Rattle.group_queues.specs.declared.block.Word.TheVariants.{Ran, Home, Taken, Arrived, Committed}
+use Rattle.group_queues.specs.Block.{steps_told}
 use Rattle.group_hand.specs.Hands.{Held}
 use Rattle.group_exchange.specs.declared.mark.Standing.{Standing}
 use Rattle.group_exchange.specs.Views.{GroupState, Ledger, last_in, marks_in}

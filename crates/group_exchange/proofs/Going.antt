@@ -10,7 +10,7 @@ use Rattle.virtual_time.proofs.Order.{not_less-time}
 use Rattle.reverse.specs.Rules.{is_before}
 use Rattle.journal.specs.declared.fault.PoolFault.{PoolFault}
 use Rattle.journal.specs.declared.fault.PoolFault.TheVariants.{OutOfMemory, Exhausted, JournalFull}
-use Rattle.group_hand.specs.Block.{steps_told}
+use Rattle.group_queues.specs.Block.{steps_told}
 use Rattle.group_hand.proofs.Adding.{commits-none}
 use Rattle.group_exchange.specs.Views.{GroupState, in_group, is_of}
 use Rattle.group_exchange.specs.Effects.{AreTimely, CountsDone, Ends, Goes, IsShort, Went, WorksSome}

@@ -7,7 +7,7 @@ use Rattle.virtual_time.specs.declared.step.Step.{Step}
 use Rattle.reverse.specs.Setting.{Setting, simulation_of}
 use Rattle.gvt.specs.Horizon.{Floors}
 use Rattle.halves.specs.declared.LeftHalf.{LeftHalf}
-use Rattle.group_hand.specs.Block.{steps_told}
+use Rattle.group_queues.specs.Block.{steps_told}
 use Rattle.group_hand.specs.Hands.{Held}
 use Rattle.group_exchange.specs.declared.mark.Standing.{Standing}
 use Rattle.group_exchange.specs.Views.{Boxes, IsUnplaced, blank, is_of, last_in, mark_in, mark_of, marks_in, world_after}

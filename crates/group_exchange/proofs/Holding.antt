@@ -5,7 +5,7 @@ use Rattle.vlink.specs.declared.note.Note.{Note}
 use Rattle.virtual_time.specs.Law.{Rules, World, AreBy, AreDone, IsSafeGroup, done_by, in_hand}
 use Rattle.virtual_time.specs.declared.step.Step.{Step}
 use Rattle.reverse.specs.Setting.{Setting, simulation_of, IsLaidOut}
-use Rattle.group_hand.specs.Block.{steps_told}
+use Rattle.group_queues.specs.Block.{steps_told}
 use Rattle.group_hand.specs.Hands.{Held, StandsForGroup, is_ours}
 use Rattle.group_exchange.specs.Views.{is_of, world_after}
 use Rattle.group_exchange.specs.Keeps.{AreGrouped, Holds}

@@ -15,7 +15,7 @@ use Rattle.virtual_time.proofs.Journal.{run-then}
 use Rattle.virtual_time.proofs.Letters.{named-head, pluses-append, minuses-append, received-mine}
 use Rattle.reverse.specs.Setting.{Setting, simulation_of}
 use Rattle.gvt.specs.Horizon.{Floors}
-use Rattle.group_hand.specs.Block.{steps_told}
+use Rattle.group_queues.specs.Block.{steps_told}
 use Rattle.group_hand.specs.Hands.{Held, StandsForGroup, is_ours}
 use Rattle.group_hand.proofs.Going.{received-append}
 use Rattle.group_exchange.specs.declared.mark.Standing.{Standing}

@@ -9,10 +9,10 @@ use Rattle.reverse.specs.Plain.{Plain}
 use Rattle.reverse.specs.Rules.{rules_of}
 use Rattle.reverse.specs.Setting.{Setting, simulation_of}
 use Rattle.reverse.specs.declared.sends.Sends.{Sends}
-use Rattle.group_hand.specs.declared.block.Word.TheVariants as word
+use Rattle.group_queues.specs.declared.block.Word.TheVariants as word
 use Rattle.group_hand.specs.Answered.{RunsInOrder, RunsNext}
-use Rattle.group_hand.specs.Block.{AddsCommits, AddsLetters, commits_in, runs_in, steps_told}
-use Rattle.group_hand.specs.DoneEvents.{messages_of}
+use Rattle.group_queues.specs.Block.{AddsCommits, AddsLetters, commits_in, runs_in, steps_told}
+use Rattle.group_queues.specs.DoneEvents.{messages_of}
 use Rattle.group_hand.specs.Handling.{RanFirst}
 use Rattle.group_hand.specs.Hands.{CommitsTold, DoesTold, FirstWaits, Held, IsAsBefore}
 use Rattle.group_hand.specs.declared.fault.HandFault.{HandFault}

@@ -17,10 +17,10 @@ use Rattle.virtual_time.proofs.Order.{less-asym, less-time}
 use Rattle.virtual_time.proofs.Reading.{next-is}
 use Rattle.virtual_time.proofs.SafeGroup.{group-safe}
 use Rattle.reverse.specs.Setting.{Setting, simulation_of}
-use Rattle.group_hand.specs.Block.{steps_told}
-use Rattle.group_hand.specs.DoneEvents.{DoneEvent, done_event_of, done_events_at, done_events_of, messages_of}
+use Rattle.group_queues.specs.Block.{steps_told}
+use Rattle.group_queues.specs.DoneEvents.{DoneEvent, done_event_of, done_events_at, done_events_of, messages_of}
 use Rattle.group_hand.specs.Hands.{DoesTold, Held, StandsForGroup, is_ours}
-use Rattle.group_hand.specs.Sealing.{rows_in}
+use Rattle.group_queues.specs.Sealing.{rows_in}
 use Rattle.group_hand.proofs.Going.{done-in, held-is}
 use Rattle.group_hand.proofs.Member.{done-times}
 use Rattle.group_exchange.specs.Rows.{AreInOrder}

@@ -5,9 +5,9 @@ use Rattle.vlink.specs.declared.note.Note.{Note}
 use Rattle.virtual_time.specs.Law.{Simulation, World, done_by}
 use Rattle.virtual_time.specs.declared.step.Step.{Step}
 use Rattle.virtual_time.specs.declared.step.Step.TheVariants.{Take, Arrive, Run, Post, Gvt, Commit}
-use Rattle.group_hand.specs.declared.block.Word.{Word}
-use Rattle.group_hand.specs.declared.block.Word.TheVariants.{Ran, Home, Taken, Arrived, Committed}
-use Rattle.group_hand.specs.Block.{AddsLetters, AddsRun, commits_in, runs_in, steps_told}
+use Rattle.group_queues.specs.declared.block.Word.{Word}
+use Rattle.group_queues.specs.declared.block.Word.TheVariants.{Ran, Home, Taken, Arrived, Committed}
+use Rattle.group_queues.specs.Block.{AddsLetters, AddsRun, commits_in, runs_in, steps_told}
 use Rattle.group_hand.proofs.Adding.{runs-append}
 use Rattle.group_exchange.specs.Effects.{AreTimely, IsTimely}
 

@@ -7,8 +7,8 @@ use Rattle.virtual_time.specs.Law.{Rules, Laws, World, AreBy, done_by, in_hand}
 use Rattle.virtual_time.specs.declared.step.Step.{Step}
 use Rattle.virtual_time.specs.declared.step.Step.TheVariants.{Take, Arrive, Run, Post, Gvt, Commit}
 use Rattle.reverse.specs.Setting.{Setting, simulation_of}
-use Rattle.group_hand.specs.declared.block.Word.{Word}
-use Rattle.group_hand.specs.Block.{steps_told}
+use Rattle.group_queues.specs.declared.block.Word.{Word}
+use Rattle.group_queues.specs.Block.{steps_told}
 use Rattle.group_hand.specs.Hands.{CommitsTold, DoesTold, Held, is_ours}
 use Rattle.group_exchange.specs.Views.{is_of, world_after}
 use Rattle.group_exchange.specs.Keeps.{Holds}

@@ -7,8 +7,8 @@ use Rattle.std.proofs.lemmas.Grind.{flat_map-append}
 use Rattle.std.specs.declared.snapshot.Snapshot.{Snapshot}
 use Rattle.group_exchange.specs.declared.addition.Addition.{Addition}
 use Rattle.group_exchange.specs.Telling.{steps_by}
-use Rattle.group_hand.specs.declared.block.Word.{Word}
-use Rattle.group_hand.specs.Block.{steps_of_word, steps_told}
+use Rattle.group_queues.specs.declared.block.Word.{Word}
+use Rattle.group_queues.specs.Block.{steps_of_word, steps_told}
 
 pub length_behind : (waiting : ℕ → ℕ) (xs : List Step) → length (map (behind waiting) xs) ≡ length xs
 length_behind waiting xs = length-map xs (behind waiting)

@@ -8,8 +8,8 @@ use Rattle.virtual_time.proofs.Groups.{step-does}
 use Rattle.virtual_time.proofs.GroupSteps.{run-done}
 use Rattle.virtual_time.proofs.SafeGroup.{group-safe}
 use Rattle.reverse.specs.Setting.{Setting, simulation_of}
-use Rattle.group_hand.specs.declared.block.Word.{Word}
-use Rattle.group_hand.specs.Block.{steps_of_word, steps_told}
+use Rattle.group_queues.specs.declared.block.Word.{Word}
+use Rattle.group_queues.specs.Block.{steps_of_word, steps_told}
 use Rattle.group_hand.specs.Hands.{Held, StandsForGroup, is_ours}
 use Rattle.group_exchange.specs.Views.{GroupState, before_block, in_group, is_of, world_after}
 use Rattle.group_exchange.specs.Keeps.{Holds}

@@ -9,9 +9,9 @@ use Rattle.virtual_time.specs.declared.step.Step.{Step}
 use Rattle.virtual_time.specs.declared.step.Step.TheVariants.{Take, Arrive, Run, Post, Gvt, Commit}
 use Rattle.journal.specs.declared.fault.PoolFault.{PoolFault}
 use Rattle.journal.specs.declared.fault.PoolFault.TheVariants.{OutOfMemory, Exhausted}
-use Rattle.group_hand.specs.declared.block.Word.{Word}
-use Rattle.group_hand.specs.Block.{commits_in, runs_in, steps_told}
-use Rattle.group_hand.specs.DoneEvents.{messages_of}
+use Rattle.group_queues.specs.declared.block.Word.{Word}
+use Rattle.group_queues.specs.Block.{commits_in, runs_in, steps_told}
+use Rattle.group_queues.specs.DoneEvents.{messages_of}
 use Rattle.group_hand.specs.Hands.{Held}
 use Rattle.group_exchange.specs.Views.{Ledger, GroupState, is_of, mark_at, block_of, world_after, in_group}
 use Rattle.reverse.specs.declared.sends.TheConstants.{MOST_SENT}

@@ -7,8 +7,8 @@ use Rattle.virtual_time.specs.declared.step.Step.{Step}
 use Rattle.reverse.specs.Setting.{Setting, simulation_of, IsLaidOut}
 use Rattle.gvt.specs.Horizon.{Floors}
 use Rattle.halves.specs.declared.RightHalf.{RightHalf}
-use Rattle.group_hand.specs.Block.{steps_told}
-use Rattle.group_hand.specs.DoneEvents.{messages_of}
+use Rattle.group_queues.specs.Block.{steps_told}
+use Rattle.group_queues.specs.DoneEvents.{messages_of}
 use Rattle.group_hand.specs.Hands.{Held, StandsForGroup, is_ours}
 use Rattle.group_exchange.specs.declared.mark.Standing.{Standing}
 use Rattle.group_exchange.specs.Rows.{AreInOrder}

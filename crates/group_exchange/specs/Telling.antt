@@ -3,7 +3,7 @@ use Rattle.std.specs.Prelude.{List, [], ◌∷◌, map}
 use Rattle.virtual_time.specs.Law.{behind}
 use Rattle.virtual_time.specs.declared.step.Step.{Step}
 use Rattle.virtual_time.specs.declared.step.Step.TheVariants.{Take, Gvt}
-use Rattle.group_hand.specs.Block.{steps_told}
+use Rattle.group_queues.specs.Block.{steps_told}
 use Rattle.group_boxes.specs.Boxing.{box_of, waiting_for}
 use Rattle.group_exchange.specs.declared.addition.Addition.{Addition}
 use Rattle.group_exchange.specs.declared.addition.Addition.TheVariants.{Collected, Posted, Published}

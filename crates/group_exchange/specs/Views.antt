@@ -5,7 +5,7 @@ use Rattle.vlink.specs.declared.note.Note.{Note}
 use Rattle.vlink.specs.Letters.{Letter}
 use Rattle.virtual_time.specs.Law.{Order, Simulation, World, start, run, done_by, in_hand}
 use Rattle.virtual_time.specs.declared.step.Step.{Step}
-use Rattle.group_hand.specs.Block.{steps_told}
+use Rattle.group_queues.specs.Block.{steps_told}
 use Rattle.group_hand.specs.Hands.{Held, with_letter}
 pub use Rattle.group_boxes.specs.Boxing.{Boxes, HasRoom, box_of, for_group, is_number, is_of}
 use Rattle.group_exchange.specs.declared.mark.Mark.{Mark}

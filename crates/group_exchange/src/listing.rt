@@ -2,7 +2,7 @@
 ghost use Rattle.std.specs.Prelude.{true, ◌≡◌, ◌+◌, ◌<◌, ◌≤◌, ◌^◌, ◌∷◌, [], ◌++◌, ℕ, map, length, vec_len, vec_capacity};
 ghost use Rattle.virtual_time.specs.Law.{behind};
 ghost use Rattle.virtual_time.specs.declared.step.Step.TheVariants.{Take};
-ghost use Rattle.group_hand.specs.Block.{steps_of_word, steps_told};
+ghost use Rattle.group_queues.specs.Block.{steps_of_word, steps_told};
 ghost use Rattle.group_boxes.specs.Boxing.{waiting_for};
 
 use group_boxes::Boxes;

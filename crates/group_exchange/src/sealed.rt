@@ -5,7 +5,7 @@ ghost use Rattle.virtual_time.specs.Law.{earlier, one, rowed, rows_at};
 ghost use Rattle.reverse.specs.Rules.{rules_of};
 ghost use Rattle.reverse.specs.Setting.{simulation_of};
 ghost use Rattle.row_times.specs.Within.{rows_within};
-ghost use Rattle.group_hand.specs.DoneEvents.{messages_of};
+ghost use Rattle.group_queues.specs.DoneEvents.{messages_of};
 ghost use Rattle.group_exchange.specs.Rows.{rows_of_group};
 ghost use Rattle.group_exchange.specs.Views.{in_group, is_of};
 

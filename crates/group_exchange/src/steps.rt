@@ -3,7 +3,7 @@ ghost use Rattle.std.specs.Prelude.{◌≡◌, ◌+◌, ◌<◌, ◌≤◌, ◌^
 ghost use Rattle.virtual_time.specs.Law.{behind};
 ghost use Rattle.virtual_time.specs.declared.step.Step.TheVariants.{Take, Gvt};
 ghost use Rattle.journal.specs.declared.fault.PoolFault.TheVariants.{OutOfMemory};
-ghost use Rattle.group_hand.specs.Block.{steps_told};
+ghost use Rattle.group_queues.specs.Block.{steps_told};
 ghost use Rattle.group_boxes.specs.Boxing.{box_of, waiting_for};
 
 use crate::addition::Addition;

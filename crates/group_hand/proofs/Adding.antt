@@ -2,12 +2,12 @@
 use Rattle.std.proofs.Common.{◌≡◌, ℕ, ◌+◌, false, List, [], ◌∷◌, ◌++◌, length, refl, sym, ap, ◌∙◌, append_assoc, append-nil, arith}
 use Rattle.virtual_time.specs.Law.{one_if}
 use Rattle.vlink.specs.Letters.{Letter}
-use Rattle.group_hand.specs.declared.block.Word.{Word}
-use Rattle.group_hand.specs.declared.block.Word.TheVariants.{Ran}
+use Rattle.group_queues.specs.declared.block.Word.{Word}
+use Rattle.group_queues.specs.declared.block.Word.TheVariants.{Ran}
 use Rattle.group_hand.specs.Arriving.{words_taken}
-use Rattle.group_hand.specs.Block.{AddsCommits, AddsLetters, AddsRun, commits_in, is_commit, is_run, runs_in}
-use Rattle.group_hand.specs.DoneEvents.{DoneEvent}
-use Rattle.group_hand.specs.Sealing.{words_of}
+use Rattle.group_queues.specs.Block.{AddsCommits, AddsLetters, AddsRun, commits_in, is_commit, is_run, runs_in}
+use Rattle.group_queues.specs.DoneEvents.{DoneEvent}
+use Rattle.group_queues.specs.Sealing.{words_of}
 
 pub runs-append : (xs ys : List Word) → runs_in (xs ++ ys) ≡ runs_in xs + runs_in ys
 runs-append [] ys = omega arith

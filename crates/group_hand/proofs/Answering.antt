@@ -1,30 +1,13 @@
 -- What a call answered, and what that rules out.
 use Rattle.std.proofs.Common.{◌≡◌, Bool, true, false, Result, Ok, Err, OnOk, OnErr}
-use Rattle.group_hand.specs.declared.in_order.InOrder.{InOrder}
-use Rattle.group_hand.specs.declared.in_order.InOrder.TheVariants.{Ran, Idle, Late}
-use Rattle.group_hand.specs.declared.fault.HandFault.{HandFault}
-use Rattle.group_hand.specs.declared.fault.HandFault.TheVariants.{OutOfMemory, Exhausted}
 
 -- an answer, and no fault
 pub not-err : {T E P : Type 0} (x : T) (y : E) (r : Result T E) → r ≡ Ok x → r ≡ Err y → P
 not-err x y r a e = absurd cc
 
--- memory, and no numbers used up
-pub not-both-faults : {T P : Type 0} (r : Result T HandFault) → r ≡ Err OutOfMemory → r ≡ Err Exhausted → P
-not-both-faults r a e = absurd cc
-
 -- one answer, and not another
 pub not-both : {E P : Type 0} (r : Result Bool E) → r ≡ Ok true → r ≡ Ok false → P
 not-both r a e = absurd cc
-
-pub not-idle-ran : {P : Type 0} (r : Result InOrder HandFault) → r ≡ Ok Idle → r ≡ Ok Ran → P
-not-idle-ran r a e = absurd cc
-
-pub not-idle-late : {P : Type 0} (r : Result InOrder HandFault) → r ≡ Ok Idle → r ≡ Ok Late → P
-not-idle-late r a e = absurd cc
-
-pub not-ran-late : {P : Type 0} (r : Result InOrder HandFault) → r ≡ Ok Ran → r ≡ Ok Late → P
-not-ran-late r a e = absurd cc
 
 -- what is said of an answer, where there is one, and where there is none; and of a fault, where there is none
 pub where-ok : {T E P : Type 0} (x : T) (r : Result T E) → r ≡ Ok x → P → OnOk r P

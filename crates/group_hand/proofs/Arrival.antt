@@ -16,7 +16,7 @@ use Rattle.virtual_time.proofs.Presence.{present-true, present-from}
 use Rattle.virtual_time.proofs.Handling.{reached-append}
 use Rattle.virtual_time.proofs.Rolling.{roll-none}
 use Rattle.two_lists.proofs.Counting.{times-permutation}
-use Rattle.group_hand.specs.DoneEvents.{DoneEvent, done_events_at, messages_of}
+use Rattle.group_queues.specs.DoneEvents.{DoneEvent, done_events_at, messages_of}
 use Rattle.group_hand.specs.Hands.{Held, IsMember, CountsBeside, counted}
 use Rattle.group_hand.specs.Arriving.{sent_by, taken_back, undone_events, AreLate, StaysBeside, CountsMore, JoinsQueue, LeavesQueue, IsUndone, FrontArrived}
 use Rattle.group_hand.proofs.Member.{all-pluses, all-minuses, done-times, present-here}

@@ -12,12 +12,12 @@ use Rattle.virtual_time.proofs.Lists.{times-append}
 use Rattle.virtual_time.proofs.Letters.{counts-other, received-mine, received-here, named-none}
 use Rattle.antimessages.specs.Counting.{HaveSameCounts, signed_count}
 use Rattle.two_lists.proofs.Counting.{times-permutation}
-use Rattle.group_hand.specs.DoneEvents.{DoneEvent, done_events_at, messages_of}
+use Rattle.group_queues.specs.DoneEvents.{DoneEvent, done_events_at, messages_of}
 use Rattle.group_hand.specs.Hands.{Held, CountsBeside, counted}
 use Rattle.group_hand.specs.Arriving.{StaysBeside, CountsMore, JoinsQueue, LeavesQueue, IsUndone, FrontArrived}
 use Rattle.group_hand.proofs.Member.{all-pluses, all-minuses, times-at, times-elsewhere}
 use Rattle.group_hand.proofs.Arrival.{plus-adds, minus-adds}
-use Rattle.group_hand.proofs.LateDone.{messages-append}
+use Rattle.group_queues.proofs.Shares.{messages-append}
 
 module _ {S K : Type 0} (r : Rules Message S K Note) (O : IsOrder r.order) (V : S → Message → Type 0) where
   -- lists with the same counts have them for each receiver

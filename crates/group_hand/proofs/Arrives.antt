@@ -18,8 +18,8 @@ use Rattle.reverse.specs.Setting.{Setting, simulation_of}
 use Rattle.antimessages.specs.Counting.{signed_count}
 use Rattle.antimessages.proofs.Agreeing.{same_counts-cons}
 use Rattle.reverse.specs.Rules.{AreValues}
-use Rattle.group_hand.specs.declared.block.Word.TheVariants.{Arrived}
-use Rattle.group_hand.specs.DoneEvents.{DoneEvent, done_events_at, messages_of}
+use Rattle.group_queues.specs.declared.block.Word.TheVariants.{Arrived}
+use Rattle.group_queues.specs.DoneEvents.{DoneEvent, done_events_at, messages_of}
 use Rattle.group_hand.specs.Hands.{Held, IsMember, CountsBeside, StandsForSent, counted, is_held, is_ours}
 use Rattle.group_hand.specs.Passing.{held}
 use Rattle.group_hand.specs.Arriving.{taken_back, undone_events, FrontArrived}

@@ -14,10 +14,6 @@ pub ours-read : {S : Type 0} (members : List (Option S)) (p q : ℕ) (x : Option
 ours-read members p q x here within read =
     sym (ap is_held (slice_get_read members (length members) p x refl (ltb-true _ _ (sym within)) read)) ∙ ap (λ n. is_ours members n) here
 
-pub ours-past : {S : Type 0} (members : List (Option S)) (p q : ℕ) → p ≡ q → false ≡ nat_lt p (length members) → false ≡ is_ours members q
-ours-past members p q here past =
-    sym (ap is_held (slice_get_past members p (ltb-false _ _ (sym past)))) ∙ ap (λ n. is_ours members n) here
-
 -- what is there, and that there is none
 pub at-read : {S : Type 0} (members : List (Option S)) (p q : ℕ) (x : Option S) → p ≡ q → true ≡ nat_lt p (length members) → x ≡ get_or members p x → slice_get members q ≡ Some x
 at-read members p q x here within read =

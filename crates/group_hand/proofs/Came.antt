@@ -6,7 +6,7 @@ use Rattle.vlink.specs.declared.note.Note.{Note}
 use Rattle.virtual_time.specs.Law.{Rules, IsOrder, reached}
 use Rattle.virtual_time.proofs.Handling.{reached-append}
 use Rattle.reverse.specs.Rules.{AreValues}
-use Rattle.group_hand.specs.DoneEvents.{DoneEvent, done_event_of, done_events_at, done_events_of}
+use Rattle.group_queues.specs.DoneEvents.{DoneEvent, done_event_of, done_events_at, done_events_of}
 use Rattle.group_hand.specs.Undoing.{CameBy, CameTo}
 use Rattle.group_hand.proofs.FirstEvent.{set-here, set-there}
 use Rattle.group_hand.proofs.Running.{values-more, events-push, mine-push, kept-push}

@@ -10,7 +10,7 @@ use Rattle.virtual_time.proofs.WellStep.{delivered-well}
 use Rattle.virtual_time.proofs.HomeLetters.{arrives-plain}
 use Rattle.antimessages.specs.Counting.{HaveSameCounts}
 use Rattle.antimessages.proofs.Agreeing.{same_counts-cons}
-use Rattle.group_hand.specs.DoneEvents.{done_events_at, messages_of}
+use Rattle.group_queues.specs.DoneEvents.{done_events_at, messages_of}
 use Rattle.group_hand.specs.Hands.{Held, IsMember, counted}
 use Rattle.group_hand.proofs.Running.{received-same}
 

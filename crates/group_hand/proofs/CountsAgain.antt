@@ -10,11 +10,11 @@ use Rattle.virtual_time.proofs.Lists.{times-append}
 use Rattle.reverse.specs.Setting.{Setting}
 use Rattle.antimessages.specs.Counting.{HaveSameCounts, signed_count}
 use Rattle.two_lists.proofs.Counting.{times-permutation}
-use Rattle.group_hand.specs.DoneEvents.{DoneEvent, messages_of}
-use Rattle.group_hand.specs.Flow.{Flow}
+use Rattle.group_queues.specs.DoneEvents.{DoneEvent, messages_of}
+use Rattle.group_queues.specs.Flow.{Flow}
 use Rattle.group_hand.specs.Hands.{CountsBeside, DoesSent, StandsForSent, counted, is_ours}
 use Rattle.group_hand.specs.Passing.{held}
-use Rattle.group_hand.specs.Rows.{Sealed}
+use Rattle.group_queues.specs.Rows.{Sealed}
 use Rattle.group_hand.specs.Handling.{CountsAgain}
 use Rattle.group_hand.proofs.Member.{all-pluses, all-minuses}
 use Rattle.group_hand.proofs.ArrivalCounts.{received-signed}

@@ -16,13 +16,13 @@ use Rattle.reverse.proofs.Members.{in-all}
 use Rattle.antimessages.specs.Counting.{is_after, newest_of}
 use Rattle.antimessages.proofs.Newest.{after-all}
 use Rattle.two_lists.proofs.Counting.{times-permutation}
-use Rattle.group_hand.specs.declared.block.Word.TheVariants.{Ran}
-use Rattle.group_hand.specs.Block.{steps_told}
-use Rattle.group_hand.specs.DoneEvents.{DoneEvent, done_event_of, done_events_at, messages_of}
-use Rattle.group_hand.specs.Flow.{Flow}
+use Rattle.group_queues.specs.declared.block.Word.TheVariants.{Ran}
+use Rattle.group_queues.specs.Block.{steps_told}
+use Rattle.group_queues.specs.DoneEvents.{DoneEvent, done_event_of, done_events_at, messages_of}
+use Rattle.group_queues.specs.Flow.{Flow}
 use Rattle.group_hand.specs.Hands.{AreOfMembers, DoesSent, StandsForSent, is_held, is_ours}
 use Rattle.group_hand.specs.Passing.{GoesOn, held}
-use Rattle.group_hand.specs.Rows.{Sealed}
+use Rattle.group_queues.specs.Rows.{Sealed}
 use Rattle.group_hand.proofs.Telling.{done-append, are_done-append, by-same}
 use Rattle.group_hand.proofs.Running.{messages-push, mine-push, kept-push}
 use Rattle.group_hand.proofs.Handled.{ran, ran-steps}

@@ -5,7 +5,7 @@ use Rattle.vlink.specs.declared.note.Note.{Note}
 use Rattle.vlink.specs.Letters.{Letter}
 use Rattle.virtual_time.specs.Law.{Rules, IsOrder, IsAscending, IsIn}
 use Rattle.antimessages.specs.Counting.{is_after, newest_of}
-use Rattle.group_hand.specs.DoneEvents.{DoneEvent, done_events_at, messages_of}
+use Rattle.group_queues.specs.DoneEvents.{DoneEvent, done_events_at, messages_of}
 use Rattle.group_hand.specs.Hands.{Held}
 use Rattle.group_hand.specs.Arriving.{AreLate, CountsMore, JoinsQueue, LeavesQueue, IsUndone, FrontArrived, undone_events}
 use Rattle.group_hand.proofs.Parted.{not_at, parted-mine, parted-kept, parted-ascending, parted-late, parted-left}

@@ -13,8 +13,8 @@ use Rattle.reverse.specs.Plain.{Plain}
 use Rattle.reverse.specs.Rules.{rules_of}
 use Rattle.reverse.specs.Setting.{Setting, simulation_of}
 use Rattle.reverse.specs.declared.sends.Sends.{Sends}
-use Rattle.group_hand.specs.declared.block.Word.TheVariants.{Arrived}
-use Rattle.group_hand.specs.DoneEvents.{DoneEvent, done_events_at, messages_of}
+use Rattle.group_queues.specs.declared.block.Word.TheVariants.{Arrived}
+use Rattle.group_queues.specs.DoneEvents.{DoneEvent, done_events_at, messages_of}
 use Rattle.group_hand.specs.Hands.{Held, DoesSent, StandsForSent}
 use Rattle.group_hand.specs.Arriving.{FrontArrived, WentOn, taken_back, sent_by}
 use Rattle.group_hand.proofs.LateDone.{sent-events}

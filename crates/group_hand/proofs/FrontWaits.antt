@@ -10,13 +10,13 @@ use Rattle.reverse.specs.Rules.{is_before, rules_of}
 use Rattle.reverse.specs.Setting.{Setting}
 use Rattle.reverse.specs.declared.sends.Sends.{Sends}
 use Rattle.reverse.proofs.Members.{in-all}
-use Rattle.group_hand.specs.DoneEvents.{DoneEvent, messages_of}
-use Rattle.group_hand.specs.Flow.{Flow}
+use Rattle.group_queues.specs.DoneEvents.{DoneEvent, messages_of}
+use Rattle.group_queues.specs.Flow.{Flow}
 use Rattle.group_hand.specs.Handling.{CountsAgain}
 use Rattle.group_hand.specs.Hands.{Held, FirstWaits, IsAsBefore, StandsForGroup}
 use Rattle.group_hand.specs.Passing.{held}
-use Rattle.group_hand.specs.Rows.{Sealed}
-use Rattle.group_hand.proofs.Among.{contains-in, none-among}
+use Rattle.group_queues.specs.Rows.{Sealed}
+use Rattle.group_queues.proofs.Among.{contains-in, none-among}
 use Rattle.group_hand.proofs.CountsAgain.{stands-again}
 use Rattle.group_hand.proofs.Still.{stands-still}
 

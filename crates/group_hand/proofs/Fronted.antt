@@ -15,18 +15,18 @@ use Rattle.reverse.specs.Rules.{rules_of}
 use Rattle.reverse.specs.declared.sends.Sends.{Sends}
 use Rattle.antimessages.specs.Counting.{HaveSameCounts, signed_count}
 use Rattle.two_lists.proofs.Counting.{times-permutation}
-use Rattle.group_hand.specs.declared.block.Word.TheVariants.{Arrived}
-use Rattle.group_hand.specs.declared.tray.Way.{Way}
-use Rattle.group_hand.specs.declared.tray.Way.TheVariants.{Beside, Joins, Leaves, Undoes}
+use Rattle.group_queues.specs.declared.block.Word.TheVariants.{Arrived}
+use Rattle.group_queues.specs.declared.tray.Way.{Way}
+use Rattle.group_queues.specs.declared.tray.Way.TheVariants.{Beside, Joins, Leaves, Undoes}
 use Rattle.group_hand.specs.Arriving.{FrontArrived, WentOn, CountsMore, JoinsQueue, LeavesQueue, IsUndone, sent_by, taken_back, to_members, to_others, words_taken}
-use Rattle.group_hand.specs.DoneEvents.{DoneEvent, done_events_at, messages_of}
-use Rattle.group_hand.specs.Flow.{Flow}
+use Rattle.group_queues.specs.DoneEvents.{DoneEvent, done_events_at, messages_of, sent_in}
+use Rattle.group_queues.specs.Flow.{Flow}
 use Rattle.group_hand.specs.Hands.{is_ours}
 use Rattle.group_hand.specs.Passing.{held}
-use Rattle.group_hand.specs.Rows.{Sealed}
-use Rattle.group_hand.specs.Counted.{CountedBeside, FoundWaiting, FrontCounts}
-use Rattle.group_hand.specs.Undoing.{Retreat, RolledBack, Settled, sent_in}
-use Rattle.group_hand.proofs.Among.{none-among}
+use Rattle.group_queues.specs.Rows.{Sealed}
+use Rattle.group_queues.specs.Counted.{CountedBeside, FoundWaiting, FrontCounts}
+use Rattle.group_hand.specs.Undoing.{Retreat, RolledBack, Settled}
+use Rattle.group_queues.proofs.Among.{none-among}
 use Rattle.group_hand.proofs.FrontCases.{front-still, front-rolled, are-late}
 use Rattle.group_hand.proofs.Rolled.{done-is, is-late, settled-sent}
 use Rattle.group_hand.proofs.WentOn.{to_members-same, to_others-same}

@@ -17,7 +17,7 @@ use Rattle.virtual_time.proofs.HomeLetters.{comes-home, home_after, plain-enable
 use Rattle.virtual_time.proofs.Settled.{floor-again}
 use Rattle.reverse.specs.Setting.{Setting, simulation_of}
 use Rattle.antimessages.specs.Counting.{signed_count}
-use Rattle.group_hand.specs.DoneEvents.{DoneEvent, done_events_at, messages_of}
+use Rattle.group_queues.specs.DoneEvents.{DoneEvent, done_events_at, messages_of}
 use Rattle.group_hand.specs.Hands.{Held, IsMember, StandsForSent, counted, is_held, is_ours}
 use Rattle.group_hand.proofs.Member.{messages-of, present-here, all-pluses, all-minuses}
 use Rattle.group_hand.proofs.Running.{received-same}

@@ -12,7 +12,7 @@ use Rattle.virtual_time.proofs.Order.{same-refl}
 use Rattle.virtual_time.proofs.Lists.{times-append}
 use Rattle.virtual_time.proofs.HomeLetters.{runs-plain, run_after}
 use Rattle.reverse.specs.Setting.{Setting, simulation_of}
-use Rattle.group_hand.specs.DoneEvents.{DoneEvent, done_event_of, done_events_at, messages_of}
+use Rattle.group_queues.specs.DoneEvents.{DoneEvent, done_event_of, done_events_at, messages_of}
 use Rattle.group_hand.specs.Hands.{Held, IsMember, StandsForSent, is_held, is_ours}
 use Rattle.group_hand.proofs.Member.{next-here}
 use Rattle.group_hand.proofs.Running.{ran-member, ran-other, more-done}

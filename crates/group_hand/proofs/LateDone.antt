@@ -4,13 +4,8 @@ use Rattle.vlink.specs.declared.message.Message.{Message}
 use Rattle.vlink.specs.declared.note.Note.{Note}
 use Rattle.virtual_time.specs.Law.{Rules, reached, sent, undone}
 use Rattle.reverse.specs.Rules.{AreValues}
-use Rattle.group_hand.specs.DoneEvents.{DoneEvent, done_event_of, done_events_of, messages_of}
+use Rattle.group_queues.specs.DoneEvents.{DoneEvent, done_event_of, done_events_of, messages_of}
 use Rattle.group_hand.specs.Arriving.{sent_by, undone_events}
-
--- the messages of two parts
-pub messages-append : {K : Type 0} (xs ys : List (DoneEvent K)) → messages_of (xs ++ ys) ≡ messages_of xs ++ messages_of ys
-messages-append [] ys = refl
-messages-append (x ∷ xs) ys = ap (λ z. x.message ∷ z) (messages-append xs ys)
 
 module _ {S K : Type 0} (r : Rules Message S K Note) where
   -- the events handled from the state s on are these, and then those

@@ -9,14 +9,14 @@ use Rattle.reverse.specs.Plain.{Plain}
 use Rattle.reverse.specs.Rules.{rules_of}
 use Rattle.reverse.specs.declared.sends.Sends.{Sends}
 use Rattle.antimessages.specs.Counting.{is_after, newest_of}
-use Rattle.group_hand.specs.declared.block.Word.TheVariants.{Ran}
+use Rattle.group_queues.specs.declared.block.Word.TheVariants.{Ran}
 use Rattle.group_hand.specs.Arriving.{WentOn, to_members, to_others, words_taken}
-use Rattle.group_hand.specs.DoneEvents.{DoneEvent, done_event_of, done_events_at, messages_of}
-use Rattle.group_hand.specs.Flow.{Flow}
+use Rattle.group_queues.specs.DoneEvents.{DoneEvent, done_event_of, done_events_at, messages_of}
+use Rattle.group_queues.specs.Flow.{Flow}
 use Rattle.group_hand.specs.Handling.{SetAside}
 use Rattle.group_hand.specs.Hands.{DoesSent}
 use Rattle.group_hand.specs.Passing.{held}
-use Rattle.group_hand.specs.Rows.{Sealed}
+use Rattle.group_queues.specs.Rows.{Sealed}
 use Rattle.group_hand.specs.Undoing.{CameTo}
 use Rattle.group_hand.proofs.Came.{handled-came}
 use Rattle.group_hand.proofs.FirstEvent.{set-here, set-there, set-ours}

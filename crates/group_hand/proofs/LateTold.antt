@@ -15,12 +15,12 @@ use Rattle.reverse.specs.Setting.{Setting, simulation_of}
 use Rattle.reverse.specs.declared.sends.Sends.{Sends}
 use Rattle.reverse.proofs.Members.{in-all}
 use Rattle.two_lists.proofs.Counting.{times-permutation}
-use Rattle.group_hand.specs.declared.block.Word.TheVariants.{Ran}
-use Rattle.group_hand.specs.DoneEvents.{DoneEvent, done_event_of, done_events_at, messages_of}
+use Rattle.group_queues.specs.declared.block.Word.TheVariants.{Ran}
+use Rattle.group_queues.specs.DoneEvents.{DoneEvent, done_event_of, done_events_at, messages_of}
 use Rattle.group_hand.specs.Hands.{Held, DoesSent, StandsForSent, is_held, is_ours}
 use Rattle.group_hand.specs.Arriving.{WentOn}
 use Rattle.group_hand.specs.Handling.{FirstHandled}
-use Rattle.group_hand.proofs.LateDone.{messages-append}
+use Rattle.group_queues.proofs.Shares.{messages-append}
 use Rattle.group_hand.proofs.Member.{messages-of, present-here, done-times}
 use Rattle.group_hand.proofs.Parted.{not_at, parted-late, parted-mine, between-mine, between-kept, between-ascending}
 use Rattle.group_hand.proofs.Handled.{ran, ran-steps, ours-same}

@@ -1,9 +1,5 @@
-pub mod Shares
-pub mod Waiting
-pub mod Offers
 pub mod Telling
 pub mod Adding
-pub mod Steps
 pub mod Member
 pub mod Running
 pub mod Coming
@@ -15,7 +11,6 @@ pub mod FirstEvent
 pub mod Sealing
 pub mod Still
 pub mod Sealed
-pub mod Forgetting
 pub mod LateDone
 pub mod Parted
 pub mod Arrival
@@ -23,8 +18,6 @@ pub mod ArrivalCounts
 pub mod Arrives
 pub mod WentOn
 pub mod OneLetter
-pub mod Among
-pub mod Moved
 pub mod FrontCases
 pub mod WordTold
 pub mod FrontTold
@@ -35,7 +28,6 @@ pub mod Origin
 pub mod Retreating
 pub mod Rolled
 pub mod Fronted
-pub mod NewestDone
 pub mod Came
 pub mod LateEvent
 pub mod Rooms
@@ -43,8 +35,6 @@ pub mod AtPlace
 pub mod Answering
 pub mod Floors
 pub mod FrontWaits
-pub mod Leaving
 pub mod OldestDone
 pub mod Opens
 pub mod Handed
-pub mod Precedes

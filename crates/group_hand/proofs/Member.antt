@@ -10,7 +10,7 @@ use Rattle.virtual_time.proofs.Lists.{times-append, in-append}
 use Rattle.virtual_time.proofs.Presence.{present-true, present-from}
 use Rattle.virtual_time.proofs.Reading.{next-from}
 use Rattle.antimessages.proofs.Agreeing.{present-same_count}
-use Rattle.group_hand.specs.DoneEvents.{DoneEvent, done_events_at, done_events_of, messages_of}
+use Rattle.group_queues.specs.DoneEvents.{DoneEvent, done_events_at, done_events_of, messages_of}
 use Rattle.group_hand.specs.Hands.{Held, IsMember, CountsBeside, counted}
 
 module _ {S K : Type 0} (r : Rules Message S K Note) (O : IsOrder r.order) (V : S → Message → Type 0) where

@@ -11,13 +11,13 @@ use Rattle.reverse.specs.Rules.{rules_of}
 use Rattle.reverse.specs.Setting.{Setting}
 use Rattle.reverse.specs.declared.sends.Sends.{Sends}
 use Rattle.antimessages.specs.Counting.{is_after, newest_of}
-use Rattle.group_hand.specs.DoneEvents.{DoneEvent, messages_of}
+use Rattle.group_queues.specs.DoneEvents.{DoneEvent, messages_of}
 use Rattle.group_hand.specs.Handling.{HasLater, SetAside, StopsAt}
 use Rattle.group_hand.specs.Hands.{Held, StandsForSent}
-use Rattle.group_hand.proofs.Among.{contains-in, none-among}
-use Rattle.group_hand.proofs.LateDone.{messages-append}
+use Rattle.group_queues.proofs.Among.{contains-in, none-among}
+use Rattle.group_queues.proofs.Shares.{messages-append}
 use Rattle.group_hand.proofs.Member.{present-here, done-times}
-use Rattle.group_hand.proofs.NewestDone.{newest-among}
+use Rattle.group_queues.proofs.NewestDone.{newest-among}
 
 module _ {K : Type 0} (O : IsOrder message_order) (m : Message) (done front aside : List (DoneEvent K)) (a : SetAside message_order m done front aside) where
   -- setting aside stopped at an event that does not come before m: that is of its receiver

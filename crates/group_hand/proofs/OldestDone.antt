@@ -10,7 +10,7 @@ use Rattle.virtual_time.proofs.Lists.{filter-none, in-cons, in-head}
 use Rattle.virtual_time.proofs.Order.{less-time}
 use Rattle.reverse.specs.Setting.{Setting}
 use Rattle.reverse.proofs.Members.{in-all}
-use Rattle.group_hand.specs.DoneEvents.{messages_of}
+use Rattle.group_queues.specs.DoneEvents.{messages_of}
 use Rattle.group_hand.specs.Hands.{Held, StandsForGroup, is_ours}
 use Rattle.group_hand.proofs.Going.{done-in, held-is}
 

@@ -3,8 +3,8 @@ use Rattle.std.proofs.Common.{◌≡◌, ℕ, ◌+◌, ◌<◌, Bool, true, fals
 use Rattle.std.proofs.lemmas.List.{map-append}
 use Rattle.vlink.specs.declared.message.Message.{Message}
 use Rattle.vlink.specs.Letters.{Letter}
-use Rattle.group_hand.specs.declared.block.Word.TheVariants.{Taken}
-use Rattle.group_hand.specs.Flow.{Flow}
+use Rattle.group_queues.specs.declared.block.Word.TheVariants.{Taken}
+use Rattle.group_queues.specs.Flow.{Flow}
 use Rattle.group_hand.specs.Hands.{is_ours}
 use Rattle.group_hand.specs.Arriving.{WentOn, words_taken}
 use Rattle.group_hand.proofs.WentOn.{went-both}

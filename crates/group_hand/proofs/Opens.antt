@@ -9,7 +9,7 @@ use Rattle.virtual_time.specs.Law.{Rules, IsOrder, World, IsAscending, IsIn, flo
 use Rattle.virtual_time.proofs.WellStep.{opened-well}
 use Rattle.reverse.specs.Setting.{Setting}
 use Rattle.antimessages.specs.Counting.{signed_count}
-use Rattle.group_hand.specs.DoneEvents.{done_events_at, messages_of}
+use Rattle.group_queues.specs.DoneEvents.{done_events_at, messages_of}
 use Rattle.group_hand.specs.Hands.{Held, HasDoneNothing, IsMember, IsOpened, StandsForGroup, counted, is_held, is_ours}
 
 module _ {S K : Type 0} (r : Rules Message S K Note) (O : IsOrder r.order) (V : S → Message → Type 0) (x : Setting S) (v : World Message S) (h : Held S K) (n : HasDoneNothing h) where

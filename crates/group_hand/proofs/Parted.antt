@@ -10,8 +10,8 @@ use Rattle.virtual_time.proofs.Ascending.{ascending-filter, ascending-append, as
 use Rattle.reverse.proofs.Members.{in-all}
 use Rattle.antimessages.specs.Counting.{is_after, newest_of}
 use Rattle.antimessages.proofs.Newest.{after-all}
-use Rattle.group_hand.specs.DoneEvents.{DoneEvent, done_events_at, messages_of}
-use Rattle.group_hand.proofs.LateDone.{messages-append}
+use Rattle.group_queues.specs.DoneEvents.{DoneEvent, done_events_at, messages_of}
+use Rattle.group_queues.proofs.Shares.{messages-append}
 
 module _ {S K : Type 0} (r : Rules Message S K Note) (O : IsOrder r.order) where
   -- those of other processes than p

@@ -1,22 +1,22 @@
 -- What an event sent goes on, one message after another.
-use Rattle.std.proofs.Common.{◌≡◌, ℕ, zero, suc, ◌<◌, ◌⊎◌, inl, inr, Bool, true, false, Option, List, [], ◌∷◌, ◌++◌, map, All, refl, sym, ap, ◌∙◌, subst, append_assoc, append-nil, length, get_or, arith}
+use Rattle.std.proofs.Common.{◌≡◌, ◌⊎◌, inl, inr, Bool, true, false, Option, List, [], ◌∷◌, ◌++◌, map, All, refl, sym, ap, ◌∙◌, subst, append_assoc, append-nil}
 use Rattle.std.proofs.lemmas.List.Elements.{All-push}
 use Rattle.vlink.specs.declared.message.Message.{Message}
 use Rattle.vlink.specs.Order.{message_order}
 use Rattle.virtual_time.specs.Law.{IsOrder, IsIn, plus_of, received_by, times_in, AreDone, done_by}
-use Rattle.virtual_time.proofs.Lists.{in-head}
 use Rattle.reverse.specs.Plain.{Plain}
 use Rattle.reverse.specs.Rules.{rules_of}
 use Rattle.reverse.specs.Setting.{simulation_of}
 use Rattle.reverse.specs.declared.sends.Sends.{Sends}
 use Rattle.two_lists.proofs.Counting.{times-permutation}
-use Rattle.group_hand.specs.declared.block.Word.TheVariants.{Home, Taken}
-use Rattle.group_hand.specs.Block.{steps_told}
-use Rattle.group_hand.specs.Flow.{Flow, WentAbroad, CameHome, WasTaken}
+use Rattle.group_queues.specs.declared.block.Word.TheVariants.{Home, Taken}
+use Rattle.group_queues.specs.Block.{steps_told}
+use Rattle.group_queues.specs.Flow.{Flow, WentAbroad, CameHome, WasTaken}
 use Rattle.group_hand.specs.Hands.{StandsForSent, is_ours}
 use Rattle.group_hand.specs.Passing.{GoesOn, held}
 use Rattle.group_hand.proofs.Adding.{commits-none, runs-none}
-use Rattle.group_hand.proofs.Telling.{done-append, are_done-append, by-both, told-append}
+use Rattle.group_hand.proofs.Telling.{done-append, are_done-append, by-both}
+use Rattle.group_queues.proofs.Steps.{told-append}
 use Rattle.group_hand.proofs.Going.{stands-kept, came-steps, came-home}
 use Rattle.group_hand.proofs.Taking.{taken-steps, was-taken}
 
@@ -112,9 +112,3 @@ module _ {S K : Type 0} (plain : Plain S Message Sends K) (V : S → Message →
         go : CameHome m mid new ⊎ WasTaken m mid new → GoesOn (rules_of plain) V members all mid (m ∷ rest) new rest
         go (inl c) = gone-home (sym e) c
         go (inr c) = gone-taken (sym e) c
-
--- a message at a place of a list is in it
-pub at-in : IsOrder message_order → (all : List Message) (k : ℕ) (m : Message) → k < length all → m ≡ get_or all k m → IsIn message_order m all
-at-in O [] k m l e = absurd (omega arith)
-at-in O (x ∷ xs) zero m l e = subst (λ z. IsIn message_order m (z ∷ xs)) e (in-head message_order O m xs)
-at-in O (x ∷ xs) (suc k) m l e = let i = at-in O xs k m (omega arith) e in omega arith

@@ -1,5 +1,5 @@
 -- Rolling back, one event after another.
-use Rattle.std.proofs.Common.{◌≡◌, ℕ, Bool, true, false, not, cond, List, [], ◌∷◌, ◌++◌, Option, Some, ◌<◌, All, length, reverse, slice_get, get_or, option_to_list, IsPermutation, refl, sym, ap, ◌∙◌, subst, arith, append_assoc, append-nil, length-append, eq-eqb, ne_eqb}
+use Rattle.std.proofs.Common.{◌≡◌, ℕ, Bool, true, false, not, cond, List, [], ◌∷◌, ◌++◌, Option, Some, ◌<◌, All, length, reverse, slice_get, IsPermutation, refl, sym, ap, ◌∙◌, subst, arith, append_assoc, append-nil, length-append, eq-eqb, ne_eqb}
 use Rattle.std.proofs.lemmas.List.{reverse-append}
 use Rattle.std.proofs.lemmas.List.Elements.{All-nil, All-cons}
 use Rattle.std.proofs.lemmas.List.Sorted.{IsPermutation-refl, IsPermutation-trans, IsPermutation-cons}
@@ -9,11 +9,11 @@ use Rattle.virtual_time.specs.Law.{Rules}
 use Rattle.group_hand.specs.Arriving.{sent_by, undone_events}
 use Rattle.vlink.specs.Order.{message_order}
 use Rattle.antimessages.specs.Counting.{is_after, newest_of}
-use Rattle.group_hand.specs.DoneEvents.{DoneEvent, Done, done_events_at, messages_of}
+use Rattle.group_queues.specs.DoneEvents.{DoneEvent, Done, done_events_at, messages_of, HasRoomFor, sent_in, noted_in}
 use Rattle.group_hand.specs.Hands.{is_ours}
-use Rattle.group_hand.specs.Undoing.{HasRoomFor, Retreat, RollsBack, others_at, sent_in, noted_in}
-use Rattle.group_hand.proofs.LateDone.{messages-append}
-use Rattle.group_hand.proofs.NewestDone.{newest-last, sent_in-push, noted_in-push}
+use Rattle.group_hand.specs.Undoing.{Retreat, RollsBack, others_at}
+use Rattle.group_queues.proofs.Shares.{messages-append}
+use Rattle.group_queues.proofs.NewestDone.{newest-last, sent_in-push, noted_in-push}
 use Rattle.group_hand.proofs.Origin.{at-mine, at-another}
 
 module _ {S K : Type 0} (r : Rules Message S K Note) (V : S → Message → Type 0) (m : Message) (start : Retreat S K) where
@@ -90,11 +90,6 @@ module _ {S K : Type 0} (r : Rules Message S K Note) (V : S → Message → Type
           others = k.others;
         }
 
--- an empty list
-pub none-long : {X : Type 0} (xs : List X) → length xs ≡ 0 → xs ≡ []
-none-long [] e = refl
-none-long (x ∷ xs) e = absurd (omega arith)
-
 -- nothing needs no room
 pub room-none : {K : Type 0} (ds : List (DoneEvent K)) (there : Done K) → ds ≡ [] → HasRoomFor ds there
 room-none ds there e = record {
@@ -117,15 +112,6 @@ pub newest-late : {K : Type 0} (m : Message) (all left : List (DoneEvent K)) (d 
 newest-late m all left d e a =
     subst (λ o. is_after message_order o m ≡ false)
     (ap (λ z. newest_of (messages_of z)) e ∙ (ap newest_of (messages-append left (d ∷ [])) ∙ newest-last (messages_of left) d.message)) a
-
--- a list from its first on
-pub first-rest : {X : Type 0} (xs : List X) (x : X) → 0 < length xs → x ≡ get_or xs 0 x → (rest : List X) × (xs ≡ x ∷ rest)
-first-rest [] x l e = absurd (omega arith)
-first-rest (y ∷ ys) x l e = (ys, ap (λ z. z ∷ ys) (sym e))
-
--- what is left of it
-pub rest-left : {X : Type 0} (xs ys rest : List X) (o : Option X) (x z : X) → xs ≡ option_to_list o ++ ys → xs ≡ x ∷ rest → o ≡ Some z → ys ≡ rest
-rest-left xs ys rest o x z a b e = let k : z ∷ ys ≡ x ∷ rest = ap (λ w. option_to_list w ++ ys) (sym e) ∙ (sym a ∙ b) in cc
 
 -- what does not come after the newest has one
 pub some-late : {K : Type 0} (m : Message) (ds : List (DoneEvent K)) → is_after message_order (newest_of (messages_of ds)) m ≡ false → 0 < length ds

@@ -9,19 +9,16 @@ use Rattle.virtual_time.proofs.Lists.{in-append, in-filter_from}
 use Rattle.virtual_time.proofs.Ascending.{ascending-left}
 use Rattle.antimessages.proofs.Newest.{after-all}
 use Rattle.group_hand.specs.Arriving.{sent_by}
-use Rattle.group_hand.specs.DoneEvents.{DoneEvent, done_events_at, messages_of}
-use Rattle.group_hand.specs.Undoing.{Retreat, RolledBack, CameTo, CameBy, Settled, others_at, sent_in}
-use Rattle.group_hand.specs.declared.tray.Way.{Way}
-use Rattle.group_hand.specs.declared.tray.Way.TheVariants.{Beside, Joins, Leaves, Undoes}
-use Rattle.group_hand.proofs.LateDone.{messages-append}
+use Rattle.group_queues.specs.DoneEvents.{DoneEvent, done_events_at, messages_of, sent_in}
+use Rattle.group_hand.specs.Undoing.{Retreat, RolledBack, CameTo, CameBy, Settled, others_at}
+use Rattle.group_queues.specs.declared.tray.Way.{Way}
+use Rattle.group_queues.specs.declared.tray.Way.TheVariants.{Beside, Joins, Leaves, Undoes}
+use Rattle.group_queues.proofs.Shares.{messages-append}
 use Rattle.group_hand.proofs.Parted.{messages-filter, parted-kept, none-at}
 use Rattle.group_hand.proofs.Origin.{at-append}
+use Rattle.group_hand.proofs.Rooms.{sent_in-append}
 
 module _ {K : Type 0} where
-  pub sent_in-append : (xs ys : List (DoneEvent K)) → sent_in (xs ++ ys) ≡ sent_in xs + sent_in ys
-  sent_in-append [] ys = omega arith
-  sent_in-append (x ∷ xs) ys = let e = sent_in-append xs ys in omega arith
-
   sent_in-by : (ds : List (DoneEvent K)) → length (sent_by ds) ≡ sent_in ds
   sent_in-by [] = refl
   sent_in-by (d ∷ ds) = length-append d.sent (sent_by ds) ∙ ap (λ n. length d.sent + n) (sent_in-by ds)

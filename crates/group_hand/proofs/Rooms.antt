@@ -1,7 +1,6 @@
 -- How much done events sent and noted, of two lists put together; and room for them, in whatever order.
 use Rattle.std.proofs.Common.{◌≡◌, ℕ, ◌+◌, ◌<◌, ◌≤◌, List, [], ◌∷◌, ◌++◌, arith, length-append}
-use Rattle.group_hand.specs.DoneEvents.{DoneEvent, Done}
-use Rattle.group_hand.specs.Undoing.{HasRoomFor, sent_in, noted_in}
+use Rattle.group_queues.specs.DoneEvents.{DoneEvent, Done, HasRoomFor, sent_in, noted_in}
 
 module _ {K : Type 0} where
   pub sent_in-append : (xs ys : List (DoneEvent K)) → sent_in (xs ++ ys) ≡ sent_in xs + sent_in ys

@@ -14,7 +14,7 @@ use Rattle.virtual_time.proofs.WellRun.{run-well}
 use Rattle.virtual_time.proofs.WellStep.{emptied-well}
 use Rattle.antimessages.specs.Counting.{HaveSameCounts}
 use Rattle.reverse.specs.Rules.{AreValues}
-use Rattle.group_hand.specs.DoneEvents.{DoneEvent, done_event_of, done_events_at, done_events_of, messages_of}
+use Rattle.group_queues.specs.DoneEvents.{DoneEvent, done_event_of, done_events_at, done_events_of, messages_of}
 use Rattle.group_hand.specs.Hands.{Held, IsMember, counted}
 use Rattle.group_hand.proofs.Member.{times-at, all-pluses, all-minuses}
 

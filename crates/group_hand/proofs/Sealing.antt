@@ -21,7 +21,7 @@ use Rattle.reverse.specs.Setting.{Setting, simulation_of}
 use Rattle.antimessages.specs.Counting.{HaveSameCounts, signed_count}
 use Rattle.antimessages.proofs.Agreeing.{same_counts-cons}
 use Rattle.reverse.specs.Rules.{AreValues}
-use Rattle.group_hand.specs.DoneEvents.{DoneEvent, done_event_of, done_events_at, done_events_of, messages_of}
+use Rattle.group_queues.specs.DoneEvents.{DoneEvent, done_event_of, done_events_at, done_events_of, messages_of}
 use Rattle.group_hand.specs.Hands.{Held, IsMember, StandsForSent, counted, is_ours}
 use Rattle.group_hand.proofs.Member.{all-pluses, all-minuses}
 use Rattle.group_hand.proofs.Running.{received-same}

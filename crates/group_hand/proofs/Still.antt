@@ -9,17 +9,17 @@ use Rattle.reverse.specs.Plain.{Plain}
 use Rattle.reverse.specs.Rules.{rules_of, is_before}
 use Rattle.reverse.specs.Setting.{Setting}
 use Rattle.reverse.specs.declared.sends.Sends.{Sends}
-use Rattle.group_hand.specs.Block.{AddsRun}
-use Rattle.group_hand.specs.DoneEvents.{DoneEvent, messages_of}
-use Rattle.group_hand.specs.Flow.{Flow, IsFirst, TookFirst}
+use Rattle.group_queues.specs.Block.{AddsRun}
+use Rattle.group_queues.specs.DoneEvents.{DoneEvent, messages_of}
+use Rattle.group_queues.specs.Flow.{Flow, IsFirst, TookFirst}
 use Rattle.group_hand.specs.Handling.{IsHandled, RanFirst}
 use Rattle.group_hand.specs.Hands.{Held, DoesSent, StandsForSent, IsAsBefore, is_ours}
 use Rattle.group_hand.specs.Passing.{held}
-use Rattle.group_hand.specs.Rows.{Sealed}
-use Rattle.group_hand.specs.Waiting.{placed}
+use Rattle.group_queues.specs.Rows.{Sealed}
+use Rattle.group_queues.specs.Waiting.{placed}
 use Rattle.group_hand.proofs.Going.{stands-kept}
 use Rattle.group_hand.proofs.Telling.{of_members-none}
-use Rattle.group_hand.proofs.Waiting.{placed-first}
+use Rattle.group_queues.proofs.Waiting.{placed-first}
 
 -- room was made, or the queue was looked at, for a group that is seen as h
 pub as-roomy : {S K : Type 0} (h : Held S K) (members : List (Option S)) (done later : List (DoneEvent K)) (rows : Sealed) (flow next : Flow) → held members done rows flow ≡ h → later ≡ done →

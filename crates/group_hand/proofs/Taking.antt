@@ -14,7 +14,7 @@ use Rattle.virtual_time.proofs.Settled.{floor-delivered}
 use Rattle.reverse.specs.Setting.{Setting, simulation_of}
 use Rattle.virtual_time.specs.declared.letter.Letter.{Letter as AnyLetter}
 use Rattle.antimessages.specs.Counting.{signed_count}
-use Rattle.group_hand.specs.DoneEvents.{done_events_at, messages_of}
+use Rattle.group_queues.specs.DoneEvents.{done_events_at, messages_of}
 use Rattle.group_hand.specs.Hands.{Held, IsMember, StandsForSent, counted, is_ours}
 use Rattle.group_hand.proofs.Going.{held-is, received-append, received-first, received-skip, received-sent, received-rest, received-other}
 

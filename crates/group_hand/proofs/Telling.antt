@@ -6,9 +6,10 @@ use Rattle.vlink.specs.Letters.{Letter}
 use Rattle.virtual_time.specs.Law.{Simulation, Rules, World, AreBy, AreDone, done_by, is_enabled, effect, step}
 use Rattle.virtual_time.specs.declared.step.Step.{Step}
 use Rattle.reverse.specs.Setting.{simulation_of}
-use Rattle.group_hand.specs.declared.block.Word.{Word}
-use Rattle.group_hand.specs.Block.{steps_of_word, steps_told}
+use Rattle.group_queues.specs.declared.block.Word.{Word}
+use Rattle.group_queues.specs.Block.{steps_told}
 use Rattle.group_hand.specs.Hands.{Held, AreOfMembers, DoesSent, StandsForSent, is_ours}
+use Rattle.group_queues.proofs.Steps.{told-append}
 
 module _ {M S K N : Type 0} (f : Simulation M S K N) where
   pub done-append : (xs ys : List Step) (v : World M S) → done_by f (xs ++ ys) v ≡ done_by f ys (done_by f xs v)
@@ -26,10 +27,6 @@ module _ {M S K N : Type 0} (f : Simulation M S K N) where
     subst (λ w. AreDone f (xs ++ ys) w) (sym (step-does x v a.0))
         (are_done-append xs ys (effect f x v) (subst (λ w. AreDone f xs w) (step-does x v a.0) a.1) b),
   )
-
-pub told-append : (xs ys : List Word) → steps_told (xs ++ ys) ≡ steps_told xs ++ steps_told ys
-told-append [] ys = refl
-told-append (x ∷ xs) ys = ap (λ z. steps_of_word x ++ z) (told-append xs ys) ∙ sym (append_assoc (steps_of_word x) (steps_told xs) (steps_told ys))
 
 by-append : (ours : ℕ → Bool) (xs ys : List Step) → AreBy ours xs → AreBy ours ys → AreBy ours (xs ++ ys)
 by-append ours [] ys a b = b

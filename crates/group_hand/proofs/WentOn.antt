@@ -11,13 +11,13 @@ use Rattle.reverse.specs.Plain.{Plain}
 use Rattle.reverse.specs.Rules.{rules_of}
 use Rattle.reverse.specs.Setting.{Setting, simulation_of}
 use Rattle.reverse.specs.declared.sends.Sends.{Sends}
-use Rattle.group_hand.specs.declared.block.Word.TheVariants.{Taken}
-use Rattle.group_hand.specs.Block.{steps_told}
-use Rattle.group_hand.specs.DoneEvents.{DoneEvent}
-use Rattle.group_hand.specs.Flow.{Flow}
+use Rattle.group_queues.specs.declared.block.Word.TheVariants.{Taken}
+use Rattle.group_queues.specs.Block.{steps_told}
+use Rattle.group_queues.specs.DoneEvents.{DoneEvent}
+use Rattle.group_queues.specs.Flow.{Flow}
 use Rattle.group_hand.specs.Hands.{StandsForSent, is_ours}
 use Rattle.group_hand.specs.Passing.{held}
-use Rattle.group_hand.specs.Rows.{Sealed}
+use Rattle.group_queues.specs.Rows.{Sealed}
 use Rattle.group_hand.specs.Arriving.{WentOn, to_members, to_others, words_taken}
 use Rattle.group_hand.proofs.Telling.{are_done-append}
 use Rattle.group_hand.proofs.Going.{stands-kept}

@@ -8,12 +8,13 @@ use Rattle.reverse.specs.Plain.{Plain}
 use Rattle.reverse.specs.Rules.{rules_of}
 use Rattle.reverse.specs.Setting.{Setting, simulation_of}
 use Rattle.reverse.specs.declared.sends.Sends.{Sends}
-use Rattle.group_hand.specs.declared.block.Word.{Word}
-use Rattle.group_hand.specs.Block.{steps_told}
+use Rattle.group_queues.specs.declared.block.Word.{Word}
+use Rattle.group_queues.specs.Block.{steps_told}
 use Rattle.group_hand.specs.Hands.{Held, DoesSent, StandsForSent, is_ours}
 use Rattle.group_hand.specs.Passing.{held}
 use Rattle.group_hand.specs.Arriving.{WentOn, to_members, to_others, words_taken}
-use Rattle.group_hand.proofs.Telling.{are_done-append, by-both, done-append, told-append}
+use Rattle.group_hand.proofs.Telling.{are_done-append, by-both, done-append}
+use Rattle.group_queues.proofs.Steps.{told-append}
 use Rattle.group_hand.proofs.Going.{stands-kept}
 use Rattle.group_hand.proofs.WentOn.{to_members-same, to_others-same, taken-by, all-went, Goes}
 

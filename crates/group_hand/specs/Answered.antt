@@ -7,7 +7,7 @@ use Rattle.virtual_time.specs.Law.{Rules, World, IsAscending}
 use Rattle.reverse.specs.Rules.{is_before}
 use Rattle.reverse.specs.Setting.{Setting}
 use Rattle.antimessages.specs.Counting.{is_after, newest_of}
-use Rattle.group_hand.specs.DoneEvents.{DoneEvent, messages_of}
+use Rattle.group_queues.specs.DoneEvents.{DoneEvent, messages_of}
 use Rattle.group_hand.specs.Handling.{FirstLacksNumbers, IsHandled, RanFirst}
 use Rattle.group_hand.specs.Hands.{Held, FirstWaits, IsAsBefore, StandsForGroup}
 use Rattle.group_hand.specs.declared.fault.HandFault.{HandFault}

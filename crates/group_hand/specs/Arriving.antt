@@ -7,10 +7,10 @@ use Rattle.vlink.specs.Letters.{Letter}
 use Rattle.virtual_time.specs.Law.{Order, Rules, IsAscending, IsIn, times_in, minus_of}
 use Rattle.virtual_time.specs.declared.letter.Sign.TheVariants.{Plus, Minus}
 use Rattle.antimessages.specs.Counting.{HaveSameCounts, signed_count}
-use Rattle.group_hand.specs.declared.block.Word.{Word}
-use Rattle.group_hand.specs.declared.block.Word.TheVariants.{Taken}
-use Rattle.group_hand.specs.DoneEvents.{DoneEvent, done_events_at, messages_of}
-use Rattle.group_hand.specs.Flow.{Flow}
+use Rattle.group_queues.specs.declared.block.Word.{Word}
+use Rattle.group_queues.specs.declared.block.Word.TheVariants.{Taken}
+use Rattle.group_queues.specs.DoneEvents.{DoneEvent, done_events_at, messages_of}
+use Rattle.group_queues.specs.Flow.{Flow}
 use Rattle.group_hand.specs.Hands.{Held, is_ours}
 
 -- all that these events sent, in order

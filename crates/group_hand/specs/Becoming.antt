@@ -9,7 +9,7 @@ use Rattle.group_hand.specs.declared.in_order.InOrder.{InOrder}
 use Rattle.group_hand.specs.declared.in_order.InOrder.TheVariants.{Ran, Idle, Late}
 use Rattle.group_hand.specs.declared.fault.HandFault.{HandFault}
 use Rattle.group_hand.specs.declared.fault.HandFault.TheVariants.{Exhausted}
-use Rattle.group_hand.specs.DoneEvents.{DoneEvent, messages_of}
+use Rattle.group_queues.specs.DoneEvents.{DoneEvent, messages_of}
 
 -- its receiver is a member with numbers left for what one event can send; or it is none
 abbrev pub CanSend : {S : Type 0} → (S → ℕ) → List (Option S) → ℕ → Type 0

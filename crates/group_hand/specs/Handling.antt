@@ -7,9 +7,9 @@ use Rattle.virtual_time.specs.Law.{Order, Rules, IsAscending, IsIn, times_in, pl
 use Rattle.reverse.specs.Rules.{is_before}
 use Rattle.antimessages.specs.Counting.{HaveSameCounts, is_after, newest_of}
 use Rattle.group_hand.specs.Becoming.{CannotSend}
-use Rattle.group_hand.specs.Block.{AddsRun}
-use Rattle.group_hand.specs.DoneEvents.{DoneEvent, done_event_of, messages_of}
-use Rattle.group_hand.specs.Flow.{Flow}
+use Rattle.group_queues.specs.Block.{AddsRun}
+use Rattle.group_queues.specs.DoneEvents.{DoneEvent, done_event_of, messages_of}
+use Rattle.group_queues.specs.Flow.{Flow}
 use Rattle.group_hand.specs.Hands.{Held}
 
 module _ {S K : Type 0} (r : Rules Message S K Note) (is_value : S → Message → Type 0) where

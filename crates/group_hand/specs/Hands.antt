@@ -7,12 +7,12 @@ use Rattle.virtual_time.specs.Law.{Order, Rules, Laws, World, Part, opened, reac
 use Rattle.reverse.specs.Setting.{Setting, simulation_of}
 use Rattle.antimessages.specs.Counting.{HaveSameCounts}
 use Rattle.reverse.specs.Rules.{AreValues}
-use Rattle.group_hand.specs.declared.block.Word.{Word}
-use Rattle.group_hand.specs.Block.{steps_told}
-use Rattle.group_hand.specs.DoneEvents.{DoneEvent, done_events_at, done_events_of, messages_of}
-use Rattle.group_hand.specs.Flow.{Flow}
-use Rattle.group_hand.specs.Rows.{Sealed}
-use Rattle.group_hand.specs.Sealing.{Stays}
+use Rattle.group_queues.specs.declared.block.Word.{Word}
+use Rattle.group_queues.specs.Block.{steps_told}
+use Rattle.group_queues.specs.DoneEvents.{DoneEvent, done_events_at, done_events_of, messages_of}
+use Rattle.group_queues.specs.Flow.{Flow}
+use Rattle.group_queues.specs.Rows.{Sealed}
+use Rattle.group_queues.specs.Sealing.{Stays}
 
 pub record Held (S K : Type 0) : Type 0 where
   -- the actors by their numbers; none where the process is elsewhere

@@ -1,15 +1,7 @@
 pub mod Arriving
 pub mod Becoming
-pub mod Block
-pub mod DoneEvents
-pub mod Flow
 pub mod Handling
 pub mod Hands
 pub mod Passing
-pub mod Rows
-pub mod Counted
 pub mod Undoing
-pub mod Sealing
-pub mod Trail
-pub mod Waiting
 pub mod Answered

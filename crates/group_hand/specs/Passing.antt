@@ -6,12 +6,12 @@ use Rattle.vlink.specs.declared.message.Message.{Message}
 use Rattle.vlink.specs.declared.note.Note.{Note}
 use Rattle.virtual_time.specs.Law.{Rules, Laws, World, IsIn, plus_of, AreBy, AreDone, done_by}
 use Rattle.reverse.specs.Setting.{Setting, simulation_of}
-use Rattle.group_hand.specs.declared.block.Word.{Word}
-use Rattle.group_hand.specs.Block.{commits_in, runs_in, steps_told}
-use Rattle.group_hand.specs.DoneEvents.{DoneEvent, messages_of}
-use Rattle.group_hand.specs.Flow.{Flow}
+use Rattle.group_queues.specs.declared.block.Word.{Word}
+use Rattle.group_queues.specs.Block.{commits_in, runs_in, steps_told}
+use Rattle.group_queues.specs.DoneEvents.{DoneEvent, messages_of}
+use Rattle.group_queues.specs.Flow.{Flow}
 use Rattle.group_hand.specs.Hands.{Held, StandsForSent, is_ours}
-use Rattle.group_hand.specs.Rows.{Sealed}
+use Rattle.group_queues.specs.Rows.{Sealed}
 
 abbrev pub held : {S K : Type 0} → List (Option S) → List (DoneEvent K) → Sealed → Flow → Held S K
 held members done rows flow = record { members = members; done = done; rows = rows; flow = flow }

@@ -1,30 +1,15 @@
 -- Done events that are undone or set aside, the newest first.
-use Rattle.std.specs.Prelude.{◌≡◌, ℕ, ◌+◌, ◌≤◌, ◌==◌, ◌++◌, true, false, not, List, [], ◌∷◌, Option, Some, All, Contains, filter, length, reverse, slice_get, IsPermutation}
+use Rattle.std.specs.Prelude.{◌≡◌, ℕ, ◌==◌, ◌++◌, true, false, not, List, ◌∷◌, Option, Some, All, Contains, filter, length, reverse, slice_get, IsPermutation}
 use Rattle.vlink.specs.declared.message.Message.{Message}
 use Rattle.vlink.specs.declared.note.Note.{Note}
 use Rattle.virtual_time.specs.Law.{Order, Rules, reached}
 use Rattle.antimessages.specs.Counting.{is_after, newest_of}
 use Rattle.reverse.specs.Rules.{AreValues}
 use Rattle.group_hand.specs.Arriving.{sent_by, undone_events}
-use Rattle.group_hand.specs.DoneEvents.{DoneEvent, Done, done_events_at, done_events_of, messages_of}
+use Rattle.group_queues.specs.DoneEvents.{DoneEvent, done_events_at, done_events_of, messages_of}
 use Rattle.group_hand.specs.Hands.{is_ours}
-use Rattle.group_hand.specs.declared.tray.Way.{Way}
-use Rattle.group_hand.specs.declared.tray.Way.TheVariants.{Beside, Joins, Leaves, Undoes}
-
--- how many messages these events sent, and how many rows they gave
-abbrev pub sent_in : {K : Type 0} → List (DoneEvent K) → ℕ
-sent_in [] = 0
-sent_in (d ∷ ds) = length d.sent + sent_in ds
-
-abbrev pub noted_in : {K : Type 0} → List (DoneEvent K) → ℕ
-noted_in [] = 0
-noted_in (d ∷ ds) = length d.rows + noted_in ds
-
--- there is room for these events too
-pub record HasRoomFor {K : Type 0} (ds : List (DoneEvent K)) (there : Done K) : Type 0 where
-  pub events : length ds ≤ there.events_room
-  pub sends : sent_in ds ≤ there.sends_room
-  pub rows : noted_in ds ≤ there.rows_room
+use Rattle.group_queues.specs.declared.tray.Way.{Way}
+use Rattle.group_queues.specs.declared.tray.Way.TheVariants.{Beside, Joins, Leaves, Undoes}
 
 -- those of other processes than p
 abbrev pub others_at : {K : Type 0} → Order Message → ℕ → List (DoneEvent K) → List (DoneEvent K)

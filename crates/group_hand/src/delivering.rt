@@ -1,6 +1,5 @@
 //! Takes letters to a group from the mail of the run.
 ghost use Rattle.std.specs.Prelude.{◌≡◌, ◌≤◌, ◌<◌, ◌+◌, [], ◌∷◌, ◌++◌, true, OnOk, OnErr, IfErr};
-ghost use Rattle.std.specs.VecDeque.{deque_len, deque_capacity};
 ghost use Rattle.vlink.specs.declared.message.Message.{Message};
 ghost use Rattle.vlink.specs.Order.{message_order};
 ghost use Rattle.virtual_time.specs.Law.{World};
@@ -11,9 +10,7 @@ ghost use Rattle.group_hand.specs.declared.fault.HandFault.TheVariants.{OutOfMem
 
 use crate::fault::HandFault;
 use crate::hand::Hand;
-use crate::letters::Letters;
 use reverse::{Actor, actor_rules_law};
-use std::collections::VecDeque;
 use vlink::Letter;
 
 impl<R: Actor> Hand<R> {
@@ -58,26 +55,4 @@ impl<R: Actor> Hand<R> {
         actor_rules_law::<R>();
         self.letters.deliver_reserved(&letter);
     }
-}
-
-impl Letters {
-    /// Puts a letter at the back of the tray. The room for it was made before.
-    fn deliver_reserved(&mut self, letter: &Letter)
-        requires { 0 < self.old.room }
-        ensures delivered { self.new ≡ record self.old { tray = self.old.tray ++ letter.now ∷ []; room = self.new.room } }
-        ensures room { self.old.room ≤ self.new.room + 1 }
-    {
-        push_back(&mut self.tray, letter);
-        self.room -= 1;
-    }
-}
-
-/// Puts the item at the back. The room for it was made before. The type parameter is there for the borrow checker.
-fn push_back<T: Copy + Drop>(items: &mut VecDeque<T>, item: &T)
-    requires { deque_len items.old < deque_capacity items.old }
-    ensures pushed { items.new.items ≡ items.old.items ++ item.now ∷ [] }
-    ensures len { deque_len items.new ≡ deque_len items.old + 1 }
-    ensures capacity { deque_capacity items.new ≡ deque_capacity items.old }
-{
-    items.push_back_reserved(*item);
 }

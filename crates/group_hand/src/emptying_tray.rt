@@ -1,24 +1,18 @@
 //! The letters that were taken arrive, one after another.
 ghost use Rattle.std.specs.Prelude.{◌≡◌, ◌+◌, ◌<◌, ◌≤◌, true, false, Ok, OnOk, OnErr, IfErr, IfSome, length, vec_len, vec_capacity};
 ghost use Rattle.reverse.specs.Rules.{rules_of};
-ghost use Rattle.group_hand.specs.Block.{AddsLetters};
+ghost use Rattle.group_queues.specs.Block.{AddsLetters};
 ghost use Rattle.group_hand.specs.Hands.{DoesTold, IsAsBefore, IsQuiet};
-ghost use Rattle.group_hand.specs.Undoing.{HasRoomFor, sent_in};
+ghost use Rattle.group_queues.specs.DoneEvents.{HasRoomFor, sent_in};
 ghost use Rattle.group_hand.specs.declared.fault.HandFault.TheVariants.{OutOfMemory};
 
-use crate::done_events::DoneEvents;
 use crate::fault::HandFault;
 use crate::hand::Hand;
-use crate::letters::Letters;
 use crate::rollback::Undoing;
 use crate::settling::arrive;
+use group_queues::{DoneEvents, Letters};
 use reverse::{Actor, actor_rules_law};
 use std::alloc::AllocError;
-use std::collections::VecDeque;
-use vlink::Letter;
-
-/// The most letters for which an empty tray keeps room.
-const MOST_KEPT: usize = 4096;
 
 impl<R: Actor> Hand<R> {
     /// Whether no letter waits to arrive.
@@ -26,7 +20,7 @@ impl<R: Actor> Hand<R> {
     fn is_quiet(&self) -> bool
         ensures { result ≡ true → IsQuiet self.now }
     {
-        self.letters.tray.is_empty()
+        self.letters.is_quiet()
     }
 
     /// All letters that were taken arrive. What is thereby taken back within the group arrives too. A refusal stops between two letters.
@@ -79,27 +73,6 @@ impl<R: Actor> Hand<R> {
             Ok(()) => Ok(true),
             Err(_fault) => Err(HandFault::OutOfMemory),
         }
-    }
-}
-
-impl Letters {
-    /// Sorts the messages that wait in no order, if they are many. Gives back the room of a tray that was emptied of many letters.
-    fn sort_many(&mut self)
-        ensures { self.new ≡ record self.old { room = self.new.room } }
-    {
-        self.room = 0;
-        self.queue.sort_many();
-        give_back(&mut self.tray);
-    }
-}
-
-/// Gives back large room that the tray does not need: the offers of a run come through it at the start, and so many letters do not come
-/// again.
-fn give_back(tray: &mut VecDeque<Letter>)
-    ensures { tray.new.items ≡ tray.old.items }
-{
-    if tray.capacity() > MOST_KEPT {
-        tray.shrink_to_fit();
     }
 }
 

@@ -1,11 +1,11 @@
 //! Messages at the front of the queue that are already done move to the tally.
-ghost use Rattle.std.specs.Prelude.{◌≡◌, ◌≢◌, ◌<◌, true, false, All, Contains, Ok, Some, OnOk, OnErr, IfErr, IsPermutation, length};
+ghost use Rattle.std.specs.Prelude.{◌≡◌, ◌<◌, true, false, Ok, Some, OnOk, IfErr, length};
 ghost use Rattle.vlink.specs.declared.message.Message.{Message};
 ghost use Rattle.vlink.specs.Order.{message_order};
 ghost use Rattle.virtual_time.specs.Law.{World, IsAscending};
 ghost use Rattle.reverse.specs.Rules.{rules_of};
 ghost use Rattle.reverse.specs.Setting.{Setting};
-ghost use Rattle.group_hand.specs.DoneEvents.{messages_of};
+ghost use Rattle.group_queues.specs.DoneEvents.{messages_of};
 ghost use Rattle.group_hand.specs.Hands.{FirstWaits, StandsForGroup};
 ghost use Rattle.group_hand.specs.declared.fault.HandFault.TheVariants.{OutOfMemory};
 

@@ -1,22 +1,19 @@
 //! What a group passes to the rest of the run: its block, the letters for others, and its floor.
-ghost use Rattle.std.specs.Prelude.{◌≡◌, ◌⊎◌, ◌≤◌, ℕ, suc, min, [], true, Some, All, Contains, IfSome, IfNone};
+ghost use Rattle.std.specs.Prelude.{◌≡◌, ◌⊎◌, ◌≤◌, ℕ, suc, [], true, Some, All, Contains, IfSome, IfNone};
 ghost use Rattle.vlink.specs.declared.message.Message.{Message};
 ghost use Rattle.vlink.specs.Order.{message_order};
-ghost use Rattle.virtual_time.specs.Law.{World, in_hand, lowest, received_by, times_of};
+ghost use Rattle.virtual_time.specs.Law.{World, in_hand, received_by};
 ghost use Rattle.reverse.specs.Rules.{rules_of};
 ghost use Rattle.reverse.specs.Setting.{Setting, simulation_of};
-ghost use Rattle.group_hand.specs.Flow.{floor_in};
+ghost use Rattle.group_queues.specs.Flow.{floor_in};
 ghost use Rattle.group_hand.specs.Hands.{FirstWaits, IsAsBefore, StandsForGroup, is_ours};
 
-use crate::block::Words;
 use crate::hand::Hand;
-use crate::letters::Letters;
 use crate::members::is_ours;
+use group_queues::Words;
 use reverse::{Actor, actor_rules_law};
 use std::alloc::Global;
-use std::collections::VecDeque;
-use std::mem;
-use vlink::{Letter, Message, Time, earlier, order_law};
+use vlink::{Letter, Message, Time, order_law};
 
 impl<R: Actor> Hand<R> {
     /// Whether the process is a member of the group.
@@ -38,7 +35,7 @@ impl<R: Actor> Hand<R> {
         ensures words { result.now.words ≡ self.now.flow.words }
         ensures keeps { result.now.keeps ≡ self.now.flow.keeps }
     {
-        &self.letters.block
+        self.letters.block()
     }
 
     /// Ends the block and returns its words. The next block begins without words.
@@ -57,7 +54,7 @@ impl<R: Actor> Hand<R> {
         ensures letters { result.now ≡ self.now.flow.abroad }
         ensures mail { (x : Setting R) (v : World Message R) → StandsForGroup (rules_of R.plain) R.is_value x v self.now → (q : ℕ) → v.mail q ≡ received_by message_order q result.now }
     {
-        self.letters.abroad.as_slice()
+        self.letters.letters_abroad()
     }
 
     /// Removes the letters for others, once they are in the mail of the run. Their room stays.
@@ -99,57 +96,4 @@ impl<R: Actor> Hand<R> {
         };
         Some(message.time)
     }
-}
-
-impl Letters {
-    /// Ends the block and returns its words. The next block begins without words.
-    fn next_block(&mut self, alloc: Global) -> Words
-        ensures words { result.words ≡ self.old.words }
-        ensures keeps { result.keeps ≡ self.old.keeps }
-        ensures anew { self.new ≡ record self.old { words = []; room = self.new.room } }
-    {
-        self.room = 0;
-        let next = Words::new(alloc, self.block.keeps());
-        mem::replace(&mut self.block, next)
-    }
-
-    /// Removes the letters for others. Their room stays.
-    fn clear_abroad(&mut self)
-        ensures { self.new ≡ record self.old { abroad = []; room = self.new.room } }
-    {
-        self.abroad.clear();
-    }
-
-    /// Returns the least time of the messages of the queue and of the letters in the tray, or `end`.
-    fn floor(&mut self, end: Time) -> Time
-        ensures unchanged { self.new ≡ record self.old { room = self.new.room } }
-        ensures least { result ≡ floor_in message_order end self.old }
-    {
-        order_law();
-        let first = self.queue.first();
-        earliest_in(&self.tray, time_or(&first, end))
-    }
-}
-
-/// Returns the moment of the message, if it exists, or `end`, whichever is earlier.
-#[inline(always)]
-pub(crate) fn time_or(message: &Option<Message>, end: Time) -> Time
-    ensures some { IfSome message.now (λ m. result ≡ min m.time end) }
-    ensures none { IfNone message.now (result ≡ end) }
-{
-    match message {
-        Some(message) => earlier(message.time, end),
-        None => end,
-    }
-}
-
-/// Returns the least time of the letters, or the moment if that is earlier.
-fn earliest_in(letters: &VecDeque<Letter>, moment: Time) -> Time
-    ensures { result ≡ lowest moment (times_of message_order letters.now.items) }
-{
-    let mut earliest = moment;
-    for place in 0..letters.len() {
-        earliest = earlier(letters[place].message.time, earliest);
-    }
-    earliest
 }

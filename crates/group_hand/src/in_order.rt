@@ -5,20 +5,18 @@ ghost use Rattle.vlink.specs.Numbering.{greatest_number};
 ghost use Rattle.reverse.specs.Rules.{rules_of};
 ghost use Rattle.antimessages.specs.Counting.{is_after, newest_of};
 ghost use Rattle.group_hand.specs.Becoming.{Becomes};
-ghost use Rattle.group_hand.specs.Block.{AddsRun};
-ghost use Rattle.group_hand.specs.DoneEvents.{DoneEvent, messages_of};
+ghost use Rattle.group_queues.specs.Block.{AddsRun};
+ghost use Rattle.group_queues.specs.DoneEvents.{DoneEvent, messages_of};
 ghost use Rattle.group_hand.specs.Hands.{DoesSent};
-ghost use Rattle.group_hand.specs.Flow.{Flow, TookFirst};
+ghost use Rattle.group_queues.specs.Flow.{Flow, TookFirst};
 ghost use Rattle.group_hand.specs.Passing.{held};
-ghost use Rattle.group_hand.specs.Rows.{Sealed};
+ghost use Rattle.group_queues.specs.Rows.{Sealed};
 ghost use Rattle.group_hand.specs.Undoing.{CameTo};
 ghost use Rattle.reverse.specs.declared.sends.TheConstants.{MOST_SENT};
 
-use crate::block::Word;
-use crate::done_events::DoneEvents;
 use crate::fault::HandFault;
-use crate::letters::Letters;
 use crate::members::{act, has_numbers, send_all};
+use group_queues::{DoneEvents, Letters, Word};
 use reverse::{Actor, Outbound, actor_rules_law};
 use vlink::{Message, Time};
 

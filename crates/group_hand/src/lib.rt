@@ -2,13 +2,10 @@
 //! it does in message order; one list of done events, by which it undoes those that were done too early; and the letters that they sent to
 //! others. So only letters between groups pass from worker to worker.
 //!
-//! Each call does steps of the laws of virtual time, which join the block as words.
+//! Each call does steps of the laws of virtual time, which join the block as words. What a group keeps is in `group_queues`.
 #![tactic(auto)]
 
-mod block;
-mod committing;
 mod delivering;
-mod done_events;
 mod emptying_tray;
 mod fault;
 mod front;
@@ -16,22 +13,15 @@ mod hand;
 mod handing;
 mod in_order;
 mod laws;
-mod letters;
 mod members;
-mod newest;
-mod next;
 mod oldest;
 mod out_of_order;
-mod queue;
 mod rollback;
-mod rows;
 mod run;
 mod settling;
-mod trail;
-mod tray;
 
-pub use block::{Word, Words};
 pub use fault::HandFault;
+pub use group_queues::{Word, Words};
 pub use hand::Hand;
 pub use in_order::InOrder;
 pub use laws::hand_law;

@@ -1,5 +1,5 @@
 //! The members of a group, by their numbers.
-ghost use Rattle.std.specs.Prelude.{◌≡◌, ℕ, ◌+◌, ◌<◌, ◌≤◌, ◌++◌, [], List, Option, Some, true, false, length, slice_get, map, OnOk};
+ghost use Rattle.std.specs.Prelude.{◌≡◌, ℕ, ◌+◌, ◌<◌, ◌≤◌, [], Option, Some, true, false, length, slice_get};
 ghost use Rattle.std.proofs.Math.ListN.{set};
 ghost use Rattle.vlink.specs.Numbering.{greatest_number};
 ghost use Rattle.reverse.specs.Plain.{CameFrom};
@@ -8,7 +8,7 @@ ghost use Rattle.group_hand.specs.Hands.{is_ours};
 ghost use Rattle.group_hand.specs.Passing.{GoesOn};
 ghost use Rattle.reverse.specs.declared.sends.TheConstants.{MOST_SENT};
 
-use crate::letters::Letters;
+use group_queues::Letters;
 use reverse::{Actor, Outbound, actor_rules_law};
 use vlink::Message;
 

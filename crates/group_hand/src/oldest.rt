@@ -5,10 +5,9 @@ ghost use Rattle.vlink.specs.Order.{message_order};
 ghost use Rattle.virtual_time.specs.Law.{World, IsAscending, earlier};
 ghost use Rattle.reverse.specs.Rules.{rules_of};
 ghost use Rattle.reverse.specs.Setting.{Setting};
-ghost use Rattle.group_hand.specs.DoneEvents.{messages_of};
+ghost use Rattle.group_queues.specs.DoneEvents.{messages_of};
 ghost use Rattle.group_hand.specs.Hands.{StandsForGroup, is_ours};
 
-use crate::done_events::DoneEvents;
 use crate::hand::Hand;
 use reverse::{Actor, actor_rules_law};
 use vlink::Time;
@@ -39,18 +38,6 @@ impl<R: Actor> Hand<R> {
     {
         actor_rules_law::<R>();
         is_early(self.done.oldest_time(), moment)
-    }
-}
-
-impl<K: Copy> DoneEvents<K> {
-    /// Returns the moment of the oldest event, if any.
-    fn oldest_time(&self) -> Option<Time>
-        ensures { result ≡ option_map (λ m. m.time) (slice_get (messages_of self.now.events) 0) }
-    {
-        match self.events.front() {
-            Some(event) => Some(event.message.time),
-            None => None,
-        }
     }
 }
 

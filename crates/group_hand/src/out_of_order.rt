@@ -1,44 +1,24 @@
 //! Handles the first message of the queue, if other members have done later events. These stay done.
-ghost use Rattle.std.specs.Prelude.{◌≡◌, ◌≢◌, ℕ, ◌⊎◌, ◌+◌, ◌<◌, ◌≤◌, ◌++◌, [], ◌∷◌, true, false, All, Contains, List, Option, Some, length, map, slice_get};
+ghost use Rattle.std.specs.Prelude.{◌≡◌, ◌≢◌, ℕ, ◌⊎◌, ◌+◌, ◌<◌, ◌≤◌, ◌++◌, [], true, false, All, Contains, List, Option, Some, length, map, slice_get};
 ghost use Rattle.vlink.specs.declared.message.Message.{Message};
 ghost use Rattle.vlink.specs.Numbering.{greatest_number};
 ghost use Rattle.vlink.specs.Order.{message_order};
 ghost use Rattle.virtual_time.specs.Law.{IsAscending, plus_of};
 ghost use Rattle.reverse.specs.Rules.{rules_of, is_before};
 ghost use Rattle.group_hand.specs.Arriving.{WentOn};
-ghost use Rattle.group_hand.specs.Block.{AddsRun};
-ghost use Rattle.group_hand.specs.DoneEvents.{DoneEvent, messages_of};
-ghost use Rattle.group_hand.specs.Flow.{WasTaken, WentAbroad};
+ghost use Rattle.group_queues.specs.Block.{AddsRun};
+ghost use Rattle.group_queues.specs.DoneEvents.{DoneEvent, messages_of, HasRoomFor};
 ghost use Rattle.group_hand.specs.Handling.{HasLater, SetAside, StopsAt};
 ghost use Rattle.group_hand.specs.Hands.{DoesSent};
 ghost use Rattle.group_hand.specs.Passing.{held};
-ghost use Rattle.group_hand.specs.Rows.{Sealed};
-ghost use Rattle.group_hand.specs.Undoing.{CameTo, HasRoomFor};
+ghost use Rattle.group_queues.specs.Rows.{Sealed};
+ghost use Rattle.group_hand.specs.Undoing.{CameTo};
 ghost use Rattle.reverse.specs.declared.sends.TheConstants.{MOST_SENT};
 
-use crate::block::Word;
-use crate::done_events::DoneEvents;
-use crate::letters::Letters;
 use crate::members::{act, is_ours};
-use crate::rollback::bring_back;
+use group_queues::{DoneEvents, Letters, Word};
 use reverse::{Actor, Outbound, actor_rules_law};
-use vlink::{Message, Sign, message_order_law, order_law};
-
-impl Letters {
-    /// Passes a message that was just sent on: to others; or its letter to a member is taken, and waits in the tray.
-    pub(crate) fn pass_later(&mut self, message: &Message, is_home: bool)
-        requires { 0 < self.old.room }
-        ensures abroad { is_home ≡ false → WentAbroad message.now self.old self.new }
-        ensures home { is_home ≡ true → WasTaken message.now self.old self.new }
-        ensures room { self.old.room ≤ self.new.room + 1 }
-    {
-        if is_home {
-            self.hold(message, Sign::Plus);
-        } else {
-            self.post(message, Sign::Plus);
-        }
-    }
-}
+use vlink::Message;
 
 /// Passes on what an event sent. What is for members waits in the tray. The room for it was made before.
 fn send_later<S>(members: &[Option<S>], letters: &mut Letters, messages: &[Message])
@@ -115,7 +95,7 @@ pub(crate) fn handle_out_of_order<R: Actor>(
     actor_rules_law::<R>();
     set_aside(done, aside, message);
     if !done.is_before(message) {
-        bring_back(done, aside);
+        done.bring_back(aside);
         return;
     }
     letters.take_first(message);
@@ -125,5 +105,5 @@ pub(crate) fn handle_out_of_order<R: Actor>(
         process: message.receiver,
     });
     send_later(members, letters, out.messages());
-    bring_back(done, aside);
+    done.bring_back(aside);
 }

@@ -1,15 +1,14 @@
 //! A member goes back to a message: what it has done from there on is undone, the newest first. What others have done stays.
-ghost use Rattle.std.specs.Prelude.{◌≡◌, ℕ, ◌+◌, ◌<◌, ◌≤◌, ◌++◌, true, false, [], List, Option, length, reverse, vec_len, vec_capacity, OnOk};
+ghost use Rattle.std.specs.Prelude.{◌≡◌, ℕ, ◌+◌, ◌<◌, ◌≤◌, true, false, [], Option, length, vec_len, vec_capacity, OnOk};
 ghost use Rattle.vlink.specs.declared.message.Message.{Message};
 ghost use Rattle.vlink.specs.Order.{message_order};
 ghost use Rattle.reverse.specs.Rules.{rules_of};
 ghost use Rattle.antimessages.specs.Counting.{is_after, newest_of};
-ghost use Rattle.group_hand.specs.DoneEvents.{DoneEvent, messages_of};
-ghost use Rattle.group_hand.specs.Undoing.{CameTo, HasRoomFor, Retreat, RollsBack, RolledBack, sent_in};
+ghost use Rattle.group_queues.specs.DoneEvents.{messages_of, HasRoomFor, sent_in};
+ghost use Rattle.group_hand.specs.Undoing.{CameTo, Retreat, RollsBack, RolledBack};
 
-use crate::done_events::DoneEvents;
-use crate::letters::Letters;
 use crate::members::undo;
+use group_queues::{DoneEvents, Letters};
 use reverse::{Actor, actor_rules_law};
 use std::alloc::{AllocError, Global};
 use vlink::Message;
@@ -72,7 +71,7 @@ pub(crate) fn roll_back<R: Actor>(
 {
     actor_rules_law::<R>();
     set_back(members, done, undoing, letters, message);
-    bring_back(done, &mut undoing.aside);
+    done.bring_back(&mut undoing.aside);
 }
 
 /// Undoes or sets aside the newest events that do not come before the message.
@@ -135,16 +134,5 @@ fn step_back<R: Actor>(
         letters.wait_again(&event.message);
     } else {
         done.move_newest(&mut undoing.aside);
-    }
-}
-
-/// Makes the events that were set aside the newest again. The room for them was made before.
-pub(crate) fn bring_back<K: Copy>(done: &mut DoneEvents<K>, aside: &mut DoneEvents<K>)
-    requires { HasRoomFor aside.old.events done.old }
-    ensures done { done.new.events ≡ done.old.events ++ reverse aside.old.events }
-    ensures aside { aside.new.events ≡ [] }
-{
-    'events: while 0 < aside.len() {
-        aside.move_newest(done);
     }
 }

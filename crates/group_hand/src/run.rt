@@ -5,15 +5,14 @@ ghost use Rattle.reverse.specs.Rules.{rules_of};
 ghost use Rattle.reverse.specs.declared.sends.TheConstants.{MOST_SENT};
 ghost use Rattle.group_hand.specs.Answered.{RunsInOrder, RunsNext, RunsOutOfOrder};
 ghost use Rattle.group_hand.specs.Hands.{DoesTold};
-ghost use Rattle.group_hand.specs.Undoing.{HasRoomFor};
+ghost use Rattle.group_queues.specs.DoneEvents.{HasRoomFor};
 
-use crate::done_events::DoneEvents;
 use crate::fault::HandFault;
 use crate::hand::Hand;
 use crate::in_order::{InOrder, handle_in_order, in_order_of};
-use crate::letters::Letters;
 use crate::members::has_numbers;
 use crate::out_of_order::handle_out_of_order;
+use group_queues::{DoneEvents, Letters};
 use reverse::{Actor, MOST_SENT, actor_rules_law};
 use std::alloc::AllocError;
 use vlink::Time;

@@ -1,22 +1,21 @@
 //! The front letter of the tray arrives, whether it comes late or not.
-ghost use Rattle.std.specs.Prelude.{◌≡◌, ℕ, ◌+◌, ◌<◌, ◌≤◌, ◌++◌, [], ◌∷◌, List, OnOk, OnErr, length, map, vec_len, vec_capacity};
+ghost use Rattle.std.specs.Prelude.{◌≡◌, ℕ, ◌+◌, ◌<◌, ◌≤◌, [], ◌∷◌, List, OnOk, OnErr, length, map, vec_len, vec_capacity};
 ghost use Rattle.vlink.specs.declared.message.Message.{Message};
 ghost use Rattle.vlink.specs.Letters.{Letter};
 ghost use Rattle.virtual_time.specs.Law.{minus_of};
 ghost use Rattle.reverse.specs.Rules.{rules_of};
 ghost use Rattle.group_hand.specs.Arriving.{WentOn};
-ghost use Rattle.group_hand.specs.Block.{AddsLetters};
+ghost use Rattle.group_queues.specs.Block.{AddsLetters};
 ghost use Rattle.group_hand.specs.Hands.{DoesSent};
 ghost use Rattle.group_hand.specs.Passing.{held};
-ghost use Rattle.group_hand.specs.Rows.{Sealed};
-ghost use Rattle.group_hand.specs.Undoing.{CameTo, HasRoomFor, Settled, sent_in};
+ghost use Rattle.group_queues.specs.Rows.{Sealed};
+ghost use Rattle.group_hand.specs.Undoing.{CameTo, Settled};
+ghost use Rattle.group_queues.specs.DoneEvents.{HasRoomFor, sent_in};
 
-use crate::done_events::DoneEvents;
-use crate::letters::Letters;
 use crate::members::is_ours;
 use crate::rollback::{Undoing, roll_back};
-use crate::tray::Way;
 use antimessages::OutOfMemory;
+use group_queues::{DoneEvents, Letters, Way};
 use reverse::{Actor, actor_rules_law};
 use vlink::{Letter, Message};
 

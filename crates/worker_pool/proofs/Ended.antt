@@ -11,8 +11,8 @@ use Rattle.virtual_time.specs.declared.step.Step.{Step}
 use Rattle.network.specs.Words.{Plan, process_count}
 use Rattle.nodes.specs.Words.{NodeState, opening, simulation_of}
 use Rattle.nodes.specs.declared.node.NodeRecord.{NodeRecord}
-use Rattle.group_hand.specs.declared.block.Word.{Word}
-use Rattle.group_hand.specs.Block.{steps_told}
+use Rattle.group_queues.specs.declared.block.Word.{Word}
+use Rattle.group_queues.specs.Block.{steps_told}
 use Rattle.group_exchange.specs.Effects.{block_in}
 use Rattle.group_exchange.specs.Keeps.{AreGrouped}
 use Rattle.group_exchange.specs.Views.{GroupState, Ledger, in_group, is_of, world_after}

@@ -6,7 +6,7 @@ use Rattle.vlink.specs.Letters.{Row}
 use Rattle.network.specs.Words.{Plan}
 use Rattle.nodes.specs.Words.{NodeState}
 use Rattle.nodes.specs.declared.node.NodeRecord.{NodeRecord}
-use Rattle.group_hand.specs.DoneEvents.{messages_of}
+use Rattle.group_queues.specs.DoneEvents.{messages_of}
 use Rattle.group_exchange.specs.Keeps.{AreGrouped}
 use Rattle.group_exchange.specs.Rows.{rows_of_group}
 use Rattle.group_exchange.specs.Views.{GroupState, is_of}

@@ -3,7 +3,7 @@ use Rattle.std.proofs.Common.{◌≡◌, ℕ, List, [], ◌∷◌, Bool, true, f
 use Rattle.vlink.specs.declared.message.Message.{Message}
 use Rattle.vlink.specs.declared.note.Note.{Note}
 use Rattle.virtual_time.specs.Law.{Simulation}
-use Rattle.group_hand.specs.declared.block.Word.{Word}
+use Rattle.group_queues.specs.declared.block.Word.{Word}
 use Rattle.journal.specs.declared.fault.PoolFault.{PoolFault}
 use Rattle.group_exchange.specs.Views.{Ledger, GroupState}
 use Rattle.group_exchange.specs.Effects.{Collects, CountsDone, IsGroupAsBefore, Posts, posts, Publishes, publishes}

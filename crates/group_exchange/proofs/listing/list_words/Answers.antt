@@ -1,8 +1,8 @@
 use Rattle.std.proofs.Common.{◌+◌, ◌++◌, length, map, take, slice_index_or, ap, sym, ◌∙◌, arith, append_assoc, length-append, take_all}
 use Rattle.std.proofs.lemmas.List.{map-append}
 use Rattle.virtual_time.specs.Law.{behind}
-use Rattle.group_hand.specs.Block.{steps_of_word, steps_told}
-use Rattle.group_hand.specs.declared.block.Word.TheVariants.{Ran}
+use Rattle.group_queues.specs.Block.{steps_of_word, steps_told}
+use Rattle.group_queues.specs.declared.block.Word.TheVariants.{Ran}
 use Rattle.group_boxes.specs.Boxing.{waiting_for}
 use Rattle.group_exchange.proofs.Words.{told-more, told-few, word-at}
 use Rattle.group_exchange.proofs.listing.list_words.Goals as goal

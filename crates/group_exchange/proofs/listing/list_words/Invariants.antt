@@ -1,6 +1,6 @@
 use Rattle.std.proofs.Common.{◌≡◌, ◌+◌, ◌++◌, length, map, take, vec_len, vec_capacity}
 use Rattle.virtual_time.specs.Law.{behind}
-use Rattle.group_hand.specs.Block.{steps_told}
+use Rattle.group_queues.specs.Block.{steps_told}
 use Rattle.group_boxes.specs.Boxing.{waiting_for}
 use Rattle.group_exchange.proofs.listing.list_words.Given as goal
 

@@ -4,7 +4,7 @@ use Rattle.vlink.specs.Order.{message_order}
 use Rattle.virtual_time.specs.Law.{AreBy, behind, waiting_in}
 use Rattle.reverse.specs.Rules.{rules_of}
 use Rattle.reverse.specs.Setting.{simulation_of}
-use Rattle.group_hand.specs.Block.{steps_told}
+use Rattle.group_queues.specs.Block.{steps_told}
 use Rattle.group_boxes.specs.Boxing.{waiting_for}
 use Rattle.halves.specs.declared.LeftHalf.{LeftHalf}
 use Rattle.halves.proofs.InLists.{half-within}

@@ -1,6 +1,6 @@
 use Rattle.std.proofs.Common.{rules, ◌≤◌, ◌+◌, ◌++◌, inl, inr, min, All, refl, sym, ap, ◌∙◌, subst, arith}
 use Rattle.vlink.specs.declared.message.Message.{Message}
-use Rattle.group_hand.specs.DoneEvents.{messages_of}
+use Rattle.group_queues.specs.DoneEvents.{messages_of}
 use Rattle.group_exchange.proofs.Going.{goes-ends, goes-seen, idle-late, works-less, works-some}
 use Rattle.group_exchange.proofs.Timely.{runs-did, timely-weaker}
 use Rattle.group_exchange.proofs.working.work.Given.{Over}

@@ -2,7 +2,8 @@ use Rattle.std.proofs.Common.{◌≡◌, ◌<◌, ◌+◌, ◌∷◌, List, leng
 use Rattle.vlink.specs.declared.message.Message.{Message}
 use Rattle.reverse.specs.Rules.{rules_of}
 use Rattle.group_hand.specs.Passing.{GoesOn}
-use Rattle.group_hand.proofs.Passed.{none-gone, both-gone, one-gone, at-in}
+use Rattle.group_hand.proofs.Passed.{none-gone, both-gone, one-gone}
+use Rattle.group_queues.proofs.Among.{at-in}
 use Rattle.group_hand.proofs.members.send_all.Goals as goal
 
 pub loop-place-init : goal.loop-place-init

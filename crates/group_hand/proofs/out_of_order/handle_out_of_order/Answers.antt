@@ -5,13 +5,13 @@ use Rattle.vlink.specs.Order.{message_order}
 use Rattle.virtual_time.specs.Law.{rows_of, plus_of}
 use Rattle.reverse.specs.Rules.{rules_of}
 use Rattle.group_hand.specs.Arriving.{WentOn, to_members}
-use Rattle.group_hand.specs.declared.block.Word.TheVariants.{Ran}
-use Rattle.group_hand.specs.DoneEvents.{DoneEvent, done_event_of, messages_of}
+use Rattle.group_queues.specs.declared.block.Word.TheVariants.{Ran}
+use Rattle.group_queues.specs.DoneEvents.{DoneEvent, done_event_of, messages_of, HasRoomFor}
 use Rattle.group_hand.specs.Hands.{DoesSent}
 use Rattle.group_hand.specs.Passing.{held}
-use Rattle.group_hand.specs.Undoing.{CameTo, HasRoomFor}
+use Rattle.group_hand.specs.Undoing.{CameTo}
 use Rattle.group_hand.proofs.Adding.{adds-run-taken}
-use Rattle.group_hand.proofs.Among.{none-among}
+use Rattle.group_queues.proofs.Among.{none-among}
 use Rattle.group_hand.proofs.LateEvent.{set-back, late-came, late-handles}
 use Rattle.group_hand.proofs.NotLater.{has-later, one-more}
 use Rattle.group_hand.proofs.Telling.{does-nothing}
@@ -23,7 +23,7 @@ pub returns-then-not-is_before-clause-did : goal.returns-then-not-is_before-clau
 returns-then-not-is_before-clause-did g c = λ rows.
     let r = rules_of g.R.Reversible.plain in
     let V = g.R.Reversible.is_value in
-    let e = set-back message_order c.args.message.now c.args.done.now.events c.set_aside.new.done.events c.set_aside.new.aside.events c.bring_back.new.done.events c.set_aside.ensures.aside c.bring_back.ensures.done in
+    let e = set-back message_order c.args.message.now c.args.done.now.events c.set_aside.new.done.events c.set_aside.new.aside.events c.bring_back.new.self.events c.set_aside.ensures.aside c.bring_back.ensures.done in
     subst (λ ds. DoesSent r V (held c.args.members.now c.args.done.now.events rows c.args.letters.now) [] (held c.args.members.now ds rows c.args.letters.now) []) (sym e)
     (does-nothing r V (held c.args.members.now c.args.done.now.events rows c.args.letters.now) [])
 
@@ -31,7 +31,7 @@ pub returns-then-not-is_before-clause-came : goal.returns-then-not-is_before-cla
 returns-then-not-is_before-clause-came g c =
     let r = rules_of g.R.Reversible.plain in
     let V = g.R.Reversible.is_value in
-    let e = set-back message_order c.args.message.now c.args.done.now.events c.set_aside.new.done.events c.set_aside.new.aside.events c.bring_back.new.done.events c.set_aside.ensures.aside c.bring_back.ensures.done in
+    let e = set-back message_order c.args.message.now c.args.done.now.events c.set_aside.new.done.events c.set_aside.new.aside.events c.bring_back.new.self.events c.set_aside.ensures.aside c.bring_back.ensures.done in
     subst (λ ds. (p : ℕ) → CameTo r V c.args.members.now ds p) (sym e) c.requires.came
 
 pub bring_back-requires : goal.bring_back-requires
@@ -80,7 +80,7 @@ bring_back-requires-2 g c = c.push_reserved.ensures.left c.set_aside.new.aside.e
 
 -- what is done afterwards
 now-done : (g : Over) (c : After-bring_back-2 g) →
-    c.bring_back-2.new.done.events ≡ (c.set_aside.new.done.events ++ done_event_of (rules_of g.R.Reversible.plain) c.requires.able.0 c.args.message.now ∷ []) ++ reverse c.set_aside.new.aside.events
+    c.bring_back-2.new.self.events ≡ (c.set_aside.new.done.events ++ done_event_of (rules_of g.R.Reversible.plain) c.requires.able.0 c.args.message.now ∷ []) ++ reverse c.set_aside.new.aside.events
 now-done g c =
     let m = c.args.message.now in
     let s = c.requires.able.0 in
@@ -97,8 +97,8 @@ returns-clause-came g c =
     let m = c.args.message.now in
     let s = c.requires.able.0 in
     let at = c.requires.able.1 in
-    subst (λ ms. (p : ℕ) → CameTo (rules_of plain) V ms c.bring_back-2.new.done.events p) (sym (c.act-kept.ensures.members s at))
-    (late-came plain V c.actor_rules_law.ensures.order c.actor_rules_law.ensures.undoes c.args.members.now c.args.done.now.events c.set_aside.new.done.events c.set_aside.new.aside.events c.bring_back-2.new.done.events (record { all = []; left = 0 })
+    subst (λ ms. (p : ℕ) → CameTo (rules_of plain) V ms c.bring_back-2.new.self.events p) (sym (c.act-kept.ensures.members s at))
+    (late-came plain V c.actor_rules_law.ensures.order c.actor_rules_law.ensures.undoes c.args.members.now c.args.done.now.events c.set_aside.new.done.events c.set_aside.new.aside.events c.bring_back-2.new.self.events (record { all = []; left = 0 })
     c.args.letters.now c.take_first.new.self c.tell.new.self c.send_later.new.letters m s at (c.act-kept.ensures.valid s at) c.set_aside.ensures.aside (search rules)
     (now-done g (goal.at.returns-clause-came g c).After-bring_back-2) c.requires.came)
 
@@ -115,8 +115,8 @@ returns-clause-did g c = λ rows.
     let again = c.messages-2.ensures.messages ∙ c.act-kept.ensures.messages s at in
     let went = subst (λ xs. WentOn (set c.args.members.now m.receiver (Some (plain.after s m))) (map plus_of xs) c.tell.new.self c.send_later.new.letters) again
     (subst (λ ms. WentOn ms (map plus_of c.messages-2.result.now) c.tell.new.self c.send_later.new.letters) members c.send_later.ensures.went) in
-    subst (λ ms. DoesSent r V (held c.args.members.now c.args.done.now.events rows c.args.letters.now) [] (held ms c.bring_back-2.new.done.events rows c.send_later.new.letters) []) (sym members)
-    (late-handles plain V O c.actor_rules_law.ensures.undoes c.args.members.now c.args.done.now.events c.set_aside.new.done.events c.set_aside.new.aside.events c.bring_back-2.new.done.events rows
+    subst (λ ms. DoesSent r V (held c.args.members.now c.args.done.now.events rows c.args.letters.now) [] (held ms c.bring_back-2.new.self.events rows c.send_later.new.letters) []) (sym members)
+    (late-handles plain V O c.actor_rules_law.ensures.undoes c.args.members.now c.args.done.now.events c.set_aside.new.done.events c.set_aside.new.aside.events c.bring_back-2.new.self.events rows
     c.args.letters.now c.take_first.new.self c.tell.new.self c.send_later.new.letters m s at (c.act-kept.ensures.valid s at) c.set_aside.ensures.aside (search rules)
     (now-done g (goal.at.returns-clause-did g c).After-bring_back-2) c.requires.first (λ up. none-among O (messages_of c.args.done.now.events) m (c.requires.not_done up))
     c.take_first.ensures.taken c.take_first.ensures.others c.tell.ensures.told went c.send_later.ensures.queue c.send_later.ensures.extra)
@@ -129,7 +129,7 @@ returns-then-not-is_before-clause-handled g c =
 pub returns-clause-handled : goal.returns-clause-handled
 returns-clause-handled g c =
     inl (one-more c.actor_rules_law.ensures.order c.args.message.now c.args.done.now.events c.set_aside.new.done.events c.set_aside.new.aside.events c.set_aside.ensures.aside
-    c.bring_back-2.new.done.events (done_event_of (rules_of g.R.Reversible.plain) c.requires.able.0 c.args.message.now)
+    c.bring_back-2.new.self.events (done_event_of (rules_of g.R.Reversible.plain) c.requires.able.0 c.args.message.now)
     (now-done g (goal.at.returns-clause-handled g c).After-bring_back-2))
 
 -- what each call asks for, and what stays

@@ -1,8 +1,7 @@
 use Rattle.std.proofs.Common.{List, ◌++◌, length}
 use Rattle.vlink.specs.Order.{message_order}
-use Rattle.group_hand.specs.DoneEvents.{DoneEvent}
+use Rattle.group_queues.specs.DoneEvents.{DoneEvent, HasRoomFor}
 use Rattle.group_hand.specs.Handling.{SetAside}
-use Rattle.group_hand.specs.Undoing.{HasRoomFor}
 use Rattle.group_hand.proofs.out_of_order.set_aside.Given as goal
 
 abbrev pub invariant-events : goal.invariant-events

@@ -3,12 +3,11 @@ use Rattle.std.proofs.lemmas.Bool.{both_ways}
 use Rattle.vlink.specs.declared.message.Message.{Message}
 use Rattle.vlink.specs.Order.{message_order}
 use Rattle.antimessages.specs.Counting.{is_after, newest_of}
-use Rattle.group_hand.specs.DoneEvents.{DoneEvent, messages_of}
+use Rattle.group_queues.specs.DoneEvents.{DoneEvent, messages_of, HasRoomFor}
 use Rattle.group_hand.specs.Handling.{SetAside}
-use Rattle.group_hand.specs.Undoing.{HasRoomFor}
-use Rattle.group_hand.proofs.LateDone.{messages-append}
+use Rattle.group_queues.proofs.Shares.{messages-append}
 use Rattle.group_hand.proofs.LateEvent.{aside-more}
-use Rattle.group_hand.proofs.NewestDone.{newest-last}
+use Rattle.group_queues.proofs.NewestDone.{newest-last}
 use Rattle.group_hand.proofs.Rooms.{room-behind}
 use Rattle.group_hand.proofs.out_of_order.set_newest_aside.Goals.{then-is_before-via-then-is_before, then-is_before-via-else-is_before+then-newest_is_for}
 use Rattle.group_hand.proofs.out_of_order.set_newest_aside.Goals as goal

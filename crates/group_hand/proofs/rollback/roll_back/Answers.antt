@@ -7,7 +7,7 @@ pub returns-clause-came : goal.returns-clause-came
 returns-clause-came g c =
     all-came (rules_of g.R.Reversible.plain) c.actor_rules_law.ensures.order g.R.Reversible.is_value c.args.message.now
     (record { members = c.args.members.now; done = c.args.done.now.events; aside = []; queue = c.args.letters.now.queue; back = [] })
-    (record { members = c.set_back.new.members; done = c.bring_back.new.done.events; aside = []; queue = c.set_back.new.letters.queue; back = c.set_back.new.undoing.back.items })
+    (record { members = c.set_back.new.members; done = c.bring_back.new.self.events; aside = []; queue = c.set_back.new.letters.queue; back = c.set_back.new.undoing.back.items })
     (record {
       front = c.set_back.new.done.events;
       aside = c.set_back.new.undoing.aside.events;

@@ -1,6 +1,7 @@
 use Rattle.std.proofs.Common.{◌≡◌, ◌+◌, ◌≤◌, [], length, vec_len, vec_capacity}
 use Rattle.reverse.specs.Rules.{rules_of}
-use Rattle.group_hand.specs.Undoing.{CameTo, HasRoomFor, RollsBack, sent_in}
+use Rattle.group_hand.specs.Undoing.{CameTo, RollsBack}
+use Rattle.group_queues.specs.DoneEvents.{HasRoomFor, sent_in}
 use Rattle.group_hand.proofs.rollback.set_back.Given as goal
 
 abbrev pub invariant-events : goal.invariant-events

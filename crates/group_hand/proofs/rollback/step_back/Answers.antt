@@ -1,8 +1,8 @@
 use Rattle.std.proofs.Common.{◌≡◌, ◌==◌, ◌∷◌, [], Some, length, slice_get, IsPermutation, sym, ap, ◌∙◌, subst, arith, length-append}
 use Rattle.std.proofs.lemmas.Bool.{eqb-true, eq-eqb, both_ways}
 use Rattle.reverse.specs.Rules.{rules_of}
-use Rattle.group_hand.specs.Undoing.{sent_in}
-use Rattle.group_hand.proofs.NewestDone.{sent_in-push}
+use Rattle.group_queues.specs.DoneEvents.{sent_in}
+use Rattle.group_queues.proofs.NewestDone.{sent_in-push}
 use Rattle.group_hand.proofs.Origin.{came-from, undone-came, aside-came}
 use Rattle.group_hand.proofs.Retreating.{rolls-undone, rolls-aside, newest-late, room-fewer, some-late}
 use Rattle.group_hand.proofs.rollback.step_back.Given.{Over}

@@ -1,11 +1,11 @@
 use Rattle.std.proofs.Common.{[], ◌∷◌, ◌++◌, map, refl, ap, ◌∙◌, arith}
 use Rattle.reverse.specs.Rules.{rules_of}
 use Rattle.virtual_time.specs.Law.{minus_of}
-use Rattle.group_hand.specs.declared.block.Word.TheVariants.{Arrived}
+use Rattle.group_queues.specs.declared.block.Word.TheVariants.{Arrived}
 use Rattle.group_hand.specs.Arriving.{to_members, words_taken}
 use Rattle.group_hand.specs.Passing.{held}
 use Rattle.group_hand.proofs.Adding.{adds-arrival}
-use Rattle.group_hand.proofs.Among.{contains-in, none-among}
+use Rattle.group_queues.proofs.Among.{contains-in, none-among}
 use Rattle.group_hand.proofs.Fronted.{Fronted, fronted, tray-fewer}
 use Rattle.group_hand.proofs.FrontTold.{front-told}
 use Rattle.group_hand.proofs.Rolled.{settled-sent}

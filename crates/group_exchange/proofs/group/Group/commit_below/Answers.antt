@@ -2,7 +2,7 @@ use Rattle.std.proofs.Common.{◌≤◌, All, OnOk, ap, sym, ◌∙◌, subst, a
 use Rattle.vlink.specs.declared.message.Message.{Message}
 use Rattle.vlink.specs.Order.{message_order}
 use Rattle.virtual_time.proofs.Lists.{times-append}
-use Rattle.group_hand.specs.DoneEvents.{messages_of}
+use Rattle.group_queues.specs.DoneEvents.{messages_of}
 use Rattle.group_exchange.specs.Views.{is_of}
 use Rattle.group_exchange.proofs.Below.{all-late}
 use Rattle.group_exchange.proofs.Going.{each-inside}

@@ -1,5 +1,5 @@
 use Rattle.std.proofs.Common.{sym, ap, ◌∙◌}
-use Rattle.group_hand.specs.Block.{runs_in}
+use Rattle.group_queues.specs.Block.{runs_in}
 use Rattle.group_exchange.proofs.Ran.{goes-letters}
 use Rattle.group_exchange.proofs.RowsKept.{rows-does}
 use Rattle.group_exchange.proofs.Timely.{runs-letters}

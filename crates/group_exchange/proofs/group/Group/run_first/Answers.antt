@@ -1,5 +1,5 @@
 use Rattle.std.proofs.Common.{true, inl, inr, Ok, refl, ap, ◌∙◌, arith}
-use Rattle.group_hand.specs.Block.{runs_in}
+use Rattle.group_queues.specs.Block.{runs_in}
 use Rattle.journal.proofs.Refused.{not-ok}
 use Rattle.group_hand.proofs.Answering.{not-both}
 use Rattle.group_exchange.proofs.Going.{goes-both}

@@ -2,7 +2,7 @@ use Rattle.std.proofs.Common.{◌≡◌, ◌+◌, ◌≤◌, ◌⊎◌, inl, inr
 use Rattle.vlink.specs.declared.message.Message.{Message}
 use Rattle.group_hand.specs.Hands.{IsAsBefore}
 use Rattle.group_hand.specs.Answered.{RunsInOrder}
-use Rattle.group_hand.specs.Block.{runs_in}
+use Rattle.group_queues.specs.Block.{runs_in}
 use Rattle.group_hand.specs.declared.in_order.InOrder.{InOrder}
 use Rattle.group_hand.specs.declared.in_order.InOrder.TheVariants.{Ran, Idle, Late}
 use Rattle.journal.proofs.Refused.{not-ok, not-short}

@@ -4,8 +4,8 @@ use Rattle.vlink.specs.Order.{message_order}
 use Rattle.virtual_time.specs.Law.{IsAscending, one_if}
 use Rattle.reverse.specs.Rules.{rules_of}
 use Rattle.group_hand.specs.Answered.{RunsNext}
-use Rattle.group_hand.specs.Block.{runs_in}
-use Rattle.group_hand.specs.DoneEvents.{messages_of}
+use Rattle.group_queues.specs.Block.{runs_in}
+use Rattle.group_queues.specs.DoneEvents.{messages_of}
 use Rattle.group_hand.specs.Hands.{FirstWaits}
 use Rattle.journal.proofs.Refused.{not-ok, not-short}
 use Rattle.group_exchange.proofs.Below.{is-short}

@@ -1,5 +1,5 @@
 use Rattle.std.proofs.Common.{false, refl, ap, ◌∙◌, arith}
-use Rattle.group_hand.specs.Block.{runs_in}
+use Rattle.group_queues.specs.Block.{runs_in}
 use Rattle.journal.proofs.Refused.{not-ok, passed-short}
 use Rattle.group_exchange.proofs.Again.{counts-none}
 use Rattle.group_exchange.proofs.Going.{goes-both, goes-same}

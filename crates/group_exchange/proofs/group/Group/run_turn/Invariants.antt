@@ -1,7 +1,7 @@
 use Rattle.std.proofs.Common.{◌≡◌, ◌+◌, []}
 use Rattle.reverse.specs.Rules.{rules_of}
 use Rattle.reverse.specs.Setting.{simulation_of}
-use Rattle.group_hand.specs.Block.{runs_in}
+use Rattle.group_queues.specs.Block.{runs_in}
 use Rattle.group_exchange.specs.Effects.{Goes}
 use Rattle.group_exchange.proofs.group.Group.run_turn.Given as goal
 

@@ -1,6 +1,6 @@
 use Rattle.std.proofs.Common.{◌≡◌, ◌+◌, ◌++◌, map, flat_map, length, IfSome, sym, ap, ◌∙◌, subst, arith, length-append}
 use Rattle.virtual_time.specs.Law.{behind}
-use Rattle.group_hand.specs.Block.{steps_told}
+use Rattle.group_queues.specs.Block.{steps_told}
 use Rattle.group_exchange.specs.declared.steps.Steps.TheInside.{Inside}
 use Rattle.group_boxes.specs.Boxing.{waiting_for}
 use Rattle.group_exchange.specs.Telling.{steps_by}

@@ -1,8 +1,8 @@
 use Rattle.std.proofs.Common.{◌+◌, length, []}
 use Rattle.reverse.specs.Rules.{rules_of}
-use Rattle.group_hand.specs.Block.{AddsLetters}
+use Rattle.group_queues.specs.Block.{AddsLetters}
 use Rattle.group_hand.specs.Hands.{DoesSent}
-use Rattle.group_hand.specs.Undoing.{sent_in}
+use Rattle.group_queues.specs.DoneEvents.{sent_in}
 use Rattle.group_hand.proofs.hand.Hand.arrive_all.Given as goal
 
 abbrev pub invariant-letters : goal.invariant-letters

@@ -1,7 +1,7 @@
 use Rattle.std.proofs.Common.{◌≡◌, [], true, false, refl, sym, ap, ◌∙◌, subst}
 use Rattle.std.proofs.lemmas.List.{with_items_is}
 use Rattle.reverse.specs.Rules.{rules_of}
-use Rattle.group_hand.specs.Flow.{Flow}
+use Rattle.group_queues.specs.Flow.{Flow}
 use Rattle.group_hand.specs.Hands.{DoesSent, IsAsBefore}
 use Rattle.group_hand.specs.Passing.{held}
 use Rattle.group_hand.proofs.Adding.{adds-both, adds-none}

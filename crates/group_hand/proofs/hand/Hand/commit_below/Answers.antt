@@ -2,18 +2,18 @@ use Rattle.std.proofs.Common.{ℕ, ◌≡◌, ◌<◌, ◌++◌, All, List, take
 use Rattle.std.proofs.lemmas.List.{take-append-drop, take-map}
 use Rattle.std.proofs.lemmas.List.Elements.{All-weaker}
 use Rattle.reverse.specs.Rules.{rules_of}
-use Rattle.group_hand.specs.declared.block.Word.{Word}
-use Rattle.group_hand.specs.Flow.{Flow, IsFirst}
+use Rattle.group_queues.specs.declared.block.Word.{Word}
+use Rattle.group_queues.specs.Flow.{Flow, IsFirst}
 use Rattle.group_hand.specs.Hands.{IsAsBefore}
 use Rattle.group_hand.specs.Undoing.{CameTo}
 use Rattle.group_hand.specs.Passing.{held}
-use Rattle.group_hand.specs.DoneEvents.{messages_of}
-use Rattle.group_hand.specs.Sealing.{CanCommit, Stays, rows_in}
+use Rattle.group_queues.specs.DoneEvents.{messages_of}
+use Rattle.group_queues.specs.Sealing.{CanCommit, Stays, rows_in}
 use Rattle.group_hand.proofs.Adding.{adds-commits, adds-no-commit}
 use Rattle.group_hand.proofs.Answering.{no-err, no-ok, where-ok}
 use Rattle.group_hand.proofs.Still.{as-roomy, is-first, on-err, roomy-both}
 use Rattle.group_hand.proofs.Came.{dropped-came}
-use Rattle.group_hand.proofs.Forgetting.{of-messages, oldest-then}
+use Rattle.group_queues.proofs.Forgetting.{of-messages, oldest-then}
 use Rattle.group_hand.proofs.Sealed.{commits-nothing, commits-both, commits-many}
 use Rattle.group_hand.proofs.hand.Hand.commit_below.Given.{Over}
 use Rattle.group_hand.proofs.hand.Hand.commit_below.Goals.{After-first-first, in-Ok, in-Err}

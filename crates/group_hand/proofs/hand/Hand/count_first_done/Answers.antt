@@ -5,11 +5,11 @@ use Rattle.vlink.specs.Order.{message_order}
 use Rattle.reverse.specs.Rules.{rules_of, is_before}
 use Rattle.virtual_time.specs.Law.{plus_of}
 use Rattle.antimessages.specs.Counting.{HaveSameCounts}
-use Rattle.group_hand.specs.DoneEvents.{messages_of}
-use Rattle.group_hand.specs.Flow.{Flow}
+use Rattle.group_queues.specs.DoneEvents.{messages_of}
+use Rattle.group_queues.specs.Flow.{Flow}
 use Rattle.group_hand.specs.Passing.{held}
 use Rattle.group_hand.proofs.Answering.{not-both, not-err}
-use Rattle.group_hand.proofs.Among.{contains-in}
+use Rattle.group_queues.proofs.Among.{contains-in}
 use Rattle.group_hand.proofs.FrontWaits.{CountedBeside, counted-again, counted-as, counted-both, first-least, front-waits, nothing-waits}
 use Rattle.group_hand.proofs.Still.{as-roomy}
 use Rattle.group_hand.proofs.hand.Hand.count_first_done.Given.{Over}

@@ -1,7 +1,7 @@
 use Rattle.std.proofs.Common.{◌≡◌, ℕ, suc, ◌≤◌, ◌⊎◌, true, sym, ap, ◌∙◌, subst}
 use Rattle.vlink.specs.Order.{message_order}
 use Rattle.reverse.specs.Rules.{rules_of}
-use Rattle.group_hand.specs.Flow.{floor_in}
+use Rattle.group_queues.specs.Flow.{floor_in}
 use Rattle.group_hand.specs.Hands.{is_ours}
 use Rattle.group_hand.proofs.Floors.{floor-bound, floor-reached}
 use Rattle.group_hand.proofs.hand.Hand.floor.Given.{Over}

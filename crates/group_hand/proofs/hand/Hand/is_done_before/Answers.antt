@@ -1,6 +1,6 @@
 use Rattle.std.proofs.Common.{◌≡◌, slice_get, option_map, sym, ap, ◌∙◌}
 use Rattle.reverse.specs.Rules.{rules_of}
-use Rattle.group_hand.specs.DoneEvents.{messages_of}
+use Rattle.group_queues.specs.DoneEvents.{messages_of}
 use Rattle.group_hand.proofs.OldestDone.{first-early, first-late, from-first, none-of}
 use Rattle.group_hand.proofs.hand.Hand.is_done_before.Given.{Over}
 use Rattle.group_hand.proofs.hand.Hand.is_done_before.Goals.{After-oldest_time}

@@ -6,7 +6,7 @@ use Rattle.virtual_time.specs.Law.{World}
 use Rattle.vlink.specs.declared.message.Message.{Message}
 use Rattle.group_hand.specs.Hands.{StandsForGroup}
 use Rattle.group_hand.specs.Passing.{held}
-use Rattle.group_hand.specs.Rows.{Sealed}
+use Rattle.group_queues.specs.Rows.{Sealed}
 use Rattle.group_hand.proofs.Going.{stands-kept}
 use Rattle.group_hand.proofs.hand.Hand.let_rows_go.Given.{Over}
 use Rattle.group_hand.proofs.hand.Hand.let_rows_go.Goals.{After-let_go}

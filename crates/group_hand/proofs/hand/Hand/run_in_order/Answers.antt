@@ -9,7 +9,7 @@ use Rattle.reverse.specs.Rules.{is_before, rules_of}
 use Rattle.reverse.specs.declared.sends.TheConstants.{MOST_SENT}
 use Rattle.group_hand.specs.Answered.{RunsInOrder}
 use Rattle.group_hand.specs.Becoming.{Becomes}
-use Rattle.group_hand.specs.DoneEvents.{messages_of}
+use Rattle.group_queues.specs.DoneEvents.{messages_of}
 use Rattle.group_hand.specs.Hands.{DoesSent, Held, IsAsBefore}
 use Rattle.group_hand.specs.Passing.{held}
 use Rattle.group_hand.specs.declared.in_order.InOrder.TheVariants.{Ran, Idle, Late}
@@ -17,7 +17,7 @@ use Rattle.group_hand.specs.declared.in_order.InOrder.{InOrder}
 use Rattle.group_hand.specs.declared.fault.HandFault.{HandFault}
 use Rattle.group_hand.specs.declared.fault.HandFault.TheVariants.{Exhausted, OutOfMemory}
 use Rattle.group_hand.proofs.Adding.{adds-run-again}
-use Rattle.group_hand.proofs.NewestDone.{after-none}
+use Rattle.group_queues.proofs.NewestDone.{after-none}
 use Rattle.group_hand.proofs.Still.{as-roomy, none-back, put-back, roomy-both, still, took-first}
 use Rattle.group_hand.proofs.Telling.{does-both}
 use Rattle.group_hand.proofs.Came.{came-alike}

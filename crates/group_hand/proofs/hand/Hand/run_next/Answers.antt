@@ -7,7 +7,7 @@ use Rattle.reverse.specs.Plain.{Plain}
 use Rattle.reverse.specs.Rules.{is_before, rules_of}
 use Rattle.reverse.specs.declared.sends.Sends.{Sends}
 use Rattle.group_hand.specs.Answered.{HandlesOne, IsLateBefore, RefusesFirst, RunsInOrder, RunsNext}
-use Rattle.group_hand.specs.DoneEvents.{messages_of}
+use Rattle.group_queues.specs.DoneEvents.{messages_of}
 use Rattle.group_hand.specs.Handling.{FirstLacksNumbers}
 use Rattle.group_hand.specs.Hands.{FirstWaits, Held, IsAsBefore}
 use Rattle.group_hand.specs.declared.fault.HandFault.{HandFault}

@@ -5,14 +5,14 @@ use Rattle.vlink.specs.Order.{message_order}
 use Rattle.virtual_time.specs.Law.{IsAscending}
 use Rattle.reverse.specs.Rules.{rules_of, is_before}
 use Rattle.group_hand.specs.Answered.{RunsOutOfOrder}
-use Rattle.group_hand.specs.DoneEvents.{messages_of}
-use Rattle.group_hand.specs.Flow.{Flow}
+use Rattle.group_queues.specs.DoneEvents.{messages_of}
+use Rattle.group_queues.specs.Flow.{Flow}
 use Rattle.group_hand.specs.Handling.{HasLater}
 use Rattle.group_hand.specs.Hands.{DoesSent, IsAsBefore}
 use Rattle.group_hand.specs.Passing.{held}
 use Rattle.group_hand.specs.Undoing.{CameTo}
 use Rattle.group_hand.proofs.Adding.{adds-run-again}
-use Rattle.group_hand.proofs.Among.{contains-in}
+use Rattle.group_queues.proofs.Among.{contains-in}
 use Rattle.group_hand.proofs.CountsAgain.{counts-again}
 use Rattle.group_hand.proofs.FrontWaits.{not-waiting}
 use Rattle.group_hand.proofs.NotLater.{not-later}

@@ -1,7 +1,0 @@
-use Rattle.std.proofs.Common.{All, take}
-use Rattle.group_hand.specs.DoneEvents.{messages_of}
-use Rattle.group_hand.specs.Sealing.{CanCommit}
-use Rattle.group_hand.proofs.letters.Letters.count_early.Given as goal
-
-abbrev pub invariant-loop-place : goal.invariant-loop-place
-invariant-loop-place g l = All (CanCommit l.moment l.self) (take l.place (messages_of l.done.events))

@@ -1,0 +1,13 @@
+pub mod Shares
+pub mod Waiting
+pub mod Offers
+pub mod Steps
+pub mod Forgetting
+pub mod Among
+pub mod Moved
+pub mod NewestDone
+pub mod Leaving
+pub mod Precedes
+pub mod Early
+pub mod FromFirst
+pub mod Lowest

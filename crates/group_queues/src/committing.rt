@@ -1,0 +1,178 @@
+//! Commits the oldest done events of a group.
+ghost use Rattle.std.specs.Prelude.{◌≡◌, ◌+◌, ◌<◌, ◌≤◌, ◌⊎◌, ◌++◌, true, false, All, IfSome, Some, OnOk, OnErr, length, take, drop, slice_get, vec_len, vec_capacity};
+ghost use Rattle.vlink.specs.Order.{message_order};
+ghost use Rattle.vlink.specs.declared.message.Message.{Message};
+ghost use Rattle.group_queues.specs.DoneEvents.{messages_of, noted_in, sent_in};
+ghost use Rattle.group_queues.specs.Flow.{IsFirst};
+ghost use Rattle.group_queues.specs.Sealing.{CanCommit, Stays, rows_in, words_of};
+
+use crate::block::{Word, Words};
+use crate::done_events::{DoneEvents, precedes};
+use crate::handing::time_or;
+use crate::letters::Letters;
+use crate::rows::Rows;
+use crate::trail::Trail;
+use std::alloc::AllocError;
+use vlink::{Message, Row, Time, order_law};
+
+impl<K: Copy> DoneEvents<K> {
+    /// Returns how many messages the oldest `count` events sent in all, and how many rows they gave.
+    fn shares(&self, count: usize) -> (usize, usize)
+        requires { count ≤ length self.now.events }
+        ensures sent { result.0 ≡ sent_in (take count self.now.events) }
+        ensures noted { result.1 ≡ noted_in (take count self.now.events) }
+    {
+        let events = self.events.as_slice();
+        // No sum is greater than the whole, which these two numbers are.
+        let _most = (self.sends.len(), self.rows.len());
+        let mut sent = 0;
+        let mut noted = 0;
+        for place in 0..count {
+            let event = &events[place];
+            sent += event.sent as usize;
+            noted += event.noted as usize;
+        }
+        (sent, noted)
+    }
+
+    /// Forgets the oldest `count` events. Their rows go to the end of `taken`, which has room for them.
+    fn forget(&mut self, count: usize, taken: &mut Vec<Row>)
+        requires enough { count ≤ length self.old.events }
+        requires room { vec_len taken.old + length (rows_in self.old.events) ≤ vec_capacity taken.old }
+        ensures events { self.new.events ≡ drop count self.old.events }
+        ensures rows { taken.new.items ≡ taken.old.items ++ rows_in (take count self.old.events) }
+    {
+        let (sent, noted) = self.shares(count);
+        self.events.forget(count);
+        self.sends.forget(sent);
+        move_first(&mut self.rows, noted, taken);
+    }
+}
+
+impl Letters {
+    /// Whether a done event with this message can be committed below the moment. `first` is the first message of the queue, if any, and
+    /// `limit` the earlier of both moments.
+    #[inline(always)]
+    fn can_commit(
+        &self,
+        message: &Message,
+        moment: Time,
+        first: &Option<Message>,
+        limit: Time,
+    ) -> bool
+        requires first { IsFirst first.now self.now.queue }
+        requires limit { (limit ≤ moment) × IfSome first.now (λ f. limit ≤ f.time) }
+        ensures yes { result ≡ true → CanCommit moment self.now message.now }
+        ensures no { result ≡ false → Stays moment self.now message.now }
+    {
+        order_law();
+        if !is_early(message, moment, first, limit) {
+            return false;
+        }
+        self.extra.is_zero(message)
+    }
+
+    /// Returns how many of the oldest done events can be committed below the moment, one after another.
+    pub fn count_early<K: Copy>(
+        &self,
+        done: &DoneEvents<K>,
+        moment: Time,
+        first: &Option<Message>,
+    ) -> usize
+        requires { IsFirst first.now self.now.queue }
+        ensures within { result ≤ length done.now.events }
+        ensures early { All (CanCommit moment self.now) (take result (messages_of done.now.events)) }
+        ensures left { IfSome (slice_get (messages_of done.now.events) result) (Stays moment self.now) }
+    {
+        let events = done.events.as_slice();
+        let limit = time_or(first, moment);
+        for place in 0..events.len() {
+            if !self.can_commit(&events[place].message, moment, first, limit) {
+                return place;
+            }
+        }
+        events.len()
+    }
+
+    /// Commits the oldest `count` done events: they are forgotten, and their rows go to the end of `sealed`. A refusal changes nothing.
+    pub fn commit_first<K: Copy>(
+        &mut self,
+        done: &mut DoneEvents<K>,
+        sealed: &mut Rows,
+        count: usize,
+    ) -> Result<(), AllocError>
+        requires { count ≤ length done.old.events }
+        ensures events { OnOk result (done.new.events ≡ drop count done.old.events) }
+        ensures rows { OnOk result (sealed.new ≡ record sealed.old { all = sealed.old.all ++ rows_in (take count done.old.events) }) }
+        ensures told { OnOk result (self.new ≡ record self.old { words = self.old.words ++ words_of (take count done.old.events); room = self.new.room }) }
+        ensures events_stay { OnErr result (done.new.events ≡ done.old.events) }
+        ensures rows_stay { OnErr result (sealed.new ≡ sealed.old) }
+        ensures letters_stay { OnErr result (self.new ≡ record self.old { room = self.new.room }) }
+    {
+        self.room = 0;
+        self.block.reserve(count)?;
+        sealed.there.reserve(done.rows.len())?;
+        tell_committed(done, &mut self.block, count);
+        done.forget(count, &mut sealed.there);
+        done.close_up();
+        Ok(())
+    }
+}
+
+/// Whether the message is earlier than the moment, and comes before `first`, if that exists. Mostly the comparison with `limit`, the
+/// earlier of both moments, decides.
+#[inline(always)]
+fn is_early(message: &Message, moment: Time, first: &Option<Message>, limit: Time) -> bool
+    requires { (limit ≤ moment) × IfSome first.now (λ f. limit ≤ f.time) }
+    ensures early { result ≡ true → message.now.time < moment }
+    ensures before { result ≡ true → IfSome first.now (λ f. message_order.less message.now f ≡ true) }
+    ensures no { result ≡ false → (moment ≤ message.now.time) ⊎ ((f : Message) × (first.now ≡ Some f) × (message_order.less message.now f ≡ false)) }
+{
+    order_law();
+    if message.time < limit {
+        return true;
+    }
+    message.time < moment && comes_before(message, first)
+}
+
+/// Whether the message comes before `first`, or `first` is none.
+#[inline(always)]
+fn comes_before(message: &Message, first: &Option<Message>) -> bool
+    ensures yes { result ≡ true → IfSome first.now (λ f. message_order.less message.now f ≡ true) }
+    ensures no { result ≡ false → (f : Message) × (first.now ≡ Some f) × (message_order.less message.now f ≡ false) }
+{
+    match first {
+        Some(first) => precedes(message, first),
+        None => true,
+    }
+}
+
+/// Adds the commits of the oldest `count` events to the block, which has room for them.
+fn tell_committed<K: Copy>(done: &DoneEvents<K>, block: &mut Words, count: usize)
+    requires enough { count ≤ length done.now.events }
+    requires room { count ≤ block.old.room }
+    ensures words { block.new.words ≡ block.old.words ++ words_of (take count done.now.events) }
+    ensures keeps { block.new.keeps ≡ block.old.keeps }
+{
+    let events = done.events.as_slice();
+    for place in 0..count {
+        block.push_reserved(Word::Committed {
+            process: events[place].message.receiver,
+        });
+    }
+}
+
+/// Moves the first `count` items to the end of `taken`, which has room for them. The type parameter is there for the borrow checker.
+#[inline(always)]
+fn move_first<T: Copy + Drop>(items: &mut Trail<T>, count: usize, taken: &mut Vec<T>)
+    requires enough { count ≤ length items.old.items }
+    requires room { vec_len taken.old + count ≤ vec_capacity taken.old }
+    ensures items { items.new.items ≡ drop count items.old.items }
+    ensures left { items.new.room ≡ items.old.room }
+    ensures taken { taken.new.items ≡ taken.old.items ++ take count items.old.items }
+{
+    for place in 0..count {
+        taken.push_reserved(*items.item(place));
+    }
+    items.forget(count);
+}
