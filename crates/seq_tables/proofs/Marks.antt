@@ -1,5 +1,5 @@
 -- Marks are pushed, one for each process.
-use Rattle.std.proofs.Common.{◌≡◌, ℕ, zero, suc, ◌+◌, ◌⊎◌, Bool, true, false, inl, inr, List, [], ◌∷◌, ◌++◌, length, refl, arith}
+use Rattle.std.proofs.Common.{◌≡◌, ℕ, zero, suc, ◌⊎◌, Bool, true, inl, inr, List, [], ◌∷◌, ◌++◌, length, refl, arith}
 use Rattle.std.proofs.lemmas.Bool.{false≢true}
 use Rattle.actor_run.specs.RunningAhead.{is_marked}
 
@@ -9,8 +9,3 @@ marked-push [] b zero h = inr (refl, h)
 marked-push [] b (suc p) h = absurd (false≢true h)
 marked-push (x ∷ marks) b zero h = inl h
 marked-push (x ∷ marks) b (suc p) h = elim (marked-push marks b p h) [ inl k ↦ inl k | inr k ↦ inr (let e = k.0 in omega arith, k.1) ]
-
--- a list without a length is empty
-pub none-long : {X : Type 0} (xs : List X) → length xs ≡ 0 → xs ≡ []
-none-long [] e = refl
-none-long (x ∷ xs) e = absurd (omega (arith, e))

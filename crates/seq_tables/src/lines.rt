@@ -1,7 +1,7 @@
 //! Lines without outages can run ahead: each handles a frame when the frame is sent into it.
-ghost use Rattle.std.specs.Prelude.{◌≡◌, ◌<◌, Bool, true, List, IfOk};
+ghost use Rattle.std.specs.Prelude.{◌≡◌, ◌<◌, Bool, true, List, [], length, IfOk};
 ghost use Rattle.runs_ahead.specs.Standing.{RunAhead};
-ghost use Rattle.network.specs.Words.{process_count};
+ghost use Rattle.network.specs.Words.{lines_of, outages_of, process_count};
 ghost use Rattle.nodes.specs.Words.{simulation_of};
 ghost use Rattle.actor_run.specs.RunningAhead.{is_marked};
 ghost use Rattle.seq_tables.specs.Lines.{AreMarked, IsOpenLine, starts_of};
@@ -10,6 +10,17 @@ use network::Network;
 use plan_ports::{offered_law, ports_law};
 use seqsim::network_law;
 use std::alloc::{AllocError, Global};
+
+/// Whether a line has no outages.
+fn has_no_outages(network: &Network, line: usize) -> bool
+    requires { line < length (lines_of network.now) }
+    ensures { result ≡ true → outages_of network.now line ≡ [] }
+{
+    match network.outages(line) {
+        [] => true,
+        _ => false,
+    }
+}
 
 /// Whether this process is a line without outages.
 fn is_open_line(network: &Network, process: u16) -> bool
@@ -22,7 +33,7 @@ fn is_open_line(network: &Network, process: u16) -> bool
     }
     let _lines = network.line_count();
     let line = usize::from(process) - nodes;
-    network.outages(line).is_empty()
+    has_no_outages(network, line)
 }
 
 /// Marks the processes of a network that run ahead: lines without outages, and no others. Process p is in place p. It fails only if memory

@@ -1,8 +1,7 @@
-use Rattle.std.proofs.Common.{◌≡◌, [], ◌∙◌, ◌-◌, ◌+◌, ◌<◌, ◌≤◌, length, sym, arith, eqb-true}
+use Rattle.std.proofs.Common.{◌≡◌, [], ◌-◌, ◌+◌, ◌<◌, ◌≤◌, length, arith}
 use Rattle.actor_run.proofs.Passing.{item-there}
 use Rattle.network.specs.Words.{lines_of}
 use Rattle.network.proofs.BuildLemmas.{length-lines}
-use Rattle.seq_tables.proofs.Marks.{none-long}
 use Rattle.seq_tables.proofs.lines.is_open_line.Goals as goal
 
 pub returns : goal.returns
@@ -18,5 +17,5 @@ returns c = λ e.
       line = at.0;
       read = at.1;
       process = place;
-      is_open = sym c.outages.ensures ∙ none-long c.outages.result.now (eqb-true (length c.outages.result.now) 0 (sym c.is_empty.ensures ∙ e));
+      is_open = c.has_no_outages.ensures e;
     }
