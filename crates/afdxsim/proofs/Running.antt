@@ -65,7 +65,7 @@ used_up plan laws (n, lacks) =
       steps = there.0;
       process = m.receiver;
       within = there.1;
-      lacking = (subst IsSome (sym there.2) tt, subst (λ (s : NodeState). greatest_number < s.sender.counter + MOST_SENT) (sym there.3) lacks.2);
+      lacking = (subst IsSome (sym there.2) refl, subst (λ (s : NodeState). greatest_number < s.sender.counter + MOST_SENT) (sym there.3) lacks.2);
     }
 
 -- the one-thread run's own fault is named; no worker is started for it
