@@ -1,6 +1,6 @@
 -- Letters that come behind all done events of a process arrive, and undo nothing.
-use Rattle.std.proofs.Common.{◌≡◌, ◌∙◌, ◌<◌, ℕ, Bool, true, false, cond, nat_lt, List, [], ◌∷◌, ◌++◌, map, length, replicate, refl, sym, ap, subst, arith, append_assoc, append-nil, lt-ltb}
-use Rattle.virtual_time.specs.Law.{Simulation, IsOrder, IsIn, IsNamed, Part, rolled_back, tallied, is_toggled, arrived, arrive, Act, acted, local, after_moves, Deliver, Moves, AreEnabled}
+use Rattle.std.proofs.Common.{◌≡◌, ◌∙◌, ℕ, Bool, true, false, cond, nat_lt, List, [], ◌∷◌, ◌++◌, map, length, replicate, refl, sym, ap, subst, arith, append_assoc, append-nil, lt-ltb}
+use Rattle.virtual_time.specs.Law.{Simulation, IsOrder, IsIn, IsNamed, Part, rolled_back, tallied, is_toggled, arrived, arrive, acted, local, after_moves, Deliver, AreEnabled}
 use Rattle.virtual_time.specs.declared.letter.Letter.{Letter}
 use Rattle.virtual_time.specs.declared.moved.Move.TheVariants.{Arrived}
 use Rattle.virtual_time.proofs.Letters.{named-head}
@@ -33,11 +33,14 @@ module _ {M S K N : Type 0} (f : Simulation M S K N) (O : IsOrder f.rules.order)
   all-arrive opening g events [] part none did tray out behind = (tt, record { committed = none; done = did; tray = tray; outbox = out })
   all-arrive opening g events (l ∷ rest) part none did tray out behind =
       let same = sym (arrives opening part l rest tray
-          (λ d i. behind l.message (named-head f.rules.order O l rest) d (subst (λ ds. IsIn f.rules.order d ds) did i))) in
-      let more = all-arrive opening g events rest (tallied f.rules l rest part) none did refl out (λ m named. behind m (omega arith)) in
-      ((ap (λ ls. nat_lt 0 (length ls)) tray ∙ lt-ltb 0 (length (l ∷ rest)) (omega arith),
-      subst (AreEnabled f opening g (replicate (length rest) Arrived)) same more.0),
-      subst (λ z. HasDone events (after_moves f.rules opening (replicate (length rest) Arrived) z)) same more.1)
+      (λ d i. behind l.message (named-head f.rules.order O l rest) d (subst (λ ds. IsIn f.rules.order d ds) did i))) in
+      let more = all-arrive opening g events rest (tallied f.rules l rest part) none did refl out (λ m named. behind m (omega arith)) in (
+        (
+          ap (λ ls. nat_lt 0 (length ls)) tray ∙ lt-ltb 0 (length (l ∷ rest)) (omega arith),
+          subst (AreEnabled f opening g (replicate (length rest) Arrived)) same more.0,
+        ),
+        subst (λ z. HasDone events (after_moves f.rules opening (replicate (length rest) Arrived) z)) same more.1,
+      )
 
   -- these letters come to the back of the tray, and all else stays
   pub record HasReceived (letters : List (Letter M)) (old new : Part M S) : Type 0 where

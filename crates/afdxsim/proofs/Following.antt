@@ -1,6 +1,6 @@
 -- The world can follow the one-thread run: for each number of events there are steps after which each process has done just its events of that
 -- run, and no letter is on its way.
-use Rattle.std.proofs.Common.{◌≡◌, ◌∙◌, ◌⊎◌, inl, inr, ◌<◌, ◌≤◌, ◌+◌, ◌==◌, ℕ, zero, suc, true, List, [], ◌∷◌, ◌++◌, map, length, replicate, is_some, Option, Some, None, refl, sym, ap, subst, arith, append-nil, eq-eqb}
+use Rattle.std.proofs.Common.{◌≡◌, ◌∙◌, inl, inr, ◌<◌, ◌≤◌, ◌+◌, ◌==◌, ℕ, zero, suc, List, [], ◌∷◌, ◌++◌, map, length, replicate, is_some, Option, Some, None, refl, sym, ap, subst, arith, append-nil, eq-eqb}
 use Rattle.std.proofs.lemmas.Bool.{cases_lt}
 use Rattle.virtual_time.specs.Law.{Simulation, Laws, IsIn, IsNamed, IsPresent, AreEnabled, sent, times_in, pluses, minuses, least, received_by, plus_of, events_at, without, put, reached, Part, emptied, next_of, handled, OneThread, handle, one, events, World, start, run, history, Posted, steps_of, after_moves, fetched, delivered_block}
 use Rattle.virtual_time.specs.declared.letter.Letter.{Letter}
@@ -59,11 +59,12 @@ module _ {M S K N : Type 0} (f : Simulation M S K N) (L : Laws f) where
         leads-by (λ v. HaveDone did v × ((q : ℕ) → v.mail q ≡ put p [] w.mail q))
         (replicate (length (w.mail p)) (Take p 0) ++ steps_of {M = M} p (Posted block)) w (delivered_block f p block taken)
         (run-then f (replicate (length (w.mail p)) (Take p 0)) (steps_of {M = M} p (Posted block)) w ∙
-        (ap (run f (steps_of {M = M} p (Posted block))) (takes f p i (w.mail p) [] w (sym (append-nil (w.mail p)))) ∙ posts f p i block taken can.0))
-        (put_elim (λ q z. q < f.processes → HasDone (did q) z) p (emptied (after_moves f.rules (f.opening p) block (taken.parts p))) taken.parts
-        (λ j. record { committed = can.1.committed; done = can.1.done; tray = can.1.tray; outbox = refl })
-        (λ q other j. subst (HasDone (did q)) (sym (put_other p q _ w.parts other)) (have q j)),
-        λ q. ap (λ ls. put p [] w.mail q ++ received_by f.rules.order q ls) can.1.outbox ∙ append-nil _)
+        (ap (run f (steps_of {M = M} p (Posted block))) (takes f p i (w.mail p) [] w (sym (append-nil (w.mail p)))) ∙ posts f p i block taken can.0)) (
+          put_elim (λ q z. q < f.processes → HasDone (did q) z) p (emptied (after_moves f.rules (f.opening p) block (taken.parts p))) taken.parts
+              (λ j. record { committed = can.1.committed; done = can.1.done; tray = can.1.tray; outbox = refl })
+              (λ q other j. subst (HasDone (did q)) (sym (put_other p q _ w.parts other)) (have q j)),
+          λ q. ap (λ ls. put p [] w.mail q ++ received_by f.rules.order q ls) can.1.outbox ∙ append-nil _,
+        )
 
   -- the mail of the first k processes arrives
   abbrev Arrives : (ℕ → List M) → ℕ → World M S → Type 0
@@ -77,10 +78,15 @@ module _ {M S K N : Type 0} (f : Simulation M S K N) (L : Laws f) where
       (λ v at. let one = one-arrives did v at.0 k (omega arith) (at.1.0 k (omega arith)) in (one.0, more v at (run f one.0 v) one.1))
     where
       more : (v : World M S) → Arrives did k v → (u : World M S) → HaveDone did u × ((q : ℕ) → u.mail q ≡ put k [] v.mail q) → Arrives did (suc k) u
-      more v at u has = (has.0, ((λ q. subst (λ ls. q < f.processes → AreBehind f L.order (did q) ls) (sym (has.1 q))
-          (put_elim (λ q ls. q < f.processes → AreBehind f L.order (did q) ls) k [] v.mail (λ j m named. absurd (omega arith)) (λ q other. at.1.0 q) q)),
+      more v at u has = (
+        has.0,
+        (
+          (λ q. subst (λ ls. q < f.processes → AreBehind f L.order (did q) ls) (sym (has.1 q))
+              (put_elim (λ q ls. q < f.processes → AreBehind f L.order (did q) ls) k [] v.mail (λ j m named. absurd (omega arith)) (λ q other. at.1.0 q) q)),
           λ q j. has.1 q ∙ put_elim (λ q ls. q < suc k → ls ≡ []) k [] v.mail (λ j. refl)
-          (λ q other j. elim (cases_lt q k) [ inl l ↦ at.1.1 q l | inr g ↦ absurd (other (omega arith)) ]) q j))
+              (λ q other j. elim (cases_lt q k) [ inl l ↦ at.1.1 q l | inr g ↦ absurd (other (omega arith)) ]) q j,
+        ),
+      )
 
   -- each process has done its first events, of n in all, and no letter is on its way
   pub record Follows (n : ℕ) (w : World M S) : Type 0 where
@@ -211,11 +217,14 @@ module _ {M S K N : Type 0} (f : Simulation M S K N) (L : Laws f) where
   follow-one n w at = go (least f.rules.order (one f n).waiting) refl
     where
       go : (o : Option M) → least f.rules.order (one f n).waiting ≡ o → Leads (Follows (suc n)) w
-      go None e = ([], record {
-        kept = at.kept;
-        have = subst (λ (x : OneThread M S N). HaveDone (λ q. events_at f.rules.order q x.handled) w) (sym (ap (handle f (one f n)) e)) at.have;
-        none_goes = at.none_goes;
-      })
+      go None e = (
+        [],
+        record {
+          kept = at.kept;
+          have = subst (λ (x : OneThread M S N). HaveDone (λ q. events_at f.rules.order q x.handled) w) (sym (ap (handle f (one f n)) e)) at.have;
+          none_goes = at.none_goes;
+        },
+      )
       go (Some m) e =
           let l = least-some f.rules.order L.order (one f n).waiting m e in
           let p = f.rules.order.receiver m in
