@@ -1,3 +1,5 @@
+pub mod Arriving
+pub mod Following
 pub mod Running
 pub mod Heard
 pub mod Statuses

@@ -3,6 +3,7 @@
 
 mod bytes_left;
 mod obeying;
+mod one_group;
 mod perform;
 mod run;
 mod workers;

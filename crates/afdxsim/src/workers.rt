@@ -14,6 +14,7 @@ ghost use Rattle.commands.specs.Progress.{HearsAsked, IsProgressLine, IsWorkersL
 ghost use Rattle.commands.specs.Sequencing.{IsTablesText};
 ghost use Rattle.afdxsim.specs.Workers.{IsFaultOfPool};
 
+use crate::one_group::found_alone;
 use command_line::Run;
 use commands::{Asked, Fault, Progress, tell_groups};
 use network::Network;
@@ -61,10 +62,10 @@ fn pace_of<T: Threads>(
     })
 }
 
-/// Runs the network by workers at this pace, and returns its tables, and its steps if they are asked for. Lists no rows. Error output shows
-/// how far the run is, if that is asked for.
+/// Runs the network by workers, whatever the number of groups, and returns its tables, and its steps if they are asked for. Lists no rows.
+/// Error output shows how far the run is, if that is asked for.
 #[tactic(auto, using(commands::proofs::Running::tables_made, crate::proofs::Running::workers_gave_up))]
-fn found_at<E: Sink, T: Threads + Wait + Clock + Sync>(
+fn found_in_groups<E: Sink, T: Threads + Wait + Clock + Sync>(
     rt: &T,
     alloc: Global,
     network: &Network,
@@ -82,6 +83,29 @@ fn found_at<E: Sink, T: Threads + Wait + Clock + Sync>(
     let found = run_summary(rt, alloc, network, pace, with_steps, &Open, &mut progress)?;
     progress.end();
     Ok(found)
+}
+
+/// Runs the network at this pace, and returns its tables, and its steps if they are asked for. A single group is run by the calling thread
+/// alone, unless its steps are asked for. Error output shows how far the run is, if that is asked for.
+fn found_at<E: Sink, T: Threads + Wait + Clock + Sync>(
+    rt: &T,
+    alloc: Global,
+    network: &Network,
+    pace: Pace,
+    with_steps: bool,
+    asked: Asked,
+    errors: &mut E,
+) -> Result<Summary, Fault<'static>>
+    ensures text { IfOk result (λ found. IsTablesText network.now (tables_text network.now found.tables)) }
+    ensures journal { IfOk result (λ found. IsJournalAsked network.now with_steps found.journal.items) }
+    ensures fault { IfErr result (IsFaultOfPool network.now (CanWantWorkers pace.workers (process_count network.now))) }
+    ensures heard { HearsAsked E.taken E.failures asked.is_asked (IsProgressLine network.now.until) errors.old errors.new }
+{
+    if !with_steps && pace.groups <= 1 {
+        found_alone(rt, alloc, network, asked, errors)
+    } else {
+        found_in_groups(rt, alloc, network, pace, with_steps, asked, errors)
+    }
 }
 
 /// Does the run that is ordered, and returns its tables, and its steps if they are asked for. Error output shows its groups and workers,
