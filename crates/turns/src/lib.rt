@@ -4,9 +4,9 @@
 //!
 //! The thread that gives a turn holds the lock of the group meanwhile (`Seats`). For each group the workers announce the moment of what it
 //! has to do next (`Moments`). A worker lists its groups that are due in a deque (`Agenda`), and gives them their turns in that order. A
-//! worker that finds nothing to do for its own groups looks again. Soon it lets other threads run in between, and gives turns to groups of
-//! others, whose workers may be off their cores: to one that it steals from the deque of the worker that is furthest behind, or to any that
-//! is due. At last it rests until one of its own is due. No proof covers this: a wrong estimate costs a turn or a rollback.
+//! worker that finds nothing to do for its own groups looks again. Soon it gives turns to groups of others, whose workers may be off their
+//! cores: to one that it steals from the deque of the worker that is furthest behind, or to any that is due. If that is in vain too, it rests
+//! until one of its own is due, each time twice as long as before. No proof covers this: a wrong estimate costs a turn or a rollback.
 #![tactic(auto)]
 
 mod agenda;
@@ -69,16 +69,17 @@ const LOOKS_PER_GVT: u64 = 16;
 /// After this many looks in vain a worker gives turns to groups of others, unless that succeeded before: then sooner.
 const LOOKS_BEFORE_HELP: u64 = 256;
 
-/// After this many looks in vain a worker lets other threads run in between, each time.
-const LOOKS_BEFORE_YIELD: u64 = 256;
+/// After this many looks in vain, some 50 us, a worker rests. If it let other threads run and looked again, it would lose its place among
+/// them: the system counts that as time on its core.
+const LOOKS_BEFORE_REST: u64 = 256;
 
-/// After this many looks in vain a worker rests. It is long, about 2 ms: a wake-up takes 50 us on a machine of its own, and 1 ms on a busy
-/// one. Workers that rested sooner fell asleep one after another, as each waited for one that was being woken, and took up to ten times as
-/// long.
-const LOOKS_BEFORE_REST: u64 = 4096;
+/// How long a worker rests first, in microseconds. It is as long as a wake-up takes. Each rest is twice as long as the one before it, until
+/// the worker finds something to do. So on a machine with much other work few workers are awake, and one that is off its core, and has a
+/// group that the others wait for, gets its core back sooner.
+const FIRST_REST_US: u64 = 50;
 
 /// The most that a worker rests, in microseconds.
-const REST_US: u64 = 5_000;
+const MOST_REST_US: u64 = 2_000;
 
 /// The pauses of the processor that a worker makes before it looks again.
 const PAUSES: u32 = 8;

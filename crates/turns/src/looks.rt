@@ -1,11 +1,14 @@
 //! How long a worker has found nothing to do.
-use crate::{LOOKS_BEFORE_HELP, LOOKS_BEFORE_REST, LOOKS_BEFORE_YIELD, LOOKS_PER_GVT};
+use crate::{FIRST_REST_US, LOOKS_BEFORE_HELP, LOOKS_BEFORE_REST, LOOKS_PER_GVT, MOST_REST_US};
 
-/// How often a worker has looked in vain since a turn, and how often it looks in vain before it gives turns to groups of others.
+/// How often a worker has looked in vain since a turn, how often it looks in vain before it gives turns to groups of others, and how long it
+/// rests next.
 #[derive(Clone, Copy)]
 pub(crate) struct Looks {
     vain: u64,
     patience: u64,
+    /// In microseconds.
+    rest_us: u64,
 }
 
 impl Looks {
@@ -14,6 +17,7 @@ impl Looks {
         Looks {
             vain: 0,
             patience: LOOKS_BEFORE_HELP,
+            rest_us: FIRST_REST_US,
         }
     }
 
@@ -25,6 +29,7 @@ impl Looks {
     /// Notes that a message was handled for a group of its own.
     pub(crate) fn work(&mut self) {
         self.vain = 0;
+        self.rest_us = FIRST_REST_US;
         self.patience = self.patience.saturating_add(8).min(LOOKS_BEFORE_HELP);
     }
 
@@ -32,6 +37,7 @@ impl Looks {
     pub(crate) fn help(&mut self) {
         self.patience /= 2;
         self.vain = self.patience;
+        self.rest_us = FIRST_REST_US;
     }
 
     /// Notes that nothing was found to do.
@@ -44,18 +50,20 @@ impl Looks {
         self.vain >= self.patience
     }
 
-    /// Whether GVT may be set, if the worker waits for it.
+    /// Whether GVT may be set, if the worker waits for it: now and then, and before each rest.
     pub(crate) fn may_publish(&self) -> bool {
-        self.vain % LOOKS_PER_GVT == 0
-    }
-
-    /// Whether other threads should run in between.
-    pub(crate) fn are_to_yield(&self) -> bool {
-        self.vain >= LOOKS_BEFORE_YIELD
+        self.vain % LOOKS_PER_GVT == 0 || self.are_to_rest()
     }
 
     /// Whether the worker should rest.
     pub(crate) fn are_to_rest(&self) -> bool {
         self.vain >= LOOKS_BEFORE_REST
+    }
+
+    /// Returns how long it rests now, at most, in microseconds. The next rest is twice as long.
+    pub(crate) fn next_rest_us(&mut self) -> u64 {
+        let rest_us = self.rest_us;
+        self.rest_us = rest_us.saturating_mul(2).min(MOST_REST_US);
+        rest_us
     }
 }

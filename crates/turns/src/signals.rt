@@ -1,5 +1,4 @@
 //! What the workers of a run announce to one another: moments, who of them rests, and whether the run has ended.
-use crate::REST_US;
 use crate::apart::Apart;
 use crate::moments::Moments;
 use std::alloc::{AllocError, Global};
@@ -86,12 +85,12 @@ impl Signals {
         }
     }
 
-    /// The worker, which is the calling thread, rests until it is woken, or `REST_US` have passed.
-    pub(crate) fn rest<T: Wait>(&self, rt: &T, worker: usize) {
+    /// The worker, which is the calling thread, rests until it is woken, or this time has passed, in microseconds.
+    pub(crate) fn rest<T: Wait>(&self, rt: &T, worker: usize, most_us: u64) {
         if let Some(rests) = self.rests.get(worker) {
             rests
                 .value
-                .park_timeout(rt, 1, Duration::from_micros(REST_US));
+                .park_timeout(rt, 1, Duration::from_micros(most_us));
         }
     }
 

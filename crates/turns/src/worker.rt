@@ -8,8 +8,8 @@ use crate::seat::Seat;
 use crate::signals::Signals;
 use crate::tasks::Tasks;
 use std::alloc::{AllocError, Global};
+use std::hint;
 use std::sync::Wait;
-use std::{hint, thread};
 use turn_words::Refusal;
 
 /// A worker with these groups gives turns until the run is over or a refusal ends it. Its own refusal ends the others at their next turn.
@@ -231,9 +231,10 @@ impl<'s, G: Drop, K: Tasks<G>, T: Wait> Worker<'s, G, K, T> {
             publish(&common.tasks, &common.signals)?;
         }
         if self.looks.are_to_rest() {
-            rest(self.rt, common, self.agenda.worker);
+            let most_us = self.looks.next_rest_us();
+            rest(self.rt, common, self.agenda.worker, most_us);
         } else {
-            pause(self.looks);
+            pause();
         }
         Ok(())
     }
@@ -259,11 +260,11 @@ fn handle_piece<G: Drop, K: Tasks<G>>(
 }
 
 /// A worker that has looked in vain for long rests until a group of its own is due, unless one is.
-fn rest<G: Drop, K: Tasks<G>, T: Wait>(rt: &T, common: &Common<G, K>, number: usize) {
+fn rest<G: Drop, K: Tasks<G>, T: Wait>(rt: &T, common: &Common<G, K>, number: usize, most_us: u64) {
     let signals = &common.signals;
     signals.begin_rest(number);
     if !signals.moments.is_over() && !is_any_due(common, number) {
-        signals.rest(rt, number);
+        signals.rest(rt, number, most_us);
     }
     signals.end_rest(number);
 }
@@ -304,13 +305,9 @@ fn publish<G: Drop, K: Tasks<G>>(tasks: &K, signals: &Signals) -> Result<(), K::
     Ok(())
 }
 
-/// A worker that looked in vain looks again soon, and after many looks lets other threads run in between.
-fn pause(looks: Looks) {
-    if looks.are_to_yield() {
-        thread::yield_now();
-    } else {
-        for _ in 0..PAUSES {
-            hint::spin_loop();
-        }
+/// A worker that looked in vain looks again soon.
+fn pause() {
+    for _ in 0..PAUSES {
+        hint::spin_loop();
     }
 }
