@@ -1,8 +1,8 @@
 //! Paths packed into one list of numbers. While the rows of a description are in memory, the virtual links that are made of them take no
 //! small pieces of memory, so what the rows took is free in one piece once they are dropped.
-ghost use Rattle.std.specs.Prelude.{◌≡◌, ◌+◌, ◌^◌, ◌<◌, [], ◌∷◌, ◌++◌, List, length, map, IfErr, IfOk, OnOk};
+ghost use Rattle.std.specs.Prelude.{◌≡◌, ◌+◌, ◌^◌, ◌<◌, ◌++◌, List, length, map, IfOk};
 ghost use Rattle.std.specs.List.{list_any};
-ghost use Rattle.network_rows.specs.declared.fault.DescFault.TheVariants.{OutOfMemory, UnknownName};
+ghost use Rattle.network_rows.specs.declared.fault.DescFault.TheVariants.{UnknownName};
 ghost use Rattle.network_rows.specs.declared.rows.VlRow.{VlRow};
 ghost use Rattle.network.specs.Rows.{when};
 ghost use Rattle.network.specs.Names.{names_of};
@@ -22,7 +22,7 @@ use std::alloc::{AllocError, Global};
 #[derive(Drop)]
 pub struct PackedVls {
     pub links: Vec<VirtualLink>,
-    pub paths: Vec<u32>,
+    pub paths: Vec<usize>,
 }
 
 /// Rows with numbers in place of names, the paths of virtual links packed.
@@ -52,22 +52,9 @@ impl PackedRows {
     }
 }
 
-/// Packs a number.
-fn pack(packed: &mut Vec<u32>, number: usize) -> Result<(), DescFault>
-    ensures memory { IfErr result (λ fault. fault ≡ OutOfMemory) }
-    ensures packed { OnOk result (packed.new.items ≡ packed.old.items ++ number ∷ []) }
-{
-    // No memory holds 2^32 nodes.
-    let Ok(short) = u32::try_from(number) else {
-        return Err(DescFault::OutOfMemory);
-    };
-    packed.push(short)?;
-    Ok(())
-}
-
 /// Packs a path, whose key is at this place.
 fn pack_path(
-    packed: &mut Vec<u32>,
+    packed: &mut Vec<usize>,
     names: &Names,
     path: &Path,
     place: Place,
@@ -75,16 +62,16 @@ fn pack_path(
     ensures { Gives (λ _. packed.new.items) result (when (list_any (is_unknown (names_of names.now.nodes.now)) path.now) (UnknownName place))
         (packed.old.items ++ packed_path (path_numbers (names_of names.now.nodes.now) path.now)) }
 {
-    pack(packed, path.len())?;
+    packed.push(path.len())?;
     for k in 0..path.len() {
-        pack(packed, node_at(names, path.name(k), place)?)?;
+        packed.push(node_at(names, path.name(k), place)?)?;
     }
     Ok(())
 }
 
 /// Packs the paths of one network, whose key is at this place.
 fn pack_paths(
-    packed: &mut Vec<u32>,
+    packed: &mut Vec<usize>,
     names: &Names,
     paths: &Paths,
     place: Place,
@@ -92,7 +79,7 @@ fn pack_paths(
     ensures { Gives (λ _. packed.new.items) result (when (has_unknown (names_of names.now.nodes.now) paths.now) (UnknownName place))
         (packed.old.items ++ packed_paths (paths_numbers (names_of names.now.nodes.now) paths.now)) }
 {
-    pack(packed, paths.len())?;
+    packed.push(paths.len())?;
     for k in 0..paths.len() {
         pack_path(packed, names, &paths.path(k), place)?;
     }
@@ -100,7 +87,7 @@ fn pack_paths(
 }
 
 /// Packs the paths of the row number `i`, counted from 0.
-fn pack_vl(packed: &mut Vec<u32>, names: &Names, i: usize, row: &VlRow) -> Result<(), DescFault>
+fn pack_vl(packed: &mut Vec<usize>, names: &Names, i: usize, row: &VlRow) -> Result<(), DescFault>
     requires { i + 1 < 2 ^ 64 }
     ensures { (earlier : List VlRow) → length earlier ≡ i →
         Gives (λ _. packed.new.items) result (unknown_at_vl (names_of names.now.nodes.now) earlier row.now)

@@ -15,7 +15,7 @@ use std::alloc::{AllocError, Global};
 /// The packed numbers that are left.
 #[derive(Drop)]
 struct Rest<'a> {
-    numbers: &'a [u32],
+    numbers: &'a [usize],
 }
 
 impl<'a> Rest<'a> {
@@ -28,7 +28,7 @@ impl<'a> Rest<'a> {
             return 0;
         };
         self.numbers = others;
-        *first as usize
+        *first
     }
 
     /// Takes a path.
@@ -69,7 +69,7 @@ impl<'a> Rest<'a> {
 }
 
 /// Makes virtual links of their parameters and their packed paths.
-fn vls_of(alloc: Global, links: &[VirtualLink], paths: &[u32]) -> Result<Vec<Routed>, AllocError>
+fn vls_of(alloc: Global, links: &[VirtualLink], paths: &[usize]) -> Result<Vec<Routed>, AllocError>
     ensures { IfOk result (λ made. (vls : List VlPlan) → links.now ≡ map (λ vl. vl.link) vls → paths.now ≡ flat_map packed_vl vls →
         made.items ≡ vls) }
 {
