@@ -28,13 +28,14 @@ fn runs_ahead(ahead: &[bool], message: &Message) -> bool
 }
 
 /// Passes on one message that was sent: an actor that runs ahead handles it, and its answer waits in its place; any other message waits.
-/// `answer` is room for the answer. Returns how many events that was: one, or none.
+/// It was sent at about the moment `now`. `answer` is room for the answer. Returns how many events that was: one, or none.
 #[inline(always)]
 fn pass_on<A: Actor>(
     actors: &mut [A],
     ahead: &[bool],
     waiting: &mut Waiting,
     message: &Message,
+    now: Time,
     answer: &mut Outbound,
 ) -> Result<u32, SimFault>
     requires marks { length ahead.now ≡ length actors.old }
@@ -44,23 +45,24 @@ fn pass_on<A: Actor>(
     ensures few { IfOk result (λ events. events ≤ 1) }
 {
     if !runs_ahead(ahead, message) {
-        waiting.push(message)?;
+        waiting.push(message, now)?;
         return Ok(0);
     }
     if !act(actors, message, answer) {
         return Err(SimFault::Exhausted);
     }
-    waiting.push_all(answer.messages())?;
+    waiting.push_all(answer.messages(), now)?;
     Ok(1)
 }
 
-/// Passes on all these messages, one after another. Returns how many events that was.
+/// Passes on all these messages, one after another, which were sent at the moment `now`. Returns how many events that was.
 #[inline(always)]
 fn pass_all_on<A: Actor>(
     actors: &mut [A],
     ahead: &[bool],
     waiting: &mut Waiting,
     messages: &[Message],
+    now: Time,
     answer: &mut Outbound,
 ) -> Result<u32, SimFault>
     requires marks { length ahead.now ≡ length actors.old }
@@ -72,7 +74,7 @@ fn pass_all_on<A: Actor>(
 {
     let mut events = 0;
     for message in messages {
-        events += pass_on(actors, ahead, waiting, message, answer)?;
+        events += pass_on(actors, ahead, waiting, message, now, answer)?;
     }
     Ok(events)
 }
@@ -110,7 +112,7 @@ fn handle_next<A: Actor, R: Recorder>(
     if !act(actors, &message, out) {
         return Err(SimFault::Exhausted);
     }
-    let answers = pass_all_on(actors, ahead, waiting, out.messages(), answer)?;
+    let answers = pass_all_on(actors, ahead, waiting, out.messages(), message.time, answer)?;
     record(recorder, &message, out.notes())?;
     *events = answers + 1;
     Ok(true)

@@ -87,7 +87,7 @@ fn handle_first<A: Actor, R: Recorder>(
     if !act(actors, &message, out) {
         return Err(SimFault::Exhausted);
     }
-    waiting.push_all(out.messages())?;
+    waiting.push_all(out.messages(), message.time)?;
     record(recorder, &message, out.notes())?;
     Ok(true)
 }
