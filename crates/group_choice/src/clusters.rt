@@ -1,5 +1,6 @@
 //! Clusters of nodes that stay together: each switch with the end systems that have most traffic with it.
 use crate::flows::{Flow, add, is_switch, sum_at};
+use crate::node_flows::NodeFlows;
 use network::Network;
 use std::alloc::{AllocError, Global};
 
@@ -17,7 +18,7 @@ impl Clusters {
     pub(crate) fn new(
         alloc: Global,
         network: &Network,
-        flows: &[Flow],
+        flows: &NodeFlows,
         loads: &[u64],
     ) -> Result<Self, AllocError> {
         let mut clusters = Clusters {
@@ -51,11 +52,12 @@ impl Clusters {
     }
 
     /// Adds the end systems to the clusters of the switches.
-    fn take_in(&mut self, network: &Network, flows: &[Flow], loads: &[u64]) {
+    fn take_in(&mut self, network: &Network, flows: &NodeFlows, loads: &[u64]) {
         for node in 0..network.node_count() {
             if !is_switch(network, node) {
-                let most = self.most(flows, node);
-                let cluster = self.least_of(flows, node, most);
+                let here = flows.at(node);
+                let most = self.most(here, node);
+                let cluster = self.least_of(here, node, most);
                 self.put(node, cluster, sum_at(loads, node));
             }
         }
@@ -70,7 +72,7 @@ impl Clusters {
         }
     }
 
-    /// Returns the most frames in a second that the end system sends to a switch.
+    /// Returns the most frames in a second that the end system sends to a switch. `flows` are those at the end system.
     fn most(&self, flows: &[Flow], node: usize) -> u64 {
         let mut most = 0;
         for flow in flows {

@@ -14,6 +14,7 @@ pub(crate) struct Flow {
 
 /// Returns the traffic of each line, by its number.
 pub(crate) fn flows_of(alloc: Global, network: &Network) -> Result<Vec<Flow>, AllocError> {
+    let frames = frames_by_node(alloc, network)?;
     let mut flows = Vec::with_capacity(alloc, network.line_count())?;
     for number in 0..network.line_count() {
         let line = network.line(number);
@@ -21,7 +22,7 @@ pub(crate) fn flows_of(alloc: Global, network: &Network) -> Result<Vec<Flow>, Al
         flows.push(Flow {
             from,
             to: usize::from(line.to),
-            frames: frames_out(network, network.departures(from), line.from_port),
+            frames: frames_at(&frames, from, usize::from(line.from_port)),
         })?;
     }
     Ok(flows)
@@ -66,15 +67,34 @@ fn sent_by(network: &Network, flow: Flow) -> u64 {
     }
 }
 
-/// Returns how many frames a port sends in a second. `ways` are the ways that leave its node.
-fn frames_out(network: &Network, ways: &[Way], port: u16) -> u64 {
-    let mut frames = 0u64;
-    for way in ways {
-        if way.port == port {
-            frames = frames.saturating_add(rate_on(network, way.vl));
-        }
+/// Returns how many frames each port of each node sends in a second.
+fn frames_by_node(alloc: Global, network: &Network) -> Result<Vec<Vec<u64>>, AllocError> {
+    let mut frames = Vec::with_capacity(alloc, network.node_count())?;
+    for node in 0..network.node_count() {
+        frames.push(frames_by_port(alloc, network, network.departures(node))?)?;
     }
-    frames
+    Ok(frames)
+}
+
+/// Returns how many frames each port of a node sends in a second. `ways` are the ways that leave the node.
+fn frames_by_port(alloc: Global, network: &Network, ways: &[Way]) -> Result<Vec<u64>, AllocError> {
+    let mut ports = 0;
+    for way in ways {
+        ports = (usize::from(way.port) + 1).max(ports);
+    }
+    let mut frames = vec![in alloc; 0u64; ports]?;
+    for way in ways {
+        add(&mut frames, usize::from(way.port), rate_on(network, way.vl));
+    }
+    Ok(frames)
+}
+
+/// Returns how many frames a port of a node sends in a second.
+fn frames_at(frames: &[Vec<u64>], node: usize, port: usize) -> u64 {
+    match frames.get(node) {
+        Some(ports) => sum_at(ports, port),
+        None => 0,
+    }
 }
 
 /// Returns how many frames of the virtual link with this number are sent in a second.

@@ -4,17 +4,22 @@ ghost use Rattle.network.specs.Faults.{process_count};
 
 use crate::clusters::Clusters;
 use crate::dealing::deal;
-use crate::flows::{Flow, add, flows_of, least, loads_of, sum_at};
+use crate::flows::{add, flows_of, least, loads_of, sum_at};
 use crate::joining::join_all;
 use crate::matrix::Matrix;
 use crate::moving::Owners;
+use crate::node_flows::NodeFlows;
 use crate::packing::{Packed, group_of, pack};
 use network::Network;
 use std::alloc::{AllocError, Global};
 use vlink::process_number;
 
-/// The least number of events that a group should have within a lead. With fewer, workers wait for each other longer than they work.
-const EVENTS_IN_LEAD: u64 = 48;
+/// The least number of events that a network should have within a lead if it has several groups. With fewer, workers wait for each other
+/// longer than they work.
+const EVENTS_IN_LEAD: u64 = 160;
+
+/// The least number of events that each of several groups should have within a lead.
+const EVENTS_OF_GROUP: u64 = 48;
 
 /// Returns the number of groups if `asked` are asked for: at least one, and no more than processes. A network without a process has none.
 pub fn groups_asked(network: &Network, asked: u16) -> u16
@@ -26,8 +31,8 @@ pub fn groups_asked(network: &Network, asked: u16) -> u16
     asked.max(1).min(network.process_count())
 }
 
-/// Returns how many groups a network is worth: at most `most`, and each group has some events within the lead, in ns, by which workers may
-/// be apart. The result is at least one, and no more than processes. A network without a process has none. Only memory can be refused.
+/// Returns how many groups a network is worth: at most `most`, and each of several has some events within the lead, in ns, by which workers
+/// may be apart. The result is at least one, and no more than processes. A network without a process has none. Only memory can be refused.
 pub fn groups_worth(
     alloc: Global,
     network: &Network,
@@ -40,7 +45,11 @@ pub fn groups_worth(
 {
     let loads = loads_of(alloc, network, &flows_of(alloc, network)?)?;
     let within = all(&loads).saturating_mul(lead_ns) / 1_000_000_000;
-    let worth = u16::try_from(within / EVENTS_IN_LEAD).unwrap_or(most);
+    let worth = if within < EVENTS_IN_LEAD {
+        1
+    } else {
+        u16::try_from(within / EVENTS_OF_GROUP).unwrap_or(most)
+    };
     Ok(worth.min(most).max(1).min(network.process_count()))
 }
 
@@ -103,20 +112,18 @@ fn places_of(
 fn owners_in(alloc: Global, network: &Network, groups: usize) -> Result<Owners, AllocError>
     requires { 1 ≤ groups }
 {
-    let flows = flows_of(alloc, network)?;
-    let owners = match loads_of(alloc, network, &flows) {
-        Ok(loads) => owners_of(alloc, network, &flows, &loads, groups),
-        Err(fault) => Err(fault),
-    };
-    drop(flows);
-    owners
+    let lines = flows_of(alloc, network)?;
+    let loads = loads_of(alloc, network, &lines)?;
+    let flows = NodeFlows::new(alloc, &lines, network.node_count())?;
+    drop(lines);
+    owners_of(alloc, network, &flows, &loads, groups)
 }
 
 /// Does the same, if the traffic of the lines and the load of the nodes are known.
 fn owners_of(
     alloc: Global,
     network: &Network,
-    flows: &[Flow],
+    flows: &NodeFlows,
     loads: &[u64],
     groups: usize,
 ) -> Result<Owners, AllocError>
@@ -138,7 +145,7 @@ fn join_and_pack(
     alloc: Global,
     clusters: &mut Clusters,
     network: &Network,
-    flows: &[Flow],
+    flows: &NodeFlows,
     loads: &[u64],
     groups: usize,
     even: u64,

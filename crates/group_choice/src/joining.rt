@@ -2,6 +2,7 @@
 use crate::clusters::Clusters;
 use crate::flows::{Flow, add, sum_at};
 use crate::matrix::Matrix;
+use crate::node_flows::NodeFlows;
 use std::alloc::{AllocError, Global};
 
 /// Two clusters, and the traffic between them.
@@ -17,7 +18,7 @@ struct Pair {
 pub(crate) fn join_all(
     alloc: Global,
     clusters: &mut Clusters,
-    flows: &[Flow],
+    flows: &NodeFlows,
     groups: usize,
     most: u64,
 ) -> Result<Matrix, AllocError> {
@@ -31,16 +32,29 @@ pub(crate) fn join_all(
 }
 
 /// Returns the traffic between each two clusters.
-fn flow_between(alloc: Global, clusters: &Clusters, flows: &[Flow]) -> Result<Matrix, AllocError> {
+fn flow_between(
+    alloc: Global,
+    clusters: &Clusters,
+    flows: &NodeFlows,
+) -> Result<Matrix, AllocError> {
     let mut between = Matrix::new(alloc, clusters.sums.len())?;
-    for flow in flows {
-        if let (Some(one), Some(other)) = (clusters.at(flow.from), clusters.at(flow.to)) {
-            if one != other {
-                between.add(one, other, flow.frames);
+    for node in 0..clusters.of.len() {
+        for flow in flows.at(node) {
+            if flow.from == node {
+                add_flow(&mut between, clusters, *flow);
             }
         }
     }
     Ok(between)
+}
+
+/// Adds a flow to the traffic between clusters, if it goes from one to another.
+fn add_flow(between: &mut Matrix, clusters: &Clusters, flow: Flow) {
+    if let (Some(one), Some(other)) = (clusters.at(flow.from), clusters.at(flow.to)) {
+        if one != other {
+            between.add(one, other, flow.frames);
+        }
+    }
 }
 
 /// Returns the two clusters with the most traffic between them, of those whose loads are together at most `most`; none if no such two have

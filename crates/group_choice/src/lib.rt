@@ -9,6 +9,7 @@ mod groups;
 mod joining;
 mod matrix;
 mod moving;
+mod node_flows;
 mod packing;
 
 pub use groups::{groups_asked, groups_of, groups_worth};

@@ -1,5 +1,6 @@
 //! Moves nodes to other groups if that lowers the traffic between groups.
 use crate::flows::{Flow, add, is_switch, sum_at, take};
+use crate::node_flows::NodeFlows;
 use network::Network;
 use std::alloc::{AllocError, Global};
 
@@ -28,13 +29,13 @@ impl Owners {
         &mut self,
         alloc: Global,
         network: &Network,
-        flows: &[Flow],
+        flows: &NodeFlows,
         loads: &[u64],
         most: u64,
     ) -> Result<(), AllocError> {
         for round in 0..ROUNDS {
             for node in 0..self.of.len() {
-                let traffic = self.traffic_of(alloc, flows, node)?;
+                let traffic = self.traffic_of(alloc, flows.at(node), node)?;
                 let load = sum_at(loads, node);
                 self.settle(node, load, &traffic, most, !is_switch(network, node));
             }
@@ -42,7 +43,7 @@ impl Owners {
         Ok(())
     }
 
-    /// Returns the traffic between the node and each group.
+    /// Returns the traffic between the node and each group. `flows` are those at the node.
     fn traffic_of(
         &self,
         alloc: Global,

@@ -29,7 +29,7 @@ pub(crate) struct Grouping {
 
 /// Returns the number of groups of processes of a run of the network by this number of workers. If a number is asked for, it is that
 /// number. Otherwise each process of a small network is a group, and a larger one has as many groups as workers, but no more than
-/// processors (less one, if there are more than two), and no more than are worth their letters. The result is at least one, and no more than processes. Only memory can be refused.
+/// processors, and no more than are worth their letters. The result is at least one, and no more than processes. Only memory can be refused.
 pub fn group_number<T: Threads>(
     rt: &T,
     alloc: Global,
@@ -69,19 +69,10 @@ fn usual_number<T: Threads>(
 /// Returns how many of these workers the processors can serve at once.
 fn useful<T: Threads>(rt: &T, workers: u8) -> u8 {
     match thread::available_parallelism(rt) {
-        Ok(processors) => u8::try_from(for_workers(processors.get()))
+        Ok(processors) => u8::try_from(processors.get())
             .unwrap_or(workers)
             .min(workers),
         Err(_) => workers,
-    }
-}
-
-/// Returns how many of these processors a run uses: of more than two it leaves one for other work.
-fn for_workers(processors: usize) -> usize {
-    if processors > 2 {
-        processors - 1
-    } else {
-        processors
     }
 }
 
