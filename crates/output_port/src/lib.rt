@@ -7,4 +7,4 @@ mod strict_priority;
 
 pub use event::{FreeRecord, PortAnswer, PortEvent, PortRecord, Priority, PutRecord};
 pub use port::Port;
-pub use strict_priority::strict_priority_law;
+pub use strict_priority::order;

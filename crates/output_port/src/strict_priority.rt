@@ -12,7 +12,7 @@ ghost use Rattle.output_port.specs.StrictPriority.{StartsNothing, kept_frames, s
 /// frame waits, the first high frame starts (strict priority, ARINC 664 Part 7). The frames of one priority start in the order in which
 /// they were kept, and each frame kept has started or waits. No event makes more bytes wait than may, and none leaves a frame waiting at an
 /// idle port.
-pub fn strict_priority_law()
+pub fn order()
     ensures uninterrupted { (p : PortState) (frame : Frame) (priority : Priority) →
         p.busy ≡ true → StartsNothing p (Put frame priority) }
     ensures high_first { (p : PortState) (frame : Frame) (rest : List Frame) →

@@ -46,7 +46,7 @@ use Rattle.port_turns.proofs.SentKinds.{AreFrom, as_wish, flat, flat-next, flat-
 
 -- ---- what a line makes of the frames that it carries
 
-abbrev is_arrive : ℕ → Body → Bool
+abbrev pub is_arrive : ℕ → Body → Bool
 is_arrive j (Arrive p frame) = p == j
 is_arrive j _ = false
 
@@ -213,13 +213,19 @@ module _ (x : Setting NodeState) (L : Laws (simulation_of (rules_of node) x)) (p
       (subst (AreFrom 0) (sym (moments-times (filter (is_to is_carry k) (events f n k))))
       (from-sub 0 _ _ (sub-map (λ (m : Message). m.time) _ _ (sub-filter (is_to is_carry k) (events f n k))) (events-from x k L n))))
 
-  arrive-come : (n : ℕ) → IsSublist (map as_wish (filter (is_to (is_arrive j) r) (events f n r))) (wished (is_arrive j) r (x.opening k) (events f n k))
-  arrive-come n = come x L N k r line-inside (is_arrive j) (record {
+  pub arrive-alone : IsAlone x L N k r line-inside (is_arrive j)
+  arrive-alone = record {
     others = λ i inside' d s h m. all-elsewhere (is_arrive j) (record { no_release = λ vl. refl; no_free = λ k. refl; no_carry = λ frame. refl }) r i m s.equipment
         (λ i' frame own. absurd (false≢true own))
         (λ other is frame brought to. d (W.only_line i other inside' (line-was other (x.opening i) h.0 (sym (ap (λ (z : NodeState). z.equipment) h.1) ∙ is)) to (eqb-true other.to_port j brought)));
     not_offered = λ vl size sub. refl;
-  }) (0 + l.propagation) arrive-from n
+  }
+
+  arrive-come : (n : ℕ) → IsSublist (map as_wish (filter (is_to (is_arrive j) r) (events f n r))) (wished (is_arrive j) r (x.opening k) (events f n k))
+  arrive-come n = come x L N k r line-inside (is_arrive j) arrive-alone (0 + l.propagation) arrive-from n
+
+  pub arrive-channel : IsChannel f k r (is_to (is_arrive j) r)
+  arrive-channel = channel x L N k r line-inside (is_arrive j) arrive-alone (0 + l.propagation) arrive-from
 
   -- what comes is some of what started, later by its last bit and by the propagation
   arrivals-sub : (n : ℕ) → IsSublist (arrivals_in outlet.ahead.byte_ns j (events f n r)) (map (coming outlet.ahead.byte_ns j l.propagation) (map told (starts' n)))

@@ -51,7 +51,7 @@ module _ (P : ℕ → LineAhead → Type 0) where
   abbrev pub AllLead : Equipment → Type 0
   AllLead e = (j : ℕ) (outlet : Outlet) → outlet_in e j ≡ Some outlet → P j outlet.ahead
 
-  lead-stay : (n : ℕ) (m : Message) (e : Equipment) → AllLead e → AllLead (handled n m e).equipment
+  pub lead-stay : (n : ℕ) (m : Message) (e : Equipment) → AllLead e → AllLead (handled n m e).equipment
   lead-stay n m e h j outlet is =
       let b = ahead-before (asks j m e) (outlet_in e j) outlet (sym (node-asks n j m e) ∙ is) in
       subst (P j) (sym b.2) (h j b.0 b.1)
@@ -89,11 +89,11 @@ module _ (q k : ℕ) where
     answered-carries t ahead _ _ h = refl
 
     -- what one message makes the node send into the line
-    abbrev carries_of : ℕ → Option PortEvent → Outlet → List Wish
+    abbrev pub carries_of : ℕ → Option PortEvent → Outlet → List Wish
     carries_of t None outlet = []
     carries_of t (Some e) outlet = map (carried k outlet.ahead.byte_ns) (started_by t (port.out outlet.port e))
 
-    node-carries : (m : Message) (e : Equipment) (outlet : Outlet) → AllLead elsewhere e → outlet_in e q ≡ Some outlet → outlet.ahead.line ≡ k →
+    pub node-carries : (m : Message) (e : Equipment) (outlet : Outlet) → AllLead elsewhere e → outlet_in e q ≡ Some outlet → outlet.ahead.line ≡ k →
         filter (mine is_carry k) (handled n m e).reply.wishes ≡ carries_of m.time (asks q m e) outlet
     node-carries m e outlet h is into =
         node-sends (mine is_carry k) n q elsewhere own m e (leads e h) ∙ (ap (sent_of (mine is_carry k) n q elsewhere own m.time (asks q m e)) is ∙ go (asks q m e))

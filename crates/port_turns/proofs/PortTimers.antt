@@ -41,7 +41,7 @@ module _ (x : Setting NodeState) (p q : ℕ) (inside : p < x.processes) (N : IsO
   f = simulation_of (rules_of node) x
 
   -- the timer is set while the port is busy
-  fits : NodeState → Option ℕ → Bool
+  pub fits : NodeState → Option ℕ → Bool
   fits s g = alike (is_busy_in s.equipment q) (is_some g)
 
   -- for which moment the timer is set after an event
@@ -52,7 +52,7 @@ module _ (x : Setting NodeState) (p q : ℕ) (inside : p < x.processes) (N : IsO
   TurnAt s m = Turn p (is_free q m.body) (is_busy_in s.equipment q) (is_busy_in (handled p m s.equipment).equipment q) (frees q (handled p m s.equipment).reply.wishes)
 
   -- what that says as an equation
-  busy-some : (s : NodeState) (g : Option ℕ) → fits s g ≡ true → is_busy_in s.equipment q ≡ is_some g
+  pub busy-some : (s : NodeState) (g : Option ℕ) → fits s g ≡ true → is_busy_in s.equipment q ≡ is_some g
   unfolding fits alike
   busy-some s g h = go (is_busy_in s.equipment q) (is_some g) h
     where
@@ -66,6 +66,11 @@ module _ (x : Setting NodeState) (p q : ℕ) (inside : p < x.processes) (N : IsO
   alike-refl true b e = sym e
   alike-refl false true e = absurd (let z : ⊥ = cc in z)
   alike-refl false false e = refl
+
+  -- and the equation as that
+  pub fits-busy : (s : NodeState) (g : Option ℕ) → is_busy_in s.equipment q ≡ is_some g → fits s g ≡ true
+  unfolding fits
+  fits-busy s g h = alike-refl (is_busy_in s.equipment q) (is_some g) h
 
   free-mine : (m : Message) → m.receiver ≡ p → is_timer p q m ≡ is_free q m.body
   free-mine m r = rw (eq-eqb m.receiver p r) refl
@@ -119,7 +124,7 @@ module _ (x : Setting NodeState) (p q : ℕ) (inside : p < x.processes) (N : IsO
       go (Starts w y r e z) = started w y r (elim (cases_lt x.until w.time) [ inl k ↦ inr k | inr k ↦ inl k ])
       go (Stops y e w) = Off (rw (w, e) refl) (sent-none (is_free q) p s.sender _ (mine-free p q _ [] w))
 
-  timer : IsTimer f p (is_timer p q) (port_alarm p q) fits
+  pub timer : IsTimer f p (is_timer p q) (port_alarm p q) fits
   unfolding fits alike
   timer = record {
     opens = rw idle refl;

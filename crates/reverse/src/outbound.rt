@@ -4,8 +4,7 @@ ghost use Rattle.vlink.specs.Numbering.{greatest_number};
 ghost use Rattle.reverse.specs.Sending.{loss, replied};
 ghost use Rattle.reverse.specs.declared.sends.TheConstants.{MOST_SENT};
 
-use crate::sends::{MOST_NOTED, MOST_SENT, Sends};
-use arrayvec::ArrayVec;
+use crate::sends::Sends;
 use std::marker::Model;
 use vlink::{Body, Cause, Frame, Message, Note, Time};
 
@@ -18,28 +17,19 @@ pub struct Outbound {
     number: u16,
     until: Time,
     counter: u64,
-    /// The messages sent, at the front. Behind them are those that earlier events sent.
-    messages: [Message; MOST_SENT],
-    sent: usize,
-    /// The notes, at the front. Behind them are those that earlier events noted.
-    notes: [Note; MOST_NOTED],
-    noted: usize,
+    sends: Sends,
 }
 
 impl Model for Outbound {
-    ghost use Rattle.std.specs.Prelude.{◌≤◌, take};
-    ghost use Rattle.reverse.specs.declared.sends.TheConstants.{MOST_SENT};
     ghost use Rattle.reverse.specs.Sending.{OutboundState};
 
     ghost Value = { OutboundState };
 
     ghost view = { λ o. record {
       sender = record { number = o.number; until = o.until; counter = o.counter };
-      messages = take o.sent o.messages;
-      notes = take o.noted o.notes;
+      messages = o.sends.messages.items;
+      notes = o.sends.notes.items;
     } };
-
-    ghost invariant = { λ o. (o.sent ≤ MOST_SENT) × (o.noted ≤ 2) };
 }
 
 impl Outbound {
@@ -53,10 +43,7 @@ impl Outbound {
             number,
             until,
             counter,
-            messages: [Message::default(); MOST_SENT],
-            sent: 0,
-            notes: [Note::default(); MOST_NOTED],
-            noted: 0,
+            sends: Sends::new(),
         }
     }
 
@@ -69,8 +56,8 @@ impl Outbound {
         self.number = number;
         self.until = until;
         self.counter = counter;
-        self.sent = 0;
-        self.noted = 0;
+        self.sends.messages.clear();
+        self.sends.notes.clear();
     }
 
     /// Stores these sends and notes in place of its previous contents.
@@ -79,12 +66,7 @@ impl Outbound {
         ensures messages { self.new.messages ≡ sends.messages.items }
         ensures notes { self.new.notes ≡ sends.notes.items }
     {
-        let messages = sends.messages.as_slice();
-        self.messages[..messages.len()].copy_from_slice(messages);
-        self.sent = messages.len();
-        let notes = sends.notes.as_slice();
-        self.notes[..notes.len()].copy_from_slice(notes);
-        self.noted = notes.len();
+        self.sends = sends;
     }
 
     /// Returns the number of the process.
@@ -106,7 +88,7 @@ impl Outbound {
         ensures messages { result.now ≡ self.now.messages }
         ensures few { length result.now ≤ MOST_SENT }
     {
-        &self.messages[..self.sent]
+        self.sends.messages.as_slice()
     }
 
     /// Returns the notes, in their order.
@@ -114,7 +96,7 @@ impl Outbound {
         ensures notes { result.now ≡ self.now.notes }
         ensures few { length result.now ≤ 2 }
     {
-        &self.notes[..self.noted]
+        self.sends.notes.as_slice()
     }
 
     /// Sends a message for the moment `ns`, unless that is after the end of the run.
@@ -167,13 +149,13 @@ impl Outbound {
         requires in_time { time ≤ self.old.sender.until }
         ensures { self.new ≡ replied self.old (record { wishes = record { time = time; receiver = receiver; body = body } ∷ []; notes = [] }) }
     {
-        let message = &mut self.messages[self.sent];
-        message.time = time;
-        message.receiver = receiver;
-        message.sender = u32::from(self.number);
-        message.number = self.counter;
-        message.body = body;
-        self.sent += 1;
+        self.sends.messages.push(Message {
+            time,
+            receiver,
+            sender: u32::from(self.number),
+            number: self.counter,
+            body,
+        });
         self.counter += 1;
     }
 
@@ -182,8 +164,7 @@ impl Outbound {
         requires { length self.old.notes < 2 }
         ensures { self.new ≡ replied self.old (record { wishes = []; notes = note ∷ [] }) }
     {
-        self.notes[self.noted] = note;
-        self.noted += 1;
+        self.sends.notes.push(note);
     }
 
     /// Notes that a frame is lost for this cause.
@@ -203,10 +184,6 @@ impl Outbound {
         ensures messages { result.messages.items ≡ self.messages }
         ensures notes { result.notes.items ≡ self.notes }
     {
-        let mut messages = ArrayVec::new();
-        messages.try_extend_from_slice(self.messages()).unwrap();
-        let mut notes = ArrayVec::new();
-        notes.try_extend_from_slice(self.notes()).unwrap();
-        Sends { messages, notes }
+        self.sends
     }
 }

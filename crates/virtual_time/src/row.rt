@@ -1,6 +1,6 @@
 //! Rows: what events note.
 /// A note, with the message and the process that it comes from.
-#[derive(Clone, Copy, Debug, PartialEq, Eq, Hash)]
+#[derive(Clone, Copy, Debug, PartialEq, Eq)]
 pub struct Row<M, N> {
     pub message: M,
     pub place: u16,

@@ -6,15 +6,13 @@ ghost use Rattle.vlink.specs.contracts.comparing.FrameKeyPartialEq.TheImpl.Laws 
 ghost use Rattle.vlink.specs.contracts.comparing.FrameKeyEq.TheImpl.Laws as key_equiv;
 ghost use Rattle.vlink.specs.contracts.comparing.FrameKeyPartialOrd.TheImpl.Laws as key_partial;
 ghost use Rattle.vlink.specs.contracts.comparing.FrameKeyOrd.TheImpl.Laws as key_total;
-ghost use Rattle.vlink.specs.contracts.comparing.FrameKeyHash.TheImpl.Laws as key_hash;
 
 use crate::frame::{Frame, FrameSize, Net, VlId};
 use crate::time::Time;
 use std::cmp::Ordering;
-use std::hash::{Hash, Hasher};
 
 /// The fields of a frame, in the order in which frames are compared.
-#[derive(Clone, Copy, PartialEq, Eq, Hash, PartialOrd, Ord)]
+#[derive(Clone, Copy, PartialEq, Eq, PartialOrd, Ord)]
 struct FrameKey {
     vl: VlId,
     number: u8,
@@ -74,15 +72,5 @@ impl Ord for Frame {
 
     fn cmp(&self, other: &Self) -> Ordering {
         key_of(self).cmp(&key_of(other))
-    }
-}
-
-impl Hash for Frame {
-    ghost hash_input = { λ f. ⟦<FrameKey as Hash>⟧.hash_input (key_of f) };
-
-    ghost respects_eq = { λ f g same. key_hash.respects_eq-law (key_of f) (key_of g) same };
-
-    fn hash<H: Hasher>(&self, state: &mut H) {
-        key_of(self).hash(state);
     }
 }

@@ -6,7 +6,7 @@ use crate::frame::{FrameSize, VlId};
 use crate::message::Message;
 
 /// Why a frame was dropped, in the order of the tables.
-#[derive(Clone, Copy, Debug, PartialEq, Eq, Hash, PartialOrd, Ord)]
+#[derive(Clone, Copy, Debug, PartialEq, Eq, PartialOrd, Ord)]
 pub enum Cause {
     QueueFull,
     PortFull,
@@ -19,7 +19,7 @@ pub enum Cause {
 }
 
 /// What finally became of a frame.
-#[derive(Clone, Copy, Debug, PartialEq, Eq, Hash)]
+#[derive(Clone, Copy, Debug, PartialEq, Eq)]
 pub enum Note {
     Delivered {
         vl: VlId,

@@ -1,7 +1,7 @@
 use Rattle.output_port.proofs.Limit.{stays_within}
 use Rattle.output_port.proofs.Starts.{starts_in_order}
 use Rattle.output_port.proofs.Busy.{put_starts_nothing, high_starts_first, works_on}
-use Rattle.output_port.proofs.strict_priority.strict_priority_law.Goals as goal
+use Rattle.output_port.proofs.strict_priority.order.Goals as goal
 
 pub returns-clause-uninterrupted : goal.returns-clause-uninterrupted
 returns-clause-uninterrupted c = put_starts_nothing
