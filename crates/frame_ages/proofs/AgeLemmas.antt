@@ -28,12 +28,12 @@ use Rattle.port_turns.specs.PortRuns.{puts_with}
 use Rattle.port_turns.proofs.Arriving.{arrivals-have}
 use Rattle.port_turns.proofs.SerialPuts.{puts-have}
 use Rattle.frame_ages.specs.Ports.{IsSentBy, IsThrough, IsThroughSwitch, trace_at}
-use Rattle.frame_ages.specs.Sizes.{OpensEmpty}
+use Rattle.frame_ages.specs.Sizes.{OpensEmpty, Sizes}
 use Rattle.frame_ages.specs.Ways.{Hop, IsFirstHop, IsHop, IsInTime, IsNextHop, IsRoute, source_of, way_time}
 use Rattle.frame_ages.proofs.GivenLemmas.{fits, highs-in-time, lows-in-time}
 use Rattle.frame_ages.proofs.PutLemmas.{IsFresh, IsPutFit}
 
-module _ (x : Setting NodeState) (L : Laws (simulation_of (rules_of node) x)) (N : IsOfNodes x) (size : ℕ → ℕ) (O : OpensEmpty x size) (v : ℕ) (K : Frame → Type 0) (n : ℕ) where
+module _ (x : Setting NodeState) (L : Laws (simulation_of (rules_of node) x)) (N : IsOfNodes x) (size : ℕ → Sizes) (O : OpensEmpty x size) (v : ℕ) (K : Frame → Type 0) (n : ℕ) where
   abbrev f : Simulation Message NodeState NodeRecord Note
   f = simulation_of (rules_of node) x
 
@@ -81,9 +81,6 @@ module _ (x : Setting NodeState) (L : Laws (simulation_of (rules_of node) x)) (N
     cost-at : (r : Priority) (put : PutFrame) → Fit r put → put.cost ≡ busy_for put.frame.size byte_ns
     cost-at r put fit = fit.cost
 
-    size-at : (r : Priority) (put : PutFrame) → Fit r put → put.frame.vl.0 ≡ v → put.frame.size ≡ size v
-    size-at r put fit e = fit.sized ∙ ap size e
-
     high-leaves : (r : Priority) → h.priority ≡ r → IsInTime x size v h.from h.from_port h.outlet r h.delay → Every Leaves (high_starts idle (trace_at x h.from h.from_port h.outlet n))
     high-leaves High e t =
         every-weaker (λ s. Fit High s.put × (s.at + s.put.cost ≤ s.put.at + t.0)) Leaves
@@ -96,10 +93,10 @@ module _ (x : Setting NodeState) (L : Laws (simulation_of (rules_of node) x)) (N
     low-leaves : (r : Priority) → h.priority ≡ r → IsInTime x size v h.from h.from_port h.outlet r h.delay → Every Leaves (low_starts idle (trace_at x h.from h.from_port h.outlet n))
     low-leaves High e t = no-starts Low (low_starts idle (trace_at x h.from h.from_port h.outlet n)) (λ k. let z : ⊥ = cc in z) low-fit
     low-leaves Low e t =
-        every-weaker (λ s. Fit Low s.put × (link_of s.put ≡ v → s.at ≤ s.put.at + t.0)) Leaves
-        (λ s k e. let bits : last_bit_after s.put.frame.size byte_ns ≡ last_bit_after (size v) byte_ns = ap (λ z. last_bit_after z byte_ns) (size-at Low s.put k.0 e) in let started = k.1 e in omega (arith, t.2))
+        every-weaker (λ s. Fit Low s.put × (link_of s.put ≡ v → s.at + s.put.cost ≤ (s.put.at + t.0) + busy_for (size v).least byte_ns)) Leaves
+        (λ s k e. let cost = cost-at Low s.put k.0 in let sent = k.1 e in omega (arith, t.2))
         (low_starts idle (trace_at x h.from h.from_port h.outlet n))
-        (every-both (λ s. Fit Low s.put) (λ s. link_of s.put ≡ v → s.at ≤ s.put.at + t.0) (low_starts idle (trace_at x h.from h.from_port h.outlet n)) low-fit
+        (every-both (λ s. Fit Low s.put) (λ s. link_of s.put ≡ v → s.at + s.put.cost ≤ (s.put.at + t.0) + busy_for (size v).least byte_ns) (low_starts idle (trace_at x h.from h.from_port h.outlet n)) low-fit
         (lows-in-time x L N size O h.from h.from_port h.outlet H.from_inside H.way.port n v t.0 t.1))
 
     come : (ss : List Start) → Every (λ s. IsAged age s.put.at s.put.frame) ss → Every Leaves ss → Every Comes ss

@@ -29,13 +29,13 @@ use Rattle.port_turns.proofs.Found.{found-number}
 use Rattle.port_turns.proofs.Quiet.{full-quiet, received-quiet}
 use Rattle.port_turns.proofs.Sources.{AllWaitIn, HasWaiting}
 use Rattle.element_bounds.proofs.WaitingLemmas.{OfAnswer, OfOffer, keeps}
-use Rattle.frame_ages.specs.Sizes.{IsSized, IsSizedFrame}
+use Rattle.frame_ages.specs.Sizes.{IsSized, IsSizedFrame, IsWithin, Sizes}
 use Rattle.frame_ages.proofs.PortFrames.{AllWaitAtPorts, IsPortWish, changed-keeps, reply-keeps}
 
-module _ (size : ℕ → ℕ) where
+module _ (size : ℕ → Sizes) where
   -- a frame of virtual link v, with its size
   abbrev pub OfLink : ℕ → Frame → Type 0
-  OfLink v frame = (frame.vl.0 ≡ v) × (frame.size ≡ size v)
+  OfLink v frame = (frame.vl.0 ≡ v) × IsWithin (size v) frame.size
 
   pub record IsFitEnd (s : EndSystemState) : Type 0 where
     pub waiting : AllWaitIn OfLink s
@@ -67,7 +67,7 @@ module _ (size : ℕ → ℕ) where
           PortsStep (released_out end a ports) (released_reply n t end a ports)
       released-step end (answer.Released frame) ports v u p h =
           let vl : frame.vl.0 ≡ v = ap (λ (z : Frame). z.vl.0) p.2 ∙ p.1.0 in
-          let sized : IsSizedFrame size frame = ap (λ (z : Frame). z.size) p.2 ∙ (p.1.1 ∙ ap size (sym vl)) in
+          let sized : IsSizedFrame size frame = subst (λ k. IsWithin (size k) frame.size) (sym vl) (subst (IsWithin (size v)) (sym (ap (λ (z : Frame). z.size) p.2)) p.1.1) in
           let a = copied-step end A frame ports sized h in
           let b = copied-step end B frame (copied end A frame ports) sized a.waits in
           record { waits = b.waits; sends = joined-all P (copied_reply n t end A frame ports) (copied_reply n t end B frame (copied end A frame ports)) a.sends b.sends }

@@ -46,7 +46,7 @@ use Rattle.port_turns.proofs.SerialPuts.{traces-serial}
 use Rattle.port_turns.proofs.Traces.{traces-paced}
 use Rattle.frame_ages.specs.Ports.{AreApartBy, AreGroups, IsByLine, IsCurve, IsFlow, IsGroup, IsHighBound, IsLowBound, trace_at}
 use Rattle.frame_ages.specs.Ports.IsCurve.{ByBag, ByGap}
-use Rattle.frame_ages.specs.Sizes.{HaveEmptyRegulators, IsSized, OpensEmpty}
+use Rattle.frame_ages.specs.Sizes.{HaveEmptyRegulators, IsSized, OpensEmpty, Sizes}
 use Rattle.frame_ages.proofs.PutLemmas.{IsPutFit, puts-fit}
 use Rattle.frame_ages.proofs.SizeLemmas.{IsFit, all-fit, idle-at}
 
@@ -80,19 +80,24 @@ below u a b h = elim (cases_lt b a) [ inl more ↦ absurd (let k : u * (b + 1) �
 sent-by : (u burst delay sent at : ℕ) → u * sent ≤ u * at + burst → burst < u * (delay + 1) → sent ≤ at + delay
 sent-by u burst delay sent at h k = below u sent (at + delay) (omega arith)
 
-started-by : (u r w burst delay cost start at : ℕ) → u ≡ w + r → u * (start + cost) + r * at ≤ u * at + (r * start + burst) → burst < w * (delay + 1) + u * cost → start ≤ at + delay
-started-by u r w burst delay cost start at e h k =
+-- a frame that costs more than the least starts so much earlier
+started-by : (u r w burst delay least more start at : ℕ) → u ≡ w + r → u * (start + (least + more)) + r * at ≤ u * at + (r * start + burst) → burst < w * (delay + 1) + u * least → start + more ≤ at + delay
+started-by u r w burst delay least more start at e h k =
     let us : u * start ≡ (w + r) * start = ap (λ (n : ℕ). n * start) e in
     let ua : u * at ≡ (w + r) * at = ap (λ (n : ℕ). n * at) e in
-    let b : w * start < w * ((at + delay) + 1) = omega arith in
-    below w start (at + delay) b
+    let um : u * more ≡ (w + r) * more = ap (λ (n : ℕ). n * more) e in
+    let b : w * (start + more) < w * ((at + delay) + 1) = omega arith in
+    below w (start + more) (at + delay) b
 
-start-by : (u r burst delay cost start at : ℕ) → r < u → u * (start + cost) + r * at ≤ u * at + (r * start + burst) → burst < (u - r) * (delay + 1) + u * cost → start ≤ at + delay
-start-by u r burst delay cost start at some h k = started-by u r (u - r) burst delay cost start at (omega arith) h k
+start-by : (u r burst delay least cost start at : ℕ) → r < u → u * (start + cost) + r * at ≤ u * at + (r * start + burst) → burst < (u - r) * (delay + 1) + u * least → least ≤ cost → start + cost ≤ (at + delay) + least
+start-by u r burst delay least cost start at some h k l =
+    let sum : least + (cost - least) ≡ cost = omega arith in
+    let started : start + (cost - least) ≤ at + delay = started-by u r (u - r) burst delay least (cost - least) start at (omega arith) (rw sum h) k in
+    omega arith
 
 -- ---- a port
 
-module _ (x : Setting NodeState) (L : Laws (simulation_of (rules_of node) x)) (N : IsOfNodes x) (size : ℕ → ℕ) (O : OpensEmpty x size) (p q : ℕ) (outlet : Outlet) (inside : p < x.processes) (n : ℕ) where
+module _ (x : Setting NodeState) (L : Laws (simulation_of (rules_of node) x)) (N : IsOfNodes x) (size : ℕ → Sizes) (O : OpensEmpty x size) (p q : ℕ) (outlet : Outlet) (inside : p < x.processes) (n : ℕ) where
   abbrev f : Simulation Message NodeState NodeRecord Note
   f = simulation_of (rules_of node) x
 
@@ -112,26 +117,32 @@ module _ (x : Setting NodeState) (L : Laws (simulation_of (rules_of node) x)) (N
   fits High = all-puts.high
   fits Low = all-puts.low
 
-  pub cost-is : (r : Priority) (put : PutFrame) → Fit r put → put.cost ≡ busy_for (size (link_of put)) byte_ns
-  cost-is r put h = h.cost ∙ ap (λ k. busy_for k byte_ns) h.sized
+  busier : (a b : ℕ) → a ≤ b → busy_for a byte_ns ≤ busy_for b byte_ns
+  busier a b h = mul-le (a + 20) byte_ns (b + 20) byte_ns (omega arith) (omega arith)
 
-  brings : (v : ℕ) (m : Message) → IsFit x L N size O m → BringsAtLeast v (size v) m
+  pub cost-at-most : (r : Priority) (put : PutFrame) → Fit r put → put.cost ≤ busy_for (size (link_of put)).greatest byte_ns
+  cost-at-most r put h = let most = busier put.frame.size (size (link_of put)).greatest h.sized.1 in let cost = h.cost in omega arith
+
+  pub cost-at-least : (r : Priority) (put : PutFrame) → Fit r put → busy_for (size (link_of put)).least byte_ns ≤ put.cost
+  cost-at-least r put h = let least = busier (size (link_of put)).least put.frame.size h.sized.0 in let cost = h.cost in omega arith
+
+  brings : (v : ℕ) (m : Message) → IsFit x L N size O m → BringsAtLeast v (size v).least m
   brings v m h bytes brought = go m.body h.0 brought
     where
-      go : (b : Body) → IsSized size b → IsBrought v bytes b → size v ≤ bytes
-      go (body.Arrive k frame) s i = let e : size v ≡ bytes = ap size (sym i.0) ∙ (sym s ∙ sym i.1) in omega arith
+      go : (b : Body) → IsSized size b → IsBrought v bytes b → (size v).least ≤ bytes
+      go (body.Arrive k frame) s i = let e : (size v).least ≡ (size frame.vl.0).least = ap (λ z. (size z).least) (sym i.0) in let least = s.0 in let same = i.1 in omega arith
       go _ s i = absurd i
 
   module _ (r : Priority) where
     -- frames of a virtual link are so far apart
-    link-paced : (v bag slack : ℕ) (e : Equipment) → (x.opening p).equipment ≡ e → HaveEmptyRegulators e → AreApartBy e v (size v) bag slack → IsPaced bag slack (moments_at (is_of_link v) (puts r))
+    link-paced : (v bag slack : ℕ) (e : Equipment) → (x.opening p).equipment ≡ e → HaveEmptyRegulators e → AreApartBy e v (size v).least bag slack → IsPaced bag slack (moments_at (is_of_link v) (puts r))
     link-paced v bag slack (EndSystem s) is empty h =
         subst (λ k. IsPaced k slack (moments_at (is_of_link v) (puts r))) h.2 (subst (λ k. IsPaced h.0.bag k (moments_at (is_of_link v) (puts r))) (sym h.3)
         (source-traces-paced q v (x.opening p) h.0 (events f n p) (ap (λ z. regulator_in z (record { 0 = v })) is ∙ h.1) (own-frames (x.opening p).equipment (O.regulators p inside)) byte_ns outlet.port r))
     link-paced v bag slack (Switch s) is empty h =
         subst (λ k. IsPaced k slack (moments_at (is_of_link v) (puts r))) h.3 (subst (λ k. IsPaced h.0.account.bag k (moments_at (is_of_link v) (puts r))) h.4
-        (traces-paced byte_ns q v x L N p inside h.0 (ap (λ z. transit_of z v) is ∙ h.1) (size v) h.2 outlet.port r n
-        (every-weaker (IsFit x L N size O) (BringsAtLeast v (size v)) (brings v) (events f n p) (every-from-all (IsFit x L N size O) (events f n p) (all-fit x L N size O n p)))))
+        (traces-paced byte_ns q v x L N p inside h.0 (ap (λ z. transit_of z v) is ∙ h.1) (size v).least h.2 outlet.port r n
+        (every-weaker (IsFit x L N size O) (BringsAtLeast v (size v).least) (brings v) (events f n p) (every-from-all (IsFit x L N size O) (events f n p) (all-fit x L N size O n p)))))
     link-paced v bag slack (Line s) is empty h = absurd h
 
     module _ (scale whole : ℕ) where
@@ -141,24 +152,23 @@ module _ (x : Setting NodeState) (L : Laws (simulation_of (rules_of node) x)) (N
           pace : IsPaced h.bag h.slack (moments_at (is_of_link flow.link) (puts r))
           pace = link-paced flow.link h.bag h.slack (x.opening p).equipment refl (O.regulators p inside) h.apart
 
-          one : (put : PutFrame) → Fit r put → is_of_link flow.link put ≡ true → put.cost ≤ busy_for (size flow.link) byte_ns
+          one : (put : PutFrame) → Fit r put → is_of_link flow.link put ≡ true → put.cost ≤ busy_for (size flow.link).greatest byte_ns
           one put k e =
-              let same : put.cost ≡ busy_for (size flow.link) byte_ns = cost-is r put k ∙ ap (λ z. busy_for (size z) byte_ns) (eqb-true (link_of put) flow.link e) in
-              omega arith
+              subst (λ z. put.cost ≤ busy_for (size z).greatest byte_ns) (eqb-true (link_of put) flow.link e) (cost-at-most r put k)
 
-          few : IsEachAtMost (busy_for (size flow.link) byte_ns) (is_of_link flow.link) (puts r)
-          few = at-most (busy_for (size flow.link) byte_ns) (is_of_link flow.link) (puts r)
-              (every-weaker (Fit r) (λ put. is_of_link flow.link put ≡ true → put.cost ≤ busy_for (size flow.link) byte_ns) (λ put k e. one put k e) (puts r) (fits r))
+          few : IsEachAtMost (busy_for (size flow.link).greatest byte_ns) (is_of_link flow.link) (puts r)
+          few = at-most (busy_for (size flow.link).greatest byte_ns) (is_of_link flow.link) (puts r)
+              (every-weaker (Fit r) (λ put. is_of_link flow.link put ≡ true → put.cost ≤ busy_for (size flow.link).greatest byte_ns) (λ put k e. one put k e) (puts r) (fits r))
 
-          by : IsCurve h.parts h.bag h.slack scale (busy_for (size flow.link) byte_ns) flow → IsClassWithin scale flow.burst flow.rate (is_of_link flow.link) (puts r)
+          by : IsCurve h.parts h.bag h.slack scale (busy_for (size flow.link).greatest byte_ns) flow → IsClassWithin scale flow.burst flow.rate (is_of_link flow.link) (puts r)
           by (ByBag burst rate) =
               subst (λ k. IsClassWithin k flow.burst flow.rate (is_of_link flow.link) (puts r)) h.units
               (subst (λ k. IsClassWithin (h.parts * h.bag) k flow.rate (is_of_link flow.link) (puts r)) (sym burst)
-              (subst (λ k. IsClassWithin (h.parts * h.bag) ((h.parts * busy_for (size flow.link) byte_ns) * (h.bag + h.slack)) k (is_of_link flow.link) (puts r)) (sym rate)
-              (paced h.parts h.bag h.slack (busy_for (size flow.link) byte_ns) (is_of_link flow.link) (puts r) pace few)))
+              (subst (λ k. IsClassWithin (h.parts * h.bag) ((h.parts * busy_for (size flow.link).greatest byte_ns) * (h.bag + h.slack)) k (is_of_link flow.link) (puts r)) (sym rate)
+              (paced h.parts h.bag h.slack (busy_for (size flow.link).greatest byte_ns) (is_of_link flow.link) (puts r) pace few)))
           by (ByGap burst rate) =
               subst (λ k. IsClassWithin scale k flow.rate (is_of_link flow.link) (puts r)) (sym burst)
-              (spaced scale flow.rate h.bag h.slack (busy_for (size flow.link) byte_ns) (is_of_link flow.link) (puts r) pace few rate)
+              (spaced scale flow.rate h.bag h.slack (busy_for (size flow.link).greatest byte_ns) (is_of_link flow.link) (puts r) pace few rate)
 
       flows-within : (flows : List Flow) → Every (IsFlow (x.opening p).equipment size byte_ns scale) flows → AreFlowsWithin scale flows (puts r)
       flows-within [] h = tt
@@ -178,8 +188,8 @@ module _ (x : Setting NodeState) (L : Laws (simulation_of (rules_of node) x)) (N
         where
           one : (put : PutFrame) → Fit r put → (put.line ≡ g.line → IsAmong (link_of put) (links_of g.flows)) → is_by_line g.line put ≡ true → put.cost ≤ h.most
           one put k i e =
-              let most : busy_for (size (link_of put)) byte_ns ≤ h.most = link-among (λ v. busy_for (size v) byte_ns ≤ h.most) g.flows (link_of put) h.costs (i (eqb-true put.line g.line e)) in
-              let same = cost-is r put k in
+              let most : busy_for (size (link_of put)).greatest byte_ns ≤ h.most = link-among (λ v. busy_for (size v).greatest byte_ns ≤ h.most) g.flows (link_of put) h.costs (i (eqb-true put.line g.line e)) in
+              let cost = cost-at-most r put k in
               omega arith
 
           both : (xs : List PutFrame) → Every (Fit r) xs → Every (λ put. put.line ≡ g.line → IsAmong (link_of put) (links_of g.flows)) xs → Every (λ put. is_by_line g.line put ≡ true → put.cost ≤ h.most) xs
@@ -214,7 +224,7 @@ module _ (x : Setting NodeState) (L : Laws (simulation_of (rules_of node) x)) (N
           (keyed (λ put. true) (λ put. put.line) (lines_of groups) (puts r) (every-weaker (Fit r) (λ put. true ≡ true → IsAmong put.line (lines_of groups))
           (λ put k e. (h.listed (link_of put) put.line k.through).line_in) (puts r) (fits r)))
 
-module _ (x : Setting NodeState) (L : Laws (simulation_of (rules_of node) x)) (N : IsOfNodes x) (size : ℕ → ℕ) (O : OpensEmpty x size) (p q : ℕ) (outlet : Outlet) (inside : p < x.processes) (is : outlet_in (x.opening p).equipment q ≡ Some outlet) (n : ℕ) where
+module _ (x : Setting NodeState) (L : Laws (simulation_of (rules_of node) x)) (N : IsOfNodes x) (size : ℕ → Sizes) (O : OpensEmpty x size) (p q : ℕ) (outlet : Outlet) (inside : p < x.processes) (is : outlet_in (x.opening p).equipment q ≡ Some outlet) (n : ℕ) where
   served : IsServed idle 0 (trace_at x p q outlet n)
   served = are_ports_served x p q L inside N outlet is (idle-at (x.opening p).equipment q outlet (O.ports p inside) is) n
 
@@ -224,14 +234,13 @@ module _ (x : Setting NodeState) (L : Laws (simulation_of (rules_of node) x)) (N
       (λ s k. sent-by (h.whole * h.scale) (groups_burst h.whole h.high + (h.whole * h.scale) * h.most) delay (s.at + s.put.cost) s.put.at k h.within)
       (high_starts idle (trace_at x p q outlet n))
       (high.bounded (h.whole * h.scale) (groups_burst h.whole h.high) (groups_rate h.whole h.high) h.most (trace_at x p q outlet n) h.rate served (all-within x L N size O p q outlet inside n High h.scale h.whole h.high h.high_are)
-      (every-weaker (Fit x L N size O p q outlet inside n Low) (λ put. put.cost ≤ h.most) (λ put k. let low = h.low_costs (link_of put) put.line k.through in let same = cost-is x L N size O p q outlet inside n Low put k in omega arith) (puts x L N size O p q outlet inside n Low) (fits x L N size O p q outlet inside n Low)))
+      (every-weaker (Fit x L N size O p q outlet inside n Low) (λ put. put.cost ≤ h.most) (λ put k. let low = h.low_costs (link_of put) put.line k.through in let cost = cost-at-most x L N size O p q outlet inside n Low put k in omega arith) (puts x L N size O p q outlet inside n Low) (fits x L N size O p q outlet inside n Low)))
 
-  pub lows-in-time : (v delay : ℕ) → IsLowBound x size p q outlet v delay → Every (λ s. link_of s.put ≡ v → s.at ≤ s.put.at + delay) (low_starts idle (trace_at x p q outlet n))
+  pub lows-in-time : (v delay : ℕ) → IsLowBound x size p q outlet v delay → Every (λ s. link_of s.put ≡ v → s.at + s.put.cost ≤ (s.put.at + delay) + busy_for (size v).least outlet.ahead.byte_ns) (low_starts idle (trace_at x p q outlet n))
   lows-in-time v delay h =
-      every-weaker (λ s. Fit x L N size O p q outlet inside n Low s.put × IsLowInTime (h.whole * h.scale) (groups_burst h.whole h.high + groups_burst h.whole h.low) (groups_rate h.whole h.high) s) (λ s. link_of s.put ≡ v → s.at ≤ s.put.at + delay)
-      (λ s k e. start-by (h.whole * h.scale) (groups_rate h.whole h.high) (groups_burst h.whole h.high + groups_burst h.whole h.low) delay (busy_for (size v) outlet.ahead.byte_ns) s.at s.put.at h.some
-      (subst (λ z. (h.whole * h.scale) * (s.at + z) + groups_rate h.whole h.high * s.put.at ≤ (h.whole * h.scale) * s.put.at + (groups_rate h.whole h.high * s.at + (groups_burst h.whole h.high + groups_burst h.whole h.low)))
-      (cost-is x L N size O p q outlet inside n Low s.put k.0 ∙ ap (λ z. busy_for (size z) outlet.ahead.byte_ns) e) k.1) h.within)
+      every-weaker (λ s. Fit x L N size O p q outlet inside n Low s.put × IsLowInTime (h.whole * h.scale) (groups_burst h.whole h.high + groups_burst h.whole h.low) (groups_rate h.whole h.high) s) (λ s. link_of s.put ≡ v → s.at + s.put.cost ≤ (s.put.at + delay) + busy_for (size v).least outlet.ahead.byte_ns)
+      (λ s k e. start-by (h.whole * h.scale) (groups_rate h.whole h.high) (groups_burst h.whole h.high + groups_burst h.whole h.low) delay (busy_for (size v).least outlet.ahead.byte_ns) s.put.cost s.at s.put.at h.some k.1 h.within
+      (subst (λ z. busy_for (size z).least outlet.ahead.byte_ns ≤ s.put.cost) e (cost-at-least x L N size O p q outlet inside n Low s.put k.0)))
       (low_starts idle (trace_at x p q outlet n))
       (every-both (λ s. Fit x L N size O p q outlet inside n Low s.put) (IsLowInTime (h.whole * h.scale) (groups_burst h.whole h.high + groups_burst h.whole h.low) (groups_rate h.whole h.high)) (low_starts idle (trace_at x p q outlet n))
       (low-put (Fit x L N size O p q outlet inside n Low) (trace_at x p q outlet n) (fits x L N size O p q outlet inside n Low))

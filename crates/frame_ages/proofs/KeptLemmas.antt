@@ -28,7 +28,7 @@ use Rattle.port_turns.proofs.Asking.{node-asks}
 use Rattle.port_turns.proofs.PortRuns.{ports-run-well}
 use Rattle.frame_ages.specs.Ports.{AreGroups}
 use Rattle.frame_ages.specs.Rooms.{HasRoomAt}
-use Rattle.frame_ages.specs.Sizes.{OpensEmpty}
+use Rattle.frame_ages.specs.Sizes.{OpensEmpty, Sizes}
 use Rattle.frame_ages.proofs.GivenLemmas.{all-within}
 use Rattle.frame_ages.proofs.LatencyLemmas.{some-before}
 use Rattle.frame_ages.proofs.NoteLemmas.{DropsAt, Shows}
@@ -64,7 +64,7 @@ none-drops s m ms h d =
 note-other : (s : NodeState) (m : Message) (ms : List Message) → Takes s (m ∷ ms) → (note : Note) → Shows m s.equipment note → IsOther note
 note-other s m ms h note d vl bytes e = none-drops s m ms h (subst (Shows m s.equipment) e d)
 
-module _ (x : Setting NodeState) (L : Laws (simulation_of (rules_of node) x)) (N : IsOfNodes x) (size : ℕ → ℕ) (O : OpensEmpty x size) (p : ℕ) (inside : p < x.processes) (n : ℕ) where
+module _ (x : Setting NodeState) (L : Laws (simulation_of (rules_of node) x)) (N : IsOfNodes x) (size : ℕ → Sizes) (O : OpensEmpty x size) (p : ℕ) (inside : p < x.processes) (n : ℕ) where
   abbrev f : Simulation Message NodeState NodeRecord Note
   f = simulation_of (rules_of node) x
 

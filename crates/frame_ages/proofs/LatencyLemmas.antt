@@ -31,7 +31,7 @@ use Rattle.port_turns.proofs.Arriving.{arrivals-have}
 use Rattle.port_turns.proofs.Asking.{node-asks}
 use Rattle.frame_ages.specs.Latencies.{ComesWithin, IsHeldWithin}
 use Rattle.frame_ages.specs.Ports.{IsThrough, trace_at}
-use Rattle.frame_ages.specs.Sizes.{OpensEmpty}
+use Rattle.frame_ages.specs.Sizes.{OpensEmpty, Sizes}
 use Rattle.frame_ages.specs.Ways.{ComesBy, ComesNot, way_time}
 use Rattle.frame_ages.proofs.AgeLemmas.{IsAged, ages}
 use Rattle.frame_ages.proofs.GivenLemmas.{fits}
@@ -73,7 +73,7 @@ module _ (v bound : ℕ) where
   note-timely : (s : NodeState) (m : Message) (ms : List Message) → AllComeTimely s.equipment (m ∷ ms) → (note : Note) → Shows m s.equipment note → IsTimelyNote note
   note-timely s m ms h note d vl latency is e = one-timely m ms s.equipment h vl latency is (subst (Shows m s.equipment) e d)
 
-module _ (x : Setting NodeState) (L : Laws (simulation_of (rules_of node) x)) (N : IsOfNodes x) (size : ℕ → ℕ) (O : OpensEmpty x size) (v : ℕ) (n : ℕ) where
+module _ (x : Setting NodeState) (L : Laws (simulation_of (rules_of node) x)) (N : IsOfNodes x) (size : ℕ → Sizes) (O : OpensEmpty x size) (v : ℕ) (n : ℕ) where
   abbrev f : Simulation Message NodeState NodeRecord Note
   f = simulation_of (rules_of node) x
 

@@ -49,7 +49,7 @@ use Rattle.port_turns.proofs.Found.{found-other, found-set}
 use Rattle.port_turns.proofs.Rising.{AreTo, events-to}
 use Rattle.port_turns.proofs.Sources.{AllWaitIn, IsOfferFit, OfPut, source-keeps, subject}
 use Rattle.frame_ages.specs.Ports.{IsSentBy, IsThrough}
-use Rattle.frame_ages.specs.Sizes.{HaveEmptyRegulators, IsSized, OpensEmpty}
+use Rattle.frame_ages.specs.Sizes.{HaveEmptyRegulators, IsSized, IsWithin, OpensEmpty, Sizes}
 use Rattle.frame_ages.proofs.EndFrames.{OfLink}
 use Rattle.frame_ages.proofs.SizeLemmas.{GoesOut, IsFit, IsOut, SameAs, all-fit, none-waits, same-as-first, same-as-stays}
 use Rattle.port_turns.proofs.Transits.{AllTransits, transits-stay}
@@ -130,7 +130,7 @@ module _ (q : ℕ) (w : EndSystemState) where
 
 -- ---- in the run
 
-module _ (x : Setting NodeState) (L : Laws (simulation_of (rules_of node) x)) (N : IsOfNodes x) (size : ℕ → ℕ) (O : OpensEmpty x size) (p q : ℕ) (inside : p < x.processes) where
+module _ (x : Setting NodeState) (L : Laws (simulation_of (rules_of node) x)) (N : IsOfNodes x) (size : ℕ → Sizes) (O : OpensEmpty x size) (p q : ℕ) (inside : p < x.processes) where
   abbrev f : Simulation Message NodeState NodeRecord Note
   f = simulation_of (rules_of node) x
 
@@ -144,7 +144,7 @@ module _ (x : Setting NodeState) (L : Laws (simulation_of (rules_of node) x)) (N
     pub record IsPutFit (r : Priority) (put : PutFrame) : Type 0 where
       pub fresh : IsFresh (x.opening p).equipment put
       pub through : IsThrough (x.opening p).equipment q (link_of put) put.line r
-      pub sized : put.frame.size ≡ size (link_of put)
+      pub sized : IsWithin (size (link_of put)) put.frame.size
       pub cost : put.cost ≡ busy_for put.frame.size byte_ns
 
     -- and so is what a message asks for
@@ -170,7 +170,7 @@ module _ (x : Setting NodeState) (L : Laws (simulation_of (rules_of node) x)) (N
         record {
           fresh = subst (λ e. IsFresh e (put_at byte_ns t 0 frame)) (sym is) (ap (λ (z : Frame). z.released) put.2);
           through = subst (λ e. IsThrough e q frame.vl.0 0 r) (sym is) (subst (λ z. IsSentBy w q z 0 r) (sym link) sent);
-          sized = ap (λ (z : Frame). z.size) put.2 ∙ (put.1.1 ∙ ap size (sym link));
+          sized = subst (λ k. IsWithin (size k) frame.size) (sym link) (subst (IsWithin (size v)) (sym (ap (λ (z : Frame). z.size) put.2)) put.1.1);
           cost = refl;
         }
 

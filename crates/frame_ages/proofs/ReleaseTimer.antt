@@ -162,17 +162,17 @@ module _ (v room sub bag : ℕ) where
 
 -- ---- the timer
 
-same_moment : Option ℕ → Option ℕ → Bool
+pub same_moment : Option ℕ → Option ℕ → Bool
 same_moment None None = true
 same_moment (Some a) (Some b) = a == b
 same_moment _ _ = false
 
-same-refl : (a : Option ℕ) → same_moment a a ≡ true
+pub same-refl : (a : Option ℕ) → same_moment a a ≡ true
 unfolding same_moment
 same-refl None = refl
 same-refl (Some a) = eq-eqb a a refl
 
-same-is : (a b : Option ℕ) → same_moment a b ≡ true → a ≡ b
+pub same-is : (a b : Option ℕ) → same_moment a b ≡ true → a ≡ b
 unfolding same_moment
 same-is None None h = refl
 same-is (Some a) (Some b) h = ap Some (eqb-true a b h)
@@ -188,7 +188,7 @@ module _ (x : Setting NodeState) (N : IsOfNodes x) (p v room sub bag : ℕ) (ins
   abbrev pub alarm : Alarm Message NodeState (Option ℕ)
   alarm = record { opening = None; after = λ s g m. ask_in v room sub bag (after s m).equipment; moment = λ g. g }
 
-  abbrev fits : NodeState → Option ℕ → Bool
+  abbrev pub fits : NodeState → Option ℕ → Bool
   fits s g = same_moment g (ask_in v room sub bag s.equipment)
 
   has-stays : (s : NodeState) (ms : List Message) → HasRegulator v room sub bag s.equipment → HasRegulator v room sub bag (reached (rules_of node) s ms).equipment
@@ -255,7 +255,7 @@ module _ (x : Setting NodeState) (N : IsOfNodes x) (p v room sub bag : ℕ) (ins
     arrivals = λ l is t frame e. absurd (false≢true e);
   })))
 
-  timer : IsTimer f p is_due alarm fits
+  pub timer : IsTimer f p is_due alarm fits
   timer = record {
     opens = ap (λ z. same_moment None z) quiet ∙ same-refl None;
     off = refl;

@@ -36,7 +36,7 @@ use Rattle.port_turns.specs.SwitchPuts.{transit_of}
 use Rattle.port_turns.proofs.Elsewhere.{line-all}
 use Rattle.port_turns.proofs.Senders.{number-is}
 use Rattle.port_turns.proofs.Sources.{HasWaiting}
-use Rattle.frame_ages.specs.Sizes.{HaveEmptyRegulators, HaveIdlePorts, IsSized, IsSizedFrame, OpensEmpty}
+use Rattle.frame_ages.specs.Sizes.{HaveEmptyRegulators, HaveIdlePorts, IsSized, IsSizedFrame, OpensEmpty, Sizes}
 use Rattle.frame_ages.proofs.PortFrames.{there, AllWaitAt, AllWaitAtPorts, IsCarryOf, IsPortWish}
 use Rattle.frame_ages.proofs.EndFrames.{IsFitEnd, OfLink, end-sends, end-state}
 use Rattle.frame_ages.proofs.SwitchFrames.{switch-ports, switch-sends}
@@ -64,7 +64,7 @@ idle-at (EndSystem s) q outlet h is = All-there (λ slot. IfSome slot (λ outlet
 idle-at (Switch s) q outlet h is = All-there (λ slot. IfSome slot (λ outlet. IsSamePort outlet.port idle)) s.ports q (Some outlet) h (there s.ports q outlet is)
 idle-at (Line s) q outlet h is = absurd (none-some outlet is)
 
-module _ (size : ℕ → ℕ) where
+module _ (size : ℕ → Sizes) where
   -- what waits at first
   pub none-waits : (s : List Source) → All (λ source. All (λ (list : Queue). list.frames ≡ []) source.regulator.lists) s → All (HasWaiting (OfLink size)) s
   none-waits s h = All-weaker (λ source. All (λ (list : Queue). list.frames ≡ []) source.regulator.lists) (HasWaiting (OfLink size))
@@ -81,7 +81,7 @@ module _ (size : ℕ → ℕ) where
         low = subst (All (IsSizedFrame size)) (sym k.low) (All-nil (IsSizedFrame size));
       }
 
-module _ (x : Setting NodeState) (L : Laws (simulation_of (rules_of node) x)) (N : IsOfNodes x) (size : ℕ → ℕ) (O : OpensEmpty x size) where
+module _ (x : Setting NodeState) (L : Laws (simulation_of (rules_of node) x)) (N : IsOfNodes x) (size : ℕ → Sizes) (O : OpensEmpty x size) where
   abbrev f : Simulation Message NodeState NodeRecord Note
   f = simulation_of (rules_of node) x
 

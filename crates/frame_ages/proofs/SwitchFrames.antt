@@ -18,7 +18,7 @@ use Rattle.nodes.specs.rules.Ports.{exists}
 use Rattle.nodes.specs.rules.Switch.{SwitchOutcome, SwitchState, at_port, entered_reply, judged, outputs_of, switch, transit_at}
 use Rattle.nodes.specs.rules.Switch as sw
 use Rattle.nodes.specs.laws.SwitchSending.{wish_to}
-use Rattle.frame_ages.specs.Sizes.{IsSized, IsSizedFrame}
+use Rattle.frame_ages.specs.Sizes.{IsSized, IsSizedFrame, Sizes}
 use Rattle.frame_ages.proofs.PortFrames.{AllWaitAtPorts, IsPortWish, OfPut, changed-keeps, reply-keeps}
 
 among-more : (k n : ℕ) (ns xs : List ℕ) → All (λ m. IsAmong m ns) xs → All (λ m. IsAmong m (n ∷ ns)) xs
@@ -28,7 +28,7 @@ all-among : (ns : List ℕ) → All (λ m. IsAmong m ns) ns
 all-among [] = All-nil (λ m. IsAmong m [])
 all-among (n ∷ ns) = All-cons (λ m. IsAmong m (n ∷ ns)) n ns (inl refl) (among-more n n ns ns (all-among ns))
 
-module _ (size : ℕ → ℕ) (n : ℕ) (P : Wish → Type 0) (by-port : (w : Wish) → IsPortWish (IsSizedFrame size) w → P w) where
+module _ (size : ℕ → Sizes) (n : ℕ) (P : Wish → Type 0) (by-port : (w : Wish) → IsPortWish (IsSizedFrame size) w → P w) where
   module _ (t : ℕ) where
     record Step (o : SwitchOutcome) : Type 0 where
       ports : AllWaitAtPorts (IsSizedFrame size) o.state.ports

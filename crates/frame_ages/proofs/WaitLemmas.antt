@@ -41,28 +41,28 @@ use Rattle.port_turns.proofs.RegulatorTurns.Turned.{Does, Quiet}
 use Rattle.frame_ages.proofs.RoundRobin.{distance, distance-below, last-then, nearer-by, nearest}
 use Rattle.frame_ages.proofs.ReleaseTimer.{HasRegulator, alarm, early, ask-is, ask_in, is_due, own-stays, put-own, releases-on-time}
 
--- offers come by a reckoning: each has a due moment, a `period` at least after the one before, and comes from then on within `jitter`.
+-- offers come by a reckoning: each has a due moment, a `period` at least after the one before, and comes no more than `before` ns before and `jitter` after it.
 -- Next says of the last release, of how many frames wait in the first list, and of the due moment of the next offer at least, that a frame which then
 -- waits for the releases of `place` frames before it is held no longer than `wait`; a Release brings that moment onward. Where there are sub-virtual
 -- links, how many wait in the first list plays no part
-pub record Reckoning (room sub bag period jitter wait : ℕ) (onward : ℕ → ℕ → ℕ) (Next : ℕ → ℕ → ℕ → Type 0) : Type 0 where
-  pub accept : (l len place e d t : ℕ) → Next l len e → e ≤ d → d ≤ t → place < room * sub → (sub ≡ 1 → place ≡ len) → (l + bag) + place * bag ≤ t + wait
+pub record Reckoning (room sub bag period jitter before wait : ℕ) (onward : ℕ → ℕ → ℕ) (Next : ℕ → ℕ → ℕ → Type 0) : Type 0 where
+  pub accept : (l len place e d t : ℕ) → Next l len e → e ≤ d → d ≤ t + before → place < room * sub → (sub ≡ 1 → place ≡ len) → (l + bag) + place * bag ≤ t + wait
   pub grow : (l len more e d : ℕ) → Next l len e → e ≤ d → (sub ≡ 1 → more ≡ suc len) → Next l more (d + period)
   pub drop : (l len e d : ℕ) → Next l len e → e ≤ d → Next l len (d + period)
-  pub start : (d t : ℕ) → d ≤ t → t ≤ d + jitter → Next t 0 (d + period)
+  pub start : (d t : ℕ) → d ≤ t + before → t ≤ d + jitter → Next t 0 (d + period)
   pub pop : (l len less e : ℕ) → Next l len e → (sub ≡ 1 → len ≡ suc less) → Next (l + bag) less (onward e (l + bag))
 
 -- the messages offer frames of virtual link v so
-module _ (v period jitter : ℕ) (onward : ℕ → ℕ → ℕ) where
+module _ (v period jitter before : ℕ) (onward : ℕ → ℕ → ℕ) where
   abbrev pub AreOffered : ℕ → List Message → Type 0
   AreOffered e [] = ⊤
   AreOffered e (m ∷ ms) =
-      (is_offer_of v m.body ≡ true → (d : ℕ) × (e ≤ d) × (d ≤ m.time) × (m.time ≤ d + jitter) × AreOffered (d + period) ms)
+      (is_offer_of v m.body ≡ true → (d : ℕ) × (e ≤ d) × (d ≤ m.time + before) × (m.time ≤ d + jitter) × AreOffered (d + period) ms)
       × (is_release v m.body ≡ true → AreOffered (onward e m.time) ms)
       × (is_offer_of v m.body ≡ false → is_release v m.body ≡ false → AreOffered e ms)
 
 module _ (x : Setting NodeState) (N : IsOfNodes x) (p q v room sub bag : ℕ) (inside : p < x.processes) (opens : HasRegulator v room sub bag (x.opening p).equipment) (quiet : ask_in v room sub bag (x.opening p).equipment ≡ None)
-    (period jitter wait : ℕ) (onward : ℕ → ℕ → ℕ) (Next : ℕ → ℕ → ℕ → Type 0) (R : Reckoning room sub bag period jitter wait onward Next) where
+    (period jitter before wait : ℕ) (onward : ℕ → ℕ → ℕ) (Next : ℕ → ℕ → ℕ → Type 0) (R : Reckoning room sub bag period jitter before wait onward Next) where
   abbrev f : Simulation Message NodeState NodeRecord Note
   f = simulation_of (rules_of node) x
 
@@ -127,7 +127,7 @@ module _ (x : Setting NodeState) (N : IsOfNodes x) (p q v room sub bag : ℕ) (i
     held : HeldBy (asks q m s.equipment)
     next : HasRegulator v room sub bag (after s m).equipment
     e : ℕ
-    offered : AreOffered v period jitter onward e ms
+    offered : AreOffered v period jitter before onward e ms
     reckoned : Reckoned next.regulator e
 
   -- ---- what an event makes of the lists
@@ -136,7 +136,7 @@ module _ (x : Setting NodeState) (N : IsOfNodes x) (p q v room sub bag : ℕ) (i
     dropped : (d : ℕ) → e ≤ d → Reckoned g (d + period)
     dropped d l k is = let r = reckoned k is in record { next = R.drop k (length (frames_at g 0)) e d r.next l; slots = r.slots }
 
-    passed : (t j d : ℕ) → next_served g ≡ None → d ≤ t → t ≤ d + jitter → Reckoned (let_go g t j g.lists) (d + period)
+    passed : (t j d : ℕ) → next_served g ≡ None → d ≤ t + before → t ≤ d + jitter → Reckoned (let_go g t j g.lists) (d + period)
     passed t j d none l m k is =
         let same : t ≡ k = cc in
         subst (λ z. IsReckoned z (let_go g t j g.lists) (d + period)) same (record {
@@ -155,7 +155,7 @@ module _ (x : Setting NodeState) (N : IsOfNodes x) (p q v room sub bag : ℕ) (i
     one-list : (j : ℕ) → j < sub → sub ≡ 1 → j ≡ 0
     one-list j h e = omega arith
 
-    kept : (j : ℕ) (frame : Frame) (d : ℕ) → j < sub → length (frames_at g j) < room → e ≤ d → d ≤ frame.offered → Reckoned (record g { lists = with_frames g.lists j (frames_at g j ++ frame ∷ []) }) (d + period)
+    kept : (j : ℕ) (frame : Frame) (d : ℕ) → j < sub → length (frames_at g j) < room → e ≤ d → d ≤ frame.offered + before → Reckoned (record g { lists = with_frames g.lists j (frames_at g j ++ frame ∷ []) }) (d + period)
     kept j frame d h few l m k is =
         let r = reckoned k is in
         let near : distance sub g.pointer j < sub = distance-below sub g.pointer j right.pointer h in
@@ -225,7 +225,7 @@ module _ (x : Setting NodeState) (N : IsOfNodes x) (p q v room sub bag : ℕ) (i
             slots-sooner (l + distance sub g.pointer i * bag) ((l + bag) + distance sub ((j + 1) % sub) i * bag) (x ∷ xs)
             (nearer l (distance sub g.pointer j) (distance sub ((j + 1) % sub) i) (distance sub g.pointer i) (nearer-by sub g.pointer j i right.pointer h inside (round next i inside (ap is_some_frame is) other))) k
 
-  goes : (s : NodeState) (m : Message) (ms : List Message) (e : ℕ) (r : HasRegulator v room sub bag s.equipment) → m.receiver ≡ p → IsTimely s m → AreOffered v period jitter onward e (m ∷ ms) → Reckoned r.regulator e → Goes s m ms
+  goes : (s : NodeState) (m : Message) (ms : List Message) (e : ℕ) (r : HasRegulator v room sub bag s.equipment) → m.receiver ≡ p → IsTimely s m → AreOffered v period jitter before onward e (m ∷ ms) → Reckoned r.regulator e → Goes s m ms
   goes s m ms e r to timely offered reckoned = go (node-turn v s.sender.number q m s.equipment r.regulator (put-own v q m s.equipment r.own) r.is)
     where
       own : AreOwnFrames (after s m).equipment
@@ -245,7 +245,7 @@ module _ (x : Setting NodeState) (N : IsOfNodes x) (p q v room sub bag : ℕ) (i
           OfPutBy v (LikeReleased v (regulator.out r.regulator a).answer) (asks q m s.equipment) → Goes s m ms
       by a said now put = by-step (step room sub bag r.regulator r.right a)
         where
-          done : (later : ℕ) → HeldBy (asks q m s.equipment) → AreOffered v period jitter onward later ms → (g : Regulator) → (outcome r.regulator a).state ≡ g → Reckoned g later → Goes s m ms
+          done : (later : ℕ) → HeldBy (asks q m s.equipment) → AreOffered v period jitter before onward later ms → (g : Regulator) → (outcome r.regulator a).state ≡ g → Reckoned g later → Goes s m ms
           done later is_held offers g state then = record {
             held = is_held;
             next = record { regulator = regulator.after r.regulator a; is = now; right = right-stays room sub bag r.regulator r.right a; own = own };
@@ -275,7 +275,7 @@ module _ (x : Setting NodeState) (N : IsOfNodes x) (p q v room sub bag : ℕ) (i
           by-step (Pops t is j first rest next inside' are state asks' released) =
               let w = release a t said is in
               let k = popped r.regulator r.right e reckoned t j first rest next inside' are (due w.0 ∙ ap Some (sym w.1)) in
-              done (onward e t) (held-one first t _ (asks q m s.equipment) k.in_time released put) (subst (λ z. AreOffered v period jitter onward (onward e z) ms) (sym w.1) (offered.1 w.0))
+              done (onward e t) (held-one first t _ (asks q m s.equipment) k.in_time released put) (subst (λ z. AreOffered v period jitter before onward (onward e z) ms) (sym w.1) (offered.1 w.0))
               (let_go r.regulator t j (with_frames r.regulator.lists j rest)) state k.reckoned_then
 
       go : Turned v s.sender.number m.time m.body r.regulator (regulator_in (after s m).equipment (record { 0 = v })) (releases v (handled s.sender.number m s.equipment).reply.wishes) (asks q m s.equipment) → Goes s m ms
@@ -289,7 +289,7 @@ module _ (x : Setting NodeState) (N : IsOfNodes x) (p q v room sub bag : ℕ) (i
       go (Does a said now vl k ws put) = by a said now put
 
   module _ (byte_ns : ℕ) where
-    run : (s : NodeState) (ms : List Message) (e : ℕ) (r : HasRegulator v room sub bag s.equipment) → AreTo p ms → AreTimely s ms → AreOffered v period jitter onward e ms → Reckoned r.regulator e →
+    run : (s : NodeState) (ms : List Message) (e : ℕ) (r : HasRegulator v room sub bag s.equipment) → AreTo p ms → AreTimely s ms → AreOffered v period jitter before onward e ms → Reckoned r.regulator e →
         Every (λ ev. OfAsked IsHeld byte_ns ev.at ev.line ev.event) (port_events q s ms)
     run s [] e r to timely offered reckoned = tt
     run s (m ∷ ms) e r to timely offered reckoned =
@@ -302,7 +302,7 @@ module _ (x : Setting NodeState) (N : IsOfNodes x) (p q v room sub bag : ℕ) (i
         put (Some Free) h rest = (tt, rest)
         put (Some (Put frame c)) h rest = (h, rest)
 
-    pub held : Laws f → (e n : ℕ) → Reckoned opens.regulator e → AreOffered v period jitter onward e (events f n p) → (port : PortState) → AllPuts IsHeld byte_ns (trace_of byte_ns port (port_events q (x.opening p) (events f n p)))
+    pub held : Laws f → (e n : ℕ) → Reckoned opens.regulator e → AreOffered v period jitter before onward e (events f n p) → (port : PortState) → AllPuts IsHeld byte_ns (trace_of byte_ns port (port_events q (x.opening p) (events f n p)))
     held L e n reckoned offered port =
         trace-puts IsHeld byte_ns port (port_events q (x.opening p) (events f n p))
         (run (x.opening p) (events f n p) e opens (events-to p (one f n).handled)
@@ -311,7 +311,7 @@ module _ (x : Setting NodeState) (N : IsOfNodes x) (p q v room sub bag : ℕ) (i
 -- ---- two reckonings
 
 -- no frame waits longer than full lists take: the due moment is any moment that is not before an event
-pub full-lists : (room sub bag : ℕ) → Reckoning room sub bag 0 0 ((room * sub) * bag) (λ e t. t) (λ l len e. l ≤ e)
+pub full-lists : (room sub bag : ℕ) → Reckoning room sub bag 0 0 0 ((room * sub) * bag) (λ e t. t) (λ l len e. l ≤ e)
 full-lists room sub bag = record {
   accept = λ l len place e d t h k i few one. let most : suc place * bag ≤ (room * sub) * bag = mul-le (suc place) bag (room * sub) bag few (omega arith) in omega arith;
   grow = λ l len more e d h k one. omega arith;
@@ -320,9 +320,9 @@ full-lists room sub bag = record {
   pop = λ l len less e h one. omega arith;
 }
 
--- offers by a period of at least the BAG, without sub-virtual links: jitter and BAG beyond the period
-pub by-period : (room bag period jitter wait : ℕ) → bag ≤ period → jitter + bag ≤ wait + period → Reckoning room 1 bag period jitter wait (λ e t. e) (λ l len e. ((l + bag) + len * bag) + period ≤ (e + jitter) + bag)
-by-period room bag period jitter wait long enough = record {
+-- offers by a period of at least the BAG, without sub-virtual links: what they come early, jitter and BAG beyond the period
+pub by-period : (room bag period jitter before wait : ℕ) → bag ≤ period → (before + jitter) + bag ≤ wait + period → Reckoning room 1 bag period jitter before wait (λ e t. e) (λ l len e. ((l + bag) + len * bag) + period ≤ (e + jitter) + bag)
+by-period room bag period jitter before wait long enough = record {
   accept = λ l len place e d t h k i few one. (let same : place * bag ≡ len * bag = ap (λ n. n * bag) (one refl) in omega arith);
   grow = λ l len more e d h k one. (let same : more * bag ≡ suc len * bag = ap (λ n. n * bag) (one refl) in omega arith);
   drop = λ l len e d h k. omega arith;

@@ -15,7 +15,7 @@ use Rattle.nodes.specs.undoing.Node.{node}
 use Rattle.port_turns.specs.Nodes.{IsOfNodes}
 use Rattle.port_turns.specs.PortEvents.{outlet_in}
 use Rattle.frame_ages.specs.Ports.{trace_at}
-use Rattle.frame_ages.specs.Sizes.{OpensEmpty}
+use Rattle.frame_ages.specs.Sizes.{OpensEmpty, Sizes}
 use Rattle.frame_ages.specs.Ways.{ComesBy, ComesNot}
 
 -- the regulator of virtual link v at end system p holds no frame longer than `wait` ns, in any run of this setting
@@ -24,7 +24,7 @@ pub record IsHeldWithin (x : Setting NodeState) (p v wait : ℕ) : Type 0 where
       Every (λ put. link_of put ≡ v → put.frame.released ≤ put.frame.offered + wait) (lows_of (trace_at x p q outlet n))
 
 -- by each port of node `to` that there is, virtual link v comes within so many ns, or it does not come
-abbrev pub ComesWithin : Setting NodeState → (ℕ → ℕ) → ℕ → ℕ → ℕ → ℕ → Type 0
+abbrev pub ComesWithin : Setting NodeState → (ℕ → Sizes) → ℕ → ℕ → ℕ → ℕ → Type 0
 ComesWithin x size v source to most =
     (port : ℕ) (outlet : Outlet) → outlet_in (x.opening to).equipment port ≡ Some outlet →
     ((time : ℕ) × ComesBy x size v source to port time × (time ≤ most)) ⊎ ComesNot x v to port
@@ -32,7 +32,7 @@ ComesWithin x size v source to most =
 -- so no frame of it is delivered there later than both together after its offer
 abbrev pub AreLatenciesBounded : Type 0
 AreLatenciesBounded =
-    (x : Setting NodeState) → Laws (simulation_of (rules_of node) x) → IsOfNodes x → (size : ℕ → ℕ) → OpensEmpty x size →
+    (x : Setting NodeState) → Laws (simulation_of (rules_of node) x) → IsOfNodes x → (size : ℕ → Sizes) → OpensEmpty x size →
     (v source to wait most : ℕ) → to < x.processes → IsHeldWithin x source v wait → ComesWithin x size v source to most →
     (n : ℕ) (row : Row) → Contains (one (simulation_of (rules_of node) x) n).rows row → row.place ≡ to →
     (vl : VlId) (latency : ℕ) → vl.0 ≡ v → row.note ≡ Delivered vl latency → latency ≤ wait + most

@@ -32,7 +32,7 @@ use Rattle.port_turns.specs.Nodes.{IsOfNodes}
 use Rattle.port_turns.specs.PortEvents.{outlet_in}
 use Rattle.port_turns.specs.PortRuns.{port_events}
 use Rattle.port_turns.specs.SwitchPuts.{transit_of}
-use Rattle.frame_ages.specs.Sizes.{OpensEmpty}
+use Rattle.frame_ages.specs.Sizes.{OpensEmpty, Sizes}
 
 -- ---- which virtual links can be put to a port
 
@@ -76,16 +76,16 @@ pub data IsCurve (parts bag slack scale cost : ℕ) (flow : Flow) : Type 0 where
   ByGap : flow.burst ≡ scale * cost → scale * cost ≤ flow.rate * (bag - slack) → IsCurve parts bag slack scale cost flow
 
 -- the burst and the rate of a virtual link
-pub record IsFlow (e : Equipment) (size : ℕ → ℕ) (byte_ns scale : ℕ) (flow : Flow) : Type 0 where
+pub record IsFlow (e : Equipment) (size : ℕ → Sizes) (byte_ns scale : ℕ) (flow : Flow) : Type 0 where
   pub parts : ℕ
   pub bag : ℕ
   pub slack : ℕ
-  pub apart : AreApartBy e flow.link (size flow.link) bag slack
+  pub apart : AreApartBy e flow.link (size flow.link).least bag slack
   pub units : parts * bag ≡ scale
-  pub curve : IsCurve parts bag slack scale (busy_for (size flow.link) byte_ns) flow
+  pub curve : IsCurve parts bag slack scale (busy_for (size flow.link).greatest byte_ns) flow
 
 -- the burst and the rate of a line by which frames come to node p, and which is no faster than the port's own
-pub record IsByLine (x : Setting NodeState) (p : ℕ) (size : ℕ → ℕ) (byte_ns scale : ℕ) (g : Group) : Type 0 where
+pub record IsByLine (x : Setting NodeState) (p : ℕ) (size : ℕ → Sizes) (byte_ns scale : ℕ) (g : Group) : Type 0 where
   pub switch : SwitchState
   pub is_switch : (x.opening p).equipment ≡ Switch switch
   pub from : ℕ
@@ -98,12 +98,12 @@ pub record IsByLine (x : Setting NodeState) (p : ℕ) (size : ℕ → ℕ) (byte
   pub way : IsWay x from from_port by p g.line outlet line
   pub slower : byte_ns ≤ outlet.ahead.byte_ns
   pub most : ℕ
-  pub costs : Every (λ flow. busy_for (size flow.link) byte_ns ≤ most) g.flows
+  pub costs : Every (λ flow. busy_for (size flow.link).greatest byte_ns ≤ most) g.flows
   pub burst : g.burst ≡ scale * most
   pub rate : g.rate ≡ scale
 
 -- a group: its numbers are those of the line and of its virtual links
-pub record IsGroup (x : Setting NodeState) (p : ℕ) (size : ℕ → ℕ) (byte_ns scale whole : ℕ) (g : Group) : Type 0 where
+pub record IsGroup (x : Setting NodeState) (p : ℕ) (size : ℕ → Sizes) (byte_ns scale whole : ℕ) (g : Group) : Type 0 where
   pub weight : g.weight ≤ whole
   pub by_line : 1 ≤ g.weight → IsByLine x p size byte_ns scale g
   pub flows : Every (IsFlow (x.opening p).equipment size byte_ns scale) g.flows
@@ -114,26 +114,26 @@ pub record IsListed (v line : ℕ) (groups : List Group) : Type 0 where
   pub link_in : Every (λ g. line ≡ g.line → IsAmong v (links_of g.flows)) groups
 
 -- these groups are what can come to port q of node p with a priority
-pub record AreGroups (x : Setting NodeState) (size : ℕ → ℕ) (p q : ℕ) (outlet : Outlet) (scale whole : ℕ) (priority : Priority) (groups : List Group) : Type 0 where
+pub record AreGroups (x : Setting NodeState) (size : ℕ → Sizes) (p q : ℕ) (outlet : Outlet) (scale whole : ℕ) (priority : Priority) (groups : List Group) : Type 0 where
   pub each : Every (IsGroup x p size outlet.ahead.byte_ns scale whole) groups
   pub listed : (v line : ℕ) → IsThrough (x.opening p).equipment q v line priority → IsListed v line groups
 
 -- ---- bounds of a port that pass the check; a ns has `whole * scale` units. Divisions may round down, as times are whole
 
 -- a high frame has left, with its gap, within so many ns of its put
-pub record IsHighBound (x : Setting NodeState) (size : ℕ → ℕ) (p q : ℕ) (outlet : Outlet) (delay : ℕ) : Type 0 where
+pub record IsHighBound (x : Setting NodeState) (size : ℕ → Sizes) (p q : ℕ) (outlet : Outlet) (delay : ℕ) : Type 0 where
   pub scale : ℕ
   pub whole : ℕ
   pub high : List Group
   pub high_are : AreGroups x size p q outlet scale whole High high
   -- no low frame costs more
   pub most : ℕ
-  pub low_costs : (v line : ℕ) → IsThrough (x.opening p).equipment q v line Low → busy_for (size v) outlet.ahead.byte_ns ≤ most
+  pub low_costs : (v line : ℕ) → IsThrough (x.opening p).equipment q v line Low → busy_for (size v).greatest outlet.ahead.byte_ns ≤ most
   pub rate : groups_rate whole high ≤ whole * scale
   pub within : groups_burst whole high + (whole * scale) * most < (whole * scale) * (delay + 1)
 
--- a low frame of virtual link v has started within so many ns of its put
-pub record IsLowBound (x : Setting NodeState) (size : ℕ → ℕ) (p q : ℕ) (outlet : Outlet) (v delay : ℕ) : Type 0 where
+-- the least frame of virtual link v, being low, has started within so many ns of its put, and a greater one so much earlier as it takes longer
+pub record IsLowBound (x : Setting NodeState) (size : ℕ → Sizes) (p q : ℕ) (outlet : Outlet) (v delay : ℕ) : Type 0 where
   pub scale : ℕ
   pub whole : ℕ
   pub high : List Group
@@ -142,10 +142,10 @@ pub record IsLowBound (x : Setting NodeState) (size : ℕ → ℕ) (p q : ℕ) (
   pub low_are : AreGroups x size p q outlet scale whole Low low
   pub rates : groups_rate whole high + groups_rate whole low ≤ whole * scale
   pub some : groups_rate whole high < whole * scale
-  pub within : groups_burst whole high + groups_burst whole low < (whole * scale - groups_rate whole high) * (delay + 1) + (whole * scale) * busy_for (size v) outlet.ahead.byte_ns
+  pub within : groups_burst whole high + groups_burst whole low < (whole * scale - groups_rate whole high) * (delay + 1) + (whole * scale) * busy_for (size v).least outlet.ahead.byte_ns
 
 -- no more bytes wait
-pub record IsWaitingBound (x : Setting NodeState) (size : ℕ → ℕ) (p q : ℕ) (outlet : Outlet) (bytes : ℕ) : Type 0 where
+pub record IsWaitingBound (x : Setting NodeState) (size : ℕ → Sizes) (p q : ℕ) (outlet : Outlet) (bytes : ℕ) : Type 0 where
   pub scale : ℕ
   pub whole : ℕ
   pub high : List Group
@@ -162,13 +162,13 @@ trace_at x p q outlet n = trace_of outlet.ahead.byte_ns outlet.port (port_events
 -- so in each one-thread run high frames have left in time
 abbrev pub AreHighsInTime : Type 0
 AreHighsInTime =
-    (x : Setting NodeState) → Laws (simulation_of (rules_of node) x) → IsOfNodes x → (size : ℕ → ℕ) → OpensEmpty x size →
+    (x : Setting NodeState) → Laws (simulation_of (rules_of node) x) → IsOfNodes x → (size : ℕ → Sizes) → OpensEmpty x size →
     (p q : ℕ) (outlet : Outlet) → p < x.processes → outlet_in (x.opening p).equipment q ≡ Some outlet → (delay : ℕ) → IsHighBound x size p q outlet delay →
     (n : ℕ) → AreSentWithin delay (high_starts idle (trace_at x p q outlet n))
 
 -- and low frames of each virtual link have started in time
 abbrev pub AreLowsInTime : Type 0
 AreLowsInTime =
-    (x : Setting NodeState) → Laws (simulation_of (rules_of node) x) → IsOfNodes x → (size : ℕ → ℕ) → OpensEmpty x size →
+    (x : Setting NodeState) → Laws (simulation_of (rules_of node) x) → IsOfNodes x → (size : ℕ → Sizes) → OpensEmpty x size →
     (p q : ℕ) (outlet : Outlet) → p < x.processes → outlet_in (x.opening p).equipment q ≡ Some outlet → (v delay : ℕ) → IsLowBound x size p q outlet v delay →
-    (n : ℕ) → Every (λ s. link_of s.put ≡ v → s.at ≤ s.put.at + delay) (low_starts idle (trace_at x p q outlet n))
+    (n : ℕ) → Every (λ s. link_of s.put ≡ v → s.at + s.put.cost ≤ (s.put.at + delay) + busy_for (size v).least outlet.ahead.byte_ns) (low_starts idle (trace_at x p q outlet n))

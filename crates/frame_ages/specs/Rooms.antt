@@ -13,10 +13,10 @@ use Rattle.nodes.specs.undoing.Node.{node}
 use Rattle.port_turns.specs.Nodes.{IsOfNodes}
 use Rattle.port_turns.specs.PortEvents.{outlet_in}
 use Rattle.frame_ages.specs.Ports.{IsWaitingBound}
-use Rattle.frame_ages.specs.Sizes.{OpensEmpty}
+use Rattle.frame_ages.specs.Sizes.{OpensEmpty, Sizes}
 
 -- no more bytes wait at port q of node p than may
-pub record HasRoomAt (x : Setting NodeState) (size : ℕ → ℕ) (p q : ℕ) (outlet : Outlet) : Type 0 where
+pub record HasRoomAt (x : Setting NodeState) (size : ℕ → Sizes) (p q : ℕ) (outlet : Outlet) : Type 0 where
   pub bytes : ℕ
   pub bound : IsWaitingBound x size p q outlet bytes
   pub room : bytes ≤ outlet.port.bytes
@@ -24,6 +24,6 @@ pub record HasRoomAt (x : Setting NodeState) (size : ℕ → ℕ) (p q : ℕ) (o
 -- where each port of a node has room, none of its frames is dropped as its ports are full
 abbrev pub AreFramesKept : Type 0
 AreFramesKept =
-    (x : Setting NodeState) → Laws (simulation_of (rules_of node) x) → IsOfNodes x → (size : ℕ → ℕ) → OpensEmpty x size → (p : ℕ) → p < x.processes →
+    (x : Setting NodeState) → Laws (simulation_of (rules_of node) x) → IsOfNodes x → (size : ℕ → Sizes) → OpensEmpty x size → (p : ℕ) → p < x.processes →
     ((q : ℕ) (outlet : Outlet) → outlet_in (x.opening p).equipment q ≡ Some outlet → HasRoomAt x size p q outlet) →
     (n : ℕ) (row : Row) → Contains (one (simulation_of (rules_of node) x) n).rows row → row.place ≡ p → (vl : VlId) (bytes : ℕ) → row.note ≡ Dropped vl PortFull bytes → ⊥

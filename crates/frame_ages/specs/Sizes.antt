@@ -1,5 +1,5 @@
--- Each frame of a virtual link has the size that its virtual link has.
-use Rattle.std.specs.Prelude.{◌≡◌, ℕ, ◌<◌, All, IfSome, [], ⊤}
+-- Each frame of a virtual link has a size from the least to the greatest of its virtual link.
+use Rattle.std.specs.Prelude.{◌≡◌, ℕ, ◌<◌, ◌≤◌, All, IfSome, [], ⊤}
 use Rattle.vlink.specs.declared.message.Body.{Body}
 use Rattle.vlink.specs.declared.message.Body.TheVariants.{Offer, Arrive, Enqueue, Carry}
 use Rattle.vlink.specs.declared.frame.Frame.{Frame}
@@ -14,13 +14,21 @@ use Rattle.nodes.specs.rules.Node.{NodeState}
 use Rattle.nodes.specs.undoing.Node.{node}
 use Rattle.port_turns.specs.Nodes.{IsOfNodes}
 
--- the frame has the size of its virtual link
-abbrev pub IsSizedFrame : (ℕ → ℕ) → Frame → Type 0
-IsSizedFrame size frame = frame.size ≡ size frame.vl.0
+-- which sizes the frames of a virtual link have
+pub record Sizes : Type 0 where
+  pub least : ℕ
+  pub greatest : ℕ
+
+abbrev pub IsWithin : Sizes → ℕ → Type 0
+IsWithin s bytes = (s.least ≤ bytes) × (bytes ≤ s.greatest)
+
+-- the frame has one of the sizes of its virtual link
+abbrev pub IsSizedFrame : (ℕ → Sizes) → Frame → Type 0
+IsSizedFrame size frame = IsWithin (size frame.vl.0) frame.size
 
 -- and so has the frame that a message offers or brings, if it does
-abbrev pub IsSized : (ℕ → ℕ) → Body → Type 0
-IsSized size (Offer vl bytes sub) = bytes ≡ size vl.0
+abbrev pub IsSized : (ℕ → Sizes) → Body → Type 0
+IsSized size (Offer vl bytes sub) = IsWithin (size vl.0) bytes
 IsSized size (Arrive p frame) = IsSizedFrame size frame
 IsSized size (Enqueue p frame) = IsSizedFrame size frame
 IsSized size (Carry frame) = IsSizedFrame size frame
@@ -38,7 +46,7 @@ HaveIdlePorts (Switch s) = All (λ slot. IfSome slot (λ outlet. IsSamePort outl
 HaveIdlePorts (Line s) = ⊤
 
 -- at first no frame waits or is in transmission, and each frame that is offered has the size of its virtual link
-pub record OpensEmpty (x : Setting NodeState) (size : ℕ → ℕ) : Type 0 where
+pub record OpensEmpty (x : Setting NodeState) (size : ℕ → Sizes) : Type 0 where
   pub regulators : (p : ℕ) → p < x.processes → HaveEmptyRegulators (x.opening p).equipment
   pub ports : (p : ℕ) → p < x.processes → HaveIdlePorts (x.opening p).equipment
   pub offers : All (λ m. IsSized size m.body) x.offers
@@ -46,4 +54,4 @@ pub record OpensEmpty (x : Setting NodeState) (size : ℕ → ℕ) : Type 0 wher
 -- so in the one-thread run each message handled has such a frame, or none
 abbrev pub AreAllSized : Type 0
 AreAllSized =
-    (x : Setting NodeState) → Laws (simulation_of (rules_of node) x) → IsOfNodes x → (size : ℕ → ℕ) → OpensEmpty x size → (n : ℕ) → All (λ m. IsSized size m.body) (one (simulation_of (rules_of node) x) n).handled
+    (x : Setting NodeState) → Laws (simulation_of (rules_of node) x) → IsOfNodes x → (size : ℕ → Sizes) → OpensEmpty x size → (n : ℕ) → All (λ m. IsSized size m.body) (one (simulation_of (rules_of node) x) n).handled

@@ -14,6 +14,7 @@ use Rattle.nodes.specs.rules.Node.{NodeState}
 use Rattle.port_turns.specs.Arrivals.{IsWay}
 use Rattle.port_turns.specs.SwitchPuts.{transit_of}
 use Rattle.frame_ages.specs.Ports.{IsHighBound, IsLowBound, IsThrough}
+use Rattle.frame_ages.specs.Sizes.{Sizes}
 
 -- port `from_port` of node `from` leads by line `by` to port `port` of node `to`. A frame comes to it `before` ns after it came to the node, with
 -- this priority, and its last bit leaves within `delay` ns
@@ -39,12 +40,12 @@ way_time [] = 0
 way_time (h ∷ earlier) = way_time earlier + hop_time h
 
 -- the last bit of each frame of virtual link v leaves the port in time: 12 bytes of gap come behind it
-abbrev pub IsInTime : Setting NodeState → (ℕ → ℕ) → ℕ → ℕ → ℕ → Outlet → Priority → ℕ → Type 0
+abbrev pub IsInTime : Setting NodeState → (ℕ → Sizes) → ℕ → ℕ → ℕ → Outlet → Priority → ℕ → Type 0
 IsInTime x size v p q outlet High delay = (sent : ℕ) × IsHighBound x size p q outlet sent × (sent ≤ delay + 12 * outlet.ahead.byte_ns)
-IsInTime x size v p q outlet Low delay = (start : ℕ) × IsLowBound x size p q outlet v start × (start + last_bit_after (size v) outlet.ahead.byte_ns ≤ delay)
+IsInTime x size v p q outlet Low delay = (start : ℕ) × IsLowBound x size p q outlet v start × (start + last_bit_after (size v).least outlet.ahead.byte_ns ≤ delay)
 
 -- a hop as the tables of the setting have it
-pub record IsHop (x : Setting NodeState) (size : ℕ → ℕ) (v : ℕ) (h : Hop) : Type 0 where
+pub record IsHop (x : Setting NodeState) (size : ℕ → Sizes) (v : ℕ) (h : Hop) : Type 0 where
   pub from_inside : h.from < x.processes
   pub by_inside : h.by < x.processes
   pub to_inside : h.to < x.processes
@@ -70,7 +71,7 @@ pub record IsNextHop (x : Setting NodeState) (v : ℕ) (earlier h : Hop) : Type 
   pub priority : h.priority ≡ transit.priority
 
 -- virtual link v goes over these hops, the last one first
-abbrev pub IsRoute : Setting NodeState → (ℕ → ℕ) → ℕ → List Hop → Type 0
+abbrev pub IsRoute : Setting NodeState → (ℕ → Sizes) → ℕ → List Hop → Type 0
 IsRoute x size v [] = ⊥
 IsRoute x size v (h ∷ []) = IsHop x size v h × IsFirstHop x h
 IsRoute x size v (h ∷ (earlier ∷ rest)) = IsHop x size v h × IsNextHop x v earlier h × IsRoute x size v (earlier ∷ rest)
@@ -82,7 +83,7 @@ source_of (h ∷ []) = h.from
 source_of (h ∷ (earlier ∷ rest)) = source_of (earlier ∷ rest)
 
 -- virtual link v comes to port `port` of node `to` over a route from the end system `source`, within so many ns
-pub record ComesBy (x : Setting NodeState) (size : ℕ → ℕ) (v source to port most : ℕ) : Type 0 where
+pub record ComesBy (x : Setting NodeState) (size : ℕ → Sizes) (v source to port most : ℕ) : Type 0 where
   pub hop : Hop
   pub earlier : List Hop
   pub route : IsRoute x size v (hop ∷ earlier)

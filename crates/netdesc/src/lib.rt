@@ -4,9 +4,10 @@
 mod reading;
 
 pub use network::{
-    GREATEST_DESTINATIONS, GREATEST_OUTAGES, GREATEST_PORTS, GREATEST_PROCESSES, LinePlan, Network,
-    Outage, Way,
+    GREATEST_DESTINATIONS, GREATEST_OUTAGES, GREATEST_PORTS, GREATEST_PROCESSES, GREATEST_STREAMS,
+    LinePlan, Network, Outage, Way,
 };
-pub use network_rows::{DescFault, Key, NodeKind, Place, Policing, Priority, Section, VirtualLink};
+pub use network_rows::{DescFault, Key, Place, Section};
 pub use network_tables::{port_law, rising_law};
 pub use reading::read;
+pub use row_types::{NodeKind, Policing, Priority, Stream, Timing, VirtualLink};

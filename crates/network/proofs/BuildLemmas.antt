@@ -12,7 +12,7 @@ use Rattle.std.specs.List.Sorted.{IsNonDecreasing, IsNonDecreasingBy}
 use Rattle.network_rows.specs.declared.fault.DescFault.{DescFault}
 use Rattle.network_rows.specs.declared.rows.LinkRow.{LinkRow}
 use Rattle.network_rows.specs.declared.rows.Rows.{Rows}
-use Rattle.network.specs.Words.{greatest_processes, each, each_after, when, top, place_by, names_of, is_among, number_of, Plan, NodePlan, node_plan, link_plan, plan_of, directions, lines_of, faults_of, unknown_names, double_names, not_links, not_trees, too_many, unknown_at_link, process_count, IsAccepted}
+use Rattle.network.specs.Words.{greatest_processes, greatest_streams, each, each_after, when, top, place_by, names_of, is_among, number_of, Plan, NodePlan, node_plan, link_plan, plan_of, directions, lines_of, faults_of, unknown_names, double_names, not_links, not_trees, too_many, unknown_at_link, process_count, IsAccepted}
 use Rattle.network.specs.declared.wiring.Link.{Link}
 use Rattle.network.specs.declared.wiring.LinePlan.{LinePlan}
 
@@ -72,8 +72,18 @@ pub few-processes : (rows : Rows) → faults_of rows ≡ [] → process_count (p
 few-processes rows none =
     let plan = plan_of rows in
     let many : too_many plan ≡ [] = behind-none (unknown_names rows ++ double_names plan ++ not_links plan ++ not_trees plan) (too_many plan) none in
-    let first : when (nat_lt greatest_processes (process_count plan)) (TooMany top) ≡ [] = front-none _ _ (front-none _ _ (front-none _ _ many)) in
+    let first : when (nat_lt greatest_processes (process_count plan)) (TooMany top) ≡ [] = front-none _ _ (front-none _ _ (front-none _ _ (front-none _ _ many))) in
     let test : nat_lt greatest_processes (process_count plan) ≡ false = when-none _ _ first in
+    grind (arith, nat_tests)
+
+-- and few rows of streams
+pub few-streams : (plan : Plan) → IsAccepted plan → length plan.streams ≤ greatest_streams
+few-streams plan accepted =
+    let rows = accepted.rows in
+    let made = plan_of rows in
+    let many : too_many made ≡ [] = behind-none (unknown_names rows ++ double_names made ++ not_links made ++ not_trees made) (too_many made) accepted.stands.none in
+    let test : nat_lt greatest_streams (length made.streams) ≡ false = when-none _ _ (behind-none _ _ many) in
+    let same = ap length accepted.stands.streams in
     grind (arith, nat_tests)
 
 pub few-accepted : (plan : Plan) → IsAccepted plan → process_count plan ≤ greatest_processes
@@ -141,7 +151,7 @@ ends-below plan accepted =
     let stands = accepted.stands in
     let names = names_of rows.nodes in
     let unknown : unknown_names rows ≡ [] = front-none _ _ (front-none _ _ (front-none _ _ (front-none _ _ stands.none))) in
-    let known : each (unknown_at_link names) rows.links ≡ [] = behind-none _ _ (front-none _ _ (front-none _ _ unknown)) in
+    let known : each (unknown_at_link names) rows.links ≡ [] = behind-none _ _ (front-none _ _ (front-none _ _ (front-none _ _ unknown))) in
     let count : length names ≡ length plan.nodes = length-map rows.nodes (λ node. node.name) ∙ sym (length-map rows.nodes node_plan) ∙ ap length (sym stands.nodes) in
     subst (AllByRecursion (BothEnds (λ n. n < length plan.nodes))) (sym stands.links)
     (subst (λ m. AllByRecursion (BothEnds (λ n. n < m)) (map (link_plan names) rows.links)) count (links-below names [] rows.links known))

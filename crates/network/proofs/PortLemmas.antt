@@ -7,9 +7,9 @@ use Rattle.std.proofs.lemmas.List.Sums.{sum_by-append}
 use Rattle.vlink.specs.declared.frame.Net.TheVariants.{A}
 use Rattle.network_rows.specs.declared.table.TheConstants.{SECOND_NS}
 use Rattle.network_rows.specs.declared.rows.LinkRow.{LinkRow}
-use Rattle.network_rows.specs.declared.rows.NodeKind.TheVariants.{EndSystem}
-use Rattle.network_rows.specs.declared.rows.Rate.{Rate}
-use Rattle.network_rows.specs.declared.rows.Rate.TheVariants.{Mbit10, Mbit100}
+use Rattle.row_types.specs.declared.rows.NodeKind.TheVariants.{EndSystem}
+use Rattle.row_types.specs.declared.rows.Rate.{Rate}
+use Rattle.row_types.specs.declared.rows.Rate.TheVariants.{Mbit10, Mbit100}
 use Rattle.network_rows.specs.Within.{IsLinkWithin}
 use Rattle.network.specs.Words.{greatest_ports, each, each_after, names_of, Plan, NodePlan, link_plan, byte_ns_of, plan_of, is_end_system, is_switch_of, port_at, directions, lines_of, unknown_names, double_names, not_links, not_trees, too_many, too_many_at_node, touches, IsAccepted}
 use Rattle.network.specs.declared.wiring.Link.{Link}
@@ -117,7 +117,7 @@ line-within plan k line accepted read =
     let rows = accepted.rows in
     let stands = accepted.stands in
     let many : too_many (plan_of rows) ≡ [] = behind-none (unknown_names rows ++ double_names (plan_of rows) ++ not_links (plan_of rows) ++ not_trees (plan_of rows)) (too_many (plan_of rows)) stands.none in
-    let none : each (too_many_at_node (plan_of rows).nodes (plan_of rows).links) (plan_of rows).nodes ≡ [] = behind-none _ _ (front-none _ _ (front-none _ _ many)) in
+    let none : each (too_many_at_node (plan_of rows).nodes (plan_of rows).links) (plan_of rows).nodes ≡ [] = behind-none _ _ (front-none _ _ (front-none _ _ (front-none _ _ many))) in
     let none_here : each (too_many_at_node plan.nodes plan.links) plan.nodes ≡ [] = rw (stands.nodes, stands.links) none in
     let times : AllByRecursion IsLinkTimely plan.links = subst (AllByRecursion IsLinkTimely) (sym stands.links) (links-timely (names_of rows.nodes) rows.links (recursion_from_All IsLinkWithin rows.links accepted.within.links)) in
     let all : All IsLineWithin (lines_of plan) = All-from_recursion IsLineWithin (lines_of plan) (lines-within plan.nodes [] plan.links (λ n. few-links plan.nodes plan.links n none_here) (ends-below plan accepted) times) in

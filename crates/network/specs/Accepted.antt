@@ -23,6 +23,7 @@ pub record IsPlanOf (rows : Rows) (plan : Plan) : Type 0 where
   pub outages : plan.outages ≡ (plan_of rows).outages
   pub vls : IsPermutation (plan_of rows).vls plan.vls
   pub in_order : IsNonDecreasing (ids_of plan.vls)
+  pub streams : plan.streams ≡ (plan_of rows).streams
 
 -- there are such rows, within the limits of their keys
 pub record IsAccepted (plan : Plan) : Type 0 where

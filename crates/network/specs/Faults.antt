@@ -7,12 +7,13 @@ use Rattle.network_rows.specs.declared.key.Section.TheVariants as section
 use Rattle.network_rows.specs.declared.key.Key.TheVariants as key
 use Rattle.network_rows.specs.declared.fault.DescFault.{DescFault}
 use Rattle.network_rows.specs.declared.fault.DescFault.TheVariants.{UnknownName, DoubleName, NotALink, NotATree, TooMany, OutOfMemory}
-use Rattle.network_rows.specs.declared.rows.NodeRow.{NodeRow}
+use Rattle.row_types.specs.declared.rows.NodeRow.{NodeRow}
 use Rattle.network_rows.specs.declared.rows.LinkRow.{LinkRow}
 use Rattle.network_rows.specs.declared.rows.OutageRow.{OutageRow}
+use Rattle.row_types.specs.declared.rows.StreamRow.{StreamRow}
 use Rattle.network_rows.specs.declared.rows.VlRow.{VlRow}
 use Rattle.network_rows.specs.declared.rows.Rows.{Rows}
-use Rattle.network.specs.Limits.{greatest_processes, greatest_ports, greatest_outages, greatest_destinations}
+use Rattle.network.specs.Limits.{greatest_processes, greatest_ports, greatest_outages, greatest_destinations, greatest_streams}
 use Rattle.network.specs.declared.wiring.Link.{Link}
 use Rattle.network.specs.declared.wiring.Outage.{Outage}
 use Rattle.network.specs.declared.wiring.Hop.{Hop}
@@ -29,7 +30,7 @@ is_unknown names name = not (is_among names name)
 abbrev pub has_unknown : List (List ℕ) → List (List (List ℕ)) → Bool
 has_unknown names paths = list_any (λ path. list_any (is_unknown names) path) paths
 
--- 5: keys that no row has, and names that no node has
+-- 5: keys that no row has, names that no node has, and numbers that no virtual link has
 abbrev pub unknown_at_node : List NodeRow → NodeRow → List DescFault
 unknown_at_node earlier row = when row.has_unknown_key (UnknownName (row_at section.Node earlier))
 
@@ -51,6 +52,11 @@ unknown_at_vl names earlier row =
     ++ when (has_unknown names row.a) (UnknownName (key_at section.Vl earlier key.A))
     ++ when (has_unknown names row.b) (UnknownName (key_at section.Vl earlier key.B))
 
+abbrev pub unknown_at_stream : List VlRow → List StreamRow → StreamRow → List DescFault
+unknown_at_stream vls earlier row =
+    when row.has_unknown_key (UnknownName (row_at section.Stream earlier))
+    ++ when (not (list_any (λ vl. vl.link.id.0 == row.vl.0) vls)) (UnknownName (key_at section.Stream earlier key.Vl))
+
 abbrev pub unknown_names : Rows → List DescFault
 unknown_names rows = let names = names_of rows.nodes in
     when rows.has_unknown_key (UnknownName top)
@@ -58,6 +64,7 @@ unknown_names rows = let names = names_of rows.nodes in
     ++ each (unknown_at_link names) rows.links
     ++ each (unknown_at_outage names) rows.outages
     ++ each (unknown_at_vl names) rows.vls
+    ++ each (unknown_at_stream rows.vls) rows.streams
 
 -- 6: a node's name, a link's pair of nodes and a virtual link's number that an earlier row has
 abbrev pub double_at_node : List NodePlan → NodePlan → List DescFault
@@ -106,7 +113,7 @@ no_tree_at_vl nodes earlier vl =
 abbrev pub not_trees : Plan → List DescFault
 not_trees plan = each (no_tree_at_vl plan.nodes) plan.vls
 
--- 9: processes; links of a switch; outages; destinations of a virtual link
+-- 9: processes; links of a switch; outages; destinations of a virtual link; rows of streams
 abbrev pub process_count : Plan → ℕ
 process_count plan = length plan.nodes + 2 * length plan.links
 
@@ -127,6 +134,7 @@ too_many plan =
     ++ each (too_many_at_node plan.nodes plan.links) plan.nodes
     ++ when (nat_lt greatest_outages (length plan.outages)) (TooMany (record { section = section.Outage; row = Some (greatest_outages + 1); key = None }))
     ++ each too_many_at_vl plan.vls
+    ++ when (nat_lt greatest_streams (length plan.streams)) (TooMany (record { section = section.Stream; row = Some (greatest_streams + 1); key = None }))
 
 -- the faults of rows, in the order in which they are tried
 abbrev pub faults_of : Rows → List DescFault

@@ -2,7 +2,7 @@
 use Rattle.std.specs.Prelude.{ℕ, Bool, List, map, length, Option, unwrap_or, bytes_eq}
 use Rattle.std.specs.List.{list_any}
 use Rattle.network.specs.Rows.{place_by}
-use Rattle.network_rows.specs.declared.rows.NodeRow.{NodeRow}
+use Rattle.row_types.specs.declared.rows.NodeRow.{NodeRow}
 
 abbrev pub names_of : List NodeRow → List (List ℕ)
 names_of nodes = map (λ node. node.name) nodes

@@ -1,16 +1,19 @@
--- A network as plain mathematics: nodes, links between them, outages, and virtual links with their paths. Nodes are named by their numbers, from 0.
+-- A network as plain mathematics: nodes, links between them, outages, virtual links with their paths, and streams of offers to them. Nodes are named by their
+-- numbers, from 0.
 use Rattle.std.specs.Prelude.{ℕ, List, map}
-use Rattle.network_rows.specs.declared.rows.NodeKind.{NodeKind}
-use Rattle.network_rows.specs.declared.rows.Rate.{Rate}
-use Rattle.network_rows.specs.declared.rows.Rate.TheVariants.{Mbit10, Mbit100}
-use Rattle.network_rows.specs.declared.rows.NodeRow.{NodeRow}
+use Rattle.row_types.specs.declared.rows.NodeKind.{NodeKind}
+use Rattle.row_types.specs.declared.rows.Rate.{Rate}
+use Rattle.row_types.specs.declared.rows.Rate.TheVariants.{Mbit10, Mbit100}
+use Rattle.row_types.specs.declared.rows.NodeRow.{NodeRow}
 use Rattle.network_rows.specs.declared.rows.LinkRow.{LinkRow}
 use Rattle.network_rows.specs.declared.rows.OutageRow.{OutageRow}
 use Rattle.network_rows.specs.declared.rows.VlRow.{VlRow}
 use Rattle.network_rows.specs.declared.rows.Rows.{Rows}
-use Rattle.network_rows.specs.declared.rows.VirtualLink.{VirtualLink}
+use Rattle.row_types.specs.declared.rows.StreamRow.{StreamRow}
+use Rattle.row_types.specs.declared.rows.VirtualLink.{VirtualLink}
 use Rattle.network.specs.declared.wiring.Link.{Link}
 use Rattle.network.specs.declared.wiring.Outage.{Outage}
+use Rattle.network.specs.declared.plan.VlStream.{VlStream}
 use Rattle.network.specs.Names.{names_of, number_of}
 
 -- an end system or a switch; port_bytes bounds what waits at each of its ports
@@ -32,6 +35,7 @@ pub record Plan : Type 0 where
   pub links : List Link
   pub outages : List Outage
   pub vls : List VlPlan
+  pub streams : List VlStream
 
 -- how long a byte takes at this rate
 abbrev pub byte_ns_of : Rate → ℕ
@@ -58,6 +62,9 @@ outage_plan names row = record { from = number_of names row.from; to = number_of
 abbrev pub vl_plan : List (List ℕ) → VlRow → VlPlan
 vl_plan names row = record { link = row.link; a = paths_numbers names row.a; b = paths_numbers names row.b }
 
+abbrev pub stream_plan : StreamRow → VlStream
+stream_plan row = record { vl = row.vl; stream = row.stream }
+
 -- what rows say, with their virtual links in the order of the rows
 abbrev pub plan_of : Rows → Plan
 plan_of rows = let names = names_of rows.nodes in record {
@@ -67,4 +74,5 @@ plan_of rows = let names = names_of rows.nodes in record {
   links = map (link_plan names) rows.links;
   outages = map (outage_plan names) rows.outages;
   vls = map (vl_plan names) rows.vls;
+  streams = map stream_plan rows.streams;
 }

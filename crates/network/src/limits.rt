@@ -11,3 +11,6 @@ pub const GREATEST_OUTAGES: usize = 1024;
 
 /// The greatest number of destinations of a virtual link.
 pub const GREATEST_DESTINATIONS: usize = 64;
+
+/// The greatest number of rows of streams.
+pub const GREATEST_STREAMS: usize = 65_536;

@@ -1,26 +1,26 @@
 //! The network of an accepted description.
-ghost use Rattle.std.specs.Prelude.{◌≡◌, ◌*◌, ◌<◌, ◌≤◌, true, Some, length, slice_get};
+ghost use Rattle.std.specs.Prelude.{◌≡◌, ◌*◌, ◌<◌, ◌≤◌, true, All, Some, length, slice_get};
 ghost use Rattle.std.specs.List.Sorted.{IsStrictlyIncreasing};
 ghost use Rattle.std.specs.Option.{option_map, option_and_then};
 ghost use Rattle.vlink.specs.declared.time.TheConstants.{LATEST_NS};
 ghost use Rattle.network_rows.specs.declared.table.TheConstants.{SECOND_NS};
-ghost use Rattle.network.specs.declared.limits.TheConstants.{GREATEST_PROCESSES, GREATEST_PORTS};
+ghost use Rattle.network.specs.declared.limits.TheConstants.{GREATEST_PROCESSES, GREATEST_PORTS, GREATEST_STREAMS};
 ghost use Rattle.network.specs.Accepted.{ids_of};
-ghost use Rattle.network.specs.Limits.{IsLinkInLimits, IsKindInLimits};
+ghost use Rattle.network.specs.Limits.{IsLinkInLimits, IsKindInLimits, IsStreamInLimits};
 ghost use Rattle.network.specs.Wiring.{is_end_system};
 ghost use Rattle.network.specs.Trees.{source_of, destinations_of};
 ghost use Rattle.network.specs.Faults.{process_count};
 ghost use Rattle.network.specs.Lines.{lines_of, node_name, line_name, outages_of, departures_of, arrivals_of, place_of_vl};
 ghost use Rattle.network.specs.Code.Tables.{plan_with};
 
-use crate::plan::Numbered;
+use crate::plan::{Numbered, VlStream};
 use crate::tables::Tables;
 use crate::wiring::{LinePlan, Outage, Way};
-use network_rows::{NodeKind, NodeRow, VirtualLink};
+use row_types::{NodeKind, NodeRow, VirtualLink};
 use std::marker::Model;
 use vlink::{Time, VlId, process_number};
 
-/// A network: end systems, switches, the links between them, and virtual links with their paths.
+/// A network: end systems, switches, the links between them, virtual links with their paths, and streams of offers to them.
 ///
 /// Clauses see it as its plan. Its virtual links ascend by number.
 #[derive(Drop)]
@@ -197,6 +197,15 @@ impl Network {
         ensures limits { IsLinkInLimits result }
     {
         self.numbered.vls[vl].link()
+    }
+
+    /// Returns the streams that have rows of their own, in the order of their rows.
+    pub fn streams(&self) -> &[VlStream]
+        ensures value { result.now ≡ self.now.streams }
+        ensures few { length self.now.streams ≤ GREATEST_STREAMS }
+        ensures limits { All (λ s. IsStreamInLimits s.stream) self.now.streams }
+    {
+        self.numbered.streams.as_slice()
     }
 
     /// Returns the source of a virtual link: the number of an end system.

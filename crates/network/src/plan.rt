@@ -4,8 +4,9 @@ ghost use Rattle.network.specs.Trees.{source_among, source_of};
 ghost use Rattle.network.specs.Code.Views.{items_of, lists_of};
 
 use crate::wiring::{Link, Outage};
-use network_rows::VirtualLink;
+use row_types::{Stream, VirtualLink};
 use std::marker::Model;
+use vlink::VlId;
 
 /// A virtual link with its paths on the networks A and B. A path is a list of nodes.
 ///
@@ -74,10 +75,18 @@ pub fn source_among(paths: &[Vec<usize>]) -> Option<usize>
     paths.first()?.first().copied()
 }
 
+/// A stream of a row of its own, and the virtual link that it offers frames to.
+#[derive(Clone, Copy)]
+pub struct VlStream {
+    pub vl: VlId,
+    pub stream: Stream,
+}
+
 /// The contents of the rows beside their nodes.
 #[derive(Drop)]
 pub struct Numbered {
     pub links: Vec<Link>,
     pub outages: Vec<Outage>,
     pub vls: Vec<Routed>,
+    pub streams: Vec<VlStream>,
 }

@@ -2,3 +2,4 @@ pub mod CapLemmas
 pub mod ShareLemmas
 pub mod PassingLemmas
 pub mod TextLemmas
+pub mod AgeLemmas

@@ -4,7 +4,7 @@ use Rattle.std.specs.List.{list_any}
 use Rattle.network.specs.declared.wiring.Way.{Way}
 use Rattle.network.specs.Words.{Plan, VlPlan, place_by, place_of_vl}
 use Rattle.network.proofs.PlaceLemmas.{is_some-place_by, place_by-early}
-use Rattle.network_rows.specs.declared.rows.VirtualLink.{VirtualLink}
+use Rattle.row_types.specs.declared.rows.VirtualLink.{VirtualLink}
 use Rattle.network_bounds.specs.Passing.{input_of, passing_at, passing_of}
 
 -- a place is one of the list

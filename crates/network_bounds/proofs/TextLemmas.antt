@@ -4,7 +4,7 @@ use Rattle.std.proofs.lemmas.List.{drop_all, drop_more}
 use Rattle.csv.specs.declared.writer.Writer.{Writer}
 use Rattle.trace_segments.specs.Words.{Adds, Holds}
 use Rattle.network.specs.Words.{Plan, VlPlan, destinations_of}
-use Rattle.network_rows.specs.declared.rows.VirtualLink.{VirtualLink}
+use Rattle.row_types.specs.declared.rows.VirtualLink.{VirtualLink}
 use Rattle.trace_segments.proofs.WritingLemmas.{adds-more, adds-same, flat_map-more, take-read}
 use Rattle.network_bounds.specs.declared.delays.PortBound.{PortBound}
 use Rattle.std.specs.Option.{option_map_or}

@@ -4,9 +4,9 @@ use Rattle.std.specs.List.{list_any}
 use Rattle.std.specs.Option.{option_map_or}
 use Rattle.network.specs.declared.wiring.LinePlan.{LinePlan}
 use Rattle.network.specs.Words.{Plan, arrivals_of, is_end_system, lines_of}
-use Rattle.network_rows.specs.declared.rows.NodeKind.{NodeKind}
-use Rattle.network_rows.specs.declared.rows.NodeKind.TheVariants.{EndSystem, Switch}
-use Rattle.network_rows.specs.declared.rows.VirtualLink.{VirtualLink}
+use Rattle.row_types.specs.declared.rows.NodeKind.{NodeKind}
+use Rattle.row_types.specs.declared.rows.NodeKind.TheVariants.{EndSystem, Switch}
+use Rattle.row_types.specs.declared.rows.VirtualLink.{VirtualLink}
 use Rattle.network_bounds.specs.declared.reason.Reason.{Reason}
 use Rattle.network_bounds.specs.declared.reason.Reason.TheVariants.{Way}
 use Rattle.network_bounds.specs.declared.delays.PortBound.{PortBound}
@@ -67,6 +67,6 @@ network_ns_of plan bounds link n =
 abbrev pub wait_of : VirtualLink → ℕ
 wait_of link =
     let full = link.depth * link.sub * bag_of link in
-    if (link.sub == 1) && (nat_le (bag_of link) link.period_ns && nat_le link.jitter_ns link.period_ns)
-    then min full (link.jitter_ns + bag_of link - link.period_ns)
+    if (link.sub == 1) && (nat_le (bag_of link) link.own.period_ns && nat_le link.own.jitter_ns link.own.period_ns)
+    then min full (link.own.jitter_ns + bag_of link - link.own.period_ns)
     else full

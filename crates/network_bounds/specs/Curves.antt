@@ -1,11 +1,11 @@
 -- What a virtual link gives the port before a line, as its regulator or its account lets it pass: a burst and a rate.
 use Rattle.std.specs.Prelude.{ℕ, ◌+◌, ◌-◌, ◌*◌, ◌/◌, ◌&&◌, nat_lt, Bool, true, false, if◌then◌else◌}
 use Rattle.vlink.specs.Wire.{busy_for}
-use Rattle.network_rows.specs.declared.rows.VirtualLink.{VirtualLink}
-use Rattle.network_rows.specs.declared.rows.Policing.{Policing}
-use Rattle.network_rows.specs.declared.rows.Policing.TheVariants.{Bytes, Frames}
-use Rattle.network_rows.specs.declared.rows.Priority.{Priority}
-use Rattle.network_rows.specs.declared.rows.Priority.TheVariants.{High, Low}
+use Rattle.row_types.specs.declared.rows.VirtualLink.{VirtualLink}
+use Rattle.row_types.specs.declared.rows.Policing.{Policing}
+use Rattle.row_types.specs.declared.rows.Policing.TheVariants.{Bytes, Frames}
+use Rattle.row_types.specs.declared.rows.Priority.{Priority}
+use Rattle.row_types.specs.declared.rows.Priority.TheVariants.{High, Low}
 use Rattle.port_bounds.specs.Mixtures.{Flow}
 use Rattle.network_bounds.specs.Numbers.{SCALE}
 
@@ -22,7 +22,7 @@ slack_of is_end link = if is_end then 0 else link.policing_jitter_ns
 
 -- how long a frame keeps the line busy, in ns
 abbrev pub cost_of : ℕ → VirtualLink → ℕ
-cost_of byte_ns link = busy_for link.size byte_ns
+cost_of byte_ns link = busy_for link.own.size byte_ns
 
 -- the least time between two of its frames; 0 where several may come at once
 abbrev pub gap_of : Bool → VirtualLink → ℕ
@@ -61,4 +61,4 @@ counts_bytes Frames = false
 
 -- an account that counts bytes lets more frames pass than its BAGs say, where they are shorter than Smax
 abbrev pub is_loose : Bool → VirtualLink → Bool
-is_loose is_end link = if is_end then false else counts_bytes link.policing && nat_lt link.size link.smax
+is_loose is_end link = if is_end then false else counts_bytes link.policing && nat_lt link.own.size link.smax

@@ -5,7 +5,7 @@ use Rattle.std.specs.Option.{option_map_or}
 use Rattle.std.specs.List.{range_with_len}
 use Rattle.network.specs.declared.wiring.LinePlan.{LinePlan}
 use Rattle.network.specs.Words.{Plan, is_end_system, lines_of}
-use Rattle.network_rows.specs.declared.rows.VirtualLink.{VirtualLink}
+use Rattle.row_types.specs.declared.rows.VirtualLink.{VirtualLink}
 use Rattle.port_bounds.specs.Mixtures.{Flow, Group, flows_burst, flows_rate, groups_burst, groups_rate, mixed}
 use Rattle.network_bounds.specs.declared.passing.Passing.{Passing}
 use Rattle.network_bounds.specs.declared.mixing.Mixture.{Mixture}
@@ -14,15 +14,16 @@ use Rattle.network_bounds.specs.declared.mixing.Choice.TheVariants.{Least, By}
 use Rattle.network_bounds.specs.declared.share.Share.{Share}
 use Rattle.network_bounds.specs.Numbers.{SCALE, WHOLE, capped}
 use Rattle.network_bounds.specs.Curves.{burst_of, cost_of, flow_of, is_loose, rate_of}
-use Rattle.network_bounds.specs.Passing.{comes, passings}
+use Rattle.network_bounds.specs.Passing.{are_plain, comes, passings}
 
 -- no node has more ports
 abbrev pub PORTS : ℕ
 PORTS = 24
 
--- the port before a line: whether it is that of an end system, the ns of a byte on the line, what leaves by it, and for each port by which
+-- the port before a line: whether each virtual link that leaves by it is offered one frame of one size in each period, whether it is that of an end system, the ns of a byte on the line, what leaves by it, and for each port by which
 -- frames come in the ns of a byte on the line there
 pub record PortPlan : Type 0 where
+  pub is_plain : Bool
   pub is_end : Bool
   pub byte_ns : ℕ
   pub passings : List Passing
@@ -44,6 +45,7 @@ byte_ns_into plan n j = option_map_or (λ k. option_map (λ line. line.byte_ns) 
 
 abbrev pub port_before : Plan → LinePlan → PortPlan
 port_before plan line = record {
+  is_plain = are_plain plan (passings plan line.from line.from_port);
   is_end = is_end_system plan.nodes line.from;
   byte_ns = line.byte_ns;
   passings = passings plan line.from line.from_port;

@@ -1,8 +1,10 @@
 -- The virtual links that leave a node by a port, and where each came in.
 use Rattle.std.specs.Prelude.{ℕ, ◌==◌, ◌&&◌, Bool, not, if◌then◌else◌, List, [], ◌∷◌, flat_map, slice_get}
+use Rattle.std.specs.List.{list_all}
 use Rattle.std.specs.Option.{option_map_or, option_and_then}
 use Rattle.network.specs.declared.wiring.Way.{Way}
 use Rattle.network.specs.Words.{Plan, VlPlan, arrivals_of, departures_of, is_end_system, place_of_vl}
+use Rattle.traffic.specs.Plain.{is_plain}
 use Rattle.network_bounds.specs.declared.passing.Passing.{Passing}
 use Rattle.network_bounds.specs.Curves.{is_first}
 
@@ -27,6 +29,10 @@ passing_at plan n q way = if way.port == q then passing_of plan n way else []
 
 abbrev pub passings : Plan → ℕ → ℕ → List Passing
 passings plan n q = flat_map (passing_at plan n q) (departures_of plan n)
+
+-- each is offered one frame of one size in each period, and nothing else: bounds know no other streams
+abbrev pub are_plain : Plan → List Passing → Bool
+are_plain plan ps = list_all (λ p. is_plain plan p.link) ps
 
 abbrev pub are_same : Bool → Bool → Bool
 are_same a b = if a then b else not b

@@ -2,10 +2,10 @@
 use Rattle.std.specs.Prelude.{◌≡◌, ℕ, ◌+◌, cond, nat_le, nat_lt, codes, decimal, List, [], ◌∷◌, ◌++◌, flat_map, length, slice_get, Result, Ok, Err}
 use Rattle.std.specs.Option.{option_map_or}
 use Rattle.network.specs.Words.{Plan, VlPlan, destinations_of, line_name, lines_of}
-use Rattle.network_rows.specs.declared.rows.VirtualLink.{VirtualLink}
+use Rattle.row_types.specs.declared.rows.VirtualLink.{VirtualLink}
 use Rattle.trace_segments.specs.Words.{line, place_name}
 use Rattle.network_bounds.specs.declared.reason.Reason.{Reason}
-use Rattle.network_bounds.specs.declared.reason.Reason.TheVariants.{Bytes, Number, Rate, Way}
+use Rattle.network_bounds.specs.declared.reason.Reason.TheVariants.{Bytes, Number, Rate, Stream, Way}
 use Rattle.network_bounds.specs.declared.delays.PortBound.{PortBound}
 use Rattle.network_bounds.specs.Numbers.{capped}
 use Rattle.network_bounds.specs.Delays.{AreBounds}
@@ -17,6 +17,7 @@ reason_name Rate = codes "rate"
 reason_name Bytes = codes "bytes"
 reason_name Way = codes "way"
 reason_name Number = codes "number"
+reason_name Stream = codes "stream"
 
 -- the first line
 abbrev pub bounds_head : List ℕ

@@ -19,7 +19,7 @@ pub fn bag_ns(link: &VirtualLink) -> u64
 pub fn cost(byte_ns: u16, link: &VirtualLink) -> u32
     ensures { result ≡ cost_of byte_ns link.now }
 {
-    (u32::from(link.size.bytes()) + 20) * u32::from(byte_ns)
+    (u32::from(link.own.size.bytes()) + 20) * u32::from(byte_ns)
 }
 
 /// Returns how much earlier than the BAG says a frame may come, in ns. At an end system its regulator spaces its frames; at a switch its
@@ -91,7 +91,7 @@ pub fn is_loose(is_end: bool, link: &VirtualLink) -> bool
         return false;
     }
     match link.policing {
-        Policing::Bytes => link.size.bytes() < link.smax.bytes(),
+        Policing::Bytes => link.own.size.bytes() < link.smax.bytes(),
         Policing::Frames => false,
     }
 }

@@ -45,10 +45,17 @@ pub struct PortBound {
 }
 
 impl PortBound {
-    /// Returns the bounds by these weights.
+    /// Returns the bounds by these weights, or none if another stream may come to the port than bounds know.
     fn by(port: &Port, weights: &Weights) -> Self
         ensures { result ≡ bound_by port.now weights.now }
     {
+        if !port.is_plain {
+            return PortBound {
+                first: Err(Reason::Stream),
+                later: Err(Reason::Stream),
+                waiting: Err(Reason::Stream),
+            };
+        }
         PortBound {
             first: first_bound(port, weights),
             later: later_bound(port, weights),
@@ -195,7 +202,7 @@ fn later_delay(byte_ns: u16, link: &VirtualLink, later: Later) -> Result<u128, R
         return Err(Reason::Rate);
     }
     let own = UNITS * u128::from(cost(byte_ns, link));
-    let last_bit = u128::from(last_bit_ns(link.size, u32::from(byte_ns)));
+    let last_bit = u128::from(last_bit_ns(link.own.size, u32::from(byte_ns)));
     Ok((later.burst.saturating_sub(own) / later.left).saturating_add(last_bit))
 }
 

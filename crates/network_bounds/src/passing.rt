@@ -2,11 +2,12 @@
 ghost use Rattle.std.specs.Prelude.{◌≡◌, ◌<◌, ◌++◌, All, length, IfOk, OnOk};
 ghost use Rattle.network.specs.Words.{IsLinkInLimits, is_end_system};
 ghost use Rattle.network_bounds.specs.Curves.{is_first};
-ghost use Rattle.network_bounds.specs.Passing.{comes, first_port_of, input_of, passing_at, passings};
+ghost use Rattle.network_bounds.specs.Passing.{are_plain, comes, first_port_of, input_of, passing_at, passings};
 
 use crate::curves::is_first;
 use network::{Network, NodeKind, VirtualLink, Way};
 use std::alloc::{AllocError, Global};
+use traffic::is_plain;
 use vlink::VlId;
 
 /// A virtual link that leaves a node by a port.
@@ -94,6 +95,18 @@ pub fn passings(
         push_passing(&mut found, network, node, port, *way)?;
     }
     Ok(found)
+}
+
+/// Whether each of these virtual links is offered one frame of one size in each period, and nothing else.
+pub fn are_plain(network: &Network, passings: &[Passing]) -> bool
+    ensures { result ≡ are_plain network.now passings.now }
+{
+    for passing in passings {
+        if !is_plain(network, &passing.link) {
+            return false;
+        }
+    }
+    true
 }
 
 impl Passing {

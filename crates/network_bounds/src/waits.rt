@@ -13,10 +13,10 @@ pub fn wait_ns(link: &VirtualLink) -> u64
     ensures { result ≡ wait_of link.now }
 {
     let bag = bag_ns(link);
-    let jitter = u64::from(link.jitter_ns);
+    let jitter = u64::from(link.own.jitter_ns);
     let full = u64::from(link.depth) * u64::from(link.sub) * bag;
-    if link.sub == 1 && bag <= link.period_ns && jitter <= link.period_ns {
-        full.min((jitter + bag).saturating_sub(link.period_ns))
+    if link.sub == 1 && bag <= link.own.period_ns && jitter <= link.own.period_ns {
+        full.min((jitter + bag).saturating_sub(link.own.period_ns))
     } else {
         full
     }

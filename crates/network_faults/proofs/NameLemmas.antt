@@ -7,7 +7,7 @@ use Rattle.std.specs.Bool.{one_answer}
 use Rattle.std.proofs.lemmas.Slice.Eq.{bytes_eq-Decides}
 use Rattle.std.proofs.lemmas.List.{take_more, map-append, length-map}
 use Rattle.std.proofs.lemmas.Map.Text.{hash_map_updates_str}
-use Rattle.network_rows.specs.declared.rows.NodeRow.{NodeRow}
+use Rattle.row_types.specs.declared.rows.NodeRow.{NodeRow}
 use Rattle.network.specs.Words.{node_plan, names_of, place_among, number_of}
 use Rattle.network_faults.specs.Lookups.{AreNumbers}
 use Rattle.network.proofs.PlaceLemmas.{or_else, or_else-none, place_by-push}

@@ -1,7 +1,7 @@
 -- What is appended when a virtual link is packed.
 use Rattle.std.proofs.Common.{◌≡◌, ◌∙◌, ℕ, List, [], ◌∷◌, ◌++◌, map, flat_map, ap, sym}
 use Rattle.std.proofs.lemmas.List.{map-append, flat_map_more}
-use Rattle.network_rows.specs.declared.rows.VirtualLink.{VirtualLink}
+use Rattle.row_types.specs.declared.rows.VirtualLink.{VirtualLink}
 use Rattle.network.specs.Words.{VlPlan}
 use Rattle.network_faults.specs.Packed.{packed_vl}
 

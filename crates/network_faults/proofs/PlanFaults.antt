@@ -8,7 +8,7 @@ use Rattle.network_faults.specs.RowLists.{RowLists, row_lists_in}
 
 -- the plan of these nodes and rows (its end and its seed do not matter to a fault)
 abbrev pub plan_over : List NodePlan → RowLists → Plan
-plan_over nodes lists = record { until = 0; seed = 0; nodes = nodes; links = lists.links; outages = lists.outages; vls = lists.vls }
+plan_over nodes lists = record { until = 0; seed = 0; nodes = nodes; links = lists.links; outages = lists.outages; vls = lists.vls; streams = lists.streams }
 
 -- the faults of a plan
 abbrev pub faults_in : Plan → List DescFault

@@ -6,6 +6,7 @@ use Rattle.std.specs.BTreeSet.{BTreeSet, contains}
 use Rattle.std.specs.HashMap.{HashMap, get_by, get}
 use denote.Ref.{Bor}
 use Rattle.vlink.specs.declared.frame.Net.{Net}
+use Rattle.network_rows.specs.declared.rows.VlRow.{VlRow}
 use Rattle.network.specs.declared.wiring.Link.{Link}
 use Rattle.network.specs.Names.{place_among}
 use Rattle.network.specs.Wiring.{link_between, leads}
@@ -14,6 +15,10 @@ use Rattle.network.specs.Plan.{NodePlan}
 -- the map has the number of each name
 abbrev pub AreNumbers : {S : Type 0} → HashMap (Bor (List ℕ)) ℕ S → List (List ℕ) → Type 0
 AreNumbers numbers names = (name : List ℕ) → get_by (λ k. bytes_eq name k.now) numbers ≡ place_among names name
+
+-- the set has the numbers of these virtual links
+abbrev pub AreIds : BTreeSet ℕ → List VlRow → Type 0
+AreIds ids vls = (id : ℕ) → contains nat_cmp ids id ≡ list_any (λ vl. vl.link.id.0 == id) vls
 
 -- both numbers of two pairs are equal
 abbrev pub is_same_pair : ℕ × ℕ → ℕ × ℕ → Bool

@@ -1,9 +1,10 @@
 -- Paths as one list of numbers: how many paths there are, and for each path how many nodes it has, and then its nodes.
 use Rattle.std.specs.Prelude.{◌≡◌, ℕ, List, [], ◌∷◌, ◌++◌, length, map}
 use Rattle.std.specs.List.{flat_map}
-use Rattle.network_rows.specs.declared.rows.VirtualLink.{VirtualLink}
+use Rattle.row_types.specs.declared.rows.VirtualLink.{VirtualLink}
 use Rattle.network.specs.declared.wiring.Link.{Link}
 use Rattle.network.specs.declared.wiring.Outage.{Outage}
+use Rattle.network.specs.declared.plan.VlStream.{VlStream}
 use Rattle.network.specs.Plan.{VlPlan}
 use Rattle.network_faults.specs.declared.packing.PackedRows.{PackedRows}
 use Rattle.network_faults.specs.declared.packing.PackedVls.{PackedVls}
@@ -29,12 +30,15 @@ pub record PackedLists : Type 0 where
   pub outages : List Outage
   pub parameters : List VirtualLink
   pub paths : List ℕ
+  pub streams : List VlStream
 
 abbrev pub no_lists : PackedLists
-no_lists = record { links = []; outages = []; parameters = []; paths = [] }
+no_lists = record { links = []; outages = []; parameters = []; paths = []; streams = [] }
 
 abbrev pub packed_lists_of : PackedRows → PackedLists
-packed_lists_of packed = record { links = packed.links.items; outages = packed.outages.items; parameters = packed.vls.links.items; paths = packed.vls.paths.items }
+packed_lists_of packed =
+    record { links = packed.links.items; outages = packed.outages.items; parameters = packed.vls.links.items; paths = packed.vls.paths.items; streams = packed.streams.items }
 
 abbrev pub packed_lists_in : RowLists → PackedLists
-packed_lists_in lists = record { links = lists.links; outages = lists.outages; parameters = map (λ vl. vl.link) lists.vls; paths = flat_map packed_vl lists.vls }
+packed_lists_in lists =
+    record { links = lists.links; outages = lists.outages; parameters = map (λ vl. vl.link) lists.vls; paths = flat_map packed_vl lists.vls; streams = lists.streams }

@@ -11,6 +11,7 @@ mod no_link;
 mod no_tree;
 mod numbering;
 mod packing;
+mod streams;
 mod too_many;
 mod unknown;
 mod unpacking;

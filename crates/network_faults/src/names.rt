@@ -4,7 +4,7 @@ ghost use Rattle.std.specs.Prelude.{◌≡◌, IfOk, IfSome, is_some};
 ghost use Rattle.network.specs.Names.{names_of, is_among, place_among, number_of};
 ghost use Rattle.network_faults.specs.Lookups.{AreNumbers};
 
-use network_rows::NodeRow;
+use row_types::NodeRow;
 use std::alloc::{AllocError, Global};
 use std::collections::HashMap;
 

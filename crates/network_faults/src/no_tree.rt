@@ -8,7 +8,8 @@ ghost use Rattle.network_paths.specs.Findings.{Finds};
 use crate::each::{Review, check_each, key_at};
 use network::Routed;
 use network_paths::{Room, check_trees};
-use network_rows::{DescFault, Key, NodeRow, Section};
+use network_rows::{DescFault, Key, Section};
+use row_types::NodeRow;
 use std::alloc::Global;
 
 /// Checks that the paths of each virtual link are trees from one source.

@@ -18,7 +18,8 @@ use crate::too_many::check_too_many;
 use crate::unknown::number_rows;
 use crate::unpacking::unpacked;
 use network::Numbered;
-use network_rows::{DescFault, NodeRow, Rows};
+use network_rows::{DescFault, Rows};
+use row_types::NodeRow;
 use std::alloc::{AllocError, Global};
 
 /// Makes the rows with numbers in place of names, if they form a network, and returns its nodes with them.
@@ -42,7 +43,7 @@ fn packed_of(alloc: Global, rows: &Rows) -> Result<PackedRows, DescFault>
 {
     let mut packed = PackedRows::none(alloc, rows)?;
     let names = Names::new(alloc, rows.nodes.as_slice())?;
-    number_rows(&mut packed, &names, rows)?;
+    number_rows(alloc, &mut packed, &names, rows)?;
     Ok(packed)
 }
 
@@ -57,6 +58,7 @@ fn nodes_alone(alloc: Global, rows: Rows) -> Result<Vec<NodeRow>, AllocError>
     let nodes = moved(alloc, rows.nodes.into_vec())?;
     drop(rows.links);
     drop(rows.outages);
+    drop(rows.streams);
     Ok(nodes)
 }
 
@@ -90,6 +92,7 @@ fn check_numbered(alloc: Global, names: &Names, numbered: &Numbered) -> Result<(
         numbered.links.as_slice(),
         numbered.outages.len(),
         numbered.vls.as_slice(),
+        numbered.streams.len(),
     )
 }
 

@@ -14,8 +14,9 @@ ghost use Rattle.network_faults.specs.RowLists.{Gives};
 use crate::each::{Review, key_at, row_at};
 use crate::names::Names;
 use crate::unknown::{check_keys, node_at};
-use network::{Link, Outage};
-use network_rows::{DescFault, Key, Path, Paths, Place, Rows, Section, VirtualLink, VlRow};
+use network::{Link, Outage, VlStream};
+use network_rows::{DescFault, Key, Path, Paths, Place, Rows, Section, VlRow};
+use row_types::VirtualLink;
 use std::alloc::{AllocError, Global};
 
 /// Virtual links, with all their paths packed.
@@ -31,6 +32,7 @@ pub struct PackedRows {
     pub links: Vec<Link>,
     pub outages: Vec<Outage>,
     pub vls: PackedVls,
+    pub streams: Vec<VlStream>,
 }
 
 impl PackedRows {
@@ -44,10 +46,12 @@ impl PackedRows {
             links: Vec::with_capacity(alloc, rows.vls.as_slice().len())?,
             paths: Vec::new(alloc),
         };
+        let streams = Vec::with_capacity(alloc, rows.streams.as_slice().len())?;
         Ok(PackedRows {
             links,
             outages,
             vls,
+            streams,
         })
     }
 }
@@ -115,6 +119,8 @@ impl<'a, 'b> Review for Vls<'a, 'b> {
 
     fn review(&self, packed: &mut PackedVls, i: usize, row: &VlRow) -> Result<(), DescFault> {
         pack_vl(&mut packed.paths, self.names, i, row)?;
+        // The check of the loan of `packed.links` has to see the type of optional keys.
+        let _optional = row.link.own.last_size;
         packed.links.push(row.link)?;
         Ok(())
     }

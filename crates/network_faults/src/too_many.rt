@@ -1,7 +1,7 @@
-//! Finds more processes, ports, outages or destinations than a network may have.
+//! Finds more processes, ports, outages, destinations or rows of streams than a network may have.
 ghost use Rattle.std.specs.Prelude.{◌≡◌, ◌+◌, ◌*◌, ◌≤◌, ⊤, true, length, map, nat_lt, not, ◌&&◌, ◌++◌};
-ghost use Rattle.network.specs.Limits.{greatest_processes, greatest_ports, greatest_outages, greatest_destinations};
-ghost use Rattle.network_rows.specs.declared.key.Section.TheVariants.{Outage};
+ghost use Rattle.network.specs.Limits.{greatest_processes, greatest_ports, greatest_outages, greatest_destinations, greatest_streams};
+ghost use Rattle.network_rows.specs.declared.key.Section.TheVariants.{Outage, Stream};
 ghost use Rattle.network_rows.specs.declared.fault.DescFault.TheVariants.{TooMany};
 ghost use Rattle.network.specs.Wiring.{is_end_system};
 ghost use Rattle.network.specs.Rows.{each, when, top};
@@ -13,10 +13,12 @@ use crate::destinations::destinations_of;
 use crate::each::{Review, check_each, row_at};
 use crate::links::link_counts;
 use network::{
-    GREATEST_DESTINATIONS, GREATEST_OUTAGES, GREATEST_PORTS, GREATEST_PROCESSES, Link, Routed,
+    GREATEST_DESTINATIONS, GREATEST_OUTAGES, GREATEST_PORTS, GREATEST_PROCESSES, GREATEST_STREAMS,
+    Link, Routed,
 };
 use network_paths::is_end_system;
-use network_rows::{DescFault, NodeRow, Place, Section};
+use network_rows::{DescFault, Place, Section};
+use row_types::NodeRow;
 use std::alloc::Global;
 
 /// Whether this number of nodes, and two lines for each of this number of links, are more processes than a network may have.
@@ -82,8 +84,18 @@ impl Review for Vls {
     }
 }
 
+/// Checks that no more rows of streams are there than may be.
+fn check_streams(streams: usize) -> Result<(), DescFault>
+    ensures { Finds result (when (nat_lt greatest_streams streams) (TooMany (record { section = Stream; row = Some (greatest_streams + 1); key = None }))) }
+{
+    if streams > GREATEST_STREAMS {
+        return Err(DescFault::TooMany(row_at(Section::Stream, GREATEST_STREAMS)));
+    }
+    Ok(())
+}
+
 /// Checks that processes, ports, outages and destinations are within their limits.
-pub fn check_too_many(
+fn check_counts(
     alloc: Global,
     nodes: &[NodeRow],
     links: &[Link],
@@ -108,4 +120,24 @@ pub fn check_too_many(
         return Err(DescFault::TooMany(row_at(Section::Outage, GREATEST_OUTAGES)));
     }
     check_each(&Vls { alloc }, &mut (), vls)
+}
+
+/// Checks that processes, ports, outages, destinations and rows of streams are within their limits.
+pub fn check_too_many(
+    alloc: Global,
+    nodes: &[NodeRow],
+    links: &[Link],
+    outages: usize,
+    vls: &[Routed],
+    streams: usize,
+) -> Result<(), DescFault>
+    ensures { Finds result
+        (when (nat_lt greatest_processes (length nodes.now + 2 * length links.now)) (TooMany top)
+        ++ each (too_many_at_node (map node_plan nodes.now) links.now) (map node_plan nodes.now)
+        ++ when (nat_lt greatest_outages outages) (TooMany (record { section = Outage; row = Some (greatest_outages + 1); key = None }))
+        ++ each too_many_at_vl vls.now
+        ++ when (nat_lt greatest_streams streams) (TooMany (record { section = Stream; row = Some (greatest_streams + 1); key = None }))) }
+{
+    check_counts(alloc, nodes, links, outages, vls)?;
+    check_streams(streams)
 }

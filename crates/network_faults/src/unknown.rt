@@ -14,8 +14,11 @@ ghost use Rattle.network_faults.specs.RowLists.{row_lists_in, Gives};
 use crate::each::{Review, check_each, key_at, row_at};
 use crate::names::Names;
 use crate::packing::{PackedRows, Vls};
+use crate::streams::number_streams;
 use network::{Link, Outage};
-use network_rows::{DescFault, Key, LinkRow, NodeRow, OutageRow, Place, Rate, Rows, Section};
+use network_rows::{DescFault, Key, LinkRow, OutageRow, Place, Rows, Section};
+use row_types::{NodeRow, Rate};
+use std::alloc::Global;
 
 /// Checks that the row at this place has no unknown key.
 pub fn check_keys(has_unknown_key: bool, place: Place) -> Result<(), DescFault>
@@ -148,7 +151,12 @@ impl<'a, 'b> Review for Outages<'a, 'b> {
 }
 
 /// Packs the rows with numbers in place of names, if each key and each name is known.
-pub fn number_rows(packed: &mut PackedRows, names: &Names, rows: &Rows) -> Result<(), DescFault>
+pub fn number_rows(
+    alloc: Global,
+    packed: &mut PackedRows,
+    names: &Names,
+    rows: &Rows,
+) -> Result<(), DescFault>
     requires names { names.now.nodes.now ≡ rows.now.nodes }
     requires none { packed_lists_of packed.old ≡ no_lists }
     ensures { Gives (λ _. packed_lists_of packed.new) result (unknown_names rows.now) (packed_lists_in (row_lists_in rows.now)) }
@@ -166,5 +174,6 @@ pub fn number_rows(packed: &mut PackedRows, names: &Names, rows: &Rows) -> Resul
         &mut packed.outages,
         rows.outages.as_slice(),
     )?;
-    check_each(&Vls { names }, &mut packed.vls, rows.vls.as_slice())
+    check_each(&Vls { names }, &mut packed.vls, rows.vls.as_slice())?;
+    number_streams(alloc, &mut packed.streams, rows)
 }

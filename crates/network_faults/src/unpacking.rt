@@ -9,7 +9,7 @@ ghost use Rattle.network_faults.specs.RowLists.{RowLists, row_lists_of};
 use crate::compaction::{join_free_pieces, moved};
 use crate::packing::PackedRows;
 use network::{Numbered, Routed};
-use network_rows::VirtualLink;
+use row_types::VirtualLink;
 use std::alloc::{AllocError, Global};
 
 /// The packed numbers that are left.
@@ -87,6 +87,7 @@ pub fn unpacked(alloc: Global, packed: PackedRows) -> Result<Numbered, AllocErro
 {
     let links = moved(alloc, packed.links)?;
     let outages = moved(alloc, packed.outages)?;
+    let streams = moved(alloc, packed.streams)?;
     join_free_pieces(alloc, packed.vls.links.len())?;
     let vls = vls_of(
         alloc,
@@ -97,5 +98,6 @@ pub fn unpacked(alloc: Global, packed: PackedRows) -> Result<Numbered, AllocErro
         links,
         outages,
         vls,
+        streams,
     })
 }

@@ -1,27 +1,29 @@
 -- The rows that a document means are within the limits.
-use Rattle.std.proofs.Common.{◌≡◌, ℕ, ◌<◌, true, ◌&&◌, List, [], ◌∷◌, All, Option, Some, None, refl, sym, subst, inl, inr, ltb-true}
+use Rattle.std.proofs.Common.{◌≡◌, ℕ, ◌<◌, true, ◌&&◌, List, [], ◌∷◌, All, Option, Some, None, IfSome, refl, sym, subst, inl, inr, ltb-true}
 use Rattle.std.proofs.lemmas.List.Elements.{All-from_recursion, All-nil}
 use Rattle.std.proofs.lemmas.List.Sums.{AllPass-from_list_all}
 use Rattle.std.specs.List.{AllByRecursion, AllZip}
 use Rattle.toml.specs.Data.{Data, Members}
 use Rattle.network_rows.specs.declared.rule.ValueType.{ValueType}
 use Rattle.network_rows.specs.declared.rule.Presence.{Presence}
-use Rattle.network_rows.specs.declared.rule.Presence.TheVariants.{Required, ForSwitches, Optional, OptionalWord}
+use Rattle.network_rows.specs.declared.rule.Presence.TheVariants.{Required, ForSwitches, Optional, OptionalWord, MayBeAbsent}
 use Rattle.network_rows.specs.declared.rule.Rule.{Rule}
-use Rattle.network_rows.specs.declared.rows.NodeKind.{NodeKind}
-use Rattle.network_rows.specs.declared.rows.NodeKind.TheVariants.{EndSystem, Switch}
-use Rattle.network_rows.specs.declared.rows.NodeRow.{NodeRow}
+use Rattle.row_types.specs.declared.rows.NodeKind.{NodeKind}
+use Rattle.row_types.specs.declared.rows.NodeKind.TheVariants.{EndSystem, Switch}
+use Rattle.row_types.specs.declared.rows.NodeRow.{NodeRow}
 use Rattle.network_rows.specs.declared.rows.LinkRow.{LinkRow}
 use Rattle.network_rows.specs.declared.rows.OutageRow.{OutageRow}
-use Rattle.network_rows.specs.declared.rows.VirtualLink.{VirtualLink}
+use Rattle.row_types.specs.declared.rows.Stream.{Stream}
+use Rattle.row_types.specs.declared.rows.StreamRow.{StreamRow}
+use Rattle.row_types.specs.declared.rows.VirtualLink.{VirtualLink}
 use Rattle.network_rows.specs.declared.rows.VlRow.{VlRow}
 use Rattle.network_rows.specs.declared.rows.Rows.{Rows}
 use Rattle.network_rows.specs.Table as keys
 use Rattle.network_rows.specs.Values.{as_number}
 use Rattle.network_rows.specs.ValueTypes.{allows, allows_text, allows_path, is_above}
-use Rattle.network_rows.specs.Rows.{IsAt, IsTextAt, ArePathsAt, IsNumberAt, MeansKind, MeansNode, MeansLink, MeansOutage, MeansVirtualLink, MeansVl, MeansRow, MeansList, MeansRows}
-use Rattle.network_rows.specs.Sound.{IsDefaultWithin, HasNumbers}
-use Rattle.network_rows.specs.Within.{Allows, ArePathsWithin, IsNodeKindWithin, IsNodeWithin, IsLinkWithin, IsOutageWithin, IsVirtualLinkWithin, IsVlWithin, AreWithin}
+use Rattle.network_rows.specs.Rows.{IsAt, IsTextAt, ArePathsAt, IsNumberAt, IsNumberIfAt, MeansKind, MeansNode, MeansLink, MeansOutage, MeansStream, MeansStreamRow, MeansVirtualLink, MeansVl, MeansRow, MeansList, MeansRows}
+use Rattle.network_rows.specs.Sound.{IsDefaultWithin, IsOfNumbers, HasNumbers}
+use Rattle.network_rows.specs.Within.{Allows, ArePathsWithin, IsNodeKindWithin, IsNodeWithin, IsLinkWithin, IsOutageWithin, IsStreamWithin, IsStreamRowWithin, IsVirtualLinkWithin, IsVlWithin, AreWithin}
 use Rattle.network_rows.proofs.Standing.{IsAllowed, number_within, both_true}
 
 -- ---- numbers, texts and paths
@@ -31,6 +33,7 @@ default_within Required value_type n of e = cc
 default_within ForSwitches value_type n of e = cc
 default_within (Optional m) value_type n of e = cc
 default_within (OptionalWord w) value_type n of e = absurd of
+default_within MayBeAbsent value_type n of e = absurd of
 
 same_number : (value_type : ValueType) (d : Data) (n : ℕ) → IsAllowed value_type d → as_number d ≡ Some n → allows value_type n ≡ true
 same_number value_type d n is e = let m = is.is in let allowed = is.allowed in cc
@@ -38,6 +41,10 @@ same_number value_type d n is e = let m = is.is in let allowed = is.allowed in c
 allowed : (rule : Rule) (table : Members) (n : ℕ) → HasNumbers rule → IsNumberAt rule table n → Allows rule n
 allowed rule table n of (inl at) = same_number rule.value_type at.value n (number_within rule.value_type table at.value of.0 at.limit) at.is
 allowed rule table n of (inr default) = default_within rule.presence rule.value_type n of.1 default.default
+
+pub allowed_if : (rule : Rule) (table : Members) (o : Option ℕ) → IsOfNumbers rule.value_type → IsNumberIfAt rule table o → IfSome o (Allows rule)
+allowed_if rule table None of at = tt
+allowed_if rule table (Some n) of at = same_number rule.value_type at.value n (number_within rule.value_type table at.value of at.limit) at.is
 
 text_within : (table : Members) (text : List ℕ) → IsTextAt keys.name table text → allows_text keys.name.value_type text ≡ true
 text_within table text at = rw at.is at at.limit
@@ -81,6 +88,18 @@ outage_within table row means = record {
       (number_there keys.from_ns table row.from_ns refl means.from_ns) (number_there keys.to_ns table row.to_ns refl means.to_ns);
 }
 
+stream_within : (table : Members) (stream : Stream) → MeansStream table stream → IsStreamWithin stream
+stream_within table stream means = record {
+  size = allowed keys.size table stream.size (tt, tt) means.size;
+  frames = allowed keys.frames table stream.frames (tt, refl) means.frames;
+  last_size = allowed_if keys.last_size table stream.last_size tt means.last_size;
+  offset_ns = allowed keys.offset_ns table stream.offset_ns (tt, tt) means.offset_ns;
+  period_ns = allowed keys.period_ns table stream.period_ns (tt, tt) means.period_ns;
+  jitter_ns = allowed keys.jitter_ns table stream.jitter_ns (tt, tt) means.jitter_ns;
+  end_ns = allowed_if keys.end_ns table stream.end_ns tt means.end_ns;
+  sub_vl = allowed_if keys.sub_vl table stream.sub_vl tt means.sub_vl;
+}
+
 virtual_link_within : (table : Members) (link : VirtualLink) → MeansVirtualLink table link → IsVirtualLinkWithin link
 virtual_link_within table link means = record {
   id = allowed keys.id table link.id.0 (tt, tt) means.id;
@@ -90,10 +109,7 @@ virtual_link_within table link means = record {
   skew_max_ns = allowed keys.skew_max_ns table link.skew_max_ns (tt, tt) means.skew_max_ns;
   depth = allowed keys.depth table link.depth (tt, tt) means.depth;
   sub = allowed keys.sub table link.sub (tt, refl) means.sub;
-  size = allowed keys.size table link.size (tt, tt) means.size;
-  offset_ns = allowed keys.offset_ns table link.offset_ns (tt, tt) means.offset_ns;
-  period_ns = allowed keys.period_ns table link.period_ns (tt, tt) means.period_ns;
-  jitter_ns = allowed keys.jitter_ns table link.jitter_ns (tt, tt) means.jitter_ns;
+  own = stream_within table link.own means.own;
 }
 
 vl_within : (table : Members) (row : VlRow) → MeansVl table row → IsVlWithin row
@@ -101,6 +117,12 @@ vl_within table row means = record {
   link = virtual_link_within table row.link means.link;
   a = paths_a_within table row.a means.a;
   b = paths_b_within table row.b means.b;
+}
+
+stream_row_within : (table : Members) (row : StreamRow) → MeansStreamRow table row → IsStreamRowWithin row
+stream_row_within table row means = record {
+  vl = allowed keys.stream_vl table row.vl.0 (tt, tt) means.vl;
+  stream = stream_within table row.stream means.stream;
 }
 
 -- ---- all rows
@@ -124,4 +146,5 @@ rows_within document rows means = record {
   links = list_within MeansLink IsLinkWithin link_within _ rows.links means.links;
   outages = list_within MeansOutage IsOutageWithin outage_within _ rows.outages means.outages;
   vls = list_within MeansVl IsVlWithin vl_within _ rows.vls means.vls;
+  streams = list_within MeansStreamRow IsStreamRowWithin stream_row_within _ rows.streams means.streams;
 }

@@ -8,24 +8,28 @@ use Rattle.vlink.specs.declared.frame.Net.TheVariants as net
 use Rattle.network_rows.specs.declared.key.Word.TheVariants as word
 use Rattle.network_rows.specs.declared.rule.Presence.TheVariants.{Optional}
 use Rattle.network_rows.specs.declared.rule.Rule.{Rule}
-use Rattle.network_rows.specs.declared.rows.NodeKind.{NodeKind}
-use Rattle.network_rows.specs.declared.rows.NodeKind.TheVariants.{EndSystem, Switch}
-use Rattle.network_rows.specs.declared.rows.Rate.{Rate}
-use Rattle.network_rows.specs.declared.rows.Rate.TheVariants.{Mbit10, Mbit100}
-use Rattle.network_rows.specs.declared.rows.Priority.{Priority}
-use Rattle.network_rows.specs.declared.rows.Priority.TheVariants.{High, Low}
-use Rattle.network_rows.specs.declared.rows.Policing.{Policing}
-use Rattle.network_rows.specs.declared.rows.Policing.TheVariants.{Bytes, Frames}
-use Rattle.network_rows.specs.declared.rows.NodeRow.{NodeRow}
+use Rattle.row_types.specs.declared.rows.NodeKind.{NodeKind}
+use Rattle.row_types.specs.declared.rows.NodeKind.TheVariants.{EndSystem, Switch}
+use Rattle.row_types.specs.declared.rows.Rate.{Rate}
+use Rattle.row_types.specs.declared.rows.Rate.TheVariants.{Mbit10, Mbit100}
+use Rattle.row_types.specs.declared.rows.Priority.{Priority}
+use Rattle.row_types.specs.declared.rows.Priority.TheVariants.{High, Low}
+use Rattle.row_types.specs.declared.rows.Policing.{Policing}
+use Rattle.row_types.specs.declared.rows.Policing.TheVariants.{Bytes, Frames}
+use Rattle.row_types.specs.declared.rows.NodeRow.{NodeRow}
 use Rattle.network_rows.specs.declared.rows.LinkRow.{LinkRow}
 use Rattle.network_rows.specs.declared.rows.OutageRow.{OutageRow}
-use Rattle.network_rows.specs.declared.rows.VirtualLink.{VirtualLink}
+use Rattle.row_types.specs.declared.rows.Timing.{Timing}
+use Rattle.row_types.specs.declared.rows.Timing.TheVariants.{Periodic, Sporadic}
+use Rattle.row_types.specs.declared.rows.Stream.{Stream}
+use Rattle.row_types.specs.declared.rows.StreamRow.{StreamRow}
+use Rattle.row_types.specs.declared.rows.VirtualLink.{VirtualLink}
 use Rattle.network_rows.specs.declared.rows.VlRow.{VlRow}
 use Rattle.network_rows.specs.declared.rows.Rows.{Rows}
 use Rattle.network_rows.specs.Table as keys
 use Rattle.network_rows.specs.Keys.{word_text}
 use Rattle.network_rows.specs.Values.{as_number, as_paths, list_of}
-use Rattle.network_rows.specs.Rows.{IsAt, IsDefaultWordAt, IsNumberAt, IsWordOrDefaultAt, word_of_net, word_of_policing, word_of_priority, mbit_of, MeansKind, MeansNode, MeansLink, MeansOutage, MeansVirtualLink, MeansVl, MeansRow, MeansList, MeansRows, Means}
+use Rattle.network_rows.specs.Rows.{IsAt, IsDefaultWordAt, IsNumberAt, IsNumberIfAt, IsWordOrDefaultAt, word_of_net, word_of_policing, word_of_priority, word_of_timing, mbit_of, MeansKind, MeansNode, MeansLink, MeansOutage, MeansStream, MeansStreamRow, MeansVirtualLink, MeansVl, MeansRow, MeansList, MeansRows, Means}
 
 -- ---- one key
 
@@ -42,6 +46,12 @@ one_number rule table m n (inl a) (inl b) = one_value as_number rule table m n a
 one_number rule table m n (inl a) (inr b) = let e : Some a.value ≡ None = sym a.there ∙ b.absent in cc
 one_number rule table m n (inr a) (inl b) = let e : Some b.value ≡ None = sym b.there ∙ a.absent in cc
 one_number rule table m n (inr a) (inr b) = let e : Optional m ≡ Optional n = sym a.default ∙ b.default in cc
+
+one_number_if : (rule : Rule) (table : Members) (o p : Option ℕ) → IsNumberIfAt rule table o → IsNumberIfAt rule table p → o ≡ p
+one_number_if rule table None None a b = refl
+one_number_if rule table None (Some n) a b = let e : Some b.value ≡ None = sym b.there ∙ a in cc
+one_number_if rule table (Some m) None a b = let e : Some a.value ≡ None = sym a.there ∙ b in cc
+one_number_if rule table (Some m) (Some n) a b = ap (λ k. Some k) (one_value as_number rule table m n a b)
 
 -- ---- words
 
@@ -75,6 +85,22 @@ one_policing_at table p q (inl a) (inl b) = one_policing p q (one_value as_str k
 one_policing_at table p q (inl a) (inr b) = let e : Some a.value ≡ None = sym a.there ∙ b.absent in cc
 one_policing_at table p q (inr a) (inl b) = let e : Some b.value ≡ None = sym b.there ∙ a.absent in cc
 one_policing_at table p q (inr a) (inr b) = one_default p table a ∙ sym (one_default q table b)
+
+one_timing : (p q : Timing) → word_text (word_of_timing p) ≡ word_text (word_of_timing q) → p ≡ q
+one_timing Periodic Periodic e = refl
+one_timing Periodic Sporadic e = absurd (apart _ _ refl refl e)
+one_timing Sporadic Periodic e = absurd (apart _ _ refl refl e)
+one_timing Sporadic Sporadic e = refl
+
+periodic_by_default : (p : Timing) (table : Members) → IsDefaultWordAt keys.timing table (word_of_timing p) → p ≡ Periodic
+periodic_by_default Periodic table default = refl
+periodic_by_default Sporadic table default = let e = default.default in cc
+
+one_timing_at : (table : Members) (p q : Timing) → IsWordOrDefaultAt keys.timing table (word_of_timing p) → IsWordOrDefaultAt keys.timing table (word_of_timing q) → p ≡ q
+one_timing_at table p q (inl a) (inl b) = one_timing p q (one_value as_str keys.timing table _ _ a b)
+one_timing_at table p q (inl a) (inr b) = let e : Some a.value ≡ None = sym a.there ∙ b.absent in cc
+one_timing_at table p q (inr a) (inl b) = let e : Some b.value ≡ None = sym b.there ∙ a.absent in cc
+one_timing_at table p q (inr a) (inr b) = periodic_by_default p table a ∙ sym (periodic_by_default q table b)
 
 one_rate : (r s : Rate) → mbit_of r ≡ mbit_of s → r ≡ s
 one_rate Mbit10 Mbit10 e = refl
@@ -123,6 +149,26 @@ one_outage table r s a b = λ i. record {
   has_unknown_key = (a.has_unknown_key ∙ sym b.has_unknown_key) i;
 }
 
+one_stream : (table : Members) (k l : Stream) → MeansStream table k → MeansStream table l → k ≡ l
+one_stream table k l a b = λ i. record {
+  size = one_number keys.size table k.size l.size a.size b.size i;
+  frames = one_number keys.frames table k.frames l.frames a.frames b.frames i;
+  last_size = one_number_if keys.last_size table k.last_size l.last_size a.last_size b.last_size i;
+  offset_ns = one_number keys.offset_ns table k.offset_ns l.offset_ns a.offset_ns b.offset_ns i;
+  period_ns = one_number keys.period_ns table k.period_ns l.period_ns a.period_ns b.period_ns i;
+  jitter_ns = one_number keys.jitter_ns table k.jitter_ns l.jitter_ns a.jitter_ns b.jitter_ns i;
+  timing = one_timing_at table k.timing l.timing a.timing b.timing i;
+  end_ns = one_number_if keys.end_ns table k.end_ns l.end_ns a.end_ns b.end_ns i;
+  sub_vl = one_number_if keys.sub_vl table k.sub_vl l.sub_vl a.sub_vl b.sub_vl i;
+}
+
+one_stream_row : (table : Members) (r s : StreamRow) → MeansStreamRow table r → MeansStreamRow table s → r ≡ s
+one_stream_row table r s a b = λ i. record {
+  vl = record { 0 = one_number keys.stream_vl table r.vl.0 s.vl.0 a.vl b.vl i };
+  stream = one_stream table r.stream s.stream a.stream b.stream i;
+  has_unknown_key = (a.has_unknown_key ∙ sym b.has_unknown_key) i;
+}
+
 one_virtual_link : (table : Members) (k l : VirtualLink) → MeansVirtualLink table k → MeansVirtualLink table l → k ≡ l
 one_virtual_link table k l a b = λ i. record {
   id = record { 0 = one_number keys.id table k.id.0 l.id.0 a.id b.id i };
@@ -134,10 +180,7 @@ one_virtual_link table k l a b = λ i. record {
   skew_max_ns = one_number keys.skew_max_ns table k.skew_max_ns l.skew_max_ns a.skew_max_ns b.skew_max_ns i;
   depth = one_number keys.depth table k.depth l.depth a.depth b.depth i;
   sub = one_number keys.sub table k.sub l.sub a.sub b.sub i;
-  size = one_number keys.size table k.size l.size a.size b.size i;
-  offset_ns = one_number keys.offset_ns table k.offset_ns l.offset_ns a.offset_ns b.offset_ns i;
-  period_ns = one_number keys.period_ns table k.period_ns l.period_ns a.period_ns b.period_ns i;
-  jitter_ns = one_number keys.jitter_ns table k.jitter_ns l.jitter_ns a.jitter_ns b.jitter_ns i;
+  own = one_stream table k.own l.own a.own b.own i;
 }
 
 one_vl : (table : Members) (r s : VlRow) → MeansVl table r → MeansVl table s → r ≡ s
@@ -175,6 +218,7 @@ one_rows document r s a b = λ i. record {
   links = one_list MeansLink one_link _ r.links s.links a.links b.links i;
   outages = one_list MeansOutage one_outage _ r.outages s.outages a.outages b.outages i;
   vls = one_list MeansVl one_vl _ r.vls s.vls a.vls b.vls i;
+  streams = one_list MeansStreamRow one_stream_row _ r.streams s.streams a.streams b.streams i;
   has_unknown_key = (a.has_unknown_key ∙ sym b.has_unknown_key) i;
 }
 

@@ -4,7 +4,7 @@ use Rattle.std.specs.List.{AllByRecursion}
 use Rattle.std.specs.Option.{option_map_or}
 use Rattle.toml.specs.Data.{Data, Items, Members, as_array, as_table, get_member}
 use Rattle.network_rows.specs.declared.key.Section.{Section}
-use Rattle.network_rows.specs.declared.key.Section.TheVariants.{Top, Node, Link, Outage, Vl}
+use Rattle.network_rows.specs.declared.key.Section.TheVariants.{Top, Node, Link, Outage, Vl, Stream}
 use Rattle.network_rows.specs.declared.fault.Place.{Place}
 use Rattle.network_rows.specs.declared.fault.KeyFault.{KeyFault}
 use Rattle.network_rows.specs.declared.fault.KeyFault.TheVariants as sort
@@ -95,3 +95,6 @@ sound_outages document e = sound_list Outage _ (in_lists document e).1.1.0
 
 pub sound_vls : (document : Members) → faults_of_document document ≡ [] → IsSoundList Vl (at Vl document)
 sound_vls document e = sound_list Vl _ (in_lists document e).1.1.1.0
+
+pub sound_streams : (document : Members) → faults_of_document document ≡ [] → IsSoundList Stream (at Stream document)
+sound_streams document e = sound_list Stream _ (in_lists document e).1.1.1.1.0

@@ -8,7 +8,7 @@ use Rattle.network_rows.specs.declared.key.Section.{Section}
 use Rattle.network_rows.specs.declared.key.Section.TheVariants.{Top}
 use Rattle.network_rows.specs.declared.key.Word.TheVariants as word
 use Rattle.network_rows.specs.declared.rule.Presence.{Presence}
-use Rattle.network_rows.specs.declared.rule.Presence.TheVariants.{Required, ForSwitches, Optional, OptionalWord}
+use Rattle.network_rows.specs.declared.rule.Presence.TheVariants.{Required, ForSwitches, Optional, OptionalWord, MayBeAbsent}
 use Rattle.network_rows.specs.declared.rule.Rule.{Rule}
 use Rattle.network_rows.specs.declared.fault.Place.{Place}
 use Rattle.network_rows.specs.declared.fault.KeyFault.{KeyFault}
@@ -28,6 +28,7 @@ applies Required row = true
 applies ForSwitches row = has_word key.Kind word.Switch row
 applies (Optional default) row = true
 applies (OptionalWord default) row = true
+applies MayBeAbsent row = true
 
 -- a row that may have it has to have it
 abbrev pub is_needed : Presence → Bool
@@ -35,6 +36,7 @@ is_needed Required = true
 is_needed ForSwitches = true
 is_needed (Optional default) = false
 is_needed (OptionalWord default) = false
+is_needed MayBeAbsent = false
 
 -- what is wrong with the value at a key: it is absent, of another type, or outside the limit
 abbrev pub fault_of_value : Rule → Members → Option Data → Option KeyFault

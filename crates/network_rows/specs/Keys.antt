@@ -1,7 +1,7 @@
 -- The texts of sections and keys.
 use Rattle.std.specs.Prelude.{ℕ, List, codes}
 use Rattle.network_rows.specs.declared.key.Section.{Section}
-use Rattle.network_rows.specs.declared.key.Section.TheVariants.{Top, Node, Link, Outage, Vl}
+use Rattle.network_rows.specs.declared.key.Section.TheVariants.{Top, Node, Link, Outage, Vl, Stream}
 use Rattle.network_rows.specs.declared.key.Key.{Key}
 use Rattle.network_rows.specs.declared.key.Key.TheVariants as key
 use Rattle.network_rows.specs.declared.key.Word.{Word}
@@ -13,6 +13,7 @@ section_text Node = codes "node"
 section_text Link = codes "link"
 section_text Outage = codes "outage"
 section_text Vl = codes "vl"
+section_text Stream = codes "stream"
 
 abbrev pub key_text : Key → List ℕ
 key_text key.UntilNs = codes "until_ns"
@@ -40,9 +41,15 @@ key_text key.SkewMaxNs = codes "skew_max_ns"
 key_text key.Depth = codes "depth"
 key_text key.Sub = codes "sub"
 key_text key.Size = codes "size"
+key_text key.Frames = codes "frames"
+key_text key.LastSize = codes "last_size"
 key_text key.OffsetNs = codes "offset_ns"
 key_text key.PeriodNs = codes "period_ns"
 key_text key.JitterNs = codes "jitter_ns"
+key_text key.Timing = codes "timing"
+key_text key.EndNs = codes "end_ns"
+key_text key.SubVl = codes "sub_vl"
+key_text key.Vl = codes "vl"
 
 abbrev pub word_text : Word → List ℕ
 word_text word.Es = codes "es"
@@ -53,3 +60,5 @@ word_text word.High = codes "high"
 word_text word.Low = codes "low"
 word_text word.Bytes = codes "bytes"
 word_text word.Frames = codes "frames"
+word_text word.Periodic = codes "periodic"
+word_text word.Sporadic = codes "sporadic"

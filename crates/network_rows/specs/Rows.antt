@@ -7,23 +7,27 @@ use Rattle.toml.specs.Parse.{parse_document}
 use Rattle.vlink.specs.declared.frame.Net.{Net}
 use Rattle.vlink.specs.declared.frame.Net.TheVariants as net
 use Rattle.network_rows.specs.declared.key.Section.{Section}
-use Rattle.network_rows.specs.declared.key.Section.TheVariants.{Top, Node, Link, Outage, Vl}
+use Rattle.network_rows.specs.declared.key.Section.TheVariants.{Top, Node, Link, Outage, Vl, Stream}
 use Rattle.network_rows.specs.declared.key.Word.{Word}
 use Rattle.network_rows.specs.declared.key.Word.TheVariants as word
 use Rattle.network_rows.specs.declared.rule.Presence.TheVariants.{Optional, OptionalWord}
 use Rattle.network_rows.specs.declared.rule.Rule.{Rule}
-use Rattle.network_rows.specs.declared.rows.NodeKind.{NodeKind}
-use Rattle.network_rows.specs.declared.rows.NodeKind.TheVariants.{EndSystem, Switch}
-use Rattle.network_rows.specs.declared.rows.Rate.{Rate}
-use Rattle.network_rows.specs.declared.rows.Rate.TheVariants.{Mbit10, Mbit100}
-use Rattle.network_rows.specs.declared.rows.Priority.{Priority}
-use Rattle.network_rows.specs.declared.rows.Priority.TheVariants.{High, Low}
-use Rattle.network_rows.specs.declared.rows.Policing.{Policing}
-use Rattle.network_rows.specs.declared.rows.Policing.TheVariants.{Bytes, Frames}
-use Rattle.network_rows.specs.declared.rows.NodeRow.{NodeRow}
+use Rattle.row_types.specs.declared.rows.NodeKind.{NodeKind}
+use Rattle.row_types.specs.declared.rows.NodeKind.TheVariants.{EndSystem, Switch}
+use Rattle.row_types.specs.declared.rows.Rate.{Rate}
+use Rattle.row_types.specs.declared.rows.Rate.TheVariants.{Mbit10, Mbit100}
+use Rattle.row_types.specs.declared.rows.Priority.{Priority}
+use Rattle.row_types.specs.declared.rows.Priority.TheVariants.{High, Low}
+use Rattle.row_types.specs.declared.rows.Policing.{Policing}
+use Rattle.row_types.specs.declared.rows.Policing.TheVariants.{Bytes, Frames}
+use Rattle.row_types.specs.declared.rows.NodeRow.{NodeRow}
 use Rattle.network_rows.specs.declared.rows.LinkRow.{LinkRow}
 use Rattle.network_rows.specs.declared.rows.OutageRow.{OutageRow}
-use Rattle.network_rows.specs.declared.rows.VirtualLink.{VirtualLink}
+use Rattle.row_types.specs.declared.rows.Timing.{Timing}
+use Rattle.row_types.specs.declared.rows.Timing.TheVariants.{Periodic, Sporadic}
+use Rattle.row_types.specs.declared.rows.Stream as row
+use Rattle.row_types.specs.declared.rows.StreamRow.{StreamRow}
+use Rattle.row_types.specs.declared.rows.VirtualLink.{VirtualLink}
 use Rattle.network_rows.specs.declared.rows.VlRow.{VlRow}
 use Rattle.network_rows.specs.declared.rows.Rows.{Rows}
 use Rattle.network_rows.specs.Table as keys
@@ -58,6 +62,11 @@ pub record IsDefaultAt (rule : Rule) (table : Members) (n : ℕ) : Type 0 where
 
 abbrev pub IsNumberAt : Rule → Members → ℕ → Type 0
 IsNumberAt rule table n = IsAt as_number rule table n ⊎ IsDefaultAt rule table n
+
+-- the key is absent, and there is no number; or the number stands there
+abbrev pub IsNumberIfAt : Rule → Members → Option ℕ → Type 0
+IsNumberIfAt rule table None = value_at rule.key table ≡ None
+IsNumberIfAt rule table (Some n) = IsAt as_number rule table n
 
 -- the key is absent, and the word is the default that the line gives
 pub record IsDefaultWordAt (rule : Rule) (table : Members) (w : Word) : Type 0 where
@@ -102,6 +111,10 @@ abbrev pub word_of_policing : Policing → Word
 word_of_policing Bytes = word.Bytes
 word_of_policing Frames = word.Frames
 
+abbrev pub word_of_timing : Timing → Word
+word_of_timing Periodic = word.Periodic
+word_of_timing Sporadic = word.Sporadic
+
 abbrev pub mbit_of : Rate → ℕ
 mbit_of Mbit10 = 10
 mbit_of Mbit100 = 100
@@ -131,6 +144,17 @@ pub record MeansOutage (table : Members) (row : OutageRow) : Type 0 where
   pub to_ns : IsNumberAt keys.to_ns table row.to_ns
   pub has_unknown_key : row.has_unknown_key ≡ has_unknown_key Outage table
 
+pub record MeansStream (table : Members) (stream : row.Stream) : Type 0 where
+  pub size : IsNumberAt keys.size table stream.size
+  pub frames : IsNumberAt keys.frames table stream.frames
+  pub last_size : IsNumberIfAt keys.last_size table stream.last_size
+  pub offset_ns : IsNumberAt keys.offset_ns table stream.offset_ns
+  pub period_ns : IsNumberAt keys.period_ns table stream.period_ns
+  pub jitter_ns : IsNumberAt keys.jitter_ns table stream.jitter_ns
+  pub timing : IsWordOrDefaultAt keys.timing table (word_of_timing stream.timing)
+  pub end_ns : IsNumberIfAt keys.end_ns table stream.end_ns
+  pub sub_vl : IsNumberIfAt keys.sub_vl table stream.sub_vl
+
 pub record MeansVirtualLink (table : Members) (link : VirtualLink) : Type 0 where
   pub id : IsNumberAt keys.id table link.id.0
   pub bag_ms : IsNumberAt keys.bag_ms table link.bag_ms
@@ -141,16 +165,18 @@ pub record MeansVirtualLink (table : Members) (link : VirtualLink) : Type 0 wher
   pub skew_max_ns : IsNumberAt keys.skew_max_ns table link.skew_max_ns
   pub depth : IsNumberAt keys.depth table link.depth
   pub sub : IsNumberAt keys.sub table link.sub
-  pub size : IsNumberAt keys.size table link.size
-  pub offset_ns : IsNumberAt keys.offset_ns table link.offset_ns
-  pub period_ns : IsNumberAt keys.period_ns table link.period_ns
-  pub jitter_ns : IsNumberAt keys.jitter_ns table link.jitter_ns
+  pub own : MeansStream table link.own
 
 pub record MeansVl (table : Members) (row : VlRow) : Type 0 where
   pub link : MeansVirtualLink table row.link
   pub a : ArePathsAt keys.paths_a table row.a
   pub b : ArePathsAt keys.paths_b table row.b
   pub has_unknown_key : row.has_unknown_key ≡ has_unknown_key Vl table
+
+pub record MeansStreamRow (table : Members) (row : StreamRow) : Type 0 where
+  pub vl : IsNumberAt keys.stream_vl table row.vl.0
+  pub stream : MeansStream table row.stream
+  pub has_unknown_key : row.has_unknown_key ≡ has_unknown_key Stream table
 
 -- ---- lists of rows
 
@@ -173,6 +199,7 @@ pub record MeansRows (document : Members) (rows : Rows) : Type 0 where
   pub links : MeansSection MeansLink Link document rows.links
   pub outages : MeansSection MeansOutage Outage document rows.outages
   pub vls : MeansSection MeansVl Vl document rows.vls
+  pub streams : MeansSection MeansStreamRow Stream document rows.streams
   pub has_unknown_key : rows.has_unknown_key ≡ has_unknown_key Top document
 
 -- the text means a document without a fault of a key, and these are its rows

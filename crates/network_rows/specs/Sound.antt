@@ -6,11 +6,11 @@ use Rattle.network_rows.specs.declared.key.Section.{Section}
 use Rattle.network_rows.specs.declared.rule.ValueType.{ValueType}
 use Rattle.network_rows.specs.declared.rule.ValueType.TheVariants.{Integer, IntegerAbove, OneOf, EitherInteger, EitherWord, NodeName, Reference, Paths}
 use Rattle.network_rows.specs.declared.rule.Presence.{Presence}
-use Rattle.network_rows.specs.declared.rule.Presence.TheVariants.{Required, ForSwitches, Optional, OptionalWord}
+use Rattle.network_rows.specs.declared.rule.Presence.TheVariants.{Required, ForSwitches, Optional, OptionalWord, MayBeAbsent}
 use Rattle.network_rows.specs.declared.rule.Rule.{Rule}
 use Rattle.network_rows.specs.Values.{value_at, list_of}
 use Rattle.network_rows.specs.ValueTypes.{allows}
-use Rattle.network_rows.specs.Table.{keys_of}
+use Rattle.network_rows.specs.Table.{keys_of, stream_keys}
 use Rattle.network_rows.specs.Faults.{fault_of_value, fault_in}
 
 -- nothing is wrong with what a table has at the key of a line that applies to it
@@ -19,6 +19,10 @@ IsSoundAt rule table = fault_of_value rule table (value_at rule.key table) ≡ N
 
 abbrev pub IsSoundTable : Section → Members → Type 0
 IsSoundTable section table = AllByRecursion (λ rule. fault_in rule table ≡ None) (keys_of section)
+
+-- nothing is wrong with the keys of a stream
+abbrev pub IsSoundStream : Members → Type 0
+IsSoundStream table = AllByRecursion (λ rule. fault_in rule table ≡ None) stream_keys
 
 abbrev pub IsSoundRow : Section → Data → Type 0
 IsSoundRow section d = (table : Members) × (as_table d ≡ Some table) × IsSoundTable section table
@@ -47,6 +51,7 @@ IsDefaultWithin Required value_type = ⊤
 IsDefaultWithin ForSwitches value_type = ⊤
 IsDefaultWithin (Optional n) value_type = allows value_type n ≡ true
 IsDefaultWithin (OptionalWord word) value_type = ⊥
+IsDefaultWithin MayBeAbsent value_type = ⊥
 
 -- the line is one of numbers
 abbrev pub HasNumbers : Rule → Type 0

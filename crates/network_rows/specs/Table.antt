@@ -3,14 +3,14 @@
 use Rattle.std.specs.Prelude.{List, [], ◌∷◌}
 use Rattle.vlink.specs.declared.time.TheConstants.{LATEST_NS}
 use Rattle.network_rows.specs.declared.key.Section.{Section}
-use Rattle.network_rows.specs.declared.key.Section.TheVariants.{Top, Node, Link, Outage, Vl}
+use Rattle.network_rows.specs.declared.key.Section.TheVariants.{Top, Node, Link, Outage, Vl, Stream}
 use Rattle.network_rows.specs.declared.key.Key.{Key}
 use Rattle.network_rows.specs.declared.key.Key.TheVariants as key
 use Rattle.network_rows.specs.declared.key.Word.TheVariants as word
 use Rattle.network_rows.specs.declared.rule.ValueType.{ValueType}
 use Rattle.network_rows.specs.declared.rule.ValueType.TheVariants.{Integer, IntegerAbove, OneOf, EitherInteger, EitherWord, NodeName, Reference, Paths}
 use Rattle.network_rows.specs.declared.rule.Presence.{Presence}
-use Rattle.network_rows.specs.declared.rule.Presence.TheVariants.{Required, ForSwitches, Optional, OptionalWord}
+use Rattle.network_rows.specs.declared.rule.Presence.TheVariants.{Required, ForSwitches, Optional, OptionalWord, MayBeAbsent}
 use Rattle.network_rows.specs.declared.rule.Rule.{Rule}
 
 abbrev pub asks : Key → Presence → ValueType → Rule
@@ -98,8 +98,16 @@ depth = asks key.Depth Required (Integer 1 1024)
 abbrev pub sub : Rule
 sub = asks key.Sub (Optional 1) (Integer 1 4)
 
+-- ---- of a stream: of the one that a row of vl has, and of a row of stream
+
 abbrev pub size : Rule
 size = asks key.Size Required (Integer 64 1518)
+
+abbrev pub frames : Rule
+frames = asks key.Frames (Optional 1) (Integer 1 64)
+
+abbrev pub last_size : Rule
+last_size = asks key.LastSize MayBeAbsent (Integer 64 1518)
 
 abbrev pub offset_ns : Rule
 offset_ns = asks key.OffsetNs Required (Integer 0 LATEST_NS)
@@ -109,6 +117,20 @@ period_ns = asks key.PeriodNs Required (Integer 1000 LATEST_NS)
 
 abbrev pub jitter_ns : Rule
 jitter_ns = asks key.JitterNs Required (Integer 0 1000000000)
+
+abbrev pub timing : Rule
+timing = asks key.Timing (OptionalWord word.Periodic) (EitherWord word.Periodic word.Sporadic)
+
+abbrev pub end_ns : Rule
+end_ns = asks key.EndNs MayBeAbsent (Integer 0 LATEST_NS)
+
+abbrev pub sub_vl : Rule
+sub_vl = asks key.SubVl MayBeAbsent (Integer 0 3)
+
+abbrev pub stream_vl : Rule
+stream_vl = asks key.Vl Required (Integer 0 65535)
+
+-- ---- vl again
 
 abbrev pub paths_a : Rule
 paths_a = asks key.A Required (Paths 3 32)
@@ -120,7 +142,10 @@ paths_b = asks key.B Required (Paths 3 32)
 
 -- the sections that are lists of tables; the top table comes before them
 abbrev pub lists : List Section
-lists = Node ∷ Link ∷ Outage ∷ Vl ∷ []
+lists = Node ∷ Link ∷ Outage ∷ Vl ∷ Stream ∷ []
+
+abbrev pub stream_keys : List Rule
+stream_keys = size ∷ frames ∷ last_size ∷ offset_ns ∷ period_ns ∷ jitter_ns ∷ timing ∷ end_ns ∷ sub_vl ∷ []
 
 abbrev pub keys_of : Section → List Rule
 keys_of Top = until_ns ∷ seed ∷ []
@@ -128,4 +153,6 @@ keys_of Node = name ∷ kind ∷ port_bytes ∷ net ∷ latency_ns ∷ []
 keys_of Link = link_a ∷ link_b ∷ mbit ∷ propagation_ns ∷ []
 keys_of Outage = from ∷ to ∷ from_ns ∷ to_ns ∷ []
 keys_of Vl =
-    id ∷ bag_ms ∷ smax ∷ priority ∷ policing_jitter_ns ∷ policing ∷ skew_max_ns ∷ depth ∷ sub ∷ size ∷ offset_ns ∷ period_ns ∷ jitter_ns ∷ paths_a ∷ paths_b ∷ []
+    id ∷ bag_ms ∷ smax ∷ priority ∷ policing_jitter_ns ∷ policing ∷ skew_max_ns ∷ depth ∷ sub ∷ size ∷ frames ∷ last_size ∷ offset_ns ∷ period_ns ∷ jitter_ns ∷ timing ∷ end_ns ∷ sub_vl
+    ∷ paths_a ∷ paths_b ∷ []
+keys_of Stream = stream_vl ∷ size ∷ frames ∷ last_size ∷ offset_ns ∷ period_ns ∷ jitter_ns ∷ timing ∷ end_ns ∷ sub_vl ∷ []

@@ -10,6 +10,7 @@ pub enum Section {
     Link,
     Outage,
     Vl,
+    Stream,
 }
 
 /// A key of a description.
@@ -40,9 +41,15 @@ pub enum Key {
     Depth,
     Sub,
     Size,
+    Frames,
+    LastSize,
     OffsetNs,
     PeriodNs,
     JitterNs,
+    Timing,
+    EndNs,
+    SubVl,
+    Vl,
 }
 
 /// A word that a description uses as a value.
@@ -56,6 +63,8 @@ pub enum Word {
     Low,
     Bytes,
     Frames,
+    Periodic,
+    Sporadic,
 }
 
 impl Section {
@@ -69,6 +78,7 @@ impl Section {
             Section::Link => "link",
             Section::Outage => "outage",
             Section::Vl => "vl",
+            Section::Stream => "stream",
         }
     }
 }
@@ -104,9 +114,15 @@ impl Key {
             Key::Depth => "depth",
             Key::Sub => "sub",
             Key::Size => "size",
+            Key::Frames => "frames",
+            Key::LastSize => "last_size",
             Key::OffsetNs => "offset_ns",
             Key::PeriodNs => "period_ns",
             Key::JitterNs => "jitter_ns",
+            Key::Timing => "timing",
+            Key::EndNs => "end_ns",
+            Key::SubVl => "sub_vl",
+            Key::Vl => "vl",
         }
     }
 }
@@ -125,6 +141,8 @@ impl Word {
             Word::Low => "low",
             Word::Bytes => "bytes",
             Word::Frames => "frames",
+            Word::Periodic => "periodic",
+            Word::Sporadic => "sporadic",
         }
     }
 }

@@ -16,7 +16,10 @@ impl Rule {
         ensures { result ≡ applies self.now.presence (table_view row.now) }
     {
         match self.presence {
-            Presence::Required | Presence::Optional(_) | Presence::OptionalWord(_) => true,
+            Presence::Required
+            | Presence::Optional(_)
+            | Presence::OptionalWord(_)
+            | Presence::MayBeAbsent => true,
             Presence::ForSwitches => has_word(row, Key::Kind, Word::Switch),
         }
     }
@@ -27,7 +30,7 @@ impl Rule {
     {
         match self.presence {
             Presence::Required | Presence::ForSwitches => true,
-            Presence::Optional(_) | Presence::OptionalWord(_) => false,
+            Presence::Optional(_) | Presence::OptionalWord(_) | Presence::MayBeAbsent => false,
         }
     }
 

@@ -7,7 +7,6 @@ mod first_places;
 mod key;
 mod key_fault;
 mod make_row;
-mod name;
 mod paths;
 mod read;
 mod read_row;
@@ -23,10 +22,10 @@ mod value_type;
 
 pub use fault::{DescFault, Place};
 pub use key::{Key, Section};
-pub use name::Name;
 pub use paths::{Path, Paths};
 pub use read::read_rows;
-pub use rows::{
-    LinkRow, NodeKind, NodeRow, OutageRow, Policing, Priority, Rate, Rows, VirtualLink, VlRow,
+pub use row_types::{
+    Name, NodeKind, NodeRow, Policing, Priority, Rate, Stream, StreamRow, Timing, VirtualLink,
 };
+pub use rows::{LinkRow, OutageRow, Rows, VlRow};
 pub use sequence::Sequence;

@@ -1,19 +1,21 @@
 //! Makes the rows of each section from tables without a fault. Numbers and words are read; names and paths are moved out of the table.
 ghost use Rattle.toml.specs.View.{table_view};
+ghost use Rattle.network_rows.specs.declared.key.Section.TheVariants as section;
 ghost use Rattle.network_rows.specs.declared.key.Section.TheVariants.{Node, Link, Outage, Vl};
-ghost use Rattle.network_rows.specs.Table.{mbit, policing, priority};
-ghost use Rattle.network_rows.specs.Sound.{IsSoundAt, IsSoundTable};
-ghost use Rattle.network_rows.specs.Rows.{IsNumberAt, IsWordAt, IsWordOrDefaultAt, mbit_of, word_of_policing, word_of_priority, MeansKind, MeansNode, MeansLink, MeansOutage, MeansVirtualLink, MeansVl};
+ghost use Rattle.network_rows.specs.Table.{mbit, policing, priority, timing};
+ghost use Rattle.network_rows.specs.Sound.{IsSoundAt, IsSoundStream, IsSoundTable};
+ghost use Rattle.network_rows.specs.Rows.{IsNumberAt, IsWordAt, IsWordOrDefaultAt, mbit_of, word_of_policing, word_of_priority, word_of_timing, MeansKind, MeansNode, MeansLink, MeansOutage, MeansStream, MeansStreamRow, MeansVirtualLink, MeansVl};
 
 use crate::key::{Key, Section, Word};
-use crate::read_value::{name_of, number_at, paths_of};
-use crate::rows::{
-    LinkRow, NodeKind, NodeRow, OutageRow, Policing, Priority, Rate, VirtualLink, VlRow,
-};
+use crate::read_value::{name_of, number_at, number_if, paths_of, size_if};
+use crate::rows::{LinkRow, OutageRow, VlRow};
 use crate::table;
 use crate::take::take_value;
 use crate::unknown::has_unknown_key;
 use crate::value::has_word;
+use row_types::{
+    NodeKind, NodeRow, Policing, Priority, Rate, Stream, StreamRow, Timing, VirtualLink,
+};
 use toml::Table;
 use vlink::{FrameSize, Net, VlId};
 
@@ -90,10 +92,52 @@ fn virtual_link(row: &Table) -> VirtualLink
         skew_max_ns: number_at(table::SKEW_MAX_NS, row) as u32,
         depth: number_at(table::DEPTH, row) as u16,
         sub: number_at(table::SUB, row) as u8,
+        own: stream(row),
+    }
+}
+
+/// Makes the stream of a row.
+pub fn stream_of(row: Table) -> StreamRow
+    requires { IsSoundTable section.Stream (table_view row) }
+    ensures { MeansStreamRow (table_view row) result }
+{
+    StreamRow {
+        vl: VlId(number_at(table::STREAM_VL, &row) as u16),
+        stream: stream(&row),
+        has_unknown_key: has_unknown_key(Section::Stream, &row),
+    }
+}
+
+// Reads what a row states of its stream.
+fn stream(row: &Table) -> Stream
+    requires { IsSoundStream (table_view row.now) }
+    ensures { MeansStream (table_view row.now) result }
+{
+    Stream {
         size: FrameSize::new(number_at(table::SIZE, row) as u16).unwrap(),
+        frames: number_at(table::FRAMES, row) as u8,
+        last_size: size_if(table::LAST_SIZE, row),
         offset_ns: number_at(table::OFFSET_NS, row),
         period_ns: number_at(table::PERIOD_NS, row),
         jitter_ns: number_at(table::JITTER_NS, row) as u32,
+        timing: timing(row),
+        end_ns: number_if(table::END_NS, row),
+        sub_vl: match number_if(table::SUB_VL, row) {
+            Some(n) => Some(n as u8),
+            None => None,
+        },
+    }
+}
+
+// Reads when the bursts of the stream of a row come.
+fn timing(row: &Table) -> Timing
+    requires { IsSoundAt timing (table_view row.now) }
+    ensures { IsWordOrDefaultAt timing (table_view row.now) (word_of_timing result) }
+{
+    if has_word(row, Key::Timing, Word::Sporadic) {
+        Timing::Sporadic
+    } else {
+        Timing::Periodic
     }
 }
 

@@ -4,19 +4,20 @@ ghost use Rattle.std.specs.List.{AllZip};
 ghost use Rattle.toml.specs.Data.{Members};
 ghost use Rattle.toml.specs.View.{view, table_view};
 ghost use Rattle.network_rows.specs.declared.key.Section.{Section};
-ghost use Rattle.network_rows.specs.declared.key.Section.TheVariants.{Node, Link, Outage, Vl};
+ghost use Rattle.network_rows.specs.declared.key.Section.TheVariants.{Node, Link, Outage, Vl, Stream};
 ghost use Rattle.network_rows.specs.Faults.{faults_of_document};
 ghost use Rattle.network_rows.specs.Sound.{IsSoundTable, IsSoundRow, IsSoundList};
-ghost use Rattle.network_rows.specs.Rows.{MeansNode, MeansLink, MeansOutage, MeansVl, MeansRow, MeansList, MeansRows};
+ghost use Rattle.network_rows.specs.Rows.{MeansNode, MeansLink, MeansOutage, MeansVl, MeansStreamRow, MeansRow, MeansList, MeansRows};
 
 use crate::key::Section;
-use crate::make_row::{link_of, node_of, outage_of, vl_of};
+use crate::make_row::{link_of, node_of, outage_of, stream_of, vl_of};
 use crate::read_value::number_at;
-use crate::rows::{LinkRow, NodeRow, OutageRow, Rows, VlRow};
+use crate::rows::{LinkRow, OutageRow, Rows, VlRow};
 use crate::sequence::Sequence;
 use crate::table;
 use crate::take::take_list;
 use crate::unknown::has_unknown_key;
+use row_types::{NodeRow, StreamRow};
 use std::alloc::{AllocError, Global};
 use toml::{Table, Value};
 use vlink::Time;
@@ -33,6 +34,7 @@ pub fn rows(alloc: Global, document: &mut Table) -> Result<Rows, AllocError>
     let links = rows_in::<LinkRow>(alloc, take_list(document, Section::Link))?;
     let outages = rows_in::<OutageRow>(alloc, take_list(document, Section::Outage))?;
     let vls = rows_in::<VlRow>(alloc, take_list(document, Section::Vl))?;
+    let streams = rows_in::<StreamRow>(alloc, take_list(document, Section::Stream))?;
     Ok(Rows {
         until,
         seed,
@@ -40,6 +42,7 @@ pub fn rows(alloc: Global, document: &mut Table) -> Result<Rows, AllocError>
         links,
         outages,
         vls,
+        streams,
         has_unknown_key,
     })
 }
@@ -140,5 +143,15 @@ impl ReadRow for VlRow {
 
     fn read(row: Table) -> Self {
         vl_of(row)
+    }
+}
+
+impl ReadRow for StreamRow {
+    ghost section = { Stream };
+
+    ghost means = { MeansStreamRow };
+
+    fn read(row: Table) -> Self {
+        stream_of(row)
     }
 }

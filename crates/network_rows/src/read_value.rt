@@ -1,19 +1,21 @@
 //! Reads the values at the keys of a table without a fault, and makes values of rows of them.
-ghost use Rattle.std.specs.Prelude.{◌≡◌, true, false, Some, is_some, option_map, option_and_then};
+ghost use Rattle.std.specs.Prelude.{◌≡◌, true, false, Some, IfSome, is_some, option_map, option_and_then};
 ghost use Rattle.toml.specs.Data.{as_str};
 ghost use Rattle.toml.specs.View.{view, table_view};
-ghost use Rattle.network_rows.specs.declared.rule.Presence.TheVariants.{Optional};
+ghost use Rattle.network_rows.specs.declared.rule.Presence.TheVariants.{MayBeAbsent, Optional};
+ghost use Rattle.network_rows.specs.declared.rule.ValueType.TheVariants.{Integer};
 ghost use Rattle.network_rows.specs.Values.{as_paths};
 ghost use Rattle.network_rows.specs.Faults.{is_needed};
-ghost use Rattle.network_rows.specs.Sound.{IsSoundAt, HasNumbers};
-ghost use Rattle.network_rows.specs.Rows.{IsNumberAt};
+ghost use Rattle.network_rows.specs.Sound.{IsOfNumbers, IsSoundAt, HasNumbers};
+ghost use Rattle.network_rows.specs.Rows.{IsNumberAt, IsNumberIfAt};
 ghost use Rattle.network_rows.specs.Within.{Allows};
 
-use crate::name::Name;
 use crate::paths::Paths;
 use crate::rule::{Presence, Rule};
 use crate::value::number_in;
+use row_types::Name;
 use toml::{Table, Value};
+use vlink::FrameSize;
 
 /// Returns the number at this key, or the default if the key is optional and absent.
 pub fn number_at(rule: Rule, row: &Table) -> u64
@@ -37,9 +39,35 @@ impl Rule {
     {
         match self.presence {
             Presence::Optional(default) => default,
-            Presence::Required | Presence::ForSwitches | Presence::OptionalWord(_) =>
-                unreachable!(),
+            Presence::Required
+            | Presence::ForSwitches
+            | Presence::OptionalWord(_)
+            | Presence::MayBeAbsent => unreachable!(),
         }
+    }
+}
+
+/// Returns the number at this key, if the row has the key.
+pub fn number_if(rule: Rule, row: &Table) -> Option<u64>
+    requires numbers { IsOfNumbers rule.value_type }
+    requires sound { IsSoundAt rule (table_view row.now) }
+    requires absent { rule.presence ≡ MayBeAbsent }
+    ensures number { IsNumberIfAt rule (table_view row.now) result }
+    ensures within { IfSome result (Allows rule) }
+{
+    number_in(row, rule.key)
+}
+
+/// Returns the size at this key, if the row has the key.
+pub fn size_if(rule: Rule, row: &Table) -> Option<FrameSize>
+    requires numbers { rule.value_type ≡ Integer 64 1518 }
+    requires sound { IsSoundAt rule (table_view row.now) }
+    requires absent { rule.presence ≡ MayBeAbsent }
+    ensures { IsNumberIfAt rule (table_view row.now) result }
+{
+    match number_if(rule, row) {
+        Some(n) => Some(FrameSize::new(n as u16).unwrap()),
+        None => None,
     }
 }
 

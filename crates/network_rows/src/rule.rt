@@ -12,6 +12,8 @@ pub enum Presence {
     Optional(u64),
     /// Each row may have it. An absent key means this word.
     OptionalWord(Word),
+    /// Each row may have it. An absent key means no value.
+    MayBeAbsent,
 }
 
 /// What the value at a key must be: its type, and with it the limit.

@@ -2,9 +2,9 @@
 ghost use Rattle.std.specs.Prelude.{◌≡◌};
 ghost use Rattle.network_rows.specs.Table.{keys_of};
 
-use crate::key::Word::{A, B, Bytes, Es, Frames, High, Low, Switch};
+use crate::key::Word::{A, B, Bytes, Es, Frames, High, Low, Periodic, Sporadic, Switch};
 use crate::key::{Key, Section};
-use crate::rule::Presence::{ForSwitches, Optional, OptionalWord, Required};
+use crate::rule::Presence::{ForSwitches, MayBeAbsent, Optional, OptionalWord, Required};
 use crate::rule::Rule;
 use crate::rule::ValueType::{
     EitherInteger, EitherWord, Integer, IntegerAbove, NodeName, OneOf, Paths, Reference,
@@ -23,7 +23,13 @@ macro_rules! rule {
 }
 
 /// The sections that are lists of tables, in the order of checks.
-pub const LISTS: [Section; 4] = [Section::Node, Section::Link, Section::Outage, Section::Vl];
+pub const LISTS: [Section; 5] = [
+    Section::Node,
+    Section::Link,
+    Section::Outage,
+    Section::Vl,
+    Section::Stream,
+];
 
 /// One second in ns: the greatest latency, propagation time, skew or jitter.
 pub const SECOND_NS: u64 = 1_000_000_000;
@@ -85,11 +91,27 @@ pub const SUB: Rule = rule!(Sub, Optional(1), Integer(1, 4));
 
 pub const SIZE: Rule = rule!(Size, Required, Integer(LEAST_FRAME, GREATEST_FRAME));
 
+pub const FRAMES: Rule = rule!(Frames, Optional(1), Integer(1, 64));
+
+pub const LAST_SIZE: Rule = rule!(LastSize, MayBeAbsent, Integer(LEAST_FRAME, GREATEST_FRAME));
+
 pub const OFFSET_NS: Rule = rule!(OffsetNs, Required, Integer(0, LATEST_NS));
 
 pub const PERIOD_NS: Rule = rule!(PeriodNs, Required, Integer(1000, LATEST_NS));
 
 pub const JITTER_NS: Rule = rule!(JitterNs, Required, Integer(0, SECOND_NS));
+
+pub const TIMING: Rule = rule!(
+    Timing,
+    OptionalWord(Periodic),
+    EitherWord(Periodic, Sporadic)
+);
+
+pub const END_NS: Rule = rule!(EndNs, MayBeAbsent, Integer(0, LATEST_NS));
+
+pub const SUB_VL: Rule = rule!(SubVl, MayBeAbsent, Integer(0, 3));
+
+pub const STREAM_VL: Rule = rule!(Vl, Required, Integer(0, 65_535));
 
 pub const PATHS_A: Rule = rule!(A, Required, Paths(3, 32));
 
@@ -103,7 +125,7 @@ const LINK_KEYS: [Rule; 4] = [LINK_A, LINK_B, MBIT, PROPAGATION_NS];
 
 const OUTAGE_KEYS: [Rule; 4] = [FROM, TO, FROM_NS, TO_NS];
 
-const VL_KEYS: [Rule; 15] = [
+const VL_KEYS: [Rule; 20] = [
     ID,
     BAG_MS,
     SMAX,
@@ -114,11 +136,20 @@ const VL_KEYS: [Rule; 15] = [
     DEPTH,
     SUB,
     SIZE,
+    FRAMES,
+    LAST_SIZE,
     OFFSET_NS,
     PERIOD_NS,
     JITTER_NS,
+    TIMING,
+    END_NS,
+    SUB_VL,
     PATHS_A,
     PATHS_B,
+];
+
+const STREAM_KEYS: [Rule; 10] = [
+    STREAM_VL, SIZE, FRAMES, LAST_SIZE, OFFSET_NS, PERIOD_NS, JITTER_NS, TIMING, END_NS, SUB_VL,
 ];
 
 /// Returns the keys of a section, in the order of checks.
@@ -131,5 +162,6 @@ pub fn keys_of(section: Section) -> &'static [Rule]
         Section::Link => &LINK_KEYS,
         Section::Outage => &OUTAGE_KEYS,
         Section::Vl => &VL_KEYS,
+        Section::Stream => &STREAM_KEYS,
     }
 }

@@ -1,12 +1,11 @@
 //! Keys that a table may not have.
-ghost use Rattle.std.specs.Prelude.{◌≡◌, ◌&&◌, map};
+ghost use Rattle.std.specs.Prelude.{◌≡◌, ◌&&◌};
 ghost use Rattle.std.specs.List.{list_any};
 ghost use Rattle.std.specs.Str.{bytes_eq};
 ghost use Rattle.toml.specs.View.{table_view};
 ghost use Rattle.network_rows.specs.Keys.{key_text, section_text};
 ghost use Rattle.network_rows.specs.Faults.{applies};
 ghost use Rattle.network_rows.specs.Rows.{is_known, has_unknown_key};
-ghost use Rattle.network_rows.specs.Table.{lists};
 
 use crate::key::Section;
 use crate::rule::Rule;
@@ -25,7 +24,7 @@ pub fn has_unknown_key(section: Section, row: &Table) -> bool
 fn is_known(section: Section, row: &Table, name: &str) -> bool
     ensures { result ≡ is_known section (table_view row.now) name.now }
 {
-    is_key(keys_of(section), row, name) || section == Section::Top && is_list(name)
+    is_key(keys_of(section), row, name) || section == Section::Top && is_among(&LISTS, name)
 }
 
 // Whether the name is the key of one of these lines, and the row may have this key.
@@ -37,9 +36,9 @@ fn is_key(rules: &[Rule], row: &Table, name: &str) -> bool
         .any(|rule| rule.applies(row) && name == rule.key.text())
 }
 
-// Whether the name is that of a section which is a list.
-fn is_list(name: &str) -> bool
-    ensures { result ≡ list_any (bytes_eq name.now) (map section_text lists) }
+// Whether the name is that of one of these sections.
+fn is_among(sections: &[Section], name: &str) -> bool
+    ensures { result ≡ list_any (λ section. bytes_eq name.now (section_text section)) sections.now }
 {
-    LISTS.iter().any(|section| name == section.text())
+    sections.iter().any(|section| name == section.text())
 }

@@ -4,4 +4,4 @@ use Rattle.network.specs.Words.{Plan}
 
 -- a network of nothing
 abbrev pub empty_plan : Plan
-empty_plan = record { until = 0; seed = 0; nodes = []; links = []; outages = []; vls = [] }
+empty_plan = record { until = 0; seed = 0; nodes = []; links = []; outages = []; vls = []; streams = [] }

@@ -3,8 +3,8 @@ use Rattle.std.proofs.Common.{◌≡◌, ℕ, Bool, true, false, cond, ◌==◌,
 use Rattle.std.proofs.lemmas.Bool.{false≢true}
 use Rattle.vlink.specs.declared.frame.Net.{Net}
 use Rattle.vlink.specs.declared.frame.Net.TheVariants.{A, B}
-use Rattle.network_rows.specs.declared.rows.NodeKind.{NodeKind}
-use Rattle.network_rows.specs.declared.rows.NodeKind.TheVariants.{EndSystem, Switch}
+use Rattle.row_types.specs.declared.rows.NodeKind.{NodeKind}
+use Rattle.row_types.specs.declared.rows.NodeKind.TheVariants.{EndSystem, Switch}
 use Rattle.network.specs.declared.wiring.Link.{Link}
 use Rattle.network.specs.Words.{Plan, NodePlan, VlPlan, passes, is_same_net, is_switch_kind, is_end_system, is_switch_of, is_linked, is_no_link, goes, is_bad_path, is_no_tree, has_other_way, all_hops, is_gap, has_gap}
 use Rattle.network_tables.specs.PortLaws.{paths_on, IsInput, Precedes, Faces, GoesThrough, ExactlyOne, port_for}

@@ -11,7 +11,7 @@ use crate::tables::{no_lists, put};
 use network::{LinePlan, Link, Outage};
 use network_faults::{Joined, count_link, no_counts};
 use network_paths::{is_end_system, is_switch_of};
-use network_rows::NodeRow;
+use row_types::NodeRow;
 use std::alloc::{AllocError, Global};
 use vlink::{Net, process_number};
 

@@ -9,7 +9,8 @@ ghost use Rattle.network.specs.Code.Tables.{plan_with};
 use crate::tables::tables_of;
 use network::{Network, Numbered, Routed};
 use network_faults::numbered_of;
-use network_rows::{DescFault, NodeRow, Rows};
+use network_rows::{DescFault, Rows};
+use row_types::NodeRow;
 use std::alloc::{AllocError, Global};
 use vlink::Time;
 

@@ -11,7 +11,7 @@ use crate::lines::{line_names, lines_of, outage_table};
 use crate::routes::{all_destinations, meetings_of};
 use network::{LinePlan, Numbered, Outage, Routed, Tables};
 use network_faults::Joined;
-use network_rows::NodeRow;
+use row_types::NodeRow;
 use std::alloc::{AllocError, Global};
 use vlink::VlId;
 

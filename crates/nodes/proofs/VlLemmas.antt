@@ -1,6 +1,6 @@
 -- The virtual link with a number, where the numbers rise.
 use Rattle.std.proofs.Common.{◌≡◌, ℕ, ◌+◌, ◌<◌, Bool, true, false, cond, List, [], ◌∷◌, ◌++◌, append_assoc, length, take, drop, Option, Some, None, refl, ap, sym, ◌∙◌, arith, slice_get, flat_map, option_map, option_and_then, option_to_list}
-use Rattle.network_rows.specs.declared.rows.VirtualLink.{VirtualLink}
+use Rattle.row_types.specs.declared.rows.VirtualLink.{VirtualLink}
 use Rattle.network.specs.declared.wiring.Way.{Way}
 use Rattle.network.specs.Words.{place_by, Plan, VlPlan, place_of_vl}
 use Rattle.nodes.specs.Words.{ports_by, groups, met, met_by, all_met}

@@ -10,7 +10,7 @@ use Rattle.port_bounds.specs.Port.{idle}
 use Rattle.element_bounds.specs.PortTrace.{IsSamePort}
 use Rattle.network.specs.Words.{IsAccepted, lines_of, Plan, VlPlan, destinations_of, process_count}
 use Rattle.network.proofs.SourceLemmas.{HasSource, all-have, end-system-below}
-use Rattle.network_faults.proofs.MemberLemmas.{has-from_contains, contains-from_has}
+use Rattle.network_faults.proofs.MemberLemmas.{has-from_contains}
 use Rattle.nodes.specs.declared.equipment.Equipment.{Equipment}
 use Rattle.nodes.specs.declared.equipment.Equipment.TheVariants as equipment
 use Rattle.nodes.specs.declared.ports.Outlet.{Outlet}
@@ -20,14 +20,16 @@ use Rattle.nodes.specs.undoing.Node.{node}
 use Rattle.port_turns.specs.Nodes.{IsOfNodes, is_offer}
 use Rattle.port_turns.specs.PortEvents.{outlet_in}
 use Rattle.seqsim.specs.Networks.{setting_of}
-use Rattle.plan_ports.specs.Links.{size_of}
-use Rattle.plan_ports.proofs.Linked.{all-empty, are-sizes}
+use Rattle.traffic.specs.Plain.{is_plain}
+use Rattle.network_bounds.specs.Mixing.{port_before}
+use Rattle.plan_bounds.proofs.Sizes.{offers-sized, sizes_of}
+use Rattle.plan_ports.proofs.Linked.{all-empty}
 use Rattle.plan_ports.proofs.Offered.{all-offered}
 use Rattle.plan_ports.proofs.Ways.{all-lead}
 use Rattle.network_bounds.specs.Ages.{wait_of}
 use Rattle.network_bounds.specs.Curves.{bag_of}
 use Rattle.frame_ages.specs.Latencies.{AreLatenciesBounded, IsHeldWithin}
-use Rattle.frame_ages.specs.Sizes.{HaveEmptyRegulators, HaveIdlePorts, IsSized, OpensEmpty}
+use Rattle.frame_ages.specs.Sizes.{HaveEmptyRegulators, HaveIdlePorts, OpensEmpty}
 use Rattle.plan_waits.specs.Held.{AreListsHeld, ArePeriodsHeld, IsSent}
 use Rattle.network_bounds.specs.declared.delays.PortBound.{PortBound}
 use Rattle.network_bounds.specs.Delays.{AreBounds}
@@ -36,7 +38,7 @@ use Rattle.frame_ages.specs.Rooms.{AreFramesKept, HasRoomAt}
 use Rattle.nodes.specs.declared.ports.LineAhead.{LineAhead}
 use Rattle.plan_ports.specs.Outlets.{LeadsInto}
 use Rattle.plan_bounds.specs.Rooms.{AreRoomsEnough, Holds}
-use Rattle.plan_bounds.proofs.Routes.{bound-at}
+use Rattle.plan_bounds.proofs.Routes.{bound-at, plain-is, waiting-plain}
 use Rattle.plan_bounds.proofs.Waiting.{waiting-bound}
 use Rattle.plan_bounds.specs.Latencies.{AreLatencyBounds}
 use Rattle.plan_bounds.proofs.Destinations.{arriving, comes-within, sent}
@@ -66,24 +68,24 @@ module _ (plan : Plan) (accepted : IsAccepted plan) where
   idle-at p (equipment.Switch s) is = all-idle p s.ports (λ q outlet at. (all-lead plan p q outlet (ap (λ e. outlet_in e q) is ∙ ap (λ o. option_and_then (λ outlet. outlet) o) at)).empty)
   idle-at p (equipment.Line s) is = tt
 
-  opens-empty : OpensEmpty (setting_of plan) (size_of plan)
+  opens-empty : OpensEmpty (setting_of plan) (sizes_of plan)
   opens-empty = record {
     regulators = λ p lt. empty-at p (opening plan p).equipment refl;
     ports = λ p lt. idle-at p (opening plan p).equipment refl;
-    offers = all-offered plan (λ m. IsSized (size_of plan) m.body) (λ vl source k there from. sym (are-sizes plan accepted vl (contains-from_has plan.vls vl there)));
+    offers = offers-sized plan accepted;
   }
 
   of-nodes : IsOfNodes (setting_of plan)
-  of-nodes = record { number = λ p lt. refl; until = λ p lt. refl; offered = all-offered plan (λ m. is_offer m.body ≡ true) (λ vl source k there from. refl) }
+  of-nodes = record { number = λ p lt. refl; until = λ p lt. refl; offered = all-offered plan (λ m. is_offer m.body ≡ true) (λ s n of. refl) }
 
   -- ---- how long a regulator holds frames
 
   module _ (laws : Laws (simulation_of (rules_of node) (setting_of plan))) (latencies : AreLatenciesBounded) (lists : AreListsHeld plan) (periods : ArePeriodsHeld plan) where
-    held : (p : ℕ) (vl : VlPlan) → IsSent plan p vl → IsHeldWithin (setting_of plan) p vl.link.id.0 (wait_of vl.link)
-    held p vl simple = go ((vl.link.sub == 1) && (nat_le (bag_of vl.link) vl.link.period_ns && nat_le vl.link.jitter_ns vl.link.period_ns)) refl
+    held : (p : ℕ) (vl : VlPlan) → IsSent plan p vl → is_plain plan vl.link ≡ true → IsHeldWithin (setting_of plan) p vl.link.id.0 (wait_of vl.link)
+    held p vl simple plain = go ((vl.link.sub == 1) && (nat_le (bag_of vl.link) vl.link.own.period_ns && nat_le vl.link.own.jitter_ns vl.link.own.period_ns)) refl
       where
         by_list : IsHeldWithin (setting_of plan) p vl.link.id.0 (vl.link.depth * vl.link.sub * bag_of vl.link)
-        by_list = lists laws of-nodes (size_of plan) opens-empty p vl simple
+        by_list = lists laws of-nodes (sizes_of plan) opens-empty p vl simple
 
         lesser : (a b : ℕ) → IsHeldWithin (setting_of plan) p vl.link.id.0 a → IsHeldWithin (setting_of plan) p vl.link.id.0 b → IsHeldWithin (setting_of plan) p vl.link.id.0 (min a b)
         lesser a b h k = elim (cases_lt a b) [
@@ -91,15 +93,15 @@ module _ (plan : Plan) (accepted : IsAccepted plan) where
           | inr ge ↦ (let same : b ≡ min a b = omega (arith, ge) in subst (IsHeldWithin (setting_of plan) p vl.link.id.0) same k)
         ]
 
-        go : (b : Bool) → ((vl.link.sub == 1) && (nat_le (bag_of vl.link) vl.link.period_ns && nat_le vl.link.jitter_ns vl.link.period_ns)) ≡ b
+        go : (b : Bool) → ((vl.link.sub == 1) && (nat_le (bag_of vl.link) vl.link.own.period_ns && nat_le vl.link.own.jitter_ns vl.link.own.period_ns)) ≡ b
             → IsHeldWithin (setting_of plan) p vl.link.id.0
-            (cond b (min (vl.link.depth * vl.link.sub * bag_of vl.link) (vl.link.jitter_ns + bag_of vl.link - vl.link.period_ns)) (vl.link.depth * vl.link.sub * bag_of vl.link))
+            (cond b (min (vl.link.depth * vl.link.sub * bag_of vl.link) (vl.link.own.jitter_ns + bag_of vl.link - vl.link.own.period_ns)) (vl.link.depth * vl.link.sub * bag_of vl.link))
         go false e = by_list
         go true e =
-            let all = both-true (vl.link.sub == 1) (nat_le (bag_of vl.link) vl.link.period_ns && nat_le vl.link.jitter_ns vl.link.period_ns) e in
-            let two = both-true (nat_le (bag_of vl.link) vl.link.period_ns) (nat_le vl.link.jitter_ns vl.link.period_ns) all.1 in
-            lesser (vl.link.depth * vl.link.sub * bag_of vl.link) (vl.link.jitter_ns + bag_of vl.link - vl.link.period_ns) by_list
-            (periods laws of-nodes (size_of plan) opens-empty p vl simple (eqb-true vl.link.sub 1 all.0) (leb-true _ _ two.0) (leb-true _ _ two.1))
+            let all = both-true (vl.link.sub == 1) (nat_le (bag_of vl.link) vl.link.own.period_ns && nat_le vl.link.own.jitter_ns vl.link.own.period_ns) e in
+            let two = both-true (nat_le (bag_of vl.link) vl.link.own.period_ns) (nat_le vl.link.own.jitter_ns vl.link.own.period_ns) all.1 in
+            lesser (vl.link.depth * vl.link.sub * bag_of vl.link) (vl.link.own.jitter_ns + bag_of vl.link - vl.link.own.period_ns) by_list
+            (periods laws of-nodes (sizes_of plan) opens-empty p vl simple plain (eqb-true vl.link.sub 1 all.0) (leb-true _ _ two.0) (leb-true _ _ two.1))
 
     pub are-bounds : AreLatencyBounds plan
     are-bounds bounds are vl is_vl n there network_ns e =
@@ -118,21 +120,23 @@ module _ (plan : Plan) (accepted : IsAccepted plan) where
           is = c.end_system.is;
         } in
         λ events row found place latency note.
-        (let le = latencies (setting_of plan) laws of-nodes (size_of plan) opens-empty vl.link.id.0 has.node n (wait_of vl.link) network_ns below (held has.node vl simple)
+        (let le = latencies (setting_of plan) laws of-nodes (sizes_of plan) opens-empty vl.link.id.0 has.node n (wait_of vl.link) network_ns below (held has.node vl simple c.plain)
         (comes-within plan accepted vl is_vl bounds are has.node has.is n network_ns end arrival) events row found place vl.link.id latency refl note in
         omega (arith, le))
 
   -- ---- ports that have room
 
   module _ (laws : Laws (simulation_of (rules_of node) (setting_of plan))) (kept : AreFramesKept) where
-    room-at : (bounds : List PortBound) → AreBounds plan (lines_of plan) bounds → (p q : ℕ) (outlet : Outlet) (leads : LeadsInto plan p q outlet) → Holds plan bounds p leads.k → HasRoomAt (setting_of plan) (size_of plan) p q outlet
+    room-at : (bounds : List PortBound) → AreBounds plan (lines_of plan) bounds → (p q : ℕ) (outlet : Outlet) (leads : LeadsInto plan p q outlet) → Holds plan bounds p leads.k → HasRoomAt (setting_of plan) (sizes_of plan) p q outlet
     room-at bounds are p q outlet leads holds =
         let (w, is) = bound-at plan (lines_of plan) bounds are leads.k leads.line holds.bound leads.read holds.read in
         let byte : outlet.ahead.byte_ns ≡ leads.line.byte_ns = ap (λ (a : LineAhead). a.byte_ns) leads.ahead in
-        let bound = waiting-bound plan accepted leads.k leads.line leads.read w outlet byte holds.bytes (ap (λ (b : PortBound). b.waiting) (sym is) ∙ holds.waiting) in
+        let plain = waiting-plain (port_before plan leads.line) w holds.bound is holds.bytes holds.waiting in
+        let by = plain-is (port_before plan leads.line) w holds.bound is plain in
+        let bound = waiting-bound plan accepted leads.k leads.line leads.read plain w outlet byte holds.bytes (ap (λ (b : PortBound). b.waiting) (sym by) ∙ holds.waiting) in
         record {
           bytes = holds.bytes;
-          bound = subst (λ n. IsWaitingBound (setting_of plan) (size_of plan) n q outlet holds.bytes) leads.from (subst (λ j. IsWaitingBound (setting_of plan) (size_of plan) leads.line.from j outlet holds.bytes) leads.from_port bound);
+          bound = subst (λ n. IsWaitingBound (setting_of plan) (sizes_of plan) n q outlet holds.bytes) leads.from (subst (λ j. IsWaitingBound (setting_of plan) (sizes_of plan) leads.line.from j outlet holds.bytes) leads.from_port bound);
           room = subst (λ n. holds.bytes ≤ n) (sym leads.room) holds.room;
         }
 
@@ -140,5 +144,5 @@ module _ (plan : Plan) (accepted : IsAccepted plan) where
     are-rooms bounds are p lt each =
         let inside : p < process_count plan = omega (arith, lt) in
         λ events row found place vl bytes note.
-        kept (setting_of plan) laws of-nodes (size_of plan) opens-empty p inside
+        kept (setting_of plan) laws of-nodes (sizes_of plan) opens-empty p inside
         (λ q outlet there. (let leads = all-lead plan p q outlet there in room-at bounds are p q outlet leads (each leads.k leads.line leads.read leads.from))) events row found place vl bytes note

@@ -18,7 +18,7 @@ use Rattle.nodes.specs.rules.Opening.{line_opening}
 use Rattle.nodes.proofs.WayLemmas.{ways-within}
 use Rattle.seqsim.specs.Networks.{setting_of}
 use Rattle.port_turns.specs.Arrivals.{IsWay}
-use Rattle.plan_ports.specs.Links.{size_of}
+use Rattle.plan_bounds.proofs.Sizes.{all-plain, sizes_of}
 use Rattle.plan_ports.specs.Outlets.{line_process}
 use Rattle.plan_ports.proofs.OwnPorts.{own-ports}
 use Rattle.plan_ports.proofs.Ways.{line-way}
@@ -29,7 +29,7 @@ use Rattle.network_bounds.specs.declared.share.Share.{Share}
 use Rattle.network_bounds.specs.Curves.{is_first}
 use Rattle.network_bounds.specs.Mixing.{PORTS, PortPlan, any_loose_at, any_loose_below, byte_ns_into, flows_at, gaps_in, greatest_at, group_at, groups_below, is_bounding, port_before, share_at, weight_by, weight_of}
 use Rattle.network_bounds.specs.Numbers.{SCALE, WHOLE}
-use Rattle.network_bounds.specs.Passing.{are_same, comes, first_port_of, input_of, passings}
+use Rattle.network_bounds.specs.Passing.{are_plain, are_same, comes, first_port_of, input_of, passings}
 use Rattle.port_bounds.specs.Mixtures.{IsAmong, lines_of as group_lines, links_of}
 use Rattle.port_bounds.specs.Sublists.{Every}
 use Rattle.frame_ages.specs.Ports.{AreGroups, IsByLine, IsGroup}
@@ -67,7 +67,7 @@ within-first id (way ∷ ways) all = go (way.vl.0 == id) (within-first id ways a
     go true later = all.0
     go false later = later
 
-module _ (plan : Plan) (accepted : IsAccepted plan) (k : ℕ) (line : LinePlan) (read : slice_get (lines_of plan) k ≡ Some line) where
+module _ (plan : Plan) (accepted : IsAccepted plan) (k : ℕ) (line : LinePlan) (read : slice_get (lines_of plan) k ≡ Some line) (plain : are_plain plan (passings plan line.from line.from_port) ≡ true) where
   abbrev port : PortPlan
   port = port_before plan line
 
@@ -91,7 +91,7 @@ module _ (plan : Plan) (accepted : IsAccepted plan) (k : ℕ) (line : LinePlan) 
 
   module _ (choice : Choice) (high : Bool) where
     by-line : (j : ℕ) → j < PORTS → (b : Bool) → is_bounding port j ≡ b → 1 ≤ cond b (weight_by choice j (share_at port (gaps_in choice) j high)) 0
-        → IsByLine (setting_of plan) line.from (size_of plan) line.byte_ns SCALE (group_at port choice high j)
+        → IsByLine (setting_of plan) line.from (sizes_of plan) line.byte_ns SCALE (group_at port choice high j)
     by-line j lt false e some = absurd (omega (arith, some))
     by-line j lt true e some =
         let (no_end, slow) = bounding-slower j lt e in
@@ -100,7 +100,7 @@ module _ (plan : Plan) (accepted : IsAccepted plan) (k : ℕ) (line : LinePlan) 
           | inr node ↦ by-switch j e slow node
         ]
       where
-        by-switch : (j : ℕ) → is_bounding port j ≡ true → IsSlower plan line.from j line.byte_ns → IsSwitchAt plan line.from → IsByLine (setting_of plan) line.from (size_of plan) line.byte_ns SCALE (group_at port choice high j)
+        by-switch : (j : ℕ) → is_bounding port j ≡ true → IsSlower plan line.from j line.byte_ns → IsSwitchAt plan line.from → IsByLine (setting_of plan) line.from (sizes_of plan) line.byte_ns SCALE (group_at port choice high j)
         by-switch j e slow node =
             let way = line-way plan accepted (own-ports plan accepted) slow.k slow.leads.line slow.leads.read in
             let there : IsWay (setting_of plan) slow.leads.line.from slow.leads.line.from_port (line_process plan slow.k) line.from j way.outlet (line_opening plan slow.k (Some slow.leads.line)) =
@@ -119,19 +119,19 @@ module _ (plan : Plan) (accepted : IsAccepted plan) (k : ℕ) (line : LinePlan) 
               way = there;
               slower = (let le = slow.slower in let same = way.byte_ns in omega (arith, le, same));
               most = greatest_at port j high;
-              costs = costs-are plan accepted line.byte_ns line.from line.from_port (gaps_in choice) (comes (is_end_system plan.nodes line.from) j high) (is_end_system plan.nodes line.from) (passings plan line.from line.from_port) (λ x h. h) (greatest_at port j high) (omega arith);
+              costs = costs-are plan accepted line.byte_ns line.from line.from_port (gaps_in choice) (comes (is_end_system plan.nodes line.from) j high) (is_end_system plan.nodes line.from) (passings plan line.from line.from_port) (λ x h. h) (all-plain plan (passings plan line.from line.from_port) plain) (greatest_at port j high) (omega arith);
               burst = rw e refl;
               rate = rw e refl;
             }
 
-    group-is : (j : ℕ) → j < PORTS → any_loose_at port j high ≡ false → IsGroup (setting_of plan) line.from (size_of plan) line.byte_ns SCALE WHOLE (group_at port choice high j)
+    group-is : (j : ℕ) → j < PORTS → any_loose_at port j high ≡ false → IsGroup (setting_of plan) line.from (sizes_of plan) line.byte_ns SCALE WHOLE (group_at port choice high j)
     group-is j lt tight = record {
       weight = weight-most choice j (share_at port (gaps_in choice) j high);
       by_line = λ some. by-line j lt (is_bounding port j) refl some;
-      flows = flows-are plan accepted line.from line.from_port line.byte_ns (gaps_in choice) (comes (is_end_system plan.nodes line.from) j high) from-node (passings plan line.from line.from_port) (λ x h. h) tight;
+      flows = flows-are plan accepted line.from line.from_port line.byte_ns (gaps_in choice) (comes (is_end_system plan.nodes line.from) j high) from-node (passings plan line.from line.from_port) (λ x h. h) (all-plain plan (passings plan line.from line.from_port) plain) tight;
     }
 
-    groups-are : (n : ℕ) → n ≤ PORTS → any_loose_below port high n ≡ false → Every (IsGroup (setting_of plan) line.from (size_of plan) line.byte_ns SCALE WHOLE) (groups_below port choice high n)
+    groups-are : (n : ℕ) → n ≤ PORTS → any_loose_below port high n ≡ false → Every (IsGroup (setting_of plan) line.from (sizes_of plan) line.byte_ns SCALE WHOLE) (groups_below port choice high n)
     groups-are zero le tight = tt
     groups-are (suc j) le tight =
         (group-is j (omega arith) (or-left _ _ tight), groups-are j (omega arith) (or-right (any_loose_at port j high) (any_loose_below port high j) tight))
@@ -161,9 +161,9 @@ module _ (plan : Plan) (accepted : IsAccepted plan) (k : ℕ) (line : LinePlan) 
             (leaves-passed plan accepted line.from line.from_port h.vl h.leaves) (rw at first))
 
     pub are-groups : (outlet : Outlet) → outlet.ahead.byte_ns ≡ line.byte_ns → any_loose_below port (is_high_put priority) PORTS ≡ false
-        → AreGroups (setting_of plan) (size_of plan) line.from line.from_port outlet SCALE WHOLE priority (groups_below port choice (is_high_put priority) PORTS)
+        → AreGroups (setting_of plan) (sizes_of plan) line.from line.from_port outlet SCALE WHOLE priority (groups_below port choice (is_high_put priority) PORTS)
     are-groups outlet byte tight = record {
-      each = subst (λ n. Every (IsGroup (setting_of plan) line.from (size_of plan) n SCALE WHOLE) (groups_below port choice (is_high_put priority) PORTS)) (sym byte) (groups-are choice (is_high_put priority) PORTS (omega arith) tight);
+      each = subst (λ n. Every (IsGroup (setting_of plan) line.from (sizes_of plan) n SCALE WHOLE) (groups_below port choice (is_high_put priority) PORTS)) (sym byte) (groups-are choice (is_high_put priority) PORTS (omega arith) tight);
       listed = λ v input through. (let h = counted plan accepted line.from line.from_port v input priority from-node through in record {
         line_in = line-among choice (is_high_put priority) input PORTS (subst (λ n. n < PORTS) (sym h.comes_in) (input-below h.vl.link.id.0));
         link_in = link-among v input h PORTS;

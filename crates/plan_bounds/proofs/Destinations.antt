@@ -17,7 +17,8 @@ use Rattle.nodes.proofs.WayLemmas.{ways-own}
 use Rattle.port_turns.specs.Arrivals.{IsWay}
 use Rattle.port_turns.specs.PortEvents.{outlet_in}
 use Rattle.seqsim.specs.Networks.{setting_of}
-use Rattle.plan_ports.specs.Links.{LeavesBy, size_of}
+use Rattle.plan_ports.specs.Links.{LeavesBy}
+use Rattle.plan_bounds.proofs.Sizes.{sizes_of}
 use Rattle.plan_ports.specs.Outlets.{line_process}
 use Rattle.plan_ports.proofs.Linked.{has-passed, one-vl, own-all, own-way}
 use Rattle.plan_ports.proofs.OwnPorts.{own-ports}
@@ -44,7 +45,7 @@ both false b h = absurd (false≢true h)
 
 module _ (plan : Plan) (accepted : IsAccepted plan) (vl : VlPlan) (is_vl : Contains plan.vls vl) where
   -- it comes in where it ends by a port, and it ends by the port behind each line that it goes over
-  ends-over : (n q : ℕ) → ends_by plan n vl.link.id.0 q ≡ true → IsOverIn plan vl n q
+  pub ends-over : (n q : ℕ) → ends_by plan n vl.link.id.0 q ≡ true → IsOverIn plan vl n q
   ends-over n q h =
       let (way, there, passes) = has-passed (λ (way : Way). (way.vl.0 == vl.link.id.0) && (way.port == q)) (arrivals_of plan n) h in
       let ends = both (way.vl.0 == vl.link.id.0) (way.port == q) passes in
@@ -62,7 +63,7 @@ module _ (plan : Plan) (accepted : IsAccepted plan) (vl : VlPlan) (is_vl : Conta
       list_any-contains (λ (way : Way). (way.vl.0 == vl.link.id.0) && (way.port == line.to_port)) (arrivals_of plan line.to) way (contains-from_has (arrivals_of plan line.to) way there) (rw (id, port) refl)
 
   -- where it does not end by a port, the node before the line there does not send it
-  comes-not : (n q : ℕ) (outlet : Outlet) → outlet_in (opening plan n).equipment q ≡ Some outlet → ends_by plan n vl.link.id.0 q ≡ false → ComesNot (setting_of plan) vl.link.id.0 n q
+  pub comes-not : (n q : ℕ) (outlet : Outlet) → outlet_in (opening plan n).equipment q ≡ Some outlet → ends_by plan n vl.link.id.0 q ≡ false → ComesNot (setting_of plan) vl.link.id.0 n q
   comes-not n q outlet there not_here =
       let leads = all-lead plan n q outlet there in
       at (subst (λ j. HasLine plan n j) leads.from_port (subst (λ m. HasLine plan m leads.line.from_port) leads.from (line-back plan leads.k leads.line leads.read)))
@@ -107,7 +108,7 @@ module _ (plan : Plan) (accepted : IsAccepted plan) (vl : VlPlan) (is_vl : Conta
         let out : age_after plan bounds vl.link (length (lines_of plan)) entry.k ≡ Ok age = ap (λ o. option_map_or (age_after plan bounds vl.link (length (lines_of plan))) o (Err reason.Way)) (sym into) ∙ here in
         (entry, coming plan accepted bounds are vl is_vl source from_source (length (lines_of plan)) entry.k entry.leads.line entry.leads.read entry.over age lt out)
 
-    as-way : (n q age : ℕ) (entry : IsOverIn plan vl n q) → IsComing plan vl source entry.leads.line age → ComesBy (setting_of plan) (size_of plan) vl.link.id.0 source n q age
+    as-way : (n q age : ℕ) (entry : IsOverIn plan vl n q) → IsComing plan vl source entry.leads.line age → ComesBy (setting_of plan) (sizes_of plan) vl.link.id.0 source n q age
     as-way n q age entry c = record {
       hop = c.hop;
       earlier = c.earlier;
@@ -119,10 +120,10 @@ module _ (plan : Plan) (accepted : IsAccepted plan) (vl : VlPlan) (is_vl : Conta
     }
 
     by-port : (n q age most : ℕ) → age < 2 ^ 128 - 1 → age ≤ most → age_by plan bounds vl.link n q ≡ Ok age → (outlet : Outlet) → outlet_in (opening plan n).equipment q ≡ Some outlet
-        → ((time : ℕ) × ComesBy (setting_of plan) (size_of plan) vl.link.id.0 source n q time × (time ≤ most)) ⊎ ComesNot (setting_of plan) vl.link.id.0 n q
+        → ((time : ℕ) × ComesBy (setting_of plan) (sizes_of plan) vl.link.id.0 source n q time × (time ≤ most)) ⊎ ComesNot (setting_of plan) vl.link.id.0 n q
     by-port n q age most lt le e outlet there = go (ends_by plan n vl.link.id.0 q) refl
       where
-        go : (b : Bool) → ends_by plan n vl.link.id.0 q ≡ b → ((time : ℕ) × ComesBy (setting_of plan) (size_of plan) vl.link.id.0 source n q time × (time ≤ most)) ⊎ ComesNot (setting_of plan) vl.link.id.0 n q
+        go : (b : Bool) → ends_by plan n vl.link.id.0 q ≡ b → ((time : ℕ) × ComesBy (setting_of plan) (sizes_of plan) vl.link.id.0 source n q time × (time ≤ most)) ⊎ ComesNot (setting_of plan) vl.link.id.0 n q
         go true h = let (entry, c) = comes-by n q h age lt e in inl (age, as-way n q age entry c, le)
         go false h = inr (comes-not n q outlet there h)
 
@@ -157,7 +158,7 @@ module _ (plan : Plan) (accepted : IsAccepted plan) (vl : VlPlan) (is_vl : Conta
         go false some e = absurd (err-ok reason.Way most e)
         go true some e = by-a some (age_by plan bounds vl.link n 0) refl e
 
-    pub comes-within : (n most : ℕ) → is_end_system plan.nodes n ≡ true → IsArriving n most → ComesWithin (setting_of plan) (size_of plan) vl.link.id.0 source n most
+    pub comes-within : (n most : ℕ) → is_end_system plan.nodes n ≡ true → IsArriving n most → ComesWithin (setting_of plan) (sizes_of plan) vl.link.id.0 source n most
     comes-within n most end h port outlet there = at port outlet there (two port outlet there)
       where
         two : (q : ℕ) (outlet : Outlet) → outlet_in (opening plan n).equipment q ≡ Some outlet → q < 2
@@ -166,7 +167,7 @@ module _ (plan : Plan) (accepted : IsAccepted plan) (vl : VlPlan) (is_vl : Conta
             subst (λ j. j < 2) leads.from_port (within-two plan accepted (own-ports plan accepted) leads.k leads.line leads.read (subst (λ m. is_end_system plan.nodes m ≡ true) (sym leads.from) end))
 
         at : (q : ℕ) (outlet : Outlet) → outlet_in (opening plan n).equipment q ≡ Some outlet → q < 2
-            → ((time : ℕ) × ComesBy (setting_of plan) (size_of plan) vl.link.id.0 source n q time × (time ≤ most)) ⊎ ComesNot (setting_of plan) vl.link.id.0 n q
+            → ((time : ℕ) × ComesBy (setting_of plan) (sizes_of plan) vl.link.id.0 source n q time × (time ≤ most)) ⊎ ComesNot (setting_of plan) vl.link.id.0 n q
         at zero outlet there lt = by-port n 0 h.a most (let held = h.held in omega (arith, held)) (let is = h.is in omega (arith, is)) h.a_is outlet there
         at (suc zero) outlet there lt = by-port n 1 h.b most (let held = h.held in omega (arith, held)) (let is = h.is in omega (arith, is)) h.b_is outlet there
         at (suc (suc q)) outlet there lt = absurd (omega (arith, lt))

@@ -4,7 +4,7 @@ use Rattle.std.proofs.Math.Nat.{div-mul-le_self, lt-mul-div-succ, mul-le-mul}
 use Rattle.std.proofs.lemmas.Bool.{cases_lt}
 use Rattle.std.proofs.lemmas.Bool.Decides.{nat_tests}
 use Rattle.vlink.specs.Wire.{busy_for}
-use Rattle.network_rows.specs.declared.rows.VirtualLink.{VirtualLink}
+use Rattle.row_types.specs.declared.rows.VirtualLink.{VirtualLink}
 use Rattle.output_port.specs.declared.event.Priority.TheVariants.{High, Low}
 use Rattle.network.specs.declared.wiring.LinePlan.{LinePlan}
 use Rattle.network.specs.Words.{IsAccepted, Plan, is_end_system, lines_of}
@@ -14,8 +14,9 @@ use Rattle.network.proofs.PortLemmas.{line-within}
 use Rattle.network_faults.proofs.MemberLemmas.{Has}
 use Rattle.nodes.specs.declared.ports.Outlet.{Outlet}
 use Rattle.seqsim.specs.Networks.{setting_of}
-use Rattle.plan_ports.specs.Links.{size_of}
-use Rattle.plan_ports.proofs.Linked.{are-positive, are-sizes}
+use Rattle.frame_ages.specs.Sizes.{Sizes}
+use Rattle.plan_bounds.proofs.Sizes.{all-plain, plain-sizes, sizes_of}
+use Rattle.plan_ports.proofs.Linked.{are-positive}
 use Rattle.network_bounds.specs.declared.passing.Passing.{Passing}
 use Rattle.network_bounds.specs.declared.mixing.Choice.{Choice}
 use Rattle.network_bounds.specs.declared.mixing.Choice.TheVariants.{By, Least}
@@ -24,10 +25,10 @@ use Rattle.network_bounds.specs.declared.delays.Weights.{Weights}
 use Rattle.network_bounds.specs.declared.reason.Reason.{Reason}
 use Rattle.network_bounds.specs.declared.reason.Reason.TheVariants.{Bytes, Number, Rate}
 use Rattle.network_bounds.specs.Curves.{cost_of, is_first}
-use Rattle.network_bounds.specs.Delays.{bound_by, first_mixed, first_of, fits_first, only_if}
+use Rattle.network_bounds.specs.Delays.{first_mixed, first_of, fits_first, only_if, plain_bound}
 use Rattle.network_bounds.specs.Mixing.{PORTS, PortPlan, any_loose_below, greatest_at, greatest_below, greatest_by, groups_at, mixed_at, port_before}
 use Rattle.network_bounds.specs.Numbers.{SCALE, UNITS, WHOLE, capped}
-use Rattle.network_bounds.specs.Passing.{are_same, comes, input_of, passings}
+use Rattle.network_bounds.specs.Passing.{are_plain, are_same, comes, input_of, passings}
 use Rattle.port_bounds.specs.Mixtures.{groups_burst, groups_rate}
 use Rattle.frame_ages.specs.Ports.{IsThrough}
 use Rattle.frame_ages.specs.Ways.{IsInTime}
@@ -106,16 +107,16 @@ greatest-small test cost most (first ∷ ps) each = go (test first) (each first 
     go true here later = omega (arith, here, later)
     go false here later = later
 
-module _ (plan : Plan) (accepted : IsAccepted plan) (k : ℕ) (line : LinePlan) (read : slice_get (lines_of plan) k ≡ Some line) where
+module _ (plan : Plan) (accepted : IsAccepted plan) (k : ℕ) (line : LinePlan) (read : slice_get (lines_of plan) k ≡ Some line) (plain : are_plain plan (passings plan line.from line.from_port) ≡ true) where
   abbrev port : PortPlan
   port = port_before plan line
 
   small-cost : (passing : Passing) → Has (passings plan line.from line.from_port) passing → cost_of line.byte_ns passing.link ≤ 1230400
   small-cost passing there =
       let is = passed-leaves plan accepted line.from line.from_port passing there in
-      let size : passing.link.size ≤ 1518 = subst (λ (l : VirtualLink). l.size ≤ 1518) (sym is.link) (are-positive plan accepted is.vl is.leaves.is_vl).1 in
+      let size : passing.link.own.size ≤ 1518 = subst (λ (l : VirtualLink). l.own.size ≤ 1518) (sym is.link) (are-positive plan accepted is.vl is.leaves.is_vl).1 in
       let byte : line.byte_ns ≤ 800 = (line-within plan k line accepted read).times.greatest_byte in
-      let sum : passing.link.size + 20 ≤ 1538 = omega (arith, size) in
+      let sum : passing.link.own.size + 20 ≤ 1538 = omega (arith, size) in
       mul-le-mul sum byte
 
   small-greatest : (high : Bool) (n : ℕ) → greatest_below port high n ≤ 1230400
@@ -131,7 +132,7 @@ module _ (plan : Plan) (accepted : IsAccepted plan) (k : ℕ) (line : LinePlan) 
     | inr more ↦ (let same : j ≡ n = omega (arith, lt, more) in subst (λ m. greatest_at port j high ≤ max (greatest_at port m high) (greatest_below port high n)) same (omega arith))
   ]
 
-  low-cost : (v input : ℕ) → IsThrough (opening plan line.from).equipment line.from_port v input Low → busy_for (size_of plan v) line.byte_ns ≤ greatest_below port false PORTS
+  low-cost : (v input : ℕ) → IsThrough (opening plan line.from).equipment line.from_port v input Low → busy_for (sizes_of plan v).greatest line.byte_ns ≤ greatest_below port false PORTS
   low-cost v input through =
       let h = counted plan accepted line.from line.from_port v input Low (line-read plan k line accepted read).0 through in
       let passing : Passing = record { link = h.vl.link; input = input_of plan line.from h.vl.link.id.0 } in
@@ -139,8 +140,9 @@ module _ (plan : Plan) (accepted : IsAccepted plan) (k : ℕ) (line : LinePlan) 
       let here : (input_of plan line.from h.vl.link.id.0 == input_of plan line.from h.vl.link.id.0) ≡ true = eq-eqb _ _ refl in
       let low : are_same (is_first (is_end_system plan.nodes line.from) h.vl.link) false ≡ true = ap (λ b. are_same b false) h.first in
       let le = below-greatest (comes (is_end_system plan.nodes line.from) (input_of plan line.from h.vl.link.id.0) false) (cost_of line.byte_ns) (passings plan line.from line.from_port) passing there (rw here low) in
-      let all = at-below false (input_of plan line.from h.vl.link.id.0) PORTS (input-below plan accepted k line read h.vl.link.id.0) in
-      let sized : size_of plan v ≡ h.vl.link.size = ap (size_of plan) (sym h.id) ∙ are-sizes plan accepted h.vl h.leaves.is_vl in
+      let all = at-below false (input_of plan line.from h.vl.link.id.0) PORTS (input-below plan accepted k line read plain h.vl.link.id.0) in
+      let sized : (sizes_of plan v).greatest ≡ h.vl.link.own.size =
+      ap (λ n. (sizes_of plan n).greatest) (sym h.id) ∙ ap (λ (s : Sizes). s.greatest) (plain-sizes plan accepted h.vl h.leaves.is_vl (all-plain plan (passings plan line.from line.from_port) plain passing there)) in
       subst (λ n. busy_for n line.byte_ns ≤ greatest_below port false PORTS) (sym sized) (omega (arith, le, all))
 
   -- ---- high frames
@@ -148,8 +150,8 @@ module _ (plan : Plan) (accepted : IsAccepted plan) (k : ℕ) (line : LinePlan) 
   high-within : (burst most : ℕ) → burst + UNITS * most < UNITS * ((burst / UNITS + most) + 1)
   high-within burst most = let lt = lt-mul-div-succ burst {b = UNITS} (omega arith) in omega (arith, lt)
 
-  pub high-bound : (w : Weights) (v : ℕ) (outlet : Outlet) → outlet.ahead.byte_ns ≡ line.byte_ns → (delay : ℕ) → (bound_by port w).first ≡ Ok delay
-      → IsInTime (setting_of plan) (size_of plan) v line.from line.from_port outlet High delay
+  pub high-bound : (w : Weights) (v : ℕ) (outlet : Outlet) → outlet.ahead.byte_ns ≡ line.byte_ns → (delay : ℕ) → (plain_bound port w).first ≡ Ok delay
+      → IsInTime (setting_of plan) (sizes_of plan) v line.from line.from_port outlet High delay
   unfolding mixed_at
   high-bound w v outlet byte delay e =
       let c : IsPair Mixture (λ h l. mixed_at port h true) (first_mixed port w) = pair Mixture (λ h l. mixed_at port h true) (By w.first) (By w.first) (fits_first (mixed_at port (By w.first) true)) in
@@ -163,7 +165,7 @@ module _ (plan : Plan) (accepted : IsAccepted plan) (k : ℕ) (line : LinePlan) 
       high-made : (outlet : Outlet) → outlet.ahead.byte_ns ≡ line.byte_ns → (delay : ℕ) (choice : Choice) → any_loose_below port true PORTS ≡ false → capped (groups_rate WHOLE (groups_at port choice true)) ≤ UNITS
           → capped (groups_burst WHOLE (groups_at port choice true)) ≡ groups_burst WHOLE (groups_at port choice true)
           → delay ≡ capped (capped (groups_burst WHOLE (groups_at port choice true)) / UNITS + greatest_below port false PORTS) - 12 * line.byte_ns → capped (groups_burst WHOLE (groups_at port choice true)) < 2 ^ 128 - 1
-          → IsInTime (setting_of plan) (size_of plan) v line.from line.from_port outlet High delay
+          → IsInTime (setting_of plan) (sizes_of plan) v line.from line.from_port outlet High delay
       high-made outlet byte delay choice tight rates burst_is is bursts =
           let burst = groups_burst WHOLE (groups_at port choice true) in
           let most = greatest_below port false PORTS in
@@ -173,9 +175,9 @@ module _ (plan : Plan) (accepted : IsAccepted plan) (k : ℕ) (line : LinePlan) 
               scale = SCALE;
               whole = WHOLE;
               high = groups_at port choice true;
-              high_are = are-groups plan accepted k line read choice High outlet byte tight;
+              high_are = are-groups plan accepted k line read plain choice High outlet byte tight;
               most = most;
-              low_costs = λ v input through. subst (λ n. busy_for (size_of plan v) n ≤ most) (sym byte) (low-cost v input through);
+              low_costs = λ v input through. subst (λ n. busy_for (sizes_of plan v).greatest n ≤ most) (sym byte) (low-cost v input through);
               rate = rate-fits (groups_rate WHOLE (groups_at port choice true)) rates;
               within = high-within burst most;
             },

@@ -1,14 +1,15 @@
-mod Passed
-mod NodeKinds
-mod Groups
-mod Lines
-mod Certified
-mod InTime
-mod LowTimes
-mod Waiting
-mod Over
-mod Sources
-mod Routes
-mod Destinations
-mod Bounded
-mod Shapes
+pub mod Passed
+pub mod NodeKinds
+pub mod Sizes
+pub mod Groups
+pub mod Lines
+pub mod Certified
+pub mod InTime
+pub mod LowTimes
+pub mod Waiting
+pub mod Over
+pub mod Sources
+pub mod Routes
+pub mod Destinations
+pub mod Bounded
+pub mod Shapes

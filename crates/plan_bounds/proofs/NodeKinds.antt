@@ -1,8 +1,8 @@
 -- Each node of a network is an end system or a switch.
 use Rattle.std.proofs.Common.{◌≡◌, ℕ, ◌<◌, ◌⊎◌, true, false, length, Option, Some, None, inl, inr, refl, ap, sym, ◌∙◌, arith, slice_get}
 use Rattle.std.specs.Option.{option_map_or}
-use Rattle.network_rows.specs.declared.rows.NodeKind.{NodeKind}
-use Rattle.network_rows.specs.declared.rows.NodeKind.TheVariants as kind
+use Rattle.row_types.specs.declared.rows.NodeKind.{NodeKind}
+use Rattle.row_types.specs.declared.rows.NodeKind.TheVariants as kind
 use Rattle.network.specs.Words.{NodePlan, Plan, is_end_kind, is_end_system, passes}
 use Rattle.nodes.specs.declared.equipment.Equipment.TheVariants as equipment
 use Rattle.nodes.specs.rules.EndSystem.{EndSystemState}

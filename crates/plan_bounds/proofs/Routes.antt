@@ -2,9 +2,9 @@
 use Rattle.std.proofs.Common.{◌≡◌, ℕ, zero, suc, ◌+◌, ◌-◌, ◌^◌, ◌<◌, Bool, true, false, cond, List, [], ◌∷◌, Option, Some, None, inl, inr, Result, Ok, Err, refl, ap, sym, ◌∙◌, subst, arith, slice_get, Contains}
 use Rattle.std.specs.Option.{option_map_or}
 use Rattle.std.proofs.lemmas.Option.{none-some, same_Some}
-use Rattle.network_rows.specs.declared.rows.Priority as row
-use Rattle.network_rows.specs.declared.rows.Priority.TheVariants as rows
-use Rattle.network_rows.specs.declared.rows.VirtualLink.{VirtualLink}
+use Rattle.row_types.specs.declared.rows.Priority as row
+use Rattle.row_types.specs.declared.rows.Priority.TheVariants as rows
+use Rattle.row_types.specs.declared.rows.VirtualLink.{VirtualLink}
 use Rattle.output_port.specs.declared.event.Priority.{Priority}
 use Rattle.output_port.specs.declared.event.Priority.TheVariants.{High, Low}
 use Rattle.network.specs.declared.wiring.LinePlan.{LinePlan}
@@ -17,7 +17,9 @@ use Rattle.nodes.specs.rules.Opening as opened
 use Rattle.nodes.specs.rules.Opening.{line_opening, port_priority}
 use Rattle.port_turns.specs.SwitchPuts.{transit_of}
 use Rattle.seqsim.specs.Networks.{setting_of}
-use Rattle.plan_ports.specs.Links.{LeavesBy, size_of}
+use Rattle.plan_ports.specs.Links.{LeavesBy}
+use Rattle.traffic.specs.Plain.{is_plain}
+use Rattle.plan_bounds.proofs.Sizes.{all-plain, sizes_of}
 use Rattle.plan_ports.specs.Outlets.{IsLineWay, line_process}
 use Rattle.plan_ports.proofs.Linked.{have-transits}
 use Rattle.plan_ports.proofs.OwnPorts.{own-ports}
@@ -28,17 +30,17 @@ use Rattle.network_bounds.specs.declared.reason.Reason.{Reason}
 use Rattle.network_bounds.specs.declared.reason.Reason.TheVariants as reason
 use Rattle.network_bounds.specs.Ages.{age_after, age_over, latency_of, plus, sent_over}
 use Rattle.network_bounds.specs.Curves.{is_first, is_high}
-use Rattle.network_bounds.specs.Delays.{AreBounds, IsBound, after, bound_by, delay_of, later_delay}
-use Rattle.network_bounds.specs.Mixing.{line_into, port_before}
+use Rattle.network_bounds.specs.Delays.{AreBounds, IsBound, after, bound_by, delay_of, later_delay, no_bound, plain_bound}
+use Rattle.network_bounds.specs.Mixing.{PortPlan, line_into, port_before}
 use Rattle.network_bounds.specs.Numbers.{capped}
-use Rattle.network_bounds.specs.Passing.{input_of}
+use Rattle.network_bounds.specs.Passing.{are_plain, input_of, passings}
 use Rattle.frame_ages.specs.Ways.{Hop, IsHop, IsInTime, IsRoute, source_of, way_time}
 use Rattle.plan_bounds.proofs.InTime.{err-ok, high-bound, same-ok}
 use Rattle.plan_bounds.proofs.Lines.{line-into-there}
 use Rattle.plan_bounds.proofs.LowTimes.{low-bound}
 use Rattle.plan_bounds.proofs.NodeKinds.{IsEndAt, IsSwitchAt, node-kind}
 use Rattle.plan_bounds.proofs.Over.{IsOver, IsOverIn, comes-over, over-leaves}
-use Rattle.plan_bounds.proofs.Passed.{input-is}
+use Rattle.plan_bounds.proofs.Passed.{input-is, leaves-passed}
 use Rattle.plan_bounds.proofs.Sources.{leaves-source}
 
 -- a bound is that of its port
@@ -48,6 +50,28 @@ bound-at plan (first ∷ lines) [] are k line bound at by = absurd are
 bound-at plan (first ∷ lines) (one ∷ bounds) are zero line bound at by =
     subst (λ (l : LinePlan). IsBound (port_before plan l) bound) (same_Some first line at) (subst (IsBound (port_before plan first)) (same_Some one bound by) are.0)
 bound-at plan (first ∷ lines) (one ∷ bounds) are (suc k) line bound at by = bound-at plan lines bounds are.1 k line bound at by
+
+-- where there is one, each virtual link that leaves by the port is offered one frame of one size in each period, and nothing else
+some-plain : {X : Type 0} (of : PortBound → Result X Reason) → of no_bound ≡ Err reason.Stream → (port : PortPlan) (w : Weights) (bound : PortBound) → bound ≡ bound_by port w → (x : X) → of bound ≡ Ok x → port.is_plain ≡ true
+some-plain of none port w bound is x e = go port.is_plain is
+  where
+    go : (b : Bool) → bound ≡ cond b (plain_bound port w) no_bound → b ≡ true
+    go true is = refl
+    go false is = absurd (err-ok reason.Stream x (sym none ∙ ap of (sym is) ∙ e))
+
+pub waiting-plain : (port : PortPlan) (w : Weights) (bound : PortBound) → bound ≡ bound_by port w → (bytes : ℕ) → bound.waiting ≡ Ok bytes → port.is_plain ≡ true
+waiting-plain port w bound is bytes e = some-plain (λ b. b.waiting) refl port w bound is bytes e
+
+delay-plain : (is_end : Bool) (byte_ns : ℕ) (link : VirtualLink) (port : PortPlan) (w : Weights) (bound : PortBound) → bound ≡ bound_by port w → (delay : ℕ) → delay_of is_end byte_ns bound link ≡ Ok delay → port.is_plain ≡ true
+delay-plain is_end byte_ns link port w bound is delay e = some-plain (λ b. delay_of is_end byte_ns b link) (go (is_first is_end link)) port w bound is delay e
+  where
+    go : (b : Bool) → ◌≡◌ {A = Result ℕ Reason} (cond b (Err reason.Stream) (Err reason.Stream)) (Err reason.Stream)
+    go true = refl
+    go false = refl
+
+-- then it is by the mixtures of the port
+pub plain-is : (port : PortPlan) (w : Weights) (bound : PortBound) → bound ≡ bound_by port w → port.is_plain ≡ true → bound ≡ plain_bound port w
+plain-is port w bound is plain = is ∙ ap (λ (b : Bool). cond b (plain_bound port w) no_bound) plain
 
 -- ---- what an age is made of
 
@@ -85,26 +109,41 @@ same-put rows.Low = refl
 pub record IsComing (plan : Plan) (vl : VlPlan) (source : ℕ) (line : LinePlan) (age : ℕ) : Type 0 where
   pub hop : Hop
   pub earlier : List Hop
-  pub route : IsRoute (setting_of plan) (size_of plan) vl.link.id.0 (hop ∷ earlier)
+  pub route : IsRoute (setting_of plan) (sizes_of plan) vl.link.id.0 (hop ∷ earlier)
   pub from_source : source_of (hop ∷ earlier) ≡ source
   pub to_there : hop.to ≡ line.to
   pub to_port : hop.port ≡ line.to_port
   pub within : way_time (hop ∷ earlier) ≡ age
+  pub plain : is_plain plan vl.link ≡ true
   pub source_port : ℕ
   pub leaves : LeavesBy plan source source_port vl
   pub end_system : IsEndAt plan source
 
 module _ (plan : Plan) (accepted : IsAccepted plan) (bounds : List PortBound) (are : AreBounds plan (lines_of plan) bounds) (vl : VlPlan) (is_vl : Contains plan.vls vl) (source : ℕ) (from_source : begins_at vl ≡ Some source) where
-  in-time : (k : ℕ) (line : LinePlan) → slice_get (lines_of plan) k ≡ Some line → (bound : PortBound) → slice_get bounds k ≡ Some bound → (way : IsLineWay plan k line) → (delay : ℕ) → delay < 2 ^ 128 - 1
-      → (is_end : Bool) → delay_of is_end line.byte_ns bound vl.link ≡ Ok delay → IsInTime (setting_of plan) (size_of plan) vl.link.id.0 line.from line.from_port way.outlet (put_with (is_first is_end vl.link)) delay
-  in-time k line read bound at way delay lt is_end e =
+  at-port : (k : ℕ) (line : LinePlan) → slice_get (lines_of plan) k ≡ Some line → (bound : PortBound) → slice_get bounds k ≡ Some bound → (is_end : Bool) (delay : ℕ) → delay_of is_end line.byte_ns bound vl.link ≡ Ok delay
+      → are_plain plan (passings plan line.from line.from_port) ≡ true
+  at-port k line read bound at is_end delay e =
       let (w, is) = bound-at plan (lines_of plan) bounds are k line bound read at in
-      go w is (is_first is_end vl.link) e
+      delay-plain is_end line.byte_ns vl.link (port_before plan line) w bound is delay e
+
+  -- it is such a one itself
+  plain-at : (k : ℕ) (line : LinePlan) → slice_get (lines_of plan) k ≡ Some line → LeavesBy plan line.from line.from_port vl → (bound : PortBound) → slice_get bounds k ≡ Some bound → (is_end : Bool) (delay : ℕ)
+      → delay_of is_end line.byte_ns bound vl.link ≡ Ok delay → is_plain plan vl.link ≡ true
+  plain-at k line read leaves bound at is_end delay e =
+      all-plain plan (passings plan line.from line.from_port) (at-port k line read bound at is_end delay e) _ (leaves-passed plan accepted line.from line.from_port vl leaves)
+
+  in-time : (k : ℕ) (line : LinePlan) → slice_get (lines_of plan) k ≡ Some line → LeavesBy plan line.from line.from_port vl → (bound : PortBound) → slice_get bounds k ≡ Some bound → (way : IsLineWay plan k line) → (delay : ℕ) → delay < 2 ^ 128 - 1
+      → (is_end : Bool) → delay_of is_end line.byte_ns bound vl.link ≡ Ok delay → IsInTime (setting_of plan) (sizes_of plan) vl.link.id.0 line.from line.from_port way.outlet (put_with (is_first is_end vl.link)) delay
+  in-time k line read leaves bound at way delay lt is_end e =
+      let (w, is) = bound-at plan (lines_of plan) bounds are k line bound read at in
+      let plain = at-port k line read bound at is_end delay e in
+      go w (plain-is (port_before plan line) w bound is plain) plain (plain-at k line read leaves bound at is_end delay e) (is_first is_end vl.link) e
     where
-      go : (w : Weights) → bound ≡ bound_by (port_before plan line) w → (first : Bool) → cond first bound.first (after bound.later (later_delay line.byte_ns vl.link)) ≡ Ok delay
-          → IsInTime (setting_of plan) (size_of plan) vl.link.id.0 line.from line.from_port way.outlet (put_with first) delay
-      go w is true e = high-bound plan accepted k line read w vl.link.id.0 way.outlet way.byte_ns delay (ap (λ (b : PortBound). b.first) (sym is) ∙ e)
-      go w is false e = low-bound plan accepted k line read w vl is_vl way.outlet way.byte_ns delay lt (ap (λ (b : PortBound). after b.later (later_delay line.byte_ns vl.link)) (sym is) ∙ e)
+      go : (w : Weights) → bound ≡ plain_bound (port_before plan line) w → are_plain plan (passings plan line.from line.from_port) ≡ true → is_plain plan vl.link ≡ true
+          → (first : Bool) → cond first bound.first (after bound.later (later_delay line.byte_ns vl.link)) ≡ Ok delay
+          → IsInTime (setting_of plan) (sizes_of plan) vl.link.id.0 line.from line.from_port way.outlet (put_with first) delay
+      go w is plain one true e = high-bound plan accepted k line read plain w vl.link.id.0 way.outlet way.byte_ns delay (ap (λ (b : PortBound). b.first) (sym is) ∙ e)
+      go w is plain one false e = low-bound plan accepted k line read plain w vl is_vl one way.outlet way.byte_ns delay lt (ap (λ (b : PortBound). after b.later (later_delay line.byte_ns vl.link)) (sym is) ∙ e)
 
   hop-of : (k : ℕ) (line : LinePlan) → IsLineWay plan k line → ℕ → Bool → ℕ → Hop
   hop-of k line way before is_end delay = record {
@@ -121,8 +160,8 @@ module _ (plan : Plan) (accepted : IsAccepted plan) (bounds : List PortBound) (a
   }
 
   is-hop : (k : ℕ) (line : LinePlan) (way : IsLineWay plan k line) (before : ℕ) (is_end : Bool) (delay : ℕ)
-      → IsInTime (setting_of plan) (size_of plan) vl.link.id.0 line.from line.from_port way.outlet (put_with (is_first is_end vl.link)) delay
-      → IsHop (setting_of plan) (size_of plan) vl.link.id.0 (hop-of k line way before is_end delay)
+      → IsInTime (setting_of plan) (sizes_of plan) vl.link.id.0 line.from line.from_port way.outlet (put_with (is_first is_end vl.link)) delay
+      → IsHop (setting_of plan) (sizes_of plan) vl.link.id.0 (hop-of k line way before is_end delay)
   unfolding hop-of
   is-hop k line way before is_end delay timely = record { from_inside = way.from_below; by_inside = way.line_below; to_inside = way.to_below; way = way.way; in_time = timely }
 
@@ -141,13 +180,14 @@ module _ (plan : Plan) (accepted : IsAccepted plan) (bounds : List PortBound) (a
         hop = hop-of k line way 0 true sent.delay;
         earlier = [];
         route = (
-          is-hop k line way 0 true sent.delay (in-time k line read bound at way sent.delay sum.1 true sent.delay_is),
+          is-hop k line way 0 true sent.delay (in-time k line read leaves bound at way sent.delay sum.1 true sent.delay_is),
           record { end_system = node.state; is = node.is; at_once = refl; low = refl },
         );
         from_source = same_Some line.from source (sym begins ∙ from_source);
         to_there = refl;
         to_port = refl;
         within = (let total = sum.0 in omega (arith, total, none));
+        plain = plain-at k line read leaves bound at true sent.delay sent.delay_is;
         source_port = line.from_port;
         leaves = subst (λ n. LeavesBy plan n line.from_port vl) (same_Some line.from source (sym begins ∙ from_source)) leaves;
         end_system = subst (IsEndAt plan) (same_Some line.from source (sym begins ∙ from_source)) node;
@@ -169,7 +209,7 @@ module _ (plan : Plan) (accepted : IsAccepted plan) (bounds : List PortBound) (a
         hop = hop-of k line way (latency_of plan line.from) false sent.delay;
         earlier = first.hop ∷ first.earlier;
         route = (
-          is-hop k line way (latency_of plan line.from) false sent.delay (in-time k line read bound at way sent.delay sum.1 false sent.delay_is),
+          is-hop k line way (latency_of plan line.from) false sent.delay (in-time k line read leaves bound at way sent.delay sum.1 false sent.delay_is),
           record {
             switch = node.state;
             is = node.is;
@@ -186,6 +226,7 @@ module _ (plan : Plan) (accepted : IsAccepted plan) (bounds : List PortBound) (a
         to_there = refl;
         to_port = refl;
         within = (let total = sum.0 in let more = added.0 in let before = first.within in omega (arith, total, more, before));
+        plain = first.plain;
         source_port = first.source_port;
         leaves = first.leaves;
         end_system = first.end_system;

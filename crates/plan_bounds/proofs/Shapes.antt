@@ -11,20 +11,21 @@ use Rattle.network_bounds.specs.declared.passing.Passing.{Passing}
 use Rattle.network_bounds.specs.Curves.{cost_of, flow_of, is_loose}
 use Rattle.network_bounds.specs.Mixing.{PORTS, PortPlan, any_by, any_loose_below, flows_by, gaps_in, greatest_below, greatest_by, group_at, groups_below, is_bounding, line_into, mixed_at, port_before, share_at, weight_of}
 use Rattle.network_bounds.specs.Numbers.{SCALE, WHOLE, capped, within}
-use Rattle.network_bounds.specs.Passing.{comes, first_port_of, input_of, passing_at, passing_by, passing_of, passings}
+use Rattle.network_bounds.specs.Passing.{are_plain, comes, first_port_of, input_of, passing_at, passing_by, passing_of, passings}
 use Rattle.std.specs.List.{list_any}
 use Rattle.network_bounds.specs.declared.delays.PortBound.{PortBound}
 use Rattle.network_bounds.specs.declared.delays.Weights.{Weights}
 use Rattle.network_bounds.specs.declared.mixing.Choice.TheVariants.{By, Least}
 use Rattle.network_bounds.specs.declared.reason.Reason.TheVariants as reason
-use Rattle.network_rows.specs.declared.rows.VirtualLink.{VirtualLink}
+use Rattle.row_types.specs.declared.rows.VirtualLink.{VirtualLink}
 use Rattle.network.specs.declared.wiring.LinePlan.{LinePlan}
 use Rattle.network_bounds.specs.Ages.{age_after, age_by, ends_by, latency_of, network_ns_of, plus, sent_over}
-use Rattle.network_bounds.specs.Delays.{AreBounds, after, bound_by, first_of, fits_both, fits_first, fits_later, later_of, waiting_of}
+use Rattle.network_bounds.specs.Delays.{AreBounds, after, bound_by, first_of, fits_both, fits_first, fits_later, later_of, no_bound, waiting_of}
 use Rattle.plan_bounds.specs.Latencies.{AreLatencyBounds}
 use Rattle.plan_ports.specs.Outlets.{port_bytes_at}
 use Rattle.plan_bounds.specs.Rooms.{AreRoomsEnough}
 use Rattle.plan_bounds.specs.Shapes.{AreShapeBounds, AreShapeRooms, shape_of, shape_of_link, shape_of_vl}
+use Rattle.traffic.specs.Plain.{is_plain}
 use Rattle.plan_bounds.proofs.Passed.{with-cons}
 
 flat_map-map : {X Y Z : Type 0} (f : Y → List Z) (g : X → Y) (xs : List X) → flat_map f (map g xs) ≡ flat_map (λ x. f (g x)) xs
@@ -95,6 +96,11 @@ loose-same : (is_end : Bool) (j : ℕ) (high : Bool) (ps : List Passing) → any
 loose-same is_end j high [] = refl
 loose-same is_end j high (p ∷ ps) = ap (λ b. cond (comes is_end j high p) (is_loose is_end p.link || b) b) (loose-same is_end j high ps)
 
+-- the same streams are plain
+plain-same : (plan : Plan) (ps : List Passing) → are_plain (shape_of plan) (map shape_of_passing ps) ≡ are_plain plan ps
+plain-same plan [] = refl
+plain-same plan (p ∷ ps) = ap (λ b. is_plain plan p.link && b) (plain-same plan ps)
+
 abbrev shape_of_port : PortPlan → PortPlan
 shape_of_port port = record port { passings = map shape_of_passing port.passings }
 
@@ -148,19 +154,21 @@ module _ (port : PortPlan) where
       λ i. record { burst = capped (groups_burst WHOLE (groups i)); rate = capped (groups_rate WHOLE (groups i)); greatest = greatest i; is_loose = loose i }
 
   bound-same : (w : Weights) → bound_by (shape_of_port port) w ≡ bound_by port w
-  bound-same w = λ i. record {
+  bound-same w = λ i. cond port.is_plain (record {
     first = first_of port.byte_ns (cond (fits_first (mixed-same (By w.first) true i)) (mixed-same (By w.first) true i) (mixed-same Least true i)) (mixed-same Least false i).greatest;
     later = cond (fits_later (mixed-same (By w.high) true i) (mixed-same (By w.low) false i)) (later_of (mixed-same (By w.high) true i) (mixed-same (By w.low) false i)) (later_of (mixed-same Least true i) (mixed-same Least false i));
     waiting = cond (fits_both (mixed-same (By w.waiting_high) true i) (mixed-same (By w.waiting_low) false i)) (waiting_of port.byte_ns (mixed-same (By w.waiting_high) true i) (mixed-same (By w.waiting_low) false i))
         (waiting_of port.byte_ns (mixed-same Least true i) (mixed-same Least false i));
-  }
+  }) no_bound
 
 -- ---- so a network's bounds are those of its shape
 
 module _ (plan : Plan) where
   before-same : (line : LinePlan) (w : Weights) → bound_by (port_before (shape_of plan) line) w ≡ bound_by (port_before plan line) w
   before-same line w =
-      let port : port_before (shape_of plan) line ≡ shape_of_port (port_before plan line) = λ i. record (port_before plan line) { passings = passings-same plan line.from line.from_port i } in
+      let plain : are_plain (shape_of plan) (passings (shape_of plan) line.from line.from_port) ≡ are_plain plan (passings plan line.from line.from_port) =
+      ap (are_plain (shape_of plan)) (passings-same plan line.from line.from_port) ∙ plain-same plan (passings plan line.from line.from_port) in
+      let port : port_before (shape_of plan) line ≡ shape_of_port (port_before plan line) = λ i. record (port_before plan line) { is_plain = plain i; passings = passings-same plan line.from line.from_port i } in
       ap (λ p. bound_by p w) port ∙ bound-same (port_before plan line) w
 
   pub to-shape : (lines : List LinePlan) (bounds : List PortBound) → AreBounds plan lines bounds → AreBounds (shape_of plan) lines bounds

@@ -7,8 +7,8 @@ use Rattle.std.proofs.lemmas.List.Elements.{All-contains, All-from_recursion}
 use Rattle.std.proofs.lemmas.List.Sorted.{All-permutation}
 use Rattle.vlink.specs.declared.frame.Net.{Net}
 use Rattle.vlink.specs.declared.frame.Net.TheVariants.{A, B}
-use Rattle.network_rows.specs.declared.rows.NodeKind.{NodeKind}
-use Rattle.network_rows.specs.declared.rows.NodeKind.TheVariants.{EndSystem, Switch}
+use Rattle.row_types.specs.declared.rows.NodeKind.{NodeKind}
+use Rattle.row_types.specs.declared.rows.NodeKind.TheVariants.{EndSystem, Switch}
 use Rattle.network.specs.Words.{IsAccepted, NodePlan, Plan, VlPlan, destinations_of, differ, double_names, each_after, end_of, ends_of, first_of, inner_of, is_bad_path, is_end_kind, is_end_system, is_no_tree, is_switch_kind, is_switch_of, last_of, leaves, lines_of, no_tree_at_vl, not_links, not_trees, passes, plan_of, source_among, source_of, too_many, unknown_names}
 use Rattle.network.specs.Trees.{begin_apart}
 use Rattle.network.proofs.BuildLemmas.{behind-none, front-none, not-false, when-none}

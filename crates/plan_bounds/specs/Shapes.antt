@@ -1,6 +1,6 @@
 -- Networks of one shape: they differ in the end and the seed of runs, in outages, and in when applications offer frames.
-use Rattle.std.specs.Prelude.{◌≡◌, ℕ, ◌+◌, ◌<◌, [], Contains, List, Ok, Some, length, map, slice_get}
-use Rattle.network_rows.specs.declared.rows.VirtualLink.{VirtualLink}
+use Rattle.std.specs.Prelude.{◌≡◌, ℕ, ◌+◌, ◌<◌, [], Contains, List, None, Ok, Some, length, map, slice_get}
+use Rattle.row_types.specs.declared.rows.VirtualLink.{VirtualLink}
 use Rattle.network.specs.declared.wiring.LinePlan.{LinePlan}
 use Rattle.network.specs.Words.{Plan, VlPlan, destinations_of, lines_of}
 use Rattle.network_bounds.specs.declared.delays.PortBound.{PortBound}
@@ -11,7 +11,7 @@ use Rattle.plan_bounds.specs.Rooms.{DropsNoneFull, Holds}
 
 -- what is agreed of a virtual link, but for when its frames are offered
 abbrev pub shape_of_link : VirtualLink → VirtualLink
-shape_of_link link = record link { offset_ns = 0; period_ns = 0; jitter_ns = 0 }
+shape_of_link link = record link { own = record link.own { offset_ns = 0; period_ns = 0; jitter_ns = 0; end_ns = None; sub_vl = None } }
 
 abbrev pub shape_of_vl : VlPlan → VlPlan
 shape_of_vl vl = record vl { link = shape_of_link vl.link }

@@ -1,18 +1,22 @@
 -- What switches and end systems have of virtual links when a run begins.
-use Rattle.std.proofs.Common.{◌≡◌, ◌≤◌, arith, ℕ, zero, suc, ◌+◌, ◌*◌, ◌/◌, ◌%◌, ◌==◌, ◌||◌, not, All, Bool, true, false, List, [], ◌∷◌, map, Option, Some, None, inl, inr, refl, ap, sym, ◌∙◌, subst, slice_get, Contains, option_map, nat_cmp, eqb-true}
+use Rattle.std.proofs.Common.{◌≡◌, ◌≤◌, arith, ℕ, zero, suc, ◌+◌, ◌*◌, ◌/◌, ◌%◌, ◌==◌, ◌||◌, not, All, Bool, true, false, List, [], ◌∷◌, map, Option, Some, None, inl, inr, refl, ap, sym, ◌∙◌, subst, slice_get, Contains, option_map, nat_cmp, eqb-true, IfSome, unwrap_or}
 use Rattle.std.specs.List.{AllByRecursion, list_any, range_with_len}
 use Rattle.std.specs.List.Sorted.{IsStrictlySortedBy}
 use Rattle.std.proofs.lemmas.Bool.{false≢true}
 use Rattle.std.proofs.lemmas.Map.Keys.{sorted_from_strictly_increasing}
 use Rattle.std.proofs.lemmas.Option.{none-some, same_Some}
 use Rattle.vlink.specs.declared.frame.VlId.{VlId}
-use Rattle.network_rows.specs.declared.rows.NodeKind.{NodeKind}
-use Rattle.network_rows.specs.declared.rows.NodeKind.TheVariants as kind
+use Rattle.vlink.specs.declared.message.Body.TheVariants.{Offer}
+use Rattle.row_types.specs.declared.rows.NodeKind.{NodeKind}
+use Rattle.row_types.specs.declared.rows.NodeKind.TheVariants as kind
 use Rattle.port_bounds.specs.Mixtures.{IsAmong}
 use Rattle.network.specs.declared.limits.TheConstants.{GREATEST_PORTS}
 use Rattle.network.specs.declared.wiring.Way.{Way}
-use Rattle.network.specs.Words.{IsAccepted, NodePlan, Plan, VlPlan, comes_in, departures_of, id_of, ids_of, is_end_kind, is_end_system, is_none, leaves, lines_of, names_of, passes, plan_of, vl_plan}
-use Rattle.network_rows.specs.Within.{IsVlWithin}
+use Rattle.network.specs.Words.{IsAccepted, NodePlan, Plan, VlPlan, comes_in, departures_of, id_of, ids_of, is_end_kind, is_end_system, is_none, leaves, lines_of, names_of, passes, plan_of, stream_plan, vl_plan}
+use Rattle.network_rows.specs.ValueTypes.{is_within}
+use Rattle.network_rows.specs.Within.{IsStreamRowWithin, IsStreamWithin, IsVlWithin}
+use Rattle.row_types.specs.declared.rows.Stream.{Stream}
+use Rattle.row_types.specs.declared.rows.StreamRow.{StreamRow}
 use Rattle.network_rows.specs.declared.rows.VlRow.{VlRow}
 use Rattle.std.proofs.lemmas.List.Elements.{All-contains, All-from_recursion, recursion_from_All}
 use Rattle.std.proofs.lemmas.List.Sorted.{All-permutation}
@@ -42,7 +46,12 @@ use Rattle.std.proofs.lemmas.List.Elements.{All-map, All-replicate}
 use Rattle.std.specs.Option.{option_map_or}
 use Rattle.port_turns.specs.SwitchPuts.{transit_of}
 use Rattle.plan_ports.specs.Links.{AreBags, AreGreatest, AreOffers, AreRegulatorsEmpty, AreSizes, AreSources, AreTransits, HaveSources, HaveTransits, IsOfferOf, IsSourceOf, IsTransitOf, LeavesBy}
-use Rattle.plan_ports.proofs.Offered.{all-offered}
+use Rattle.network.specs.declared.plan.VlStream.{VlStream}
+use Rattle.traffic.specs.declared.stream.OfferedStream.{OfferedStream}
+use Rattle.traffic.specs.Offers.{size_of as stream_size, sub_of}
+use Rattle.plan_ports.proofs.Offered.{IsStreamOf, all-offered}
+use Rattle.plan_ports.proofs.PlainLinks.{IsSmall, plain-own, plain-stream, small-size}
+use Rattle.traffic.proofs.OwnLemmas.{plain-size}
 use Rattle.plan_ports.proofs.Entries.{all-entry, entry-made, entry_of, made-entry}
 
 -- ---- the ports of a virtual link
@@ -101,11 +110,24 @@ one-of P n (m ∷ ms) all any = go (m == n) refl any (one-of P n ms all.1)
     go false apart there later = later there
 
 abbrev HasGreatest : VlPlan → Type 0
-HasGreatest vl = (1 ≤ vl.link.smax) × (vl.link.size ≤ 1518)
+HasGreatest vl = (1 ≤ vl.link.smax) × IsSmall vl.link.own
+
+small-last : (last : Option ℕ) (size : ℕ) → size ≤ 1518 → IfSome last (λ n. is_within 64 1518 n ≡ true) → unwrap_or last size ≤ 1518
+small-last None size le within = le
+small-last (Some n) size le within = (bounds 64 1518 n within).1
+
+small-stream : (stream : Stream) → IsStreamWithin stream → IsSmall stream
+small-stream stream within =
+    let size = (bounds 64 1518 stream.size within.size).1 in
+    (size, small-last stream.last_size stream.size size within.last_size)
+
+all-small : (rows : List StreamRow) → AllByRecursion IsStreamRowWithin rows → AllByRecursion (λ s. IsSmall s.stream) (map stream_plan rows)
+all-small [] within = tt
+all-small (row ∷ rows) within = (small-stream row.stream within.0.stream, all-small rows within.1)
 
 all-greatest : (names : List (List ℕ)) (rows : List VlRow) → AllByRecursion IsVlWithin rows → AllByRecursion HasGreatest (map (vl_plan names) rows)
 all-greatest names [] within = tt
-all-greatest names (row ∷ rows) within = (((let least = (bounds 64 1518 row.link.smax within.0.link.smax).0 in omega (arith, least)), (bounds 64 1518 row.link.size within.0.link.size).1), all-greatest names rows within.1)
+all-greatest names (row ∷ rows) within = (((let least = (bounds 64 1518 row.link.smax within.0.link.smax).0 in omega (arith, least)), small-stream row.link.own within.0.link.own), all-greatest names rows within.1)
 
 all-bags : (names : List (List ℕ)) (rows : List VlRow) → AllByRecursion IsVlWithin rows → AllByRecursion HasBags (map (vl_plan names) rows)
 all-bags names [] within = tt
@@ -205,17 +227,14 @@ module _ (plan : Plan) (accepted : IsAccepted plan) where
   pub are-sizes : AreSizes plan
   are-sizes vl there = go (find id_of plan.vls vl.link.id.0) (all-entry id_of plan.vls vl rising (has-from_contains plan.vls vl there))
     where
-      go : (o : Option (Found VlPlan)) → option_map (λ found. found.entry) o ≡ Some vl → option_map_or (λ (found : Found VlPlan). found.entry.link.size) o 0 ≡ vl.link.size
+      go : (o : Option (Found VlPlan)) → option_map (λ found. found.entry) o ≡ Some vl → option_map_or (λ (found : Found VlPlan). found.entry.link.own.size) o 0 ≡ vl.link.own.size
       go None k = absurd (none-some _ k)
-      go (Some found) k = ap (λ (v : VlPlan). v.link.size) (same_Some found.entry vl k)
+      go (Some found) k = ap (λ (v : VlPlan). v.link.own.size) (same_Some found.entry vl k)
 
   pub all-empty : AreRegulatorsEmpty plan
   all-empty p s is = subst (All (λ (source : Source). All (λ (list : Queue). list.frames ≡ []) source.regulator.lists)) (sym (sources-node p (slice_get plan.nodes p) s is))
       (All-map (λ (source : Source). All (λ (list : Queue). list.frames ≡ []) source.regulator.lists) (source_of (ways_at plan p Out)) (with_ways (ways_at plan p Out) plan.vls)
       (λ k d lt. All-replicate (λ (list : Queue). list.frames ≡ []) _ _ refl))
-
-  pub are-offers : AreOffers plan
-  are-offers = all-offered plan (IsOfferOf plan) (λ vl source k there from. record { vl = vl; is_vl = contains-from_has plan.vls vl there; sub = k % vl.link.sub; to_source = from; is = refl })
 
   -- it comes in at each switch that it leaves
   pub comes-in : (p q : ℕ) (vl : VlPlan) → LeavesBy plan p q vl → is_end_system plan.nodes p ≡ false → not (is_none (ways_at plan p In vl)) ≡ true
@@ -249,8 +268,41 @@ module _ (plan : Plan) (accepted : IsAccepted plan) where
       let in_rows : All HasBags (plan_of rows).vls = All-from_recursion HasBags _ (all-bags (names_of rows.nodes) rows.vls (recursion_from_All IsVlWithin rows.vls accepted.within.vls)) in
       All-contains HasBags plan.vls vl (All-permutation HasBags _ plan.vls accepted.stands.vls in_rows) there
 
-  pub are-positive : AreGreatest plan
-  are-positive vl there =
+  all-great : (vl : VlPlan) → Contains plan.vls vl → HasGreatest vl
+  all-great vl there =
       let rows = accepted.rows in
       let in_rows : All HasGreatest (plan_of rows).vls = All-from_recursion HasGreatest _ (all-greatest (names_of rows.nodes) rows.vls (recursion_from_All IsVlWithin rows.vls accepted.within.vls)) in
       All-contains HasGreatest plan.vls vl (All-permutation HasGreatest _ plan.vls accepted.stands.vls in_rows) there
+
+  pub are-positive : AreGreatest plan
+  are-positive vl there = let great = all-great vl there in (great.0, great.1.0)
+
+  -- ---- offers
+
+  rows-small : (row : VlStream) → Has plan.streams row → IsSmall row.stream
+  rows-small row there =
+      let rows = accepted.rows in
+      let in_rows : All (λ (s : VlStream). IsSmall s.stream) (plan_of rows).streams = All-from_recursion (λ (s : VlStream). IsSmall s.stream) _ (all-small rows.streams (recursion_from_All IsStreamRowWithin rows.streams accepted.within.streams)) in
+      All-contains (λ (s : VlStream). IsSmall s.stream) plan.streams row (subst (All (λ (s : VlStream). IsSmall s.stream)) (sym accepted.stands.streams) in_rows) (contains-from_has plan.streams row there)
+
+  pub is-small : (s : OfferedStream) → IsStreamOf plan s → IsSmall s.stream
+  is-small s of = elim of.kind [
+    | inl own ↦ subst (λ (o : OfferedStream). IsSmall o.stream) (sym own) (all-great of.vl (contains-from_has plan.vls of.vl of.is_vl)).1
+    | inr row ↦ subst (λ (o : OfferedStream). IsSmall o.stream) (sym row.is) (rows-small row.row row.is_row)
+  ]
+
+  pub are-offers : AreOffers plan
+  are-offers = all-offered plan (IsOfferOf plan) (λ s n of. record {
+    vl = of.vl;
+    is_vl = contains-from_has plan.vls of.vl of.is_vl;
+    size = stream_size s.stream (n % s.stream.frames);
+    sub = sub_of s (n / s.stream.frames);
+    to_source = of.from;
+    most = small-size s.stream (n % s.stream.frames) (is-small s of);
+    plain = λ plain. (let own = plain-own plan s of plain in
+        ap (λ (o : OfferedStream). stream_size o.stream (n % s.stream.frames)) own ∙ plain-size of.vl.link.own (n % s.stream.frames) (plain-stream plan of.vl plain).last_size);
+    is = ap (λ (v : VlId). Offer v (stream_size s.stream (n % s.stream.frames)) (sub_of s (n / s.stream.frames))) (id-of s of);
+  })
+    where
+      id-of : (s : OfferedStream) (of : IsStreamOf plan s) → s.vl ≡ of.vl.link.id
+      id-of s of = elim of.kind [ inl own ↦ ap (λ (o : OfferedStream). o.vl) own | inr row ↦ ap (λ (o : OfferedStream). o.vl) row.is ]

@@ -5,8 +5,8 @@ use Rattle.std.specs.Option.{option_map_or}
 use Rattle.std.proofs.lemmas.List.Elements.{All-from_recursion}
 use Rattle.std.proofs.lemmas.Option.{none-some, same_Some, slice_get_past, slice_get_within}
 use Rattle.vlink.specs.declared.frame.Net.TheVariants.{A}
-use Rattle.network_rows.specs.declared.rows.NodeKind.{NodeKind}
-use Rattle.network_rows.specs.declared.rows.NodeKind.TheVariants as kind
+use Rattle.row_types.specs.declared.rows.NodeKind.{NodeKind}
+use Rattle.row_types.specs.declared.rows.NodeKind.TheVariants as kind
 use Rattle.port_bounds.specs.Port.{idle}
 use Rattle.element_bounds.specs.PortTrace.{IsSamePort}
 use Rattle.network.specs.declared.limits.TheConstants.{GREATEST_PORTS}

@@ -7,6 +7,7 @@ use Rattle.vlink.specs.declared.message.Body.TheVariants.{Offer}
 use Rattle.port_bounds.specs.Mixtures.{IsAmong}
 use Rattle.network.specs.Words.{Plan, VlPlan, departures_of, id_of, source_of}
 use Rattle.traffic.specs.Offers.{offers_of}
+use Rattle.traffic.specs.Plain.{is_plain}
 use Rattle.nodes.specs.declared.equipment.Equipment.TheVariants as equipment
 use Rattle.nodes.specs.declared.opening.meeting.Side.TheVariants.{Out}
 use Rattle.nodes.specs.declared.source.Source.{Source}
@@ -20,13 +21,13 @@ use Rattle.nodes.specs.rules.Opening.{opening, regulator_of}
 use Rattle.nodes.specs.rules.Switch.{SwitchState, outputs_of}
 use Rattle.port_turns.specs.SwitchPuts.{transit_of}
 
--- how many bytes each frame of the virtual link with this number has, 0 where there is no such virtual link
+-- how many bytes a frame of the own stream of the virtual link with this number has, 0 where there is no such virtual link
 abbrev pub size_of : Plan → ℕ → ℕ
-size_of plan v = option_map_or (λ found. found.entry.link.size) (find id_of plan.vls v) 0
+size_of plan v = option_map_or (λ found. found.entry.link.own.size) (find id_of plan.vls v) 0
 
 -- which is its own size
 abbrev pub AreSizes : Plan → Type 0
-AreSizes plan = (vl : VlPlan) → Contains plan.vls vl → size_of plan vl.link.id.0 ≡ vl.link.size
+AreSizes plan = (vl : VlPlan) → Contains plan.vls vl → size_of plan vl.link.id.0 ≡ vl.link.own.size
 
 -- 128 ms have so many BAGs of it
 abbrev pub AreBags : Plan → Type 0
@@ -34,7 +35,7 @@ AreBags plan = (vl : VlPlan) → Contains plan.vls vl → (128 / vl.link.bag_ms)
 
 -- its greatest frame has bytes, and no frame has more than 1518
 abbrev pub AreGreatest : Plan → Type 0
-AreGreatest plan = (vl : VlPlan) → Contains plan.vls vl → (1 ≤ vl.link.smax) × (vl.link.size ≤ 1518)
+AreGreatest plan = (vl : VlPlan) → Contains plan.vls vl → (1 ≤ vl.link.smax) × (vl.link.own.size ≤ 1518)
 
 -- a virtual link of the network leaves node p by port q
 pub record LeavesBy (plan : Plan) (p q : ℕ) (vl : VlPlan) : Type 0 where
@@ -86,13 +87,16 @@ AreRegulatorsEmpty plan =
 
 -- ---- offers
 
--- the message offers a frame of a virtual link at the node where its frames begin
+-- the message offers a frame of a virtual link at the node where its frames begin; it has the size of its own stream if there is no other and no size but this
 pub record IsOfferOf (plan : Plan) (m : Message) : Type 0 where
   pub vl : VlPlan
   pub is_vl : Contains plan.vls vl
+  pub size : ℕ
   pub sub : ℕ
   pub to_source : source_of vl ≡ Some m.receiver
-  pub is : m.body ≡ Offer vl.link.id vl.link.size sub
+  pub most : size ≤ 1518
+  pub plain : is_plain plan vl.link ≡ true → size ≡ vl.link.own.size
+  pub is : m.body ≡ Offer vl.link.id size sub
 
 -- so does each first message
 abbrev pub AreOffers : Plan → Type 0

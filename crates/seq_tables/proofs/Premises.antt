@@ -15,8 +15,8 @@ use Rattle.reverse.proofs.Members.{in-all}
 use Rattle.virtual_time.specs.Law.{IsAscending, IsIn, IsReached, Laws, Simulation, events}
 use Rattle.timers.specs.Channel.{IsChannel}
 use Rattle.runs_ahead.specs.Standing.{RunAhead}
-use Rattle.network_rows.specs.declared.rows.NodeKind.{NodeKind}
-use Rattle.network_rows.specs.declared.rows.NodeKind.TheVariants as kind
+use Rattle.row_types.specs.declared.rows.NodeKind.{NodeKind}
+use Rattle.row_types.specs.declared.rows.NodeKind.TheVariants as kind
 use Rattle.network.specs.declared.wiring.LinePlan.{LinePlan}
 use Rattle.network.specs.Words.{Plan, NodePlan, IsAccepted, lines_of, source_of}
 use Rattle.network.proofs.BuildLemmas.{line-read}

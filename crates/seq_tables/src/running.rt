@@ -1,6 +1,6 @@
 //! The tables of the run of a network, if its rows are not asked for. Lines without outages run ahead: a frame that is sent into such a line
 //! waits as the frame that arrives at its end, and does not wait first as one that leaves its port.
-ghost use Rattle.std.specs.Prelude.{◌≡◌, ℕ, [], List, Err, OnOk, IfOk};
+ghost use Rattle.std.specs.Prelude.{◌≡◌, ◌≢◌, ◌≤◌, ◌^◌, ℕ, [], List, length, Err, OnOk, IfOk};
 ghost use Rattle.vlink.specs.Letters.{Row};
 ghost use Rattle.nodes.specs.Words.{simulation_of};
 ghost use Rattle.trace_tables.specs.Tables.{tables_of};
@@ -13,10 +13,19 @@ use crate::lines::{lines_ahead, lines_ahead_law};
 use actor_run::{SimFault, Waiting, Watch, handle_all_ahead};
 use network::Network;
 use nodes::Node;
+use plan_numbers::numbers_law;
 use seqsim::{network_law, nodes_of};
 use std::alloc::Global;
 use trace_tables::Tables;
 use traffic::offers;
+use vlink::Message;
+
+/// Memory holds fewer than 2^63 bytes, and a message takes at least 8 of them.
+fn few_law(messages: &[Message])
+    ensures { length messages.now ≤ 2 ^ 60 }
+{
+    let _count = messages.len();
+}
 
 /// Handles the messages, one after another, until none waits. Their rows are counted, and not stored. The function drops the nodes before
 /// it makes the tables, so that memory never holds both.
@@ -30,7 +39,6 @@ fn count_all<W: Watch>(
     requires { StandsAt (simulation_of network.now) 0 nodes.items waiting [] }
     ensures whole { IfOk result (λ tables. (rows : List Row) × AreRowsOf network.now rows × (tables ≡ tables_of network.now rows)) }
     ensures exhausted { result ≡ Err Exhausted → (n : ℕ) × IsExhaustedAt (simulation_of network.now) n }
-    ensures numbers { OnOk result (HasNumbersFrom (simulation_of network.now) 0) }
     ensures watched { W.becomes watch.old watch.new }
 {
     network_law(network);
@@ -47,8 +55,8 @@ fn count_all<W: Watch>(
 /// row is not stored. The tables are those of the rows of the one-thread run of the laws of virtual time, and after it nothing waits.
 /// `watch` is shown how far the run is.
 ///
-/// `OutOfMemory` comes only if memory was refused, and `Exhausted` only if the process that is next does not have enough numbers left for
-/// what one event can send. If that happens anywhere in the run, the result is a fault and nothing else.
+/// It fails only if memory is refused, and then the result is that fault and nothing else. No process lacks the numbers for what one event
+/// can send, since memory holds fewer than 2^60 offers.
 pub fn run_tables<W: Watch>(
     alloc: Global,
     network: &Network,
@@ -56,12 +64,14 @@ pub fn run_tables<W: Watch>(
 ) -> Result<Tables, SimFault>
     ensures whole { IfOk result (λ tables. (rows : List Row) × AreRowsOf network.now rows × (tables ≡ tables_of network.now rows)) }
     ensures each { IfOk result (λ tables. (rows : List Row) → AreRowsOf network.now rows → tables ≡ tables_of network.now rows) }
-    ensures exhausted { result ≡ Err Exhausted → (n : ℕ) × IsExhaustedAt (simulation_of network.now) n }
+    ensures exhausted { result ≢ Err Exhausted }
     ensures numbers { OnOk result (HasNumbersFrom (simulation_of network.now) 0) }
     ensures watched { W.becomes watch.old watch.new }
 {
     network_law(network);
     let offers = offers(alloc, network)?;
+    few_law(offers.as_slice());
+    numbers_law(network);
     let nodes = nodes_of(alloc, network)?;
     let waiting = Waiting::of_offers(alloc, offers, nodes.len())?;
     count_all(alloc, network, nodes, waiting, watch)

@@ -6,7 +6,7 @@ use Rattle.std.proofs.lemmas.List.{length-map, map-append}
 use Rattle.std.proofs.lemmas.Option.{none-some, same_Some}
 use Rattle.vlink.specs.declared.frame.VlId.{VlId}
 use Rattle.vlink.specs.Letters.{Row}
-use Rattle.network_rows.specs.declared.rows.VirtualLink.{VirtualLink}
+use Rattle.row_types.specs.declared.rows.VirtualLink.{VirtualLink}
 use Rattle.network.specs.Words.{VlPlan, destinations_of, ids_of, place_by, place_of_vl}
 use Rattle.network.proofs.PlaceLemmas.{or_else}
 use Rattle.trace_tables.specs.declared.cells.Cell.{Cell}

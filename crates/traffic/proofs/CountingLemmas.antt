@@ -1,105 +1,96 @@
--- How many offers there are: of one virtual link, number by number, and of all, one virtual link after another.
-use Rattle.std.proofs.Common.{◌≡◌, ℕ, zero, suc, ◌+◌, ◌*◌, ◌%◌, ◌<◌, ◌≤◌, Bool, true, false, cond, List, [], ◌∷◌, length, map, take, Option, Some, None, refl, ap, ◌∙◌, sym, subst, length-append, arith, nat_le, slice_get, slice_index, option_and_then, flat_map, option_map, mod-lt, mul-le-mul_left, le-leb}
+-- How many offers there are: of one stream, burst by burst, and of all, one stream after another.
+use Rattle.std.proofs.Common.{◌≡◌, ℕ, zero, suc, ◌+◌, ◌*◌, ◌<◌, ◌≤◌, Bool, true, false, cond, List, [], ◌∷◌, ◌++◌, length, map, inl, inr, refl, ap, ◌∙◌, sym, length-append, arith, nat_le, flat_map, mul-le-mul_left, le-leb, append-nil}
 use Rattle.std.specs.List.{range_with_len}
-use Rattle.std.specs.List.Sorted.{IsStrictlyIncreasing}
-use Rattle.std.proofs.lemmas.List.FromFn.{filter_of_map_range_with_len_more}
-use Rattle.std.proofs.lemmas.Option.{slice_get_within, get_or_from_slice_get, slice_get-map}
+use Rattle.std.proofs.lemmas.Bool.Decides.{nat_tests}
+use Rattle.std.proofs.lemmas.Grind.{flat_map-append}
+use Rattle.std.proofs.lemmas.List.{length-map}
 use Rattle.rand_pcg.specs.Lcg.{started, increment_of, advance}
 use Rattle.rand_pcg.specs.Pcg.{multiplier_64}
+use Rattle.vlink.specs.declared.time.TheConstants.{LATEST_NS}
 use Rattle.vlink.specs.declared.message.Message.{Message}
-use Rattle.network_rows.specs.declared.rows.VirtualLink.{VirtualLink}
-use Rattle.network.specs.Words.{IsLinkInLimits, Plan, VlPlan, source_of, IsAccepted, id_of, ids_of}
-use Rattle.network.proofs.BuildLemmas.{read-item}
-use Rattle.network.proofs.SourceLemmas.{HasSource, all-have}
-use Rattle.traffic.specs.Offers.{generator_at, word_of, due_of, moment_of, due_count, come_until, offer_of, offers_from, offers_of_vl}
+use Rattle.row_types.specs.declared.rows.Stream.{Stream}
+use Rattle.network.specs.Words.{IsStreamInLimits}
+use Rattle.traffic.specs.declared.stream.OfferedStream.{OfferedStream}
+use Rattle.traffic.specs.Counting.{IsSumOf, come_count}
+use Rattle.traffic.specs.Offers.{come_until, drawn_at, drawn_before, due_count, due_of, generator_at, late_by, late_of, moment_of, offer_by, offer_of, offers_until}
+use Rattle.traffic.proofs.BurstLemmas.{burst_more, late_given}
 use Rattle.traffic.proofs.DrawingLemmas.{due_count-due}
-use Rattle.traffic.proofs.OfferingLemmas.{offers_more}
 
 -- the generator that has jumped over k words
-pub generator_at-jumped : (seed vl k : ℕ) → advance 64 multiplier_64 k (started 64 multiplier_64 seed (increment_of 64 vl)) ≡ generator_at seed vl k
+pub generator_at-jumped : (seed number k : ℕ) → advance 64 multiplier_64 k (started 64 multiplier_64 seed (increment_of 64 number)) ≡ generator_at seed number k
 unfolding generator_at
-generator_at-jumped seed vl k = refl
+generator_at-jumped seed number k = refl
 
--- how many of the first n offers come until then
-abbrev pub come_count : ℕ → ℕ → VirtualLink → ℕ → ℕ → ℕ
-come_count seed until link source n = length (come_until until (map (offer_of seed link source) (range_with_len 0 n)))
+-- ---- bursts
 
 -- with one more it is one more, if that one comes
-pub come_count_more : (seed until : ℕ) (link : VirtualLink) (source n : ℕ) (comes : Bool) → comes ≡ nat_le (moment_of link n (word_of seed link.id.0 n)) until
-    → come_count seed until link source (n + 1) ≡ come_count seed until link source n + cond comes 1 0
-come_count_more seed until link source n comes is =
-    ap length (filter_of_map_range_with_len_more (λ m. nat_le m.time until) offer 0 n n (omega arith)) ∙ length-append so_far _ ∙ ap (λ more. length so_far + more) (go comes is)
-  where
-    offer : ℕ → Message
-    offer = offer_of seed link source
+pub count_more : (seed last : ℕ) (s : OfferedStream) (k before drawn late : ℕ) → last ≤ LATEST_NS → IsSumOf s.stream.timing before (drawn_before seed s k) → drawn ≡ drawn_at seed s k → late ≡ late_by s.stream.timing before drawn
+    → come_count seed last s (k + 1) ≡ come_count seed last s k + cond (nat_le (due_of s.stream k + late) last) 1 0
+count_more seed last s k before drawn late within sum is given =
+    let on : k + 1 ≡ suc k = omega arith in
+    elim (late_given seed last s k before drawn late within sum is given) [
+      | inl same ↦ ap (come_count seed last s) on ∙ ap (λ l. come_count seed last s k + cond (nat_le (due_of s.stream k + l) last) 1 0) (sym same)
+      | inr beyond ↦ (
+          let none : nat_le (due_of s.stream k + late) last ≡ false = grind (arith, nat_tests) in
+          let neither : nat_le (due_of s.stream k + late_of seed s k) last ≡ false = grind (arith, nat_tests) in
+          ap (come_count seed last s) on ∙ ap (λ b. come_count seed last s k + cond b 1 0) (neither ∙ sym none))
+    ]
 
-    so_far : List Message
-    so_far = come_until until (map offer (range_with_len 0 n))
+pub one-at-most : (b : Bool) → cond b 1 0 ≤ 1
+one-at-most true = omega arith
+one-at-most false = omega arith
 
-    go : (comes : Bool) → comes ≡ nat_le (offer n).time until → length (cond (nat_le (offer n).time until) (offer n ∷ []) []) ≡ cond comes 1 0
-    go true is = rw (← is) refl
-    go false is = rw (← is) refl
-
--- all of the first n, if they come however late they are
-pub come_count_sure : (seed until : ℕ) (link : VirtualLink) (source n : ℕ) → ((k : ℕ) → k < n → due_of link k + link.jitter_ns ≤ until) → come_count seed until link source n ≡ n
-come_count_sure seed until link source zero sure = refl
-come_count_sure seed until link source (suc n) sure =
-    let word = word_of seed link.id.0 n in
+-- all of the first n, if each comes
+pub count_sure : (seed last : ℕ) (s : OfferedStream) (n : ℕ) → ((k : ℕ) → k < n → moment_of seed s k ≤ last) → come_count seed last s n ≡ n
+count_sure seed last s zero sure = refl
+count_sure seed last s (suc n) sure =
     let next : n + 1 ≡ suc n = omega arith in
-    let before : come_count seed until link source n ≡ n = come_count_sure seed until link source n (λ k lt. sure k (omega arith)) in
-    let late : word % (link.jitter_ns + 1) < link.jitter_ns + 1 = mod-lt word (omega arith) in
-    let latest : due_of link n + link.jitter_ns ≤ until = sure n (omega arith) in
-    let comes : nat_le (moment_of link n word) until ≡ true = le-leb _ _ (omega arith) in
-    let more = come_count_more seed until link source n true (sym comes) in
-    sym (ap (come_count seed until link source) next) ∙ more ∙ ap (λ c. c + 1) before ∙ next
+    let before : come_count seed last s n ≡ n = count_sure seed last s n (λ k lt. sure k (omega arith)) in
+    let comes : nat_le (moment_of seed s n) last ≡ true = le-leb _ _ (sure n (omega arith)) in
+    ap (λ b. come_count seed last s n + cond b 1 0) comes ∙ ap (λ c. c + 1) before ∙ next
 
 -- at most as many are due as the least period lets
-pub due_count-few : (until : ℕ) (link : VirtualLink) → IsLinkInLimits link → 1000 * due_count until link ≤ until + 1000
-due_count-few until link limits = go (due_count until link) refl
+pub due_count-few : (last : ℕ) (stream : Stream) → IsStreamInLimits stream → 1000 * due_count last stream ≤ last + 1000
+due_count-few last stream limits = go (due_count last stream) refl
   where
-    go : (n : ℕ) → due_count until link ≡ n → 1000 * n ≤ until + 1000
+    go : (n : ℕ) → due_count last stream ≡ n → 1000 * n ≤ last + 1000
     go zero is = omega arith
     go (suc k) is =
-        let due : due_of link k ≤ until = (due_count-due until link k limits).0 (omega arith) in
-        let on : k * 1000 ≤ k * link.period_ns = mul-le-mul_left k limits.least_period in
+        let due : due_of stream k ≤ last = (due_count-due last stream k limits).0 (omega arith) in
+        let on : k * 1000 ≤ k * stream.period_ns = mul-le-mul_left k limits.least_period in
         omega arith
 
--- ---- all virtual links
+-- ---- their frames
 
--- a number is not below its place
-rising-floor : (xs : List ℕ) → IsStrictlyIncreasing xs → (i : ℕ) → i < length xs → i ≤ slice_index xs i
-rising-floor xs rises zero within = omega arith
-rising-floor xs rises (suc i) within =
-    let next : i + 1 ≡ suc i = omega arith in
-    let before : i ≤ slice_index xs i = rising-floor xs rises i (omega arith) in
-    let step : slice_index xs i < slice_index xs (suc i) = subst (λ k. slice_index xs i < slice_index xs k) next (rises i (omega arith)) in
-    omega arith
+length-range : (n a : ℕ) → length (range_with_len a n) ≡ n
+length-range zero a = refl
+length-range (suc n) a = ap suc (length-range n (a + 1))
 
--- so the number of a virtual link is not below its place
-pub place-below : (plan : Plan) (i : ℕ) (link : VirtualLink) → IsStrictlyIncreasing (ids_of plan.vls) → option_map (λ vl. vl.link) (slice_get plan.vls i) ≡ Some link → i ≤ link.id.0
-place-below plan i link rises = go (slice_get plan.vls i) refl
-  where
-    go : (o : Option VlPlan) → slice_get plan.vls i ≡ o → option_map (λ vl. vl.link) o ≡ Some link → i ≤ link.id.0
-    go None at link_is = absurd (cc)
-    go (Some vl) at link_is =
-        let same : vl.link ≡ link = cc in
-        let number : id_of vl ≡ link.id.0 = ap (λ (l : VirtualLink). l.id.0) same in
-        let there : slice_get (ids_of plan.vls) i ≡ Some (id_of vl) = slice_get-map id_of plan.vls i ∙ ap (option_map id_of) at in
-        let read : slice_index (ids_of plan.vls) i ≡ id_of vl = get_or_from_slice_get (ids_of plan.vls) i (id_of vl) 0 there in
-        let floor = rising-floor (ids_of plan.vls) rises i (slice_get_within (ids_of plan.vls) i (id_of vl) there) in
-        omega arith
+own-length : (b : Bool) (f : ℕ → Message) (a n : ℕ) → length (cond b (map f (range_with_len a n)) []) ≡ cond b 1 0 * n
+own-length true f a n = let all : length (map f (range_with_len a n)) ≡ n = length-map (range_with_len a n) f ∙ length-range n a in omega arith
+own-length false f a n = omega arith
 
--- the virtual link at the place i has a source, and with its offers there are as many more
-pub offer_count_more : (plan : Plan) (i : ℕ) (link : VirtualLink) (n : ℕ) → IsAccepted plan → option_map (λ vl. vl.link) (slice_get plan.vls i) ≡ Some link
-    → ((source : ℕ) → n ≡ length (offers_from plan.seed plan.until link source))
-    → length (flat_map (offers_of_vl plan) (take (i + 1) plan.vls)) ≡ length (flat_map (offers_of_vl plan) (take i plan.vls)) + n
-offer_count_more plan i link n accepted link_is count = go (slice_get plan.vls i) refl
-  where
-    go : (o : Option VlPlan) → slice_get plan.vls i ≡ o → length (flat_map (offers_of_vl plan) (take (i + 1) plan.vls)) ≡ length (flat_map (offers_of_vl plan) (take i plan.vls)) + n
-    go None at = absurd (cc)
-    go (Some vl) at =
-        let has = read-item (HasSource plan.nodes) plan.vls i vl (all-have plan accepted) at in
-        let source_is : option_and_then source_of (slice_get plan.vls i) ≡ Some has.node = ap (option_and_then source_of) at ∙ has.is in
-        ap length (offers_more plan i link has.node link_is source_is)
-        ∙ length-append (flat_map (offers_of_vl plan) (take i plan.vls)) _
-        ∙ ap (λ more. length (flat_map (offers_of_vl plan) (take i plan.vls)) + more) (sym (count has.node))
+length-bursts : (seed last : ℕ) (s : OfferedStream) (n : ℕ) → length (come_until last (map (offer_of seed s) (range_with_len 0 (n * s.stream.frames)))) ≡ come_count seed last s n * s.stream.frames
+length-bursts seed last s zero = let none : zero * s.stream.frames ≡ 0 = omega arith in rw none refl
+length-bursts seed last s (suc n) =
+    let frames = s.stream.frames in
+    let late = late_of seed s n in
+    let comes = nat_le (due_of s.stream n + late) last in
+    let own : List Message = cond comes (map (λ i. offer_by s i late) (range_with_len (n * frames) frames)) [] in
+    let so_far : List Message = come_until last (map (offer_of seed s) (range_with_len 0 (n * frames))) in
+    let whole : so_far ++ own ≡ come_until last (map (offer_of seed s) (range_with_len 0 ((n + 1) * frames))) = burst_more seed last s n late [] so_far (so_far ++ own) refl refl refl in
+    let on : suc n * frames ≡ (n + 1) * frames = omega arith in
+    let before : length so_far ≡ come_count seed last s n * frames = length-bursts seed last s n in
+    let more : length own ≡ cond comes 1 0 * frames = own-length comes (λ i. offer_by s i late) (n * frames) frames in
+    let count : length (so_far ++ own) ≡ length so_far + length own = length-append so_far own in
+    let sum : come_count seed last s n * frames + cond comes 1 0 * frames ≡ (come_count seed last s n + cond comes 1 0) * frames = omega arith in
+    ap (λ m. length (come_until last (map (offer_of seed s) (range_with_len 0 m)))) on ∙ ap length (sym whole) ∙ count ∙ ap (λ m. m + length own) before ∙ ap (λ m. come_count seed last s n * frames + m) more ∙ sum
+
+pub length-offers : (seed last : ℕ) (s : OfferedStream) → length (offers_until seed last s) ≡ come_count seed last s (due_count last s.stream) * s.stream.frames
+length-offers seed last s = length-bursts seed last s (due_count last s.stream)
+
+-- ---- all streams
+
+-- those of one stream more
+pub offers_more : (f : OfferedStream → List Message) (before more : List OfferedStream) (s : OfferedStream) → more ≡ before ++ s ∷ [] → flat_map f more ≡ flat_map f before ++ f s
+offers_more f before more s is = ap (flat_map f) is ∙ flat_map-append f before (s ∷ []) ∙ ap (λ (ms : List Message). flat_map f before ++ ms) (append-nil (f s))

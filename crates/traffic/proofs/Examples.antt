@@ -1,10 +1,11 @@
 -- Small cases that are computed from the definitions. The words for the state 42 and the stream 54 are those of PCG's reference code.
-use Rattle.std.proofs.Common.{◌≡◌, [], ◌∷◌, map, refl}
+use Rattle.std.proofs.Common.{◌≡◌, [], ◌∷◌, map, Some, None, refl}
 use Rattle.rand_pcg.specs.Lcg.{state_after}
-use Rattle.network_rows.specs.declared.rows.Policing.TheVariants.{Bytes}
-use Rattle.network_rows.specs.declared.rows.Priority.TheVariants.{Low}
-use Rattle.network_rows.specs.declared.rows.VirtualLink.{VirtualLink}
-use Rattle.traffic.specs.Offers.{generator_at, word_of, offers_from}
+use Rattle.vlink.specs.declared.message.Message.{Message}
+use Rattle.row_types.specs.declared.rows.Stream.{Stream}
+use Rattle.row_types.specs.declared.rows.Timing.TheVariants.{Periodic, Sporadic}
+use Rattle.traffic.specs.declared.stream.OfferedStream.{OfferedStream}
+use Rattle.traffic.specs.Offers.{generator_at, word_of, offers_from, size_of, sub_of}
 
 first_word : word_of 42 54 0 ≡ 2707161783
 unfolding word_of generator_at state_after
@@ -14,25 +15,39 @@ second_word : word_of 42 54 1 ≡ 2068313097
 unfolding word_of generator_at state_after
 second_word = refl
 
--- the virtual link 54, offered from the start, each ms, up to 1000 ns late
-abbrev link_54 : VirtualLink
-link_54 = record {
-  id = record { 0 = 54 };
-  bag_ms = 1;
-  smax = 64;
-  priority = Low;
-  policing_jitter_ns = 0;
-  policing = Bytes;
-  skew_max_ns = 1000000;
-  depth = 16;
-  sub = 1;
+-- offered from the start, each ms, up to 1000 ns late, two frames at once
+abbrev bursts : Stream
+bursts = record {
   size = 64;
+  frames = 2;
+  last_size = Some 100;
   offset_ns = 0;
   period_ns = 1000000;
   jitter_ns = 1000;
+  timing = Sporadic;
+  end_ns = None;
+  sub_vl = None;
 }
 
--- until 2 ms its offers come at 326 and at 1000851 ns; the third one would come after that
-two_offers : map (λ offer. offer.time) (offers_from 42 2000000 link_54 0) ≡ 326 ∷ 1000851 ∷ []
+abbrev stream_54 : Stream → OfferedStream
+stream_54 stream = record { number = 54; vl = record { 0 = 54 }; sub = 2; source = 0; stream = stream }
+
+-- the words are 326 and 851 modulo 1001; so the second burst is 1177 ns late, and each burst draws one word
+sporadic : map (λ (m : Message). m.time) (offers_from 42 1500000 (stream_54 bursts)) ≡ 326 ∷ 326 ∷ 1001177 ∷ 1001177 ∷ []
 unfolding word_of generator_at state_after
-two_offers = refl
+sporadic = refl
+
+periodic : map (λ (m : Message). m.time) (offers_from 42 1500000 (stream_54 (record bursts { timing = Periodic }))) ≡ 326 ∷ 326 ∷ 1000851 ∷ 1000851 ∷ []
+unfolding word_of generator_at state_after
+periodic = refl
+
+-- an end between the moment at which a burst is due and that at which it comes leaves it out
+ended : map (λ (m : Message). m.number) (offers_from 42 1500000 (stream_54 (record bursts { end_ns = Some 1001176 }))) ≡ 0 ∷ 1 ∷ []
+unfolding word_of generator_at state_after
+ended = refl
+
+sizes : size_of bursts 0 ∷ size_of bursts 1 ∷ [] ≡ 64 ∷ 100 ∷ []
+sizes = refl
+
+turns : sub_of (stream_54 bursts) 0 ∷ sub_of (stream_54 bursts) 1 ∷ sub_of (stream_54 (record bursts { sub_vl = Some 1 })) 0 ∷ [] ≡ 0 ∷ 1 ∷ 1 ∷ []
+turns = refl

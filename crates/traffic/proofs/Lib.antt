@@ -1,5 +1,10 @@
+pub mod RangeLemmas
 pub mod DrawingLemmas
-pub mod OfferingLemmas
-pub mod LawLemmas
+pub mod BurstLemmas
+pub mod OwnLemmas
+pub mod StreamLemmas
+pub mod AllStreams
+pub mod IdLemmas
 pub mod CountingLemmas
+pub mod LawLemmas
 pub mod Examples

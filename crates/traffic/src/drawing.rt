@@ -1,100 +1,80 @@
-//! The offers of one virtual link.
-ghost use Rattle.std.specs.Prelude.{◌≡◌, ℕ, ◌+◌, ◌%◌, ◌<◌, ◌≤◌, ◌↔◌, [], ◌∷◌, ◌++◌, OnOk, OnErr, vec_len, vec_capacity};
+//! The offers of one stream.
+ghost use Rattle.std.specs.Prelude.{◌≡◌, ℕ, ◌+◌, ◌*◌, ◌<◌, ◌≤◌, ◌++◌, map, OnOk};
+ghost use Rattle.std.specs.List.{range_with_len};
 ghost use Rattle.vlink.specs.declared.time.TheConstants.{LATEST_NS};
-ghost use Rattle.network.specs.Words.{IsLinkInLimits};
-ghost use Rattle.traffic.specs.Offers.{due_of, moment_of, due_count, sender_of, offer_by, come_until, offers_from};
+ghost use Rattle.traffic.specs.Limits.{IsOfferedInLimits};
+ghost use Rattle.traffic.specs.Offers.{due_of, late_by, offer_by, offers_from};
 
-use network::{GREATEST_PROCESSES, VirtualLink};
+use crate::stream::OfferedStream;
+use network::Timing;
 use rand_core::utils::NextWord;
 use rand_pcg::Lcg64Xsh32;
 use std::alloc::AllocError;
-use vlink::{Body, Message, Time, VlId, process_number};
+use vlink::{Body, LATEST_NS, Message, Time};
 
-/// Returns how many offers of a virtual link are due up to `until`.
-pub fn due_count(until: Time, link: &VirtualLink) -> u64
-    requires { IsLinkInLimits link.now }
-    ensures value { result ≡ due_count until link.now }
-    ensures due { (k : ℕ) → (k < result) ↔ (due_of link.now k ≤ until) }
-{
-    if until.ns() < link.offset_ns {
-        0
-    } else {
-        (until.ns() - link.offset_ns) / link.period_ns + 1
-    }
-}
-
-/// Returns the sender of the offers of a virtual link.
-fn sender_of(vl: VlId) -> u32
-    ensures { result ≡ sender_of vl.0 }
-{
-    u32::from(process_number(GREATEST_PROCESSES)) + u32::from(vl.0)
-}
-
-/// Returns when the offer with this number and random word comes, in ns.
-pub fn moment(link: &VirtualLink, number: u64, word: u32) -> u64
-    requires limits { IsLinkInLimits link.now }
-    requires due { due_of link.now number ≤ LATEST_NS }
-    ensures { result ≡ moment_of link.now number word }
-{
-    let due = link.offset_ns + number * link.period_ns;
-    let jitter = u64::from(word) % (u64::from(link.jitter_ns) + 1);
-    due + jitter
-}
-
-/// Returns the sub-virtual link of the offer with this number: they take turns.
-fn sub_of(link: &VirtualLink, number: u64) -> u8
-    requires { IsLinkInLimits link.now }
-    ensures { result ≡ number % link.now.sub }
-{
-    (number % u64::from(link.sub)) as u8
-}
-
-/// Appends the offer with this number and random word, unless it comes after `until`.
-fn push_offer(
+/// Appends the frames of burst `k`, which comes at this moment.
+fn push_burst(
     offers: &mut Vec<Message>,
-    until: Time,
-    link: &VirtualLink,
-    source: u16,
-    number: u64,
-    word: u32,
+    stream: &OfferedStream,
+    k: u64,
+    time: Time,
 ) -> Result<(), AllocError>
-    requires limits { IsLinkInLimits link.now }
-    requires due { due_of link.now number ≤ until }
-    requires until { until ≤ LATEST_NS }
-    ensures offers { OnOk result (offers.new.items ≡ offers.old.items ++ come_until until (offer_by link.now source number word ∷ [])) }
-    ensures full { OnErr result (vec_capacity offers.old ≤ vec_len offers.old) }
+    requires limits { IsOfferedInLimits stream.now }
+    requires few { due_of stream.now.stream k ≤ LATEST_NS }
+    ensures { OnOk result ((late : ℕ) → time ≡ due_of stream.now.stream k + late →
+        offers.new.items ≡ offers.old.items ++ map (λ n. offer_by stream.now n late) (range_with_len (k * stream.now.stream.frames) stream.now.stream.frames)) }
 {
-    if let Some(time) = Time::until(moment(link, number, word), until) {
+    for i in 0..stream.stream.frames {
         offers.push(Message {
             time,
-            receiver: source,
-            sender: sender_of(link.id),
-            number,
+            receiver: stream.source,
+            sender: stream.sender(),
+            number: k * u64::from(stream.stream.frames) + u64::from(i),
             body: Body::Offer {
-                vl: link.id,
-                size: link.size,
-                sub: sub_of(link, number),
+                vl: stream.vl,
+                size: stream.size(i),
+                sub: stream.sub(k),
             },
         })?;
     }
     Ok(())
 }
 
-/// Appends the offers of a virtual link, whose frames begin at the node `source`.
+/// Returns how much later than due a burst comes, after these delays and by its own.
+pub fn late(timing: Timing, before: u64, drawn: u64) -> u64
+    requires before { before ≤ LATEST_NS + 1 }
+    requires drawn { drawn ≤ LATEST_NS }
+    ensures { result ≡ late_by timing before drawn }
+{
+    match timing {
+        Timing::Periodic => drawn,
+        Timing::Sporadic => before + drawn,
+    }
+}
+
+/// Appends the offers of a stream.
 pub fn push_offers(
     offers: &mut Vec<Message>,
     seed: u64,
     until: Time,
-    link: &VirtualLink,
-    source: u16,
+    stream: &OfferedStream,
 ) -> Result<(), AllocError>
-    requires limits { IsLinkInLimits link.now }
+    requires limits { IsOfferedInLimits stream.now }
     requires until { until ≤ LATEST_NS }
-    ensures { OnOk result (offers.new.items ≡ offers.old.items ++ offers_from seed until link.now source) }
+    ensures { OnOk result (offers.new.items ≡ offers.old.items ++ offers_from seed until stream.now) }
 {
-    let mut words = Lcg64Xsh32::new(seed, u64::from(link.id.0));
-    for number in 0..due_count(until, link) {
-        push_offer(offers, until, link, source, number, words.next_word())?;
+    let last = stream.last(until);
+    let mut words = Lcg64Xsh32::new(seed, u64::from(stream.number));
+    // The delays so far, or more than any run has.
+    let mut before: u64 = 0;
+    for k in 0..stream.due_count(last) {
+        let drawn = stream.drawn(words.next_word());
+        let late = late(stream.stream.timing, before, drawn);
+        let due = stream.stream.offset_ns + k * stream.stream.period_ns;
+        if let Some(time) = stream.moment(until, due, late) {
+            push_burst(offers, stream, k, time)?;
+        }
+        before = (before + drawn).min(LATEST_NS + 1);
     }
     Ok(())
 }

@@ -1,6 +1,6 @@
 -- The tables of a network, against its plan.
 use Rattle.std.specs.Prelude.{ℕ, ◌≡◌, ◌+◌, ◌<◌, ◌≤◌, List, length, map, None, vec_len, string_bytes, slice_index_or}
-use Rattle.network_rows.specs.declared.rows.NodeRow.{NodeRow}
+use Rattle.row_types.specs.declared.rows.NodeRow.{NodeRow}
 use Rattle.network.specs.declared.plan.Numbered.{Numbered}
 use Rattle.network.specs.declared.tables.Tables.{Tables}
 use Rattle.network.specs.Limits.{greatest_processes}
@@ -19,6 +19,7 @@ plan_with until seed nodes numbered = record {
   links = numbered.links.items;
   outages = numbered.outages.items;
   vls = numbered.vls.items;
+  streams = numbered.streams.items;
 }
 
 pub record AreTables (plan : Plan) (tables : Tables) : Type 0 where

@@ -1,12 +1,12 @@
 -- Definition: the opening state of each process of a network. Nothing waits, nothing was sent, and no frame was received.
 use Rattle.std.specs.Prelude.{ℕ, ◌+◌, ◌-◌, ◌*◌, ◌==◌, ◌&&◌, Bool, if◌then◌else◌, List, [], ◌∷◌, length, map, Option, None, Some, slice_get, option_map}
 use Rattle.std.specs.List.{range_with_len}
-use Rattle.network_rows.specs.declared.rows.NodeKind.{NodeKind}
-use Rattle.network_rows.specs.declared.rows.NodeKind.TheVariants as kind
-use Rattle.network_rows.specs.declared.rows.Policing.{Policing}
-use Rattle.network_rows.specs.declared.rows.Policing.TheVariants as policing
-use Rattle.network_rows.specs.declared.rows.Priority.{Priority}
-use Rattle.network_rows.specs.declared.rows.Priority.TheVariants as row
+use Rattle.row_types.specs.declared.rows.NodeKind.{NodeKind}
+use Rattle.row_types.specs.declared.rows.NodeKind.TheVariants as kind
+use Rattle.row_types.specs.declared.rows.Policing.{Policing}
+use Rattle.row_types.specs.declared.rows.Policing.TheVariants as policing
+use Rattle.row_types.specs.declared.rows.Priority.{Priority}
+use Rattle.row_types.specs.declared.rows.Priority.TheVariants as row
 use Rattle.bag_regulator.specs.Regulator as regulator
 use Rattle.bag_regulator.specs.Regulator.{Regulator}
 use Rattle.policer.specs.Account as policer
@@ -17,7 +17,7 @@ use Rattle.output_port.specs.Port as port
 use Rattle.output_port.specs.declared.event.Priority as waiting
 use Rattle.output_port.specs.declared.event.Priority.TheVariants.{High, Low}
 use Rattle.network.specs.declared.limits.TheConstants.{GREATEST_PORTS}
-use Rattle.network_rows.specs.declared.rows.VirtualLink.{VirtualLink}
+use Rattle.row_types.specs.declared.rows.VirtualLink.{VirtualLink}
 use Rattle.network.specs.declared.wiring.LinePlan.{LinePlan}
 use Rattle.network.specs.declared.wiring.Way.{Way}
 use Rattle.network.specs.Words.{Plan, NodePlan, VlPlan, lines_of, outages_of}

@@ -79,8 +79,12 @@ fn meet(meetings: &mut Vec<Meeting>, network: &Network, ways: &[Way]) -> Result<
     let Some(place) = network.place_of(way.vl) else {
         return Ok(());
     };
+    let link = network.virtual_link(place);
+    // The check of the loan of `meetings` has to see these types.
+    let own = link.own;
+    let _size = own.last_size;
     meetings.push(Meeting {
-        link: network.virtual_link(place),
+        link,
         first: way.port as u8,
         ports: ports_by(ways),
     })?;

@@ -22,8 +22,5 @@ returns c =
       skew_max_ns = c.number_at-5.ensures.number;
       depth = c.number_at-6.ensures.number;
       sub = c.number_at-7.ensures.number;
-      size = subst (IsNumberAt keys.size row) (size_is c.new-2.result c.unwrap-2.result c.number_at-8.result c.unwrap-2.ensures c.new-2.ensures.value) c.number_at-8.ensures.number;
-      offset_ns = c.number_at-9.ensures.number;
-      period_ns = c.number_at-10.ensures.number;
-      jitter_ns = c.number_at-11.ensures.number;
+      own = c.stream.ensures;
     }

@@ -1,9 +1,9 @@
 use Rattle.std.proofs.Common.{refl, arith, rules}
 use Rattle.std.proofs.lemmas.Grind.{common_steps}
 use Rattle.toml.specs.View.{table_view}
-use Rattle.network_rows.specs.declared.key.Section.TheVariants.{Node, Link, Outage, Vl}
-use Rattle.network_rows.specs.Rows.{MeansNode, MeansLink, MeansOutage, MeansVl, MeansSection}
-use Rattle.network_rows.proofs.Sound.{sound_top, sound_nodes, sound_links, sound_outages, sound_vls}
+use Rattle.network_rows.specs.declared.key.Section.TheVariants.{Node, Link, Outage, Vl, Stream}
+use Rattle.network_rows.specs.Rows.{MeansNode, MeansLink, MeansOutage, MeansVl, MeansStreamRow, MeansSection}
+use Rattle.network_rows.proofs.Sound.{sound_top, sound_nodes, sound_links, sound_outages, sound_vls, sound_streams}
 use Rattle.network_rows.proofs.read_row.rows.Goals as goal
 
 pub number_at-requires-clause-sound : goal.number_at-requires-clause-sound
@@ -28,6 +28,11 @@ rows_in-requires-4 c =
     rw (c.take_list-4.ensures.value, c.take_list-3.ensures.others Vl refl, c.take_list-2.ensures.others Vl refl, c.take_list.ensures.others Vl refl)
     (sound_vls (table_view c.args.document.now) c.requires)
 
+pub rows_in-requires-5 : goal.rows_in-requires-5
+rows_in-requires-5 c =
+    rw (c.take_list-5.ensures.value, c.take_list-4.ensures.others Stream refl, c.take_list-3.ensures.others Stream refl, c.take_list-2.ensures.others Stream refl, c.take_list.ensures.others Stream refl)
+    (sound_streams (table_view c.args.document.now) c.requires)
+
 pub returns : goal.returns
 returns c =
     let document = table_view c.args.document.now in
@@ -38,4 +43,6 @@ returns c =
     rw (c.take_list-3.ensures.value, c.take_list-2.ensures.others Outage refl, c.take_list.ensures.others Outage refl) at c.in_ok-outages.ensures in
     let vls : MeansSection MeansVl Vl document c.in_ok-vls.vls =
     rw (c.take_list-4.ensures.value, c.take_list-3.ensures.others Vl refl, c.take_list-2.ensures.others Vl refl, c.take_list.ensures.others Vl refl) at c.in_ok-vls.ensures in
+    let streams : MeansSection MeansStreamRow Stream document c.in_ok-streams.streams =
+    rw (c.take_list-5.ensures.value, c.take_list-4.ensures.others Stream refl, c.take_list-3.ensures.others Stream refl, c.take_list-2.ensures.others Stream refl, c.take_list.ensures.others Stream refl) at c.in_ok-streams.ensures in
     first_of (search rules, grind (arith, common_steps))

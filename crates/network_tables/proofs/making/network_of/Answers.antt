@@ -18,6 +18,7 @@ network_with-requires c =
         outages = ap (λ p. p.outages) lists;
         vls = subst (λ (before : List VlPlan). IsPermutation before c.sort_vls.new.vls.items) (ap (λ p. p.vls) lists) c.in_ok-sort_vls.ensures.moved;
         in_order = c.in_ok-sort_vls.ensures.in_order;
+        streams = ap (λ p. p.streams) lists;
       };
     }
 
@@ -33,4 +34,5 @@ returns c =
       outages = ap (λ p. p.outages) lists;
       vls = subst (λ (before : List VlPlan). IsPermutation before c.sort_vls.new.vls.items) (ap (λ p. p.vls) lists) c.in_ok-sort_vls.ensures.moved;
       in_order = c.in_ok-sort_vls.ensures.in_order;
+      streams = ap (λ p. p.streams) lists;
     })

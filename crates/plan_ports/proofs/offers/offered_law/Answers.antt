@@ -8,6 +8,6 @@ pub returns : goal.returns
 returns c =
     let plan = c.args.network.now in
     record {
-      nodes = record { number = λ p lt. refl; until = λ p lt. refl; offered = all-offered plan (λ m. is_offer m.body ≡ true) (λ vl source k there from. refl) };
+      nodes = record { number = λ p lt. refl; until = λ p lt. refl; offered = all-offered plan (λ m. is_offer m.body ≡ true) (λ s n of. refl) };
       offers = are-offers plan c.accepted_law.ensures;
     }

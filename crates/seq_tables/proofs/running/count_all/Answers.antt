@@ -7,7 +7,7 @@ use Rattle.actor_run.specs.Running.{StandsAt}
 use Rattle.actor_run.specs.RunningAhead.{is_marked}
 use Rattle.trace_tables.specs.Tables.{tables_of}
 use Rattle.seqsim.specs.Networks.{setting_of}
-use Rattle.actor_run.proofs.Errors.{err-on-ok, passed-on, passed-short}
+use Rattle.actor_run.proofs.Errors.{passed-on, passed-short}
 use Rattle.seq_tables.specs.Lines.{starts_of}
 use Rattle.seq_tables.proofs.running.count_all.Goals as goal
 
@@ -65,30 +65,11 @@ returns-clause-whole g c =
           ∙ ap (λ plan. tables_of plan rows) (c.in_ok-handle_all_ahead.ensures.purpose ∙ c.in_ok-counted.ensures.network),
     )
 
-pub returns-clause-numbers : goal.returns-clause-numbers
-returns-clause-numbers g c =
-    let plan = c.args.network.now in
-    c.in_ok-handle_all_ahead.ensures.numbers (setting_of plan) c.network_law.ensures (starts_of plan)
-    (runs plan c.in_ok-ahead.ahead.items c.deref.result.now c.deref.ensures.value (c.lines_ahead_law.ensures c.in_ok-ahead.ahead.items c.in_ok-ahead.ensures))
-    (stands plan c.args.nodes.items c.deref_mut.result.now c.args.waiting c.deref_mut.ensures.value c.requires)
-
 pub returns-in_err-ahead-clause-exhausted : goal.returns-in_err-ahead-clause-exhausted
 returns-in_err-ahead-clause-exhausted g c = λ e. passed-short c.from_residual.result c.from_residual.ensures.1 refl e
-
-pub returns-in_err-ahead-clause-numbers : goal.returns-in_err-ahead-clause-numbers
-returns-in_err-ahead-clause-numbers g c = err-on-ok _ _ c.from_residual.result c.from_residual.ensures.1
 
 pub returns-in_err-counted-clause-exhausted : goal.returns-in_err-counted-clause-exhausted
 returns-in_err-counted-clause-exhausted g c = λ e. passed-short c.from_residual-in_err-counted.result c.from_residual-in_err-counted.ensures.1 refl e
 
-pub returns-in_err-counted-clause-numbers : goal.returns-in_err-counted-clause-numbers
-returns-in_err-counted-clause-numbers g c = err-on-ok _ _ c.from_residual-in_err-counted.result c.from_residual-in_err-counted.ensures.1
-
-pub returns-in_err-handle_all_ahead-clause-numbers : goal.returns-in_err-handle_all_ahead-clause-numbers
-returns-in_err-handle_all_ahead-clause-numbers g c = err-on-ok _ _ c.from_residual-in_err-handle_all_ahead.result c.from_residual-in_err-handle_all_ahead.ensures.1
-
 pub returns-in_err-into_tables-clause-exhausted : goal.returns-in_err-into_tables-clause-exhausted
 returns-in_err-into_tables-clause-exhausted g c = λ e. passed-short c.from_residual-in_err-into_tables.result c.from_residual-in_err-into_tables.ensures.1 refl e
-
-pub returns-in_err-into_tables-clause-numbers : goal.returns-in_err-into_tables-clause-numbers
-returns-in_err-into_tables-clause-numbers g c = err-on-ok _ _ c.from_residual-in_err-into_tables.result c.from_residual-in_err-into_tables.ensures.1

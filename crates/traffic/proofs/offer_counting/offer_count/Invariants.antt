@@ -1,10 +1,11 @@
-use Rattle.std.proofs.Common.{◌≡◌, ◌+◌, ◌*◌, ◌≤◌, length, take, flat_map}
+use Rattle.std.proofs.Common.{◌≡◌, ◌+◌, ◌*◌, ◌≤◌, length, flat_map}
 use Rattle.vlink.specs.declared.time.TheConstants.{LATEST_NS}
-use Rattle.traffic.specs.Offers.{offers_of_vl}
+use Rattle.traffic.specs.Offers.{offers_from}
+use Rattle.traffic.specs.Places.{streams_before}
 use Rattle.traffic.proofs.offer_counting.offer_count.Given as goal
 
-abbrev pub invariant-loop-vl : goal.invariant-loop-vl
-invariant-loop-vl l = record {
-  count_is : l.count ≡ length (flat_map (offers_of_vl l.network) (take l.vl l.network.vls));
-  few : 1000 * l.count ≤ l.vl * (LATEST_NS + 1000);
+abbrev pub invariant-loop-place : goal.invariant-loop-place
+invariant-loop-place l = record {
+  count_is : l.count ≡ length (flat_map (offers_from l.network.seed l.network.until) (streams_before l.network l.place));
+  few : 1000 * l.count ≤ l.place * (64 * (LATEST_NS + 1000));
 }

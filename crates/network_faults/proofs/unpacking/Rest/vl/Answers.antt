@@ -1,5 +1,5 @@
 use Rattle.std.proofs.Common.{◌∙◌, ℕ, List, ap, sym, append_assoc}
-use Rattle.network_rows.specs.declared.rows.VirtualLink.{VirtualLink}
+use Rattle.row_types.specs.declared.rows.VirtualLink.{VirtualLink}
 use Rattle.network.specs.Words.{VlPlan, lists_of}
 use Rattle.network_faults.specs.Packed.{packed_paths}
 use Rattle.network_faults.proofs.unpacking.Rest.vl.Goals as goal

@@ -1,0 +1,9 @@
+pub mod Sums
+pub mod FewFrames
+pub mod Starts
+pub mod Switches
+pub mod Regulators
+pub mod Offered
+pub mod EndSystems
+pub mod Lines
+pub mod Networks
