@@ -1,5 +1,3 @@
-pub mod Arriving
-pub mod Following
 pub mod Running
 pub mod Heard
 pub mod Statuses

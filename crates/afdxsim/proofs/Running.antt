@@ -1,21 +1,16 @@
 -- Why a run by workers was given up, as a fault of the program.
-use Rattle.std.proofs.Common.{◌≡◌, ◌<◌, ◌+◌, ℕ, Result, Ok, Err, refl, sym, subst, IfErr, IsSome}
-use Rattle.vlink.specs.Numbering.{greatest_number}
-use Rattle.virtual_time.specs.Law.{Laws}
-use Rattle.reverse.specs.declared.sends.TheConstants.{MOST_SENT}
-use Rattle.network.specs.Words.{Plan}
-use Rattle.nodes.specs.Words.{NodeState, simulation_of}
-use Rattle.actor_run.specs.Running.{IsExhaustedAt}
-use Rattle.actor_run.specs.declared.fault.SimFault.{SimFault}
-use Rattle.actor_run.specs.declared.fault.SimFault.TheVariants as sim
+use Rattle.std.proofs.Common.{◌≡◌, Result, Ok, Err, refl, sym, ap, subst, arith, min, IfErr}
+use Rattle.command_line.specs.declared.orders.Run.{Run}
+use Rattle.network.specs.Words.{Plan, process_count}
+use Rattle.group_choice.specs.Groups.{run_groups}
+use Rattle.worker_pool.specs.declared.pace.Pace.{Pace}
 use Rattle.journal.specs.declared.fault.PoolFault.{PoolFault}
 use Rattle.journal.specs.declared.fault.PoolFault.TheVariants as pool
-use Rattle.worker_pool.specs.Outcomes.{UsesUpNumbers}
+use Rattle.worker_pool.specs.Outcomes.{CanWantWorkers, UsesUpNumbers}
 use Rattle.commands.specs.declared.fault.Fault.{Fault}
 use Rattle.commands.specs.declared.fault.Fault.TheVariants.{Description, JournalLine, JournalFull, CannotRead, CannotWriteFile, CannotWrite, Layout, OutOfMemory, Exhausted, Spawn, Torn}
-use Rattle.commands.specs.Sequencing.{fault_of_pool, fault_of_run}
-use Rattle.afdxsim.specs.Workers.{IsFaultOfPool}
-use Rattle.afdxsim.proofs.Following.{followed}
+use Rattle.commands.specs.Sequencing.{fault_of_pool}
+use Rattle.afdxsim.specs.Workers.{IsFaultOfPool, ordered_pace}
 
 -- a run's own fault is named
 pub workers_gave_up : {X : Type 0} (plan : Plan) (CanSpawn : Type 0) (r : Result X PoolFault) (why : PoolFault) (fault : Fault) → r ≡ Err why →
@@ -47,6 +42,17 @@ for_more plan Few Many Exhausted f is = is
 for_more plan Few Many Spawn f is = f is
 for_more plan Few Many Torn f is = is
 
+-- and so of the workers of a run, which are no more than are ordered
+pub for_fewer : (order : Run) (plan : Plan) (pace : Pace) (fault : Fault) → pace ≡ ordered_pace (process_count plan) order →
+    IsFaultOfPool plan (CanWantWorkers pace.workers (process_count plan)) fault → IsFaultOfPool plan (CanWantWorkers order.workers (process_count plan)) fault
+for_fewer order plan pace fault ordered is =
+    for_more plan (CanWantWorkers pace.workers (process_count plan)) (CanWantWorkers order.workers (process_count plan)) fault
+    (λ can. (
+      let workers : pace.workers ≡ min order.workers (run_groups (process_count plan) order.workers order.groups) = ap (λ (p : Pace). p.workers) ordered in
+          let some = can.0 in omega arith,
+      can.1,
+    )) is
+
 -- of a run that writes its trace nothing tells why a worker does not start
 pub tracers_gave_up : {X : Type 0} (plan : Plan) (r : Result X PoolFault) (why : PoolFault) (fault : Fault) → r ≡ Err why →
     IfErr r (λ fault. fault ≡ pool.Exhausted → UsesUpNumbers plan) → fault ≡ fault_of_pool why → IsFaultOfPool plan Unit fault
@@ -55,24 +61,3 @@ tracers_gave_up plan r why fault is exhausted named = workers_gave_up plan Unit 
     any : {X : Type 0} (r : Result X PoolFault) → IfErr r (λ fault. fault ≡ pool.Spawn → Unit)
     any (Ok x) = tt
     any (Err e) = λ _. tt
-
--- where the one-thread run lacks numbers, so does a run by workers: one that follows it
-used_up : (plan : Plan) → Laws (simulation_of plan) → (n : ℕ) × IsExhaustedAt (simulation_of plan) n → UsesUpNumbers plan
-used_up plan laws (n, lacks) =
-    let m = lacks.0 in
-    let there = followed (simulation_of plan) laws n m lacks.1 in
-    record {
-      steps = there.0;
-      process = m.receiver;
-      within = there.1;
-      lacking = (subst IsSome (sym there.2) refl, subst (λ (s : NodeState). greatest_number < s.sender.counter + MOST_SENT) (sym there.3) lacks.2);
-    }
-
--- the one-thread run's own fault is named; no worker is started for it
-pub alone_gave_up : {X : Type 0} (plan : Plan) (r : Result X SimFault) (why : SimFault) (fault : Fault) → Laws (simulation_of plan) → r ≡ Err why →
-    (r ≡ Err sim.Exhausted → (n : ℕ) × IsExhaustedAt (simulation_of plan) n) → fault ≡ fault_of_run why → IsFaultOfPool plan ⊥ fault
-alone_gave_up plan r why fault laws is exhausted named = subst (IsFaultOfPool plan ⊥) (sym named) (of why is)
-  where
-    of : (why : SimFault) → r ≡ Err why → IsFaultOfPool plan ⊥ (fault_of_run why)
-    of sim.OutOfMemory is = tt
-    of sim.Exhausted is = used_up plan laws (exhausted is)

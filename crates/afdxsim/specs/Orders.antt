@@ -10,12 +10,13 @@ use Rattle.commands.specs.Checking.{check_text}
 use Rattle.commands.specs.Files.{LacksOutput, LacksSeq, LeavesSeq, ShowsAlone, TellsAlone}
 use Rattle.commands.specs.Naming.{NamesApart, NamesTwice, TellsTwice, net_of}
 use Rattle.commands.specs.Outside.{Outside}
-use Rattle.commands.specs.Progress.{IsProgressLine, IsWorkersLine}
+use Rattle.commands.specs.Progress.{IsProgressLine}
 use Rattle.commands.specs.Reading.{GivesNetwork, IsFaultOfNet}
 use Rattle.commands.specs.Replaying.{LacksReplay, ShowsReplay}
 use Rattle.commands.specs.Streams.{IsHeard, IsQuiet, IsTold, Shows, ShowsTables, heard_host}
 use Rattle.commands.specs.Telling.{TellsOne}
 use Rattle.afdxsim.specs.Files.{LacksRun, LeavesRun}
+use Rattle.afdxsim.specs.Workers.{IsRunLine}
 
 -- whether the order asks for progress
 abbrev pub asks_progress : Order → Bool
@@ -29,7 +30,7 @@ asks_progress (ordered.Bounds o) = false
 abbrev pub IsLineOf : Order → Plan → List ℕ → Type 0
 IsLineOf (ordered.Check o) plan = IsProgressLine plan.until
 IsLineOf (ordered.Seq o) plan = IsProgressLine plan.until
-IsLineOf (ordered.Run o) plan = IsWorkersLine plan
+IsLineOf (ordered.Run o) plan = IsRunLine o plan
 IsLineOf (ordered.Replay o) plan = IsProgressLine plan.until
 IsLineOf (ordered.Bounds o) plan = IsProgressLine plan.until
 
@@ -44,7 +45,7 @@ module _ {S F O E : Type 0} (outside : Outside S F O E) (old new : S) where
   DoneOn plan (ordered.Run o) =
       ShowsTables outside old new plan ×
       LeavesRun outside (option_map string_bytes o.journal) (option_map string_bytes o.trace) (heard_host outside old o.progress (outside.errors new)) new plan ×
-      IsHeard outside old o.progress (IsWorkersLine plan) (outside.errors new)
+      IsHeard outside old o.progress (IsRunLine o plan) (outside.errors new)
   DoneOn plan (ordered.Replay o) = ShowsReplay outside old new plan (string_bytes o.steps)
   DoneOn plan (ordered.Bounds o) = ShowsBounds outside old new plan × ShowsAlone outside old new × IsQuiet outside old new
 

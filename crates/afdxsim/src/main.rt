@@ -3,7 +3,6 @@
 
 mod bytes_left;
 mod obeying;
-mod one_group;
 mod perform;
 mod run;
 mod workers;

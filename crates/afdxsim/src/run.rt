@@ -7,11 +7,10 @@ ghost use Rattle.worker_pool.specs.Outcomes.{CanWantWorkers};
 ghost use Rattle.worker_pool.specs.Runs.{IsJournalAsked};
 ghost use Rattle.commands.specs.declared.fault.Fault.TheVariants.{CannotWrite};
 ghost use Rattle.commands.specs.Files.{LacksFile, MakesAsked, WritesAsked, WritesFile};
-ghost use Rattle.commands.specs.Progress.{IsWorkersLine};
 ghost use Rattle.commands.specs.Sequencing.{IsTablesText, IsTraceText};
 ghost use Rattle.commands.specs.Streams.{IsHeard, IsQuiet, ShowsTables, heard_host};
 ghost use Rattle.afdxsim.specs.Files.{LacksRun, LacksTrace, LeavesRun};
-ghost use Rattle.afdxsim.specs.Workers.{CanWantThreads, IsFaultOfPool};
+ghost use Rattle.afdxsim.specs.Workers.{CanWantThreads, IsFaultOfPool, IsRunLine};
 
 use crate::workers::{found_by_workers, traced_by_workers};
 use command_line::Run;
@@ -45,7 +44,7 @@ fn simulate_with_trace<'a, H: Host, T: Threads + Wait + Clock + Sync>(
         MakesAsked H.outside (Some path.entry.now) (heard_host H.outside host.old is_asked (H.outside.errors host.new)) host.new) ⊎
         LacksTrace H.outside path.entry.now network.now (heard_host H.outside host.old is_asked (H.outside.errors host.new)) host.new fault) }
     ensures output { H.outside.output host.new ≡ H.outside.output host.old }
-    ensures heard { IsHeard H.outside host.old is_asked (IsWorkersLine network.now) (H.outside.errors host.new) }
+    ensures heard { IsHeard H.outside host.old is_asked (IsRunLine order.now network.now) (H.outside.errors host.new) }
 {
     let asked = asked_of(is_asked, host);
     let file = make_file(path, host)?;
@@ -75,7 +74,7 @@ fn heard_by_workers<H: Host, T: Threads + Wait + Clock + Sync>(
     ensures text { IfOk result (λ found. IsTablesText network.now (tables_text network.now found.tables)) }
     ensures journal { IfOk result (λ found. IsJournalAsked network.now with_steps found.journal.items) }
     ensures fault { IfErr result (IsFaultOfPool network.now (CanWantWorkers order.now.workers (process_count network.now))) }
-    ensures heard { IsHeard H.outside host.old is_asked (IsWorkersLine network.now) (H.outside.errors host.new) }
+    ensures heard { IsHeard H.outside host.old is_asked (IsRunLine order.now network.now) (H.outside.errors host.new) }
     ensures host { host.new ≡ heard_host H.outside host.old is_asked (H.outside.errors host.new) }
     ensures output { H.outside.output host.new ≡ H.outside.output host.old }
 {
@@ -103,7 +102,7 @@ fn simulate<'a, H: Host, T: Threads + Wait + Clock + Sync>(
         ((path : List ℕ) × (option_map string_bytes order.entry.now.trace ≡ Some path) ×
         LacksTrace H.outside path network.now (heard_host H.outside host.old order.entry.now.progress (H.outside.errors host.new)) host.new fault)) }
     ensures output { H.outside.output host.new ≡ H.outside.output host.old }
-    ensures heard { IsHeard H.outside host.old order.entry.now.progress (IsWorkersLine network.now) (H.outside.errors host.new) }
+    ensures heard { IsHeard H.outside host.old order.entry.now.progress (IsRunLine order.entry.now network.now) (H.outside.errors host.new) }
 {
     let with_steps = order.journal.is_some();
     match &order.trace {
@@ -157,7 +156,7 @@ pub fn run<'a, H: Host, T: Threads + Wait + Clock + Sync>(
     ensures fault { IfErr result (LacksRun H.outside (option_map string_bytes order.entry.now.journal) (option_map string_bytes order.entry.now.trace)
         order.entry.now.workers (heard_host H.outside host.old order.entry.now.progress (H.outside.errors host.new)) host.new network.now) }
     ensures kept { IfErr result (λ fault. fault ≢ CannotWrite → H.outside.output host.new ≡ H.outside.output host.old) }
-    ensures heard { IsHeard H.outside host.old order.entry.now.progress (IsWorkersLine network.now) (H.outside.errors host.new) }
+    ensures heard { IsHeard H.outside host.old order.entry.now.progress (IsRunLine order.entry.now network.now) (H.outside.errors host.new) }
 {
     let found = simulate(rt, alloc, network, order, host)?;
     keep_journal(alloc, found.journal.as_slice(), order, host)?;

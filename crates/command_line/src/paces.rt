@@ -32,7 +32,7 @@ pub(crate) fn workers<'a>(alloc: Global) -> Arg<'a>
         "workers",
         "N",
         value_parser!(u64).range(1..=MOST_WORKERS as i64),
-        "Number of threads: 1 to 64 [default: 4], and never more than groups of processes. Use more than one if many events fall within some 8 us of simulated time and few frames go between the groups",
+        "Number of threads: 1 to 64 [default: 4], and never more than groups of processes. One thread also runs ahead and rolls back; seq is the run that does not. Use more than one if many events fall within some 8 us of simulated time and few frames go between the groups",
     )
 }
 
@@ -46,7 +46,7 @@ pub(crate) fn groups<'a>(alloc: Global) -> Arg<'a>
         "groups",
         "N",
         value_parser!(u64).range(1..=MOST_GROUPS as i64),
-        "Number of groups of processes: 1 to 64, and never more than processes [default: each process alone, if there are at most 16; otherwise as many as workers, but no more than cores, and one if more are not worth the messages between them]. The tables do not depend on it",
+        "Number of groups of processes: 1 to 64, and never more than processes [default: each process alone, if there are at most 16; otherwise two for each thread, at most 64]. The tables do not depend on it",
     )
 }
 

@@ -1,5 +1,5 @@
 -- What a run makes, and why one was given up, as a fault of the program.
-use Rattle.std.proofs.Common.{◌≡◌, ℕ, List, Result, Err, sym, ap, subst}
+use Rattle.std.proofs.Common.{◌≡◌, ◌≢◌, ℕ, true, false, List, Result, Err, refl, sym, ap, subst}
 use Rattle.nodes.specs.Words.{simulation_of}
 use Rattle.network.specs.Words.{Plan}
 use Rattle.actor_run.specs.Running.{IsExhaustedAt}
@@ -12,14 +12,23 @@ use Rattle.seqsim.specs.Networks.{AreRowsOf}
 use Rattle.commands.specs.declared.fault.Fault.{Fault}
 use Rattle.commands.specs.Sequencing.{fault_of_run, IsFaultOfRun, IsTablesText}
 
--- a run's own fault is named
+-- the fault of a run that keeps its rows is named
 pub given_up : {X : Type 0} (plan : Plan) (r : Result X SimFault) (e : SimFault) (fault : Fault) → r ≡ Err e →
-    (r ≡ Err sim.Exhausted → (n : ℕ) × IsExhaustedAt (simulation_of plan) n) → fault ≡ fault_of_run e → IsFaultOfRun plan fault
-given_up plan r e fault is exhausted named = subst (IsFaultOfRun plan) (sym named) (of e is)
+    (r ≡ Err sim.Exhausted → (n : ℕ) × IsExhaustedAt (simulation_of plan) n) → fault ≡ fault_of_run e → IsFaultOfRun true plan fault
+given_up plan r e fault is exhausted named = subst (IsFaultOfRun true plan) (sym named) (of e is)
   where
-    of : (e : SimFault) → r ≡ Err e → IsFaultOfRun plan (fault_of_run e)
+    of : (e : SimFault) → r ≡ Err e → IsFaultOfRun true plan (fault_of_run e)
     of sim.OutOfMemory is = tt
-    of sim.Exhausted is = exhausted is
+    of sim.Exhausted is = let e = exhausted is in (refl, e.0, e.1)
+
+-- and that of one that counts them: a growth was refused
+pub lacked_memory : {X : Type 0} (plan : Plan) (r : Result X SimFault) (e : SimFault) (fault : Fault) → r ≡ Err e → r ≢ Err sim.Exhausted → fault ≡ fault_of_run e →
+    IsFaultOfRun false plan fault
+lacked_memory plan r e fault is enough named = subst (IsFaultOfRun false plan) (sym named) (of e is)
+  where
+    of : (e : SimFault) → r ≡ Err e → IsFaultOfRun false plan (fault_of_run e)
+    of sim.OutOfMemory is = tt
+    of sim.Exhausted is = absurd (enough is)
 
 -- the text of the tables of a run
 pub tables_made : (plan : Plan) (tables : TableLists) (rows : List Row) → AreRowsOf plan rows → tables ≡ tables_of plan rows →

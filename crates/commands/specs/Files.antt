@@ -1,5 +1,5 @@
 -- What the program leaves behind: files, and then what it prints to standard output; and what is left if a fault ends it earlier.
-use Rattle.std.specs.Prelude.{◌≡◌, ◌⊎◌, ◌≤◌, ℕ, Bool, true, false, List, Option, None, Some, IfSome, length, take}
+use Rattle.std.specs.Prelude.{◌≡◌, ◌⊎◌, ◌≤◌, ℕ, Bool, true, false, List, Option, None, Some, IfSome, is_some, length, take}
 use Rattle.std.specs.Borrow.{Bor}
 use Rattle.network.specs.Words.{Plan}
 use Rattle.journal_text.specs.Text.{steps_text}
@@ -96,6 +96,6 @@ module _ {S F O E : Type 0} (outside : Outside S F O E) where
   -- or it is, as far as it is asked for, and the tables are not on standard output
   abbrev pub LacksSeq : Option (List ℕ) → S → S → Plan → Fault → Type 0
   LacksSeq trace old new plan fault =
-      (IsFaultOfRun plan fault × (new ≡ old))
+      (IsFaultOfRun (is_some trace) plan fault × (new ≡ old))
       ⊎ ((path : List ℕ) × (trace ≡ Some path) × LacksFile true path (IsTraceText plan) old new fault)
       ⊎ ((traced : S) × WritesAsked trace (IsTraceText plan) old traced × LacksOutput true traced new fault)

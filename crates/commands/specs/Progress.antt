@@ -1,6 +1,5 @@
 -- What error output shows of a run: how far it is, and of a run by workers which groups and workers it has.
 use Rattle.std.specs.Prelude.{◌≡◌, ◌⊎◌, ◌≤◌, ◌/◌, ◌++◌, ◌∷◌, ℕ, Bool, true, false, List, [], Option, ⊤, codes, decimal, flat_map}
-use Rattle.network.specs.Words.{Plan, process_count}
 use Rattle.commands.specs.Ending.{Took}
 
 -- on a terminal a line goes into the place of the one before it: the cursor goes up, and that line is wiped
@@ -23,18 +22,6 @@ pub record IsProgressLine (until : ℕ) (line : List ℕ) : Type 0 where
 -- so many groups of processes, and so many workers
 abbrev pub groups_text : ℕ → ℕ → List ℕ
 groups_text groups workers = codes "afdxsim: " ++ decimal groups ++ codes " groups, " ++ decimal workers ++ codes " workers" ++ 10 ∷ []
-
--- a line that tells of groups and workers of a run of so many processes: there are no more groups than processes, and no more workers than groups
-pub record IsGroupsLine (processes : ℕ) (line : List ℕ) : Type 0 where
-  pub groups : ℕ
-  pub workers : ℕ
-  pub few : groups ≤ processes
-  pub served : workers ≤ groups
-  pub text : line ≡ groups_text groups workers
-
--- a line that tells of a run by workers
-abbrev pub IsWorkersLine : Plan → List ℕ → Type 0
-IsWorkersLine plan line = IsGroupsLine (process_count plan) line ⊎ IsProgressLine plan.until line
 
 -- lines of one kind
 abbrev pub AreLines : (List ℕ → Type 0) → List (List ℕ) → Type 0

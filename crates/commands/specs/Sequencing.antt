@@ -1,5 +1,5 @@
 -- What the program writes of a one-thread run, and why it gives up a run.
-use Rattle.std.specs.Prelude.{◌≡◌, ℕ, List}
+use Rattle.std.specs.Prelude.{◌≡◌, ℕ, Bool, true, List}
 use Rattle.vlink.specs.Letters.{Row}
 use Rattle.network.specs.Words.{Plan}
 use Rattle.nodes.specs.Words.{simulation_of}
@@ -36,17 +36,17 @@ IsTablesText plan text = (rows : List Row) × AreRowsOf plan rows × (text ≡ t
 abbrev pub IsTraceText : Plan → List ℕ → Type 0
 IsTraceText plan text = (rows : List Row) × AreRowsOf plan rows × (text ≡ trace_text plan rows)
 
--- why the one-thread run of a network was given up: after some events the process that is next has not enough numbers left, or a growth
--- was refused
-abbrev pub IsFaultOfRun : Plan → Fault → Type 0
-IsFaultOfRun plan (Description fault) = ⊥
-IsFaultOfRun plan (JournalLine n) = ⊥
-IsFaultOfRun plan JournalFull = ⊥
-IsFaultOfRun plan (CannotRead path) = ⊥
-IsFaultOfRun plan (CannotWriteFile path) = ⊥
-IsFaultOfRun plan CannotWrite = ⊥
-IsFaultOfRun plan Layout = ⊥
-IsFaultOfRun plan OutOfMemory = Unit
-IsFaultOfRun plan Exhausted = (n : ℕ) × IsExhaustedAt (simulation_of plan) n
-IsFaultOfRun plan Spawn = ⊥
-IsFaultOfRun plan Torn = ⊥
+-- why the one-thread run of a network, whose rows are kept or counted alone, was given up: a growth was refused; or, if they are kept, after
+-- some events the process that is next has not enough numbers left
+abbrev pub IsFaultOfRun : Bool → Plan → Fault → Type 0
+IsFaultOfRun keeps plan (Description fault) = ⊥
+IsFaultOfRun keeps plan (JournalLine n) = ⊥
+IsFaultOfRun keeps plan JournalFull = ⊥
+IsFaultOfRun keeps plan (CannotRead path) = ⊥
+IsFaultOfRun keeps plan (CannotWriteFile path) = ⊥
+IsFaultOfRun keeps plan CannotWrite = ⊥
+IsFaultOfRun keeps plan Layout = ⊥
+IsFaultOfRun keeps plan OutOfMemory = Unit
+IsFaultOfRun keeps plan Exhausted = (keeps ≡ true) × (n : ℕ) × IsExhaustedAt (simulation_of plan) n
+IsFaultOfRun keeps plan Spawn = ⊥
+IsFaultOfRun keeps plan Torn = ⊥

@@ -1,4 +1,4 @@
-//! Progress: error output shows how far a run is, and which groups and workers it has. On a terminal a line ends like any other, and the
+//! Progress: error output shows how far a run is, and which groups and workers it had. On a terminal a line ends like any other, and the
 //! next one moves up into its place. So a fault behind it has a line of its own.
 ghost use Rattle.std.specs.Prelude.{◌≡◌, ◌⊎◌, ◌++◌, [], IfOk, OnOk, string_bytes};
 ghost use Rattle.commands.specs.Progress.{HearsAsked, IsProgressLine, groups_text, progress_text, upwards};
@@ -34,9 +34,15 @@ pub fn asked_of<H: Host>(is_asked: bool, host: &H) -> Asked
     }
 }
 
-/// Writes to error output how many groups of processes and how many workers a run has, if progress is asked for. If memory for the line is
+/// Writes to error output how many groups of processes and how many workers a run had, if progress is asked for. If memory for the line is
 /// refused, nothing is written.
-pub fn tell_groups<E: Sink>(alloc: Global, groups: u16, workers: u8, asked: Asked, errors: &mut E)
+pub fn tell_groups<E: Sink>(
+    alloc: Global,
+    groups: usize,
+    workers: usize,
+    asked: Asked,
+    errors: &mut E,
+)
     ensures { HearsAsked E.taken E.failures asked.is_asked (λ line. line ≡ groups_text groups workers) errors.old errors.new }
 {
     if !asked.is_asked {
@@ -49,7 +55,7 @@ pub fn tell_groups<E: Sink>(alloc: Global, groups: u16, workers: u8, asked: Aske
 }
 
 /// Makes the line with these numbers of groups and workers.
-fn groups_line(alloc: Global, groups: u16, workers: u8) -> Result<String, AllocError>
+fn groups_line(alloc: Global, groups: usize, workers: usize) -> Result<String, AllocError>
     ensures { IfOk result (λ line. string_bytes line ≡ groups_text groups workers) }
 {
     let mut line = String::from_str(alloc, "afdxsim: ")?;

@@ -1,5 +1,5 @@
 //! `seq NET [--trace FILE] [--progress]`: the one-thread run of a network.
-ghost use Rattle.std.specs.Prelude.{◌≡◌, ◌≢◌, true, None, Some, IfErr, IfOk, OnOk, option_map, string_bytes};
+ghost use Rattle.std.specs.Prelude.{◌≡◌, ◌≢◌, true, false, None, Some, IfErr, IfOk, OnOk, option_map, string_bytes};
 ghost use Rattle.seqsim.specs.Networks.{AreRowsOf};
 ghost use Rattle.trace_tables.specs.Text.{tables_text};
 ghost use Rattle.commands.specs.declared.fault.Fault.TheVariants.{CannotWrite};
@@ -41,7 +41,7 @@ pub fn show_tables<O: Sink>(
 }
 
 /// Makes the tables of the one-thread run of the network. Error output shows how far it is, if that is asked for.
-#[tactic(auto, using(crate::proofs::Running::tables_made, crate::proofs::Running::given_up))]
+#[tactic(auto, using(crate::proofs::Running::tables_made, crate::proofs::Running::lacked_memory))]
 fn tables_of_run<E: Sink, T: Clock>(
     rt: &T,
     alloc: Global,
@@ -50,7 +50,7 @@ fn tables_of_run<E: Sink, T: Clock>(
     errors: &mut E,
 ) -> Result<Tables, Fault<'static>>
     ensures text { IfOk result (λ tables. IsTablesText network.now (tables_text network.now tables)) }
-    ensures fault { IfErr result (IsFaultOfRun network.now) }
+    ensures fault { IfErr result (IsFaultOfRun false network.now) }
     ensures heard { HearsAsked E.taken E.failures asked.is_asked (IsProgressLine network.now.until) errors.old errors.new }
 {
     let mut progress = Progress::new(rt, alloc, network.until(), asked, errors);
@@ -70,7 +70,7 @@ fn whole_run<E: Sink, T: Clock>(
 ) -> Result<Finished, Fault<'static>>
     ensures text { IfOk result (λ finished. IsTablesText network.now (tables_text network.now finished.tables)) }
     ensures rows { IfOk result (λ finished. AreRowsOf network.now finished.rows.items) }
-    ensures fault { IfErr result (IsFaultOfRun network.now) }
+    ensures fault { IfErr result (IsFaultOfRun true network.now) }
     ensures heard { HearsAsked E.taken E.failures asked.is_asked (IsProgressLine network.now.until) errors.old errors.new }
 {
     let mut progress = Progress::new(rt, alloc, network.until(), asked, errors);
@@ -88,7 +88,7 @@ fn heard_tables<H: Host, T: Clock>(
     host: &mut H,
 ) -> Result<Tables, Fault<'static>>
     ensures text { IfOk result (λ tables. IsTablesText network.now (tables_text network.now tables)) }
-    ensures fault { IfErr result (IsFaultOfRun network.now) }
+    ensures fault { IfErr result (IsFaultOfRun false network.now) }
     ensures heard { IsHeard H.outside host.old is_asked (IsProgressLine network.now.until) (H.outside.errors host.new) }
     ensures host { host.new ≡ heard_host H.outside host.old is_asked (H.outside.errors host.new) }
     ensures output { H.outside.output host.new ≡ H.outside.output host.old }
@@ -107,7 +107,7 @@ fn heard_run<H: Host, T: Clock>(
 ) -> Result<Finished, Fault<'static>>
     ensures text { IfOk result (λ finished. IsTablesText network.now (tables_text network.now finished.tables)) }
     ensures rows { IfOk result (λ finished. AreRowsOf network.now finished.rows.items) }
-    ensures fault { IfErr result (IsFaultOfRun network.now) }
+    ensures fault { IfErr result (IsFaultOfRun true network.now) }
     ensures heard { IsHeard H.outside host.old is_asked (IsProgressLine network.now.until) (H.outside.errors host.new) }
     ensures host { host.new ≡ heard_host H.outside host.old is_asked (H.outside.errors host.new) }
     ensures output { H.outside.output host.new ≡ H.outside.output host.old }

@@ -1,6 +1,6 @@
 //! The traffic on the lines of a network, and the load of its nodes.
 use network::{Network, Way};
-use network_rows::{NodeKind, VirtualLink};
+use row_types::{NodeKind, VirtualLink};
 use std::alloc::{AllocError, Global};
 use vlink::VlId;
 
@@ -108,7 +108,7 @@ fn rate_on(network: &Network, id: VlId) -> u64 {
 /// Returns how many frames of the virtual link are sent in a second, at least one: one in each period, and at most one in each BAG.
 fn rate_of(link: VirtualLink) -> u64 {
     let gap_ns = u64::from(link.bag_ms) * 1_000_000;
-    1 + 1_000_000_000 / link.period_ns.max(gap_ns).max(1)
+    1 + 1_000_000_000 / link.own.period_ns.max(gap_ns).max(1)
 }
 
 /// Adds `more` at a place.

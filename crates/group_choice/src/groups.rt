@@ -1,6 +1,7 @@
 //! The group of each process.
-ghost use Rattle.std.specs.Prelude.{◌≡◌, ◌<◌, ◌≤◌, All, length, IfOk};
+ghost use Rattle.std.specs.Prelude.{◌≡◌, ◌≢◌, ◌<◌, ◌≤◌, true, false, None, All, length, IfOk};
 ghost use Rattle.network.specs.Faults.{process_count};
+ghost use Rattle.group_choice.specs.Groups.{HaveProcesses, group_count, run_groups};
 
 use crate::clusters::Clusters;
 use crate::dealing::deal;
@@ -14,43 +15,43 @@ use network::Network;
 use std::alloc::{AllocError, Global};
 use vlink::process_number;
 
-/// The least number of events that a network should have within a lead if it has several groups. With fewer, workers wait for each other
-/// longer than they work.
-const EVENTS_IN_LEAD: u64 = 160;
+/// In a network of at most this many processes each process is a group, unless a number of groups is asked for: such networks serve to try
+/// and to observe meetings of processes.
+const FEW_PROCESSES: u16 = 16;
 
-/// The least number of events that each of several groups should have within a lead.
-const EVENTS_OF_GROUP: u64 = 48;
+/// The greatest number of groups of a network with more processes, unless a number of groups is asked for.
+const MOST_GROUPS: u16 = 64;
 
 /// Returns the number of groups if `asked` are asked for: at least one, and no more than processes. A network without a process has none.
 pub fn groups_asked(network: &Network, asked: u16) -> u16
-    ensures least { 1 ≤ process_count network.now → 1 ≤ result }
-    ensures few { result ≤ process_count network.now }
-    ensures most { 1 ≤ asked → result ≤ asked }
-    ensures given { 1 ≤ asked → asked ≤ process_count network.now → result ≡ asked }
+    ensures { result ≡ group_count (process_count network.now) asked }
 {
     asked.max(1).min(network.process_count())
 }
 
-/// Returns how many groups a network is worth: at most `most`, and each of several has some events within the lead, in ns, by which workers
-/// may be apart. The result is at least one, and no more than processes. A network without a process has none. Only memory can be refused.
-pub fn groups_worth(
-    alloc: Global,
-    network: &Network,
-    most: u16,
-    lead_ns: u64,
-) -> Result<u16, AllocError>
-    ensures least { 1 ≤ process_count network.now → IfOk result (λ groups. 1 ≤ groups) }
-    ensures few { IfOk result (λ groups. groups ≤ process_count network.now) }
-    ensures most { 1 ≤ most → IfOk result (λ groups. groups ≤ most) }
+/// Returns the number of groups of a run of the network by this number of workers. If a number is asked for, it is that number, but at
+/// least one, and no more than processes. Otherwise each of at most 16 processes is a group, and more processes are in two groups a worker,
+/// at most 64: so each worker has an order of groups to keep, and a worker without work has a group to take. A network without a process
+/// has no group.
+pub fn group_number(network: &Network, workers: u8, asked: Option<u8>) -> u16
+    ensures { result ≡ run_groups (process_count network.now) workers asked }
 {
-    let loads = loads_of(alloc, network, &flows_of(alloc, network)?)?;
-    let within = all(&loads).saturating_mul(lead_ns) / 1_000_000_000;
-    let worth = if within < EVENTS_IN_LEAD {
-        1
+    match asked {
+        Some(groups) => groups_asked(network, u16::from(groups)),
+        None => usual_number(network, workers),
+    }
+}
+
+/// Returns the number of groups if none is asked for.
+fn usual_number(network: &Network, workers: u8) -> u16
+    ensures { result ≡ run_groups (process_count network.now) workers None }
+{
+    let processes = network.process_count();
+    if processes <= FEW_PROCESSES {
+        processes
     } else {
-        u16::try_from(within / EVENTS_OF_GROUP).unwrap_or(most)
-    };
-    Ok(worth.min(most).max(1).min(network.process_count()))
+        groups_asked(network, (u16::from(workers) * 2).min(MOST_GROUPS))
+    }
 }
 
 /// Returns the group of each process of the network, by its number, for this number of groups, from 0. Each end system goes with a switch.
@@ -60,14 +61,44 @@ pub fn groups_of(alloc: Global, network: &Network, groups: u16) -> Result<Vec<u1
     requires { 1 ≤ groups }
     ensures all { IfOk result (λ places. length places.items ≡ process_count network.now) }
     ensures within { IfOk result (λ places. All (λ group. group < groups) places.items) }
+    ensures used { IfOk result (λ places. groups ≤ process_count network.now → HaveProcesses groups places.items) }
 {
     if usize::from(groups) > network.node_count() {
         return in_turn(alloc, network.process_count(), groups);
     }
     let owners = owners_in(alloc, network, usize::from(groups))?;
-    let places = places_of(alloc, network, &owners, groups);
+    if !have_nodes(&owners.of, groups, network.node_count()) {
+        drop(owners);
+        return in_turn(alloc, network.process_count(), groups);
+    }
+    let places = places_of(alloc, network, &owners.of, groups);
     drop(owners);
     places
+}
+
+/// Whether `owners` has the group of each of so many nodes, and each of so many groups has a node.
+fn have_nodes(owners: &[usize], groups: u16, nodes: usize) -> bool
+    ensures each { result ≡ true → length owners.now ≡ nodes }
+    ensures used { result ≡ true → HaveProcesses groups owners.now }
+{
+    for group in 0..groups {
+        if is_without_node(owners, usize::from(group)) {
+            return false;
+        }
+    }
+    owners.len() == nodes
+}
+
+/// Whether each node is in another group.
+fn is_without_node(owners: &[usize], group: usize) -> bool
+    ensures { result ≡ false → ¬ (All (λ owner. owner ≢ group) owners.now) }
+{
+    for owner in owners {
+        if *owner == group {
+            return false;
+        }
+    }
+    true
 }
 
 /// Gives the processes to the groups in turn.
@@ -75,12 +106,11 @@ fn in_turn(alloc: Global, processes: u16, groups: u16) -> Result<Vec<u16>, Alloc
     requires { 1 ≤ groups }
     ensures all { IfOk result (λ places. length places.items ≡ processes) }
     ensures within { IfOk result (λ places. All (λ group. group < groups) places.items) }
+    ensures used { IfOk result (λ places. groups ≤ processes → HaveProcesses groups places.items) }
 {
     let mut places = Vec::with_capacity(alloc, usize::from(processes))?;
-    let mut next: u16 = 0;
     for process in 0..processes {
-        places.push(next)?;
-        next = if next + 1 < groups { next + 1 } else { 0 };
+        places.push(process % groups)?;
     }
     Ok(places)
 }
@@ -89,23 +119,34 @@ fn in_turn(alloc: Global, processes: u16, groups: u16) -> Result<Vec<u16>, Alloc
 fn places_of(
     alloc: Global,
     network: &Network,
-    owners: &Owners,
+    owners: &[usize],
     groups: u16,
 ) -> Result<Vec<u16>, AllocError>
-    requires { 1 ≤ groups }
+    requires least { 1 ≤ groups }
+    requires each { length owners.now ≡ length network.now.nodes }
+    requires used { HaveProcesses groups owners.now }
     ensures all { IfOk result (λ places. length places.items ≡ process_count network.now) }
     ensures within { IfOk result (λ places. All (λ group. group < groups) places.items) }
+    ensures used { IfOk result (λ places. HaveProcesses groups places.items) }
 {
     let last = usize::from(groups) - 1;
     let mut places = Vec::with_capacity(alloc, usize::from(network.process_count()))?;
     for node in 0..network.node_count() {
-        places.push(process_number(owners.at(node).min(last)))?;
+        places.push(process_number(owners[node].min(last)))?;
     }
     for line in 0..network.line_count() {
         let to = usize::from(network.line(line).to);
-        places.push(process_number(owners.at(to).min(last)))?;
+        places.push(process_number(group_at(owners, to).min(last)))?;
     }
     Ok(places)
+}
+
+/// Returns the group of a node.
+fn group_at(owners: &[usize], node: usize) -> usize {
+    match owners.get(node) {
+        Some(group) => *group,
+        None => 0,
+    }
 }
 
 /// Returns the group of each node of a network.

@@ -12,4 +12,4 @@ mod moving;
 mod node_flows;
 mod packing;
 
-pub use groups::{groups_asked, groups_of, groups_worth};
+pub use groups::{group_number, groups_asked, groups_of};

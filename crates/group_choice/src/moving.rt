@@ -24,7 +24,7 @@ impl Owners {
     }
 
     /// Moves nodes to the groups with which they have more traffic, if the load of these is then at most `most`, or less than that of the
-    /// group that the node leaves. End systems leave a group whose load is greater.
+    /// group that the node leaves. End systems leave a group whose load is greater. The last node of a group stays.
     pub(crate) fn improve(
         &mut self,
         alloc: Global,
@@ -84,7 +84,7 @@ impl Owners {
         let after = sum_at(&self.sums, group).saturating_add(load);
         let more = sum_at(traffic, group) > sum_at(traffic, self.at(node));
         let evens = is_light && before > most && after < before && sum_at(traffic, group) > 0;
-        evens || more && (after <= most || after < before)
+        before > load && (evens || more && (after <= most || after < before))
     }
 
     fn move_to(&mut self, node: usize, group: usize, load: u64) {

@@ -13,7 +13,7 @@ use Rattle.journal.specs.declared.fault.PoolFault.TheVariants.{OutOfMemory, Exha
 use Rattle.group_queues.specs.Block.{steps_told}
 use Rattle.group_hand.proofs.Adding.{commits-none}
 use Rattle.group_exchange.specs.Views.{GroupState, in_group, is_of}
-use Rattle.group_exchange.specs.Effects.{AreTimely, CountsDone, Ends, Goes, IsShort, Went, WorksSome}
+use Rattle.group_exchange.specs.Effects.{AreTimely, CountsDone, Ends, Goes, IsShortBefore, Went, WorksSome}
 use Rattle.group_exchange.proofs.Timely.{runs-commits, timely-append, timely-letters, timely-weaker}
 use Rattle.group_exchange.proofs.Worked.{told-append, went-both, went-nowhere}
 
@@ -84,20 +84,22 @@ module _ {S K : Type 0} (f : Simulation Message S K Note) (owners : List ℕ) wh
     went = goes-ends limit h mid k a b;
     timely = timely-weaker f (is_of owners h.number) limit (h.seen + window) soon _ _ (timely-ends limit h mid k a b);
     numbers = λ e. absurd (let t = sym memory ∙ e in cc);
+    early = λ e. absurd (let t = sym memory ∙ e in cc);
     faults = inl memory;
   }
 
   -- some words joined the block, and then a letter or a message was refused
   pub works-less : (limit window : ℕ) (h k : GroupState S K) → limit ≤ h.seen + window → Goes f owners limit h k →
-      (r : Result ℕ PoolFault) → (r ≡ Err Exhausted → IsShort f owners k) → IfErr r (λ fault. (fault ≡ OutOfMemory) ⊎ (fault ≡ Exhausted)) → IfErr r (WorksSome f owners window h k)
+      (r : Result ℕ PoolFault) → (r ≡ Err Exhausted → IsShortBefore f owners limit k) → IfErr r (λ fault. (fault ≡ OutOfMemory) ⊎ (fault ≡ Exhausted)) → IfErr r (WorksSome f owners window h k)
   works-less limit window h k soon a (Ok n) short faults = tt
   works-less limit window h k soon a (Err fault) short faults = record {
     did = a.did;
     went = a.went;
     timely = timely-weaker f (is_of owners h.number) limit (h.seen + window) soon _ _ a.timely;
     numbers = λ e.
-        let s = short (λ j. Err (e j)) in
+        let s = (short (λ j. Err (e j))).0 in
         (s.0, subst (λ n. is_of owners n s.0 ≡ true) (ap (λ (z : GroupState S K). z.number) a.went.others) s.1, s.2);
+    early = λ e. let w = (short (λ j. Err (e j))).1 in (w.0, w.1, (let l = w.2 in omega (arith, l, soon)));
     faults = faults;
   }
 

@@ -14,6 +14,7 @@ pub mod Worked
 pub mod Words
 pub mod Halves
 pub mod Below
+pub mod InWorld
 pub mod Timely
 pub mod Told
 pub mod Ran

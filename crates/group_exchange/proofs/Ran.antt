@@ -25,6 +25,7 @@ use Rattle.group_exchange.specs.Views.{GroupState, is_of, world_after}
 use Rattle.group_exchange.specs.Keeps.{Holds}
 use Rattle.group_exchange.specs.Effects.{AreTimely, Ends, Goes}
 use Rattle.group_exchange.proofs.Below.{next-first}
+use Rattle.group_exchange.proofs.InWorld.{first-all}
 use Rattle.group_exchange.proofs.Timely.{timely-letters, timely-run}
 use Rattle.group_exchange.proofs.Told.{commits, does}
 
@@ -68,7 +69,7 @@ module _ {S K : Type 0} {plain : Plain S Message Sends K} {number end : S → �
         did = d.did;
         went = (does old L new d).went gone;
         timely = subst (λ ds. AreTimely f limit (is_of owners g) (steps_told ds) now) (sym same)
-            (timely-run f (is_of owners g) limit m.receiver a.added now ((m, next, r.1), quiet none) a.no_run);
+            (timely-run f (is_of owners g) limit m.receiver a.added now ((m, next, r.1, first-all plain L.order V x now h old.stands (is_of owners g) old.ours m k.first), quiet none) a.no_run);
         no_commit = (let n = a.no_commit in let e = ap commits_in same in omega arith);
       }
 
@@ -82,16 +83,16 @@ module _ {S K : Type 0} {plain : Plain S Message Sends K} {number end : S → �
   goes-told d none limit (Ok Ran) t = goes-run d none limit (t.0, t.1, t.2)
   goes-told d none limit (Ok Idle) t = goes-still d limit t.0
   goes-told d none limit (Ok Late) t = goes-still d limit t.0
-  goes-told d none limit (Err OutOfMemory) t = goes-still d limit t
-  goes-told d none limit (Err Exhausted) t = goes-still d limit t.0
+  goes-told d none limit (Err OutOfMemory) t = goes-still d limit t.0
+  goes-told d none limit (Err Exhausted) t = goes-still d limit t.0.0
 
   -- the same in whatever order the events come, where the first message of the queue is not done
   pub goes-next : DoesTold (rules_of plain) V h new → h.flow.tray ≡ [] → (IsAscending message_order (messages_of h.done) → FirstWaits message_order h) → (limit : ℕ) (told : Result Bool HandFault) →
       RunsNext (rules_of plain) V (λ s. plain.counter s) limit h new told → Goes (simulation_of (rules_of plain) x) owners limit (with h) (with new)
   goes-next d none waits limit (Ok true) t = let k = t x now old.stands in goes-run d none limit (k.0, k.1, k.4 waits)
   goes-next d none waits limit (Ok false) t = goes-still d limit t.0
-  goes-next d none waits limit (Err OutOfMemory) t = goes-still d limit t
-  goes-next d none waits limit (Err Exhausted) t = goes-still d limit t.0
+  goes-next d none waits limit (Err OutOfMemory) t = goes-still d limit t.0
+  goes-next d none waits limit (Err Exhausted) t = goes-still d limit t.0.0
 
   -- events were committed
   pub ends-commits : CommitsTold (rules_of plain) V seen h new → AddsCommits h.flow.words new.flow.words → Ends (simulation_of (rules_of plain) x) owners (with h) (with new)

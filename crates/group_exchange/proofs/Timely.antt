@@ -32,7 +32,7 @@ module _ {S K : Type 0} (f : Simulation Message S K Note) (ours : ℕ → Bool) 
   one-weaker : (low high : ℕ) → low ≤ high → (x : Step) (v : World Message S) → IsTimely f low ours x v → IsTimely f high ours x v
   one-weaker low high l (Take p i) v t = tt
   one-weaker low high l (Arrive p) v t = tt
-  one-weaker low high l (Run p) v t = ((t.0.0, t.0.1, (let k = t.0.2 in omega arith)), t.1)
+  one-weaker low high l (Run p) v t = ((t.0.0, t.0.1, (let k = t.0.2 in omega arith), t.0.3), t.1)
   one-weaker low high l (Post p) v t = tt
   one-weaker low high l Gvt v t = tt
   one-weaker low high l (Commit p) v t = tt

@@ -12,6 +12,7 @@ use Rattle.journal.specs.declared.fault.PoolFault.TheVariants.{OutOfMemory, Exha
 use Rattle.group_queues.specs.declared.block.Word.{Word}
 use Rattle.group_queues.specs.Block.{commits_in, runs_in, steps_told}
 use Rattle.group_queues.specs.DoneEvents.{messages_of}
+use Rattle.group_hand.specs.Answered.{WaitsBefore}
 use Rattle.group_hand.specs.Hands.{Held}
 use Rattle.group_exchange.specs.Views.{Ledger, GroupState, is_of, mark_at, block_of, world_after, in_group}
 use Rattle.reverse.specs.declared.sends.TheConstants.{MOST_SENT}
@@ -38,12 +39,15 @@ CountsDone old new =
     new ≡ record old { held = record old.held { flow = record old.held.flow { queue = new.held.flow.queue; extra = new.held.flow.extra; room = new.held.flow.room } } }
 
 module _ {S K : Type 0} (f : Simulation Message S K Note) where
-  -- a step that handles a message handles one that is earlier than the limit, where no letter waits to arrive at these processes
+  -- a step that handles a message handles one that is earlier than the limit, and before which none of these processes has one to handle, where no
+  -- letter waits to arrive at them
   abbrev pub IsTimely : ℕ → (ℕ → Bool) → Step → World Message S → Type 0
   IsTimely limit ours (Take p i) v = ⊤
   IsTimely limit ours (Arrive p) v = ⊤
   IsTimely limit ours (Run p) v =
-      ((m : Message) × (next_of f.rules.order (v.parts p) ≡ Some m) × (f.rules.order.time m < limit)) × ((q : ℕ) → ours q ≡ true → (v.parts q).tray ≡ [])
+      ((m : Message) × (next_of f.rules.order (v.parts p) ≡ Some m) × (f.rules.order.time m < limit)
+      × ((q : ℕ) → ours q ≡ true → (y : Message) → next_of f.rules.order (v.parts q) ≡ Some y → f.rules.order.less y m ≡ false))
+      × ((q : ℕ) → ours q ≡ true → (v.parts q).tray ≡ [])
   IsTimely limit ours (Post p) v = ⊤
   IsTimely limit ours Gvt v = ⊤
   IsTimely limit ours (Commit p) v = ⊤
@@ -154,11 +158,16 @@ module _ {S K : Type 0} (f : Simulation Message S K Note) (owners : List ℕ) wh
   abbrev pub IsShort : GroupState S K → Type 0
   IsShort k = (p : ℕ) × (is_of owners k.number p ≡ true) × WantsNumbers ((in_group f k).parts p)
 
-  -- a refusal leaves what was done before it. That numbers are wanting is told only where they are
+  -- and some message of the group is earlier than the limit
+  abbrev pub IsShortBefore : ℕ → GroupState S K → Type 0
+  IsShortBefore limit k = IsShort k × WaitsBefore limit k.held
+
+  -- a refusal leaves what was done before it. That numbers are wanting is reported only where they are, for a message within the window
   pub record WorksSome (window : ℕ) (h k : GroupState S K) (fault : PoolFault) : Type 0 where
     pub did : List Word
     pub went : Went did h k
     -- each message that was handled is earlier than the GVT seen and the window, and no letter waited
     pub timely : AreTimely f (h.seen + window) (is_of owners h.number) (steps_told did) (in_group f h)
     pub numbers : fault ≡ Exhausted → (p : ℕ) × (is_of owners h.number p ≡ true) × WantsNumbers ((in_group f k).parts p)
+    pub early : fault ≡ Exhausted → WaitsBefore (h.seen + window) k.held
     pub faults : (fault ≡ OutOfMemory) ⊎ (fault ≡ Exhausted)

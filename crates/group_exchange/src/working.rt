@@ -9,7 +9,7 @@ ghost use Rattle.group_queues.specs.Block.{runs_in};
 ghost use Rattle.group_queues.specs.DoneEvents.{messages_of};
 ghost use Rattle.group_hand.specs.Hands.{FirstWaits};
 ghost use Rattle.group_hand.specs.declared.in_order.InOrder.TheVariants.{Ran, Idle, Late};
-ghost use Rattle.group_exchange.specs.Effects.{CountsDone, Ends, Goes, IsGroupAsBefore, IsIdleBefore, IsShort, Works, WorksSome};
+ghost use Rattle.group_exchange.specs.Effects.{CountsDone, Ends, Goes, IsGroupAsBefore, IsIdleBefore, IsShortBefore, Works, WorksSome};
 
 use crate::group::Group;
 use crate::run_of::GroupRun;
@@ -23,8 +23,9 @@ use vlink::{Message, Time};
 /// most, and behind each it lets the letters arrive that the group sent itself. Then it commits all done events below the GVT seen. Each step joins the
 /// block. The answer is the number of messages that it handled. It calls the gate before and after each, if the gate hears.
 ///
-/// A refusal comes between two steps, and leaves what was done before it. `Exhausted`: the process that handles the first message has too
-/// few numbers left. `OutOfMemory`: memory was refused.
+/// A refusal comes between two steps, and leaves what was done before it. `Exhausted`: of the messages that are not done the first is
+/// earlier than the GVT seen plus `window`, and its receiver has too few numbers left for the most that one event can send. `OutOfMemory`:
+/// memory was refused.
 pub fn work<R: Actor, J: GroupRun<R>, G: Gate>(
     group: &mut Group<R, J>,
     turn: u32,
@@ -59,7 +60,7 @@ impl<R: Actor, J: GroupRun<R>> Group<R, J> {
         ensures within { IfOk result (λ count. count ≤ turn) }
         ensures idle { IfOk result (λ count. (count ≡ turn) ⊎ IsIdleBefore (simulation_of (rules_of R.plain) J.setting) J.owners limit self.new) }
         ensures arrived { OnOk result (self.new.held.flow.tray ≡ []) }
-        ensures short { result ≡ Err Exhausted → IsShort (simulation_of (rules_of R.plain) J.setting) J.owners self.new }
+        ensures short { result ≡ Err Exhausted → IsShortBefore (simulation_of (rules_of R.plain) J.setting) J.owners limit self.new }
         ensures faults { IfErr result (λ fault. (fault ≡ OutOfMemory) ⊎ (fault ≡ Exhausted)) }
     {
         self.empty_tray()?;
@@ -96,7 +97,7 @@ impl<R: Actor, J: GroupRun<R>> Group<R, J> {
         ensures counted { IfOk result (λ ran. runs_in self.new.held.flow.words ≡ runs_in self.old.held.flow.words + one_if ran) }
         ensures idle { result ≡ Ok false → IsIdleBefore (simulation_of (rules_of R.plain) J.setting) J.owners limit self.new }
         ensures tray { result ≡ Ok false → self.new.held.flow.tray ≡ self.old.held.flow.tray }
-        ensures short { result ≡ Err Exhausted → IsShort (simulation_of (rules_of R.plain) J.setting) J.owners self.new }
+        ensures short { result ≡ Err Exhausted → IsShortBefore (simulation_of (rules_of R.plain) J.setting) J.owners limit self.new }
         ensures faults { IfErr result (λ fault. (fault ≡ OutOfMemory) ⊎ (fault ≡ Exhausted)) }
     {
         if gate.hears() {
@@ -113,7 +114,7 @@ impl<R: Actor, J: GroupRun<R>> Group<R, J> {
         ensures counted { IfOk result (λ ran. runs_in self.new.held.flow.words ≡ runs_in self.old.held.flow.words + one_if ran) }
         ensures idle { result ≡ Ok false → IsIdleBefore (simulation_of (rules_of R.plain) J.setting) J.owners limit self.new }
         ensures tray { result ≡ Ok false → self.new.held.flow.tray ≡ self.old.held.flow.tray }
-        ensures short { result ≡ Err Exhausted → IsShort (simulation_of (rules_of R.plain) J.setting) J.owners self.new }
+        ensures short { result ≡ Err Exhausted → IsShortBefore (simulation_of (rules_of R.plain) J.setting) J.owners limit self.new }
         ensures faults { IfErr result (λ fault. (fault ≡ OutOfMemory) ⊎ (fault ≡ Exhausted)) }
     {
         self.count_done()?;
@@ -136,7 +137,7 @@ impl<R: Actor, J: GroupRun<R>> Group<R, J> {
         ensures counted { IfOk result (λ ran. runs_in self.new.held.flow.words ≡ runs_in self.old.held.flow.words + one_if ran) }
         ensures idle { result ≡ Ok false → IsIdleBefore (simulation_of (rules_of R.plain) J.setting) J.owners limit self.new }
         ensures tray { result ≡ Ok false → self.new.held.flow.tray ≡ self.old.held.flow.tray }
-        ensures short { result ≡ Err Exhausted → IsShort (simulation_of (rules_of R.plain) J.setting) J.owners self.new }
+        ensures short { result ≡ Err Exhausted → IsShortBefore (simulation_of (rules_of R.plain) J.setting) J.owners limit self.new }
         ensures faults { IfErr result (λ fault. (fault ≡ OutOfMemory) ⊎ (fault ≡ Exhausted)) }
     {
         match self.run_in_order(limit)? {
@@ -155,7 +156,7 @@ impl<R: Actor, J: GroupRun<R>> Group<R, J> {
         ensures words { (result ≡ Ok Idle) ⊎ (result ≡ Ok Late) → self.new.held.flow.words ≡ self.old.held.flow.words }
         ensures idle { result ≡ Ok Idle → IsIdleBefore (simulation_of (rules_of R.plain) J.setting) J.owners limit self.new }
         ensures tray { (result ≡ Ok Idle) ⊎ (result ≡ Ok Late) → self.new.held.flow.tray ≡ self.old.held.flow.tray }
-        ensures short { result ≡ Err Exhausted → IsShort (simulation_of (rules_of R.plain) J.setting) J.owners self.new }
+        ensures short { result ≡ Err Exhausted → IsShortBefore (simulation_of (rules_of R.plain) J.setting) J.owners limit self.new }
         ensures faults { IfErr result (λ fault. (fault ≡ OutOfMemory) ⊎ (fault ≡ Exhausted)) }
     {
         actor_law::<R>();
@@ -174,7 +175,7 @@ impl<R: Actor, J: GroupRun<R>> Group<R, J> {
         ensures counted { IfOk result (λ ran. runs_in self.new.held.flow.words ≡ runs_in self.old.held.flow.words + one_if ran) }
         ensures idle { result ≡ Ok false → IsIdleBefore (simulation_of (rules_of R.plain) J.setting) J.owners limit self.new }
         ensures tray { result ≡ Ok false → self.new.held.flow.tray ≡ self.old.held.flow.tray }
-        ensures short { result ≡ Err Exhausted → IsShort (simulation_of (rules_of R.plain) J.setting) J.owners self.new }
+        ensures short { result ≡ Err Exhausted → IsShortBefore (simulation_of (rules_of R.plain) J.setting) J.owners limit self.new }
         ensures faults { IfErr result (λ fault. (fault ≡ OutOfMemory) ⊎ (fault ≡ Exhausted)) }
     {
         actor_law::<R>();

@@ -25,4 +25,4 @@ Becomes counter members done m limit (Ok Late) = (m.time < limit) × (is_after m
 Becomes counter members done m limit (Ok Ran) =
     (m.time < limit) × (is_after message_order (newest_of (messages_of done)) m ≡ true) × CanSend counter members m.receiver
 Becomes counter members done m limit (Err fault) =
-    (fault ≡ Exhausted) × (is_after message_order (newest_of (messages_of done)) m ≡ true) × CannotSend counter members m.receiver
+    (fault ≡ Exhausted) × (m.time < limit) × (is_after message_order (newest_of (messages_of done)) m ≡ true) × CannotSend counter members m.receiver

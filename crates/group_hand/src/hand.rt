@@ -11,6 +11,7 @@ ghost use Rattle.group_queues.specs.Sealing.{rows_in};
 ghost use Rattle.group_hand.specs.declared.fault.HandFault.TheVariants.{OutOfMemory};
 
 use crate::fault::HandFault;
+use crate::oldest::is_early;
 use crate::rollback::Undoing;
 use group_queues::{DoneEvents, Letters, Rows};
 use reverse::{Actor, Outbound, actor_rules_law};
@@ -108,11 +109,14 @@ impl<R: Actor> Hand<R> {
         ensures unchanged { OnErr result (IsAsBefore self.old self.new) }
     {
         actor_rules_law::<R>();
+        if !is_early(self.done.oldest_time(), moment) {
+            return Ok(());
+        }
         let first = self.letters.first();
-        let count = self.letters.count_early(&self.done, moment, &first);
+        let oldest = self.letters.count_early(&self.done, moment, &first);
         match self
             .letters
-            .commit_first(&mut self.done, &mut self.rows, count)
+            .commit_first(&mut self.done, &mut self.rows, oldest)
         {
             Ok(()) => Ok(()),
             Err(_fault) => Err(HandFault::OutOfMemory),

@@ -42,7 +42,7 @@ impl<R: Actor> Hand<R> {
 }
 
 /// Whether the oldest moment exists and is earlier than `moment`.
-fn is_early(oldest: Option<Time>, moment: Time) -> bool
+pub(crate) fn is_early(oldest: Option<Time>, moment: Time) -> bool
     ensures yes { result ≡ true → (t : ℕ) × (oldest ≡ Some t) × (t < moment) }
     ensures no { result ≡ false → IfSome oldest (λ t. moment ≤ t) }
 {

@@ -94,6 +94,27 @@ module _ {K : Type 0} where
   pub noted-next : (k : ℕ) (es : List (Event K)) (d : Event K) → k < length es → all_noted (take (k + 1) es) ≡ all_noted (take k es) + (get_or es k d).noted
   noted-next k es d l = ap all_noted (take_more es k d l) ∙ noted-more (take k es) (get_or es k d)
 
+  -- one more of the first events adds what it sent and noted, and all is no more than there is
+  pub sent-with : (k : ℕ) (es : List (Event K)) (sends : List Message) (rows : List Row) (ds : List (DoneEvent K)) (xs : List (Event K)) (d : Event K) → done_events_in es sends rows ≡ ds → xs ≡ es →
+      length sends ≡ all_sent es → k < length xs → (sent_in (take (k + 1) ds) ≡ sent_in (take k ds) + (get_or xs k d).sent) × (sent_in (take (k + 1) ds) ≤ length sends)
+  sent-with k es sends rows ds xs d v e s l =
+      let here = ap (λ z. (get_or z k d).sent) e in
+      let seen = sent-seen k es sends rows ds v s in
+      let more = sent-seen (k + 1) es sends rows ds v s in
+      let next = sent-next k es d (subst (λ ys. k < length ys) e l) in
+      let split = sent-split (k + 1) es in
+      (omega (arith, here, seen, more, next), omega (arith, more, split, s))
+
+  pub noted-with : (k : ℕ) (es : List (Event K)) (sends : List Message) (rows : List Row) (ds : List (DoneEvent K)) (xs : List (Event K)) (d : Event K) → done_events_in es sends rows ≡ ds → xs ≡ es →
+      length rows ≡ all_noted es → k < length xs → (noted_in (take (k + 1) ds) ≡ noted_in (take k ds) + (get_or xs k d).noted) × (noted_in (take (k + 1) ds) ≤ length rows)
+  noted-with k es sends rows ds xs d v e s l =
+      let here = ap (λ z. (get_or z k d).noted) e in
+      let seen = noted-seen k es sends rows ds v s in
+      let more = noted-seen (k + 1) es sends rows ds v s in
+      let next = noted-next k es d (subst (λ ys. k < length ys) e l) in
+      let split = noted-split (k + 1) es in
+      (omega (arith, here, seen, more, next), omega (arith, more, split, s))
+
   -- and its word
   word-after : (k : ℕ) (ds : List (DoneEvent K)) (m : Message) → slice_get (messages_of ds) k ≡ Some m → words_of (take (suc k) ds) ≡ words_of (take k ds) ++ Committed m.receiver ∷ []
   word-after zero [] m h = cc

@@ -15,37 +15,29 @@ use crate::trail::Trail;
 use std::alloc::AllocError;
 use vlink::{Message, Row, Time, order_law};
 
-impl<K: Copy> DoneEvents<K> {
-    /// Returns how many messages the oldest `count` events sent in all, and how many rows they gave.
-    fn shares(&self, count: usize) -> (usize, usize)
-        requires { count ≤ length self.now.events }
-        ensures sent { result.0 ≡ sent_in (take count self.now.events) }
-        ensures noted { result.1 ≡ noted_in (take count self.now.events) }
-    {
-        let events = self.events.as_slice();
-        // No sum is greater than the whole, which these two numbers are.
-        let _most = (self.sends.len(), self.rows.len());
-        let mut sent = 0;
-        let mut noted = 0;
-        for place in 0..count {
-            let event = &events[place];
-            sent += event.sent as usize;
-            noted += event.noted as usize;
-        }
-        (sent, noted)
-    }
+/// The oldest done events, as many as can be committed.
+#[derive(Clone, Copy)]
+pub struct Oldest {
+    pub count: usize,
+    /// How many messages they sent in all.
+    pub sent: usize,
+    /// How many rows they gave.
+    pub noted: usize,
+}
 
-    /// Forgets the oldest `count` events. Their rows go to the end of `taken`, which has room for them.
-    fn forget(&mut self, count: usize, taken: &mut Vec<Row>)
-        requires enough { count ≤ length self.old.events }
-        requires room { vec_len taken.old + length (rows_in self.old.events) ≤ vec_capacity taken.old }
-        ensures events { self.new.events ≡ drop count self.old.events }
-        ensures rows { taken.new.items ≡ taken.old.items ++ rows_in (take count self.old.events) }
+impl<K: Copy> DoneEvents<K> {
+    /// Forgets the oldest events. Their rows go to the end of `taken`, which has room for them.
+    fn forget(&mut self, oldest: Oldest, taken: &mut Vec<Row>)
+        requires enough { oldest.count ≤ length self.old.events }
+        requires sent { oldest.sent ≡ sent_in (take oldest.count self.old.events) }
+        requires noted { oldest.noted ≡ noted_in (take oldest.count self.old.events) }
+        requires room { vec_len taken.old + oldest.noted ≤ vec_capacity taken.old }
+        ensures events { self.new.events ≡ drop oldest.count self.old.events }
+        ensures rows { taken.new.items ≡ taken.old.items ++ rows_in (take oldest.count self.old.events) }
     {
-        let (sent, noted) = self.shares(count);
-        self.events.forget(count);
-        self.sends.forget(sent);
-        move_first(&mut self.rows, noted, taken);
+        self.events.forget(oldest.count);
+        self.sends.forget(oldest.sent);
+        move_first(&mut self.rows, oldest.noted, taken);
     }
 }
 
@@ -72,48 +64,63 @@ impl Letters {
         self.extra.is_zero(message)
     }
 
-    /// Returns how many of the oldest done events can be committed below the moment, one after another.
+    /// Returns the oldest done events that can be committed below the moment, one after another.
     pub fn count_early<K: Copy>(
         &self,
         done: &DoneEvents<K>,
         moment: Time,
         first: &Option<Message>,
-    ) -> usize
+    ) -> Oldest
         requires { IsFirst first.now self.now.queue }
-        ensures within { result ≤ length done.now.events }
-        ensures early { All (CanCommit moment self.now) (take result (messages_of done.now.events)) }
-        ensures left { IfSome (slice_get (messages_of done.now.events) result) (Stays moment self.now) }
+        ensures within { result.count ≤ length done.now.events }
+        ensures early { All (CanCommit moment self.now) (take result.count (messages_of done.now.events)) }
+        ensures left { IfSome (slice_get (messages_of done.now.events) result.count) (Stays moment self.now) }
+        ensures sent { result.sent ≡ sent_in (take result.count done.now.events) }
+        ensures noted { result.noted ≡ noted_in (take result.count done.now.events) }
     {
         let events = done.events.as_slice();
         let limit = time_or(first, moment);
-        for place in 0..events.len() {
-            if !self.can_commit(&events[place].message, moment, first, limit) {
-                return place;
+        // No sum is greater than the whole, which these two numbers are.
+        let _most = (done.sends.len(), done.rows.len());
+        let mut sent = 0;
+        let mut noted = 0;
+        for count in 0..events.len() {
+            let event = &events[count];
+            if !self.can_commit(&event.message, moment, first, limit) {
+                return Oldest { count, sent, noted };
             }
+            sent += event.sent as usize;
+            noted += event.noted as usize;
         }
-        events.len()
+        Oldest {
+            count: events.len(),
+            sent,
+            noted,
+        }
     }
 
-    /// Commits the oldest `count` done events: they are forgotten, and their rows go to the end of `sealed`. A refusal changes nothing.
+    /// Commits the oldest done events: they are forgotten, and their rows go to the end of `sealed`. A refusal changes nothing.
     pub fn commit_first<K: Copy>(
         &mut self,
         done: &mut DoneEvents<K>,
         sealed: &mut Rows,
-        count: usize,
+        oldest: Oldest,
     ) -> Result<(), AllocError>
-        requires { count ≤ length done.old.events }
-        ensures events { OnOk result (done.new.events ≡ drop count done.old.events) }
-        ensures rows { OnOk result (sealed.new ≡ record sealed.old { all = sealed.old.all ++ rows_in (take count done.old.events) }) }
-        ensures told { OnOk result (self.new ≡ record self.old { words = self.old.words ++ words_of (take count done.old.events); room = self.new.room }) }
+        requires enough { oldest.count ≤ length done.old.events }
+        requires sent { oldest.sent ≡ sent_in (take oldest.count done.old.events) }
+        requires noted { oldest.noted ≡ noted_in (take oldest.count done.old.events) }
+        ensures events { OnOk result (done.new.events ≡ drop oldest.count done.old.events) }
+        ensures rows { OnOk result (sealed.new ≡ record sealed.old { all = sealed.old.all ++ rows_in (take oldest.count done.old.events) }) }
+        ensures told { OnOk result (self.new ≡ record self.old { words = self.old.words ++ words_of (take oldest.count done.old.events); room = self.new.room }) }
         ensures events_stay { OnErr result (done.new.events ≡ done.old.events) }
         ensures rows_stay { OnErr result (sealed.new ≡ sealed.old) }
         ensures letters_stay { OnErr result (self.new ≡ record self.old { room = self.new.room }) }
     {
         self.room = 0;
-        self.block.reserve(count)?;
-        sealed.there.reserve(done.rows.len())?;
-        tell_committed(done, &mut self.block, count);
-        done.forget(count, &mut sealed.there);
+        self.block.reserve(oldest.count)?;
+        sealed.there.reserve(oldest.noted)?;
+        tell_committed(done, &mut self.block, oldest.count);
+        done.forget(oldest, &mut sealed.there);
         done.close_up();
         Ok(())
     }

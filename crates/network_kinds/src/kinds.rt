@@ -3,7 +3,7 @@ ghost use Rattle.std.specs.Prelude.{◌≡◌, map};
 ghost use Rattle.network.specs.Plan.{node_plan};
 ghost use Rattle.network.specs.Wiring.{is_end_system, is_switch_of, is_end_kind, is_switch_kind};
 
-use network_rows::{NodeKind, NodeRow};
+use row_types::{NodeKind, NodeRow};
 use vlink::Net;
 
 /// Whether the kind is an end system.

@@ -2,6 +2,7 @@
 mod meeting;
 mod steps;
 
+use actor_run::Unwatched;
 use meeting::Meeting;
 use netdesc::read;
 use network::Network;
@@ -9,7 +10,7 @@ use std::alloc::Global;
 use std::fmt::Write;
 use std::sync::Wait;
 use std::thread::Threads;
-use worker_pool::{Pace, run};
+use worker_pool::{Pace, PoolFault, group_number, run, run_summary};
 
 // Two virtual links, there and back: processes 0 ES1, 1 ES2, 2 SW1, 3 ES1>SW1, 4 SW1>ES1, 5 SW1>ES2, 6 ES2>SW1.
 const NETWORK: &str = r#"until_ns = 2000000
@@ -68,38 +69,99 @@ a = [["ES2", "SW1", "ES1"]]
 b = []
 "#;
 
-// The number of workers and of groups of processes; how often a process looks at most whether the other one has begun; two pairs of
-// processes, of which the first waits for the second; and a process that takes a letter, and one that handles a message. Then how many
-// looked in vain, and whether in the journal the first `T` of the one, of its first letter, stands before the first `R` of the other. A
-// process for which the gate is called out of order counts as one that looked in vain.
-type Row = (u8, u16, u64, [(u16, u16); 2], u16, u16, &'static str);
+// Whether the call is `run_summary`, as `afdxsim run` makes it, or `run` with one message a turn; the number of workers, and of groups if one
+// is asked for; how often a process looks at most whether the other one has begun; two pairs of processes, of which the first waits for the
+// second; and a process that takes a letter, and one that handles a message. Then how many groups and workers the run had; how many looked
+// in vain, and whether in the journal the first `T` of the one, of its first letter, stands before the first `R` of the other. A process
+// for which the gate is called out of order counts as one that looked in vain.
+type Row = (
+    bool,
+    u8,
+    Option<u8>,
+    u64,
+    [(u16, u16); 2],
+    u16,
+    u16,
+    &'static str,
+);
 
-// With one worker the process that waits blocks the other one. A process takes a letter before it handles a message. Of three groups one
-// has SW1 with the lines that lead to it, one ES1 and the line 4, and one ES2 and the line 5: there two processes of two groups of two wait
-// for each other.
-const ROWS: [Row; 6] = [
-    (2, 7, 100_000_000, [(0, 6), (0, 6)], 6, 0, "0 true"),
-    (1, 7, 4096, [(0, 6), (0, 6)], 6, 0, "1 false"),
-    (2, 7, 100_000_000, [(0, 1), (1, 0)], 0, 0, "0 true"),
-    (1, 7, 4096, [(0, 1), (1, 0)], 0, 0, "1 true"),
-    (2, 3, 100_000_000, [(0, 1), (1, 0)], 0, 0, "0 true"),
-    (1, 3, 4096, [(0, 1), (1, 0)], 0, 0, "1 true"),
+// With one worker the process that waits blocks the other one. A process takes a letter before it handles a message. Of seven groups each
+// is one process. Of four groups one has ES1 and the line 4, and one ES2 and the line 5. Of three groups one has SW1 with the lines that
+// lead to it, one ES1 and the line 4, and one ES2 and the line 5. There two processes of two groups of two wait for each other.
+const ROWS: [Row; 8] = [
+    (
+        false,
+        2,
+        None,
+        100_000_000,
+        [(0, 6), (0, 6)],
+        6,
+        0,
+        "7 2: 0 true",
+    ),
+    (false, 1, None, 4096, [(0, 6), (0, 6)], 6, 0, "7 1: 1 false"),
+    (
+        true,
+        2,
+        None,
+        100_000_000,
+        [(0, 1), (1, 0)],
+        0,
+        0,
+        "7 2: 0 true",
+    ),
+    (true, 1, None, 4096, [(0, 1), (1, 0)], 0, 0, "7 1: 1 true"),
+    (
+        true,
+        2,
+        Some(4),
+        100_000_000,
+        [(0, 1), (1, 0)],
+        0,
+        0,
+        "4 2: 0 true",
+    ),
+    (
+        true,
+        1,
+        Some(4),
+        4096,
+        [(0, 1), (1, 0)],
+        0,
+        0,
+        "4 1: 1 true",
+    ),
+    (
+        true,
+        2,
+        Some(3),
+        100_000_000,
+        [(0, 1), (1, 0)],
+        0,
+        0,
+        "3 2: 0 true",
+    ),
+    (
+        true,
+        1,
+        Some(3),
+        4096,
+        [(0, 1), (1, 0)],
+        0,
+        0,
+        "3 1: 1 true",
+    ),
 ];
 
 #[test]
 fn processes_meet_in_a_run_by_workers(rt: HostRuntime) {
     for row in ROWS {
         let told = told_by(&rt, rt.alloc(), row);
-        assert!(rt;
-            told.as_str() == row.6,
-            "{} workers, {} groups: {told}",
-            row.0,
-            row.1
-        );
+        assert!(rt; told.as_str() == row.7, "{} workers: {told}", row.1);
     }
 }
 
-// Writes the results of a run with one message a turn.
+// Writes the results of a run.
 fn told_by<T: Threads + Wait + Sync>(rt: &T, alloc: Global, row: Row) -> String {
     let mut told = String::new(alloc);
     match read(alloc, NETWORK) {
@@ -114,6 +176,7 @@ fn told_by<T: Threads + Wait + Sync>(rt: &T, alloc: Global, row: Row) -> String 
     told
 }
 
+// Makes the pace that `afdxsim run` makes of these words.
 fn meet<T: Threads + Wait + Sync>(
     rt: &T,
     alloc: Global,
@@ -121,22 +184,53 @@ fn meet<T: Threads + Wait + Sync>(
     row: Row,
     told: &mut String,
 ) {
-    let (workers, groups, looks, pairs, taker, runner, _) = row;
+    let (is_summary, workers, asked, looks, pairs, taker, runner, _) = row;
     let pace = Pace {
         workers,
-        groups,
-        turn: 1,
+        groups: group_number(network, workers, asked),
+        turn: if is_summary { 16 } else { 1 },
         window_ns: 1_000_000,
     };
     let gate = Meeting::new(looks, pairs);
-    match run(rt, alloc, network, pace, &gate) {
-        Ok(outcome) => {
-            gate.tell(&outcome.journal, taker, runner, told);
-            drop(outcome);
-        }
-        Err(fault) => {
-            let _ = write!(told, "{fault}");
-        }
+    let found = if is_summary {
+        tell_summary(rt, alloc, network, pace, &gate, taker, runner, told)
+    } else {
+        tell_run(rt, alloc, network, pace, &gate, taker, runner, told)
+    };
+    if let Err(fault) = found {
+        let _ = write!(told, "{fault}");
     }
     drop(gate);
+}
+
+fn tell_summary<T: Threads + Wait + Sync>(
+    rt: &T,
+    alloc: Global,
+    network: &Network,
+    pace: Pace,
+    gate: &Meeting,
+    taker: u16,
+    runner: u16,
+    told: &mut String,
+) -> Result<(), PoolFault> {
+    let found = run_summary(rt, alloc, network, pace, true, gate, &mut Unwatched)?;
+    let _ = write!(told, "{} {}: ", found.pace.groups(), found.pace.workers());
+    gate.tell(&found.journal, taker, runner, told);
+    Ok(())
+}
+
+fn tell_run<T: Threads + Wait + Sync>(
+    rt: &T,
+    alloc: Global,
+    network: &Network,
+    pace: Pace,
+    gate: &Meeting,
+    taker: u16,
+    runner: u16,
+    told: &mut String,
+) -> Result<(), PoolFault> {
+    let outcome = run(rt, alloc, network, pace, gate)?;
+    let _ = write!(told, "{} {}: ", pace.groups, pace.workers);
+    gate.tell(&outcome.journal, taker, runner, told);
+    Ok(())
 }

@@ -1,1 +1,2 @@
 mod FirstOutcome
+mod Order

@@ -1,4 +1,9 @@
 //! The order of a worker's turns: a deque of its groups that are due, from which other workers steal.
+//!
+//! The order of its groups has an exact clause. Which of them another worker steals first has none.
+ghost use Rattle.std.specs.Prelude.{◌<◌, ◌≤◌, All, IsPermutation, drop, take};
+ghost use Rattle.std.specs.List.Sorted.{IsNonDecreasingBy};
+
 use crate::common::Common;
 use crate::moments::Moments;
 use crate::tasks::Tasks;
@@ -69,17 +74,12 @@ impl<R: TurnRun> Agenda<R> {
         }
     }
 
-    /// Sorts the groups by their moments. Returns how many of them are due.
+    /// Looks when each group has something to do, and sorts them by that. Returns how many of them are due.
     fn put_in_order(&mut self, moments: &Moments, limit_ns: u64) -> usize {
-        let mut due: usize = 0;
         for own in self.own.iter_mut() {
             own.first_ns = moments.first_ns(usize::from(own.hint.group));
-            if own.first_ns < limit_ns {
-                due = due.saturating_add(1);
-            }
         }
-        self.own.sort_unstable_by_key(|own| own.first_ns);
-        due
+        order(&mut self.own, limit_ns)
     }
 
     /// Lists the group at this place. Returns whether the deque took it. It does not if memory is refused, or if it has grown too large: a
@@ -107,6 +107,22 @@ impl<R: TurnRun> Agenda<R> {
             None => None,
         }
     }
+}
+
+/// Sorts groups by their moments, the earliest first. Returns how many of them are due before the limit, in ns: they come first.
+fn order<R: TurnRun>(own: &mut Vec<Own<R>>, limit_ns: u64) -> usize
+    ensures same { IsPermutation own.old.items own.new.items }
+    ensures order { IsNonDecreasingBy (λ o. o.first_ns) own.new.items }
+    ensures due { All (λ o. o.first_ns < limit_ns) (take result own.new.items) }
+    ensures others { All (λ o. limit_ns ≤ o.first_ns) (drop result own.new.items) }
+{
+    own.sort_unstable_by_key(|own| own.first_ns);
+    for place in 0..own.len() {
+        if own[place].first_ns >= limit_ns {
+            return place;
+        }
+    }
+    own.len()
 }
 
 /// The fronts of all deques, by the numbers of their workers.

@@ -33,7 +33,9 @@ impl<G: Drop, K: Drop> Common<G, K> {
         window_ns: u64,
         tasks: K,
     ) -> Result<Self, AllocError>
-        ensures { IfOk result (λ common. common.workers ≡ min (length groups.items) workers) }
+        ensures workers { IfOk result (λ common. common.workers ≡ min (length groups.items) workers) }
+        ensures turn { IfOk result (λ common. common.turn ≡ turn) }
+        ensures window { IfOk result (λ common. common.window_ns ≡ window_ns) }
     {
         let workers = groups.len().min(usize::from(workers));
         match seated(alloc, until, groups, workers) {

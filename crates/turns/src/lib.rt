@@ -6,7 +6,12 @@
 //! has to do next (`Moments`). A worker lists its groups that are due in a deque (`Agenda`), and gives them their turns in that order. A
 //! worker that finds nothing to do for its own groups looks again. Soon it gives turns to groups of others, whose workers may be off their
 //! cores: to one that it steals from the deque of the worker that is furthest behind, or to any that is due. If that is in vain too, it rests
-//! until one of its own is due, each time twice as long as before. No proof covers this: a wrong estimate costs a turn or a rollback.
+//! until one of its own is due, each time twice as long as before.
+//!
+//! What is a function of numbers has an exact clause: when a group is due, posts, meets the others or ends its turn (`Report`), how many
+//! messages a piece of a turn has (`pieces`), the order of an agenda (`Agenda`), how long a worker looks (`Looks`), and when a run stands still
+//! (`Standstill`). When a thread sees what another wrote has no clause, nor has who steals from whom: a wrong estimate costs a turn or a
+//! rollback.
 #![tactic(auto)]
 
 mod agenda;
@@ -15,6 +20,7 @@ mod common;
 mod locking;
 mod looks;
 mod moments;
+mod pieces;
 mod report;
 mod seat;
 mod seats;

@@ -1,6 +1,6 @@
 //! When each group has something to do next, and how far the workers have come.
+use crate::LEAD_NS;
 use crate::apart::Apart;
-use crate::{LEAD_NS, MOST_UNPOSTED, PIECE};
 use std::alloc::{AllocError, Global};
 use std::sync::atomic::{AtomicBool, AtomicU64, Ordering};
 use vlink::Time;
@@ -10,8 +10,9 @@ use vlink::Time;
 struct Moment {
     /// The moment of its next event, in ns, or of its earliest letter that is not posted, as who gave it a turn announced it last.
     next_ns: AtomicU64,
-    /// The least moment of the letters that wait for it, in ns. Whoever posts a letter lowers it afterwards, and whoever takes the letters
-    /// raises it in the same section. So no letter is missed.
+    /// The least moment of the letters that wait for it, in ns. Whoever posts a letter lowers it behind the section in which it posts.
+    /// Whoever takes the letters raises it in the section in which it takes them. So no letter that waits stays unannounced. One that was
+    /// taken before it was announced is announced in vain, which costs a section.
     letter_ns: AtomicU64,
 }
 
@@ -100,27 +101,6 @@ impl Moments {
     /// Returns the number of groups.
     pub(crate) fn groups(&self) -> usize {
         self.moments.len()
-    }
-
-    /// Returns the most messages that a group handles in a turn, from that of the run. Nobody waits for the only group: it goes on until it
-    /// should post.
-    pub(crate) fn turn(&self, turn: u32) -> u32 {
-        if self.groups() == 1 {
-            turn.max(MOST_UNPOSTED)
-        } else {
-            turn
-        }
-    }
-
-    /// Returns how many messages a group may handle before it announces how far it is, if it has handled `handled` in its turn. Nobody
-    /// needs to know how far the only group is.
-    pub(crate) fn piece(&self, turn: u32, handled: u32) -> u32 {
-        let left = turn.saturating_sub(handled);
-        if self.groups() == 1 {
-            left
-        } else {
-            left.min(PIECE)
-        }
     }
 
     /// Returns the worker of a group, if the group exists.

@@ -3,7 +3,8 @@ use crate::PAUSES;
 use crate::agenda::{Agenda, Stealers};
 use crate::common::Common;
 use crate::looks::Looks;
-use crate::moments::Moments;
+use crate::pieces::messages_of_piece;
+use crate::report::Report;
 use crate::seat::Seat;
 use crate::signals::Signals;
 use crate::tasks::Tasks;
@@ -166,9 +167,8 @@ impl<'s, G: Drop, K: Tasks<G>, T: Wait> Worker<'s, G, K, T> {
     /// was handled.
     fn turn(&mut self, seat: &mut Seat<G>, limit_ns: u64, is_own: bool) -> Result<bool, K::Fault> {
         let common = self.common;
-        let moments = &common.signals.moments;
         let report = common.tasks.report(seat);
-        if report.is_to_meet(moments, limit_ns, common.window_ns, self.looks.vain()) {
+        if is_to_meet(common, &report, limit_ns, self.looks.vain) {
             self.meet(seat)?;
         } else if !report.is_due(limit_ns, common.window_ns) {
             return Ok(false);
@@ -204,14 +204,14 @@ impl<'s, G: Drop, K: Tasks<G>, T: Wait> Worker<'s, G, K, T> {
     fn handle_due(&self, seat: &mut Seat<G>) -> Result<bool, K::Fault> {
         let common = self.common;
         let moments = &common.signals.moments;
-        let turn = moments.turn(common.turn);
+        let turn = common.turn;
         let mut handled = 0;
         for _ in 0..turn {
-            let most = moments.piece(turn, handled);
+            let most = messages_of_piece(moments.groups(), turn, handled);
             let count = handle_piece(common, seat, most)?;
             handled = handled.saturating_add(count);
             let is_done = count < most || handled >= turn;
-            if is_done || common.tasks.report(seat).ends_turn(moments, handled) {
+            if is_done || ends_turn(common, seat, handled) {
                 break;
             }
         }
@@ -276,7 +276,7 @@ fn is_any_due<G: Drop, K: Tasks<G>>(common: &Common<G, K>, number: usize) -> boo
     for group in 0..moments.groups() {
         if moments.is_of(group, number) {
             if let Some(seat) = common.seats.try_take(group) {
-                if is_to_go_on(common, &seat, moments, limit_ns) {
+                if is_to_go_on(common, &seat, limit_ns) {
                     return true;
                 }
             }
@@ -286,15 +286,34 @@ fn is_any_due<G: Drop, K: Tasks<G>>(common: &Common<G, K>, number: usize) -> boo
 }
 
 /// Whether a group whose worker looked in vain for long has something to do.
-fn is_to_go_on<G: Drop, K: Tasks<G>>(
-    common: &Common<G, K>,
-    seat: &Seat<G>,
-    moments: &Moments,
-    limit_ns: u64,
-) -> bool {
+fn is_to_go_on<G: Drop, K: Tasks<G>>(common: &Common<G, K>, seat: &Seat<G>, limit_ns: u64) -> bool {
     let report = common.tasks.report(seat);
-    report.is_due(limit_ns, common.window_ns)
-        || report.is_to_meet(moments, limit_ns, common.window_ns, u64::MAX)
+    report.is_due(limit_ns, common.window_ns) || is_to_meet(common, &report, limit_ns, u64::MAX)
+}
+
+/// Whether a group should meet the others once it has handled `handled` messages in its turn, by the moments that the workers announce.
+fn ends_turn<G: Drop, K: Tasks<G>>(common: &Common<G, K>, seat: &Seat<G>, handled: u32) -> bool {
+    let report = common.tasks.report(seat);
+    report.ends_turn(common.signals.moments.letter_ns(report.number), handled)
+}
+
+/// Whether a group should meet the others before it goes on, by the moments that the workers announce. Events before the limit, in ns, are
+/// due.
+fn is_to_meet<G: Drop, K: Tasks<G>>(
+    common: &Common<G, K>,
+    report: &Report,
+    limit_ns: u64,
+    looks: u64,
+) -> bool {
+    let moments = &common.signals.moments;
+    let letter_ns = moments.letter_ns(report.number);
+    report.is_to_meet(
+        letter_ns,
+        moments.gvt_ns(),
+        limit_ns,
+        common.window_ns,
+        looks,
+    )
 }
 
 /// Sets GVT, if no other thread is at the exchange, and wakes workers that rest and now have something to do.

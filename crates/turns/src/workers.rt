@@ -86,8 +86,8 @@ fn start_all<
     )
 }
 
-/// Shows the watch GVT until the run ends. If the start was refused, the workers must end. They are joined. Returns the least fault of what
-/// they ended with, and of the start.
+/// Shows the watch GVT until the run ends. If the start was refused, the workers must end, and those that rest are woken. They are joined.
+/// Returns the least fault of what they ended with, and of the start.
 fn watch_all<F: Refusal, T: Threads + Wait, W: Watch + Drop>(
     rt: &T,
     alloc: Global,
@@ -104,6 +104,7 @@ fn watch_all<F: Refusal, T: Threads + Wait, W: Watch + Drop>(
         show_gvt(rt, signals, &mut watch);
     } else {
         signals.moments.stop();
+        signals.end();
     }
     (join_all(rt, alloc, start, handles), watch)
 }

@@ -3,3 +3,4 @@ pub mod Segments
 pub mod Runs
 pub mod Gatherings
 pub mod Starts
+pub mod Paces

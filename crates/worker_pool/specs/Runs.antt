@@ -6,6 +6,7 @@ use Rattle.virtual_time.specs.Law.{AreDone, IsFinished, start}
 use Rattle.network.specs.Words.{Plan, process_count}
 use Rattle.nodes.specs.Words.{NodeState, simulation_of}
 use Rattle.nodes.specs.declared.node.NodeRecord.{NodeRecord}
+use Rattle.group_choice.specs.Groups.{HaveProcesses}
 use Rattle.group_exchange.specs.Views.{GroupState, in_group, is_of}
 use Rattle.group_exchange.specs.Keeps.{AreGrouped}
 use Rattle.trace_tables.specs.Tables.{TableLists, tables_of}
@@ -18,10 +19,11 @@ abbrev pub most_steps : Bool → ℕ
 most_steps true = 67108864
 most_steps false = 4611686018427387904
 
--- the processes of a network are in so many groups: there is none where there is no process
+-- the processes of a network are in so many groups, each of which has a process
 pub record IsGroupingOf (plan : Plan) (groups : ℕ) (owners : List ℕ) : Type 0 where
   pub grouped : AreGrouped (process_count plan) groups owners
   pub few : groups ≤ 4096
+  pub used : HaveProcesses groups owners
   pub some : 0 < groups → 0 < process_count plan
 
 -- the group in hand at place g is number g, has seen the GVT behind the end, and its processes are what they are in the world after these steps

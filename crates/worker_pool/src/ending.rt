@@ -12,6 +12,7 @@ use crate::leaving::Leaving;
 use crate::network_run::{NetworkGroup, NetworkRun, OfGroups};
 use crate::run_fault::RunFault;
 use crate::shared::Shared;
+use crate::speed::Speed;
 use group_exchange::GroupExchange;
 use journal::Gate;
 use network::Network;
@@ -24,10 +25,7 @@ use vlink::Time;
 #[derive(Drop)]
 pub(crate) struct Unlocked<'n, J: NetworkRun> {
     pub network: &'n Network,
-    /// The most messages that a group handles in a turn.
-    pub turn: u32,
-    /// The most that a group runs ahead of the GVT that it saw, in ns.
-    pub window_ns: u64,
+    pub speed: Speed,
     pub exchange: Shared<J>,
     pub groups: Vec<NetworkGroup<J>>,
     pub ghost planned: { network.now ≡ J.plan },
@@ -64,10 +62,12 @@ impl<J: NetworkRun> Unlocked<'_, J> {
         gate: &G,
     ) -> Result<(), RunFault<J>>
         ensures ended { OnOk result (IsEnded J.plan J.owners self.new.exchange.steps self.new.groups.items) }
+        ensures count { OnOk result (length self.new.groups.items ≡ length J.names) }
+        ensures speed { self.new.speed ≡ self.old.speed }
         ensures kept { OnOk result (IsTrue keeps_rows → HaveGoneBy [] 0 self.new.groups.items) }
         ensures no_spawn { IfErr result (λ fault. fault ≢ Spawn) }
     {
-        for _ in rt.forever() {
+        'turns: for _ in rt.forever() {
             let _gvt = self.exchange.publish()?;
             self.take_turns(rt, leaving, gate)?;
             if self.is_ended() && (!keeps_rows || self.have_gone_by(&[], Time::default())) {
@@ -84,11 +84,12 @@ impl<J: NetworkRun> Unlocked<'_, J> {
         leaving: &Leaving<'_, J>,
         gate: &G,
     ) -> Result<(), RunFault<J>>
+        ensures speed { self.new.speed ≡ self.old.speed }
         ensures no_spawn { IfErr result (λ fault. fault ≢ Spawn) }
     {
         for group in self.groups.iter_mut() {
             self.exchange
-                .give_turn(group, self.turn, self.window_ns, gate)?;
+                .give_turn(group, self.speed.turn, self.speed.window_ns, gate)?;
             leaving.take_rows(rt, self.network, group)?;
         }
         Ok(())
@@ -97,7 +98,8 @@ impl<J: NetworkRun> Unlocked<'_, J> {
     /// Whether GVT is beyond the end, all groups are here, each in its place and without a block, and each has committed all that it has
     /// done.
     fn is_ended(&self) -> bool
-        ensures { result ≡ true → IsEnded J.plan J.owners self.now.exchange.steps self.now.groups.items }
+        ensures ended { result ≡ true → IsEnded J.plan J.owners self.now.exchange.steps self.now.groups.items }
+        ensures count { result ≡ true → length self.now.groups.items ≡ length J.names }
     {
         let until = self.network.until();
         if self.exchange.as_exchange().gvt().ns() != until.ns() + 1 || !self.are_of_world(until) {
@@ -123,6 +125,7 @@ impl<J: NetworkRun> Unlocked<'_, J> {
     /// Whether all groups of the run are here, each in its place and without a block, and have seen a GVT later than the end.
     fn are_of_world(&self, until: Time) -> bool
         requires { until ≡ J.plan.until }
+        ensures count { result ≡ true → length self.now.groups.items ≡ length J.names }
         ensures grouped { result ≡ true → AreGrouped (process_count J.plan) (length self.now.groups.items) J.owners }
         ensures each { result ≡ true → (g : ℕ) (group : GroupState NodeState NodeRecord) → slice_get self.now.groups.items g ≡ Some group →
             IsOfWorld J.plan J.owners self.now.exchange.steps g group }

@@ -1,6 +1,7 @@
 //! A run of a network by workers: threads that give turns to groups of processes, which share one locked exchange.
 #![tactic(auto)]
 
+mod actual_pace;
 mod batches;
 mod desk;
 mod ending;
@@ -16,13 +17,15 @@ mod run_fault;
 mod running;
 mod shared;
 mod single_processes;
+mod speed;
 mod start;
 mod summary;
 mod tasks;
 mod tracing;
 mod workers;
 
-pub use grouping::group_number;
+pub use actual_pace::ActualPace;
+pub use group_choice::group_number;
 pub use journal::{Gate, PoolFault};
 pub use network_runs::NetworkRun;
 pub use pace::Pace;

@@ -1,5 +1,6 @@
 //! The pace of a run by workers.
 ghost use Rattle.std.specs.Prelude.{◌≡◌};
+ghost use Rattle.worker_pool.specs.Paces.{pace_that_goes};
 
 /// The number of workers, and of groups of processes; the most messages that a group handles in one turn; and the most that a group runs
 /// ahead of the GVT that it saw, in ns.
@@ -18,7 +19,7 @@ pub struct Pace {
 impl Pace {
     /// Returns the same pace with a turn and a window of at least 1: with 0 no message would ever be handled.
     pub(crate) fn that_goes(self) -> Self
-        ensures { result.workers ≡ self.workers }
+        ensures { result ≡ pace_that_goes self }
     {
         Pace {
             workers: self.workers,

@@ -1,10 +1,11 @@
 //! The run of a network by workers.
-ghost use Rattle.std.specs.Prelude.{◌≡◌, ◌≢◌, ◌<◌, true, [], IsTrue, IfOk, IfErr};
+ghost use Rattle.std.specs.Prelude.{◌≡◌, ◌≢◌, ◌<◌, true, [], length, min, IsTrue, IfOk, IfErr};
 ghost use Rattle.network.specs.Words.{process_count};
 ghost use Rattle.journal.specs.declared.fault.PoolFault.TheVariants.{Exhausted, Spawn, Torn};
 ghost use Rattle.trace_tables.specs.Tables.{tables_of};
 ghost use Rattle.seqsim.specs.Networks.{AreRowsOf};
 ghost use Rattle.worker_pool.specs.Outcomes.{CanWantWorkers, UsesUpNumbers};
+ghost use Rattle.worker_pool.specs.Paces.{pace_in, pace_of};
 ghost use Rattle.worker_pool.specs.Runs.{IsEnded, IsJournalOf, HaveGoneBy};
 ghost use Rattle.worker_pool.specs.Starts.{BeginsRun};
 
@@ -56,6 +57,7 @@ pub(crate) fn run_to_end<
     watch: &mut W,
 ) -> Result<Unlocked<'n, J>, RunFault<J>>
     ensures ended { IfOk result (λ r. IsEnded J.plan J.owners r.exchange.steps r.groups.items) }
+    ensures pace { IfOk result (λ r. pace_of r.speed (length r.groups.items) ≡ pace_in start.entry.grouping.groups start.entry.pace) }
     ensures kept { IfOk result (λ r. IsTrue keeps_rows → HaveGoneBy [] 0 r.groups.items) }
     ensures spawn { IfErr result (λ fault. fault ≡ Spawn → CanWantWorkers start.entry.pace.workers (process_count J.plan)) }
     ensures watched { W.becomes watch.old watch.new }
@@ -75,7 +77,10 @@ fn opened<'s, 'n, J: NetworkRun, G: Gate, T: Wait>(
     gate: &'s G,
     leaving: &'s Leaving<'s, J>,
 ) -> Result<CommonOf<'s, 'n, J, G, T>, AllocError>
-    ensures { IfOk result (λ common. 0 < common.workers → CanWantWorkers start.entry.pace.workers (process_count J.plan)) }
+    ensures workers { IfOk result (λ common. common.workers ≡ min start.entry.grouping.groups start.entry.pace.workers) }
+    ensures turn { IfOk result (λ common. common.turn ≡ start.entry.pace.turn) }
+    ensures window { IfOk result (λ common. common.window_ns ≡ start.entry.pace.window_ns) }
+    ensures wanted { IfOk result (λ common. 0 < common.workers → CanWantWorkers start.entry.pace.workers (process_count J.plan)) }
 {
     let network = start.network;
     let pace = start.pace;
@@ -107,6 +112,7 @@ fn to_end<'n, J: NetworkRun, G: Gate, T: Wait>(
     gate: &G,
 ) -> Result<Unlocked<'n, J>, RunFault<J>>
     ensures ended { IfOk result (λ r. IsEnded J.plan J.owners r.exchange.steps r.groups.items) }
+    ensures pace { IfOk result (λ r. pace_of r.speed (length r.groups.items) ≡ pace_of unlocked.entry.speed (length J.names)) }
     ensures kept { IfOk result (λ r. IsTrue keeps_rows → HaveGoneBy [] 0 r.groups.items) }
     ensures no_spawn { IfErr result (λ fault. fault ≢ Spawn) }
 {

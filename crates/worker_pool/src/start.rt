@@ -45,7 +45,8 @@ impl<'n, J: NetworkRun> StartOf<'n, J> {
     /// Gives the run its names from what it begins with.
     pub(crate) fn of(start: Start<'n>) -> Self
         requires { BeginsRun J.plan J.keeps J.names J.owners start }
-        ensures { result.pace.workers ≡ start.entry.pace.workers }
+        ensures pace { result.pace ≡ start.entry.pace }
+        ensures groups { result.grouping.groups ≡ start.entry.grouping.groups }
     {
         let Start {
             network,

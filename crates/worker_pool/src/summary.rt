@@ -1,14 +1,16 @@
 //! The results of a run without its trace: its tables, and its steps if they are wanted. It lists no rows.
-ghost use Rattle.std.specs.Prelude.{◌≡◌, ◌⊎◌, List, Err, IfOk, IfErr, IfNone};
+ghost use Rattle.std.specs.Prelude.{◌≡◌, ◌⊎◌, List, Err, length, IfOk, IfErr, IfNone};
 ghost use Rattle.vlink.specs.Letters.{Row};
 ghost use Rattle.network.specs.Words.{process_count};
 ghost use Rattle.journal.specs.declared.fault.PoolFault.TheVariants.{OutOfMemory, Exhausted, Spawn, Torn};
 ghost use Rattle.trace_tables.specs.Tables.{tables_of};
 ghost use Rattle.seqsim.specs.Networks.{AreRowsOf};
 ghost use Rattle.worker_pool.specs.Outcomes.{CanWantWorkers, UsesUpNumbers};
+ghost use Rattle.worker_pool.specs.Paces.{actual_pace, pace_in, pace_of};
 ghost use Rattle.worker_pool.specs.Runs.{IsEnded, IsJournalAsked, IsSummaryOf};
 ghost use Rattle.worker_pool.specs.Starts.{BeginsRun};
 
+use crate::actual_pace::ActualPace;
 use crate::ending::Unlocked;
 use crate::grouping::marked_groups;
 use crate::leaving::Leaving;
@@ -27,11 +29,13 @@ use std::thread::Threads;
 use trace_tables::Tables;
 use vlink::Step;
 
-/// The results of a run: the tables of its rows; and the steps that were done, in their order, or none if they were not asked for.
+/// The results of a run: the tables of its rows; the steps that were done, in their order, or none if they were not asked for; and the pace
+/// at which it went.
 #[derive(Drop)]
 pub struct Summary {
     pub tables: Tables,
     pub journal: Vec<Step>,
+    pub pace: ActualPace,
 }
 
 impl<J: NetworkRun> Unlocked<'_, J> {
@@ -46,6 +50,7 @@ impl<J: NetworkRun> Unlocked<'_, J> {
         requires ended { IsEnded J.plan J.owners self.now.exchange.steps self.now.groups.items }
         requires keeps { with_steps ≡ J.keeps }
         ensures found { IfOk result (λ s. IsSummaryOf J.plan J.keeps s.tables s.journal.items) }
+        ensures pace { IfOk result (λ s. s.pace ≡ pace_of self.now.speed (length self.now.groups.items)) }
         ensures refused { IfNone counted.tables (result ≡ Err OutOfMemory) }
         ensures faults { IfErr result (λ fault. (fault ≡ OutOfMemory) ⊎ (fault ≡ Torn)) }
     {
@@ -59,7 +64,11 @@ impl<J: NetworkRun> Unlocked<'_, J> {
         }
         let tables = self.tables(counted)?;
         match self.steps_asked(alloc, with_steps) {
-            Ok(journal) => Ok(Summary { tables, journal }),
+            Ok(journal) => Ok(Summary {
+                tables,
+                journal,
+                pace: self.pace(),
+            }),
             Err(fault) => {
                 drop(tables);
                 Err(PoolFault::from(fault))
@@ -91,6 +100,7 @@ pub(crate) fn summary_of<J: NetworkRun>(
     requires ended { IsEnded J.plan J.owners ended.exchange.steps ended.groups.items }
     requires keeps { with_steps ≡ J.keeps }
     ensures found { IfOk result (λ s. IsSummaryOf J.plan J.keeps s.tables s.journal.items) }
+    ensures pace { IfOk result (λ s. s.pace ≡ pace_of ended.entry.speed (length ended.entry.groups.items)) }
     ensures faults { IfErr result (λ fault. (fault ≡ OutOfMemory) ⊎ (fault ≡ Torn)) }
 {
     let found = ended.summary(alloc, counted, with_steps);
@@ -108,6 +118,7 @@ fn summary_named<J: NetworkRun + Send + Sync, G: Gate + Sync, T: Threads + Wait 
 ) -> Result<Summary, PoolFault>
     requires { BeginsRun J.plan J.keeps J.names J.owners start }
     ensures found { IfOk result (λ s. IsSummaryOf J.plan J.keeps s.tables s.journal.items) }
+    ensures pace { IfOk result (λ s. s.pace ≡ pace_in start.entry.grouping.groups start.entry.pace) }
     ensures exhausted { IfErr result (λ fault. fault ≡ Exhausted → UsesUpNumbers J.plan) }
     ensures spawn { IfErr result (λ fault. fault ≡ Spawn → CanWantWorkers start.entry.pace.workers (process_count J.plan)) }
     ensures watched { W.becomes watch.old watch.new }
@@ -120,8 +131,9 @@ fn summary_named<J: NetworkRun + Send + Sync, G: Gate + Sync, T: Threads + Wait 
     summary_of(alloc, ended, counted.into_inner(), keeps)
 }
 
-/// Simulates a network by workers, as `run` does, and lists no rows. The steps that were done are listed if they are asked for. Its
-/// refusals are those of `run`, and `Torn` if rows left that were not counted. `watch` is shown GVT, at most four times a second, and no
+/// Simulates a network by workers, as `run` does, and lists no rows. The steps that were done are listed if they are asked for. The summary
+/// states the pace at which the run went: that of its threads, and of the groups that came back from them. Its refusals are those of `run`,
+/// and `Torn` if rows left that were not counted. `watch` is shown GVT, at most four times a second, and no
 /// count of events.
 pub fn run_summary<G: Gate + Sync, T: Threads + Wait + Sync, W: Watch>(
     rt: &T,
@@ -135,6 +147,7 @@ pub fn run_summary<G: Gate + Sync, T: Threads + Wait + Sync, W: Watch>(
     ensures tables { IfOk result (λ s. (rows : List Row) × AreRowsOf network.now rows × (s.tables ≡ tables_of network.now rows)) }
     ensures each { IfOk result (λ s. (rows : List Row) → AreRowsOf network.now rows → s.tables ≡ tables_of network.now rows) }
     ensures journal { IfOk result (λ s. IsJournalAsked network.now with_steps s.journal.items) }
+    ensures pace { IfOk result (λ s. s.pace ≡ actual_pace (process_count network.now) pace) }
     ensures exhausted { IfErr result (λ fault. fault ≡ Exhausted → UsesUpNumbers network.now) }
     ensures spawn { IfErr result (λ fault. fault ≡ Spawn → CanWantWorkers pace.workers (process_count network.now)) }
     ensures watched { W.becomes watch.old watch.new }

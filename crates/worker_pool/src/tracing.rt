@@ -1,7 +1,8 @@
 //! The run of a network by workers that write its trace while it goes on.
-ghost use Rattle.std.specs.Prelude.{◌≡◌, ◌≢◌, ◌+◌, List, IfOk, IfErr, IfSome, OnOk};
+ghost use Rattle.std.specs.Prelude.{◌≡◌, ◌≢◌, ◌+◌, List, length, IfOk, IfErr, IfSome, IsOkAnd, OnOk};
 ghost use Rattle.std.specs.Io.KnownBytes.{append_known};
 ghost use Rattle.vlink.specs.Letters.{Row};
+ghost use Rattle.network.specs.Words.{process_count};
 ghost use Rattle.journal.specs.declared.fault.PoolFault.TheVariants.{Exhausted};
 ghost use Rattle.trace_segments.specs.declared.fault.OutFault.TheVariants.{Device};
 ghost use Rattle.trace_segments.specs.declared.trace_fault.TraceFault.TheVariants.{Out};
@@ -9,6 +10,7 @@ ghost use Rattle.trace_segments.specs.Words.{IsBeginning, trace_text};
 ghost use Rattle.trace_tables.specs.Tables.{tables_of};
 ghost use Rattle.seqsim.specs.Networks.{AreRowsOf};
 ghost use Rattle.worker_pool.specs.Outcomes.{UsesUpNumbers};
+ghost use Rattle.worker_pool.specs.Paces.{actual_pace, pace_in, pace_of};
 ghost use Rattle.worker_pool.specs.Runs.{IsEnded, IsJournalAsked, IsSummaryOf};
 ghost use Rattle.worker_pool.specs.Starts.{BeginsRun};
 ghost use Rattle.run_rows.specs.Written.{IsFaultOfTrace, IsPlaceFault, IsWritten};
@@ -64,6 +66,7 @@ fn run_to_trace<
     watch: &mut W,
 ) -> (Result<Unlocked<'n, J>, RunFault<J>>, Option<SegmentFault>)
     ensures ended { IfOk result.0 (λ r. IsEnded J.plan J.owners r.exchange.steps r.groups.items) }
+    ensures pace { IfOk result.0 (λ r. pace_of r.speed (length r.groups.items) ≡ pace_in start.entry.grouping.groups start.entry.pace) }
     ensures fault { IfSome result.1 IsPlaceFault }
     ensures watched { W.becomes watch.old watch.new }
 {
@@ -82,6 +85,7 @@ fn summary_told<J: NetworkRun>(
     requires ended { IfOk ended (λ r. IsEnded J.plan J.owners r.exchange.steps r.groups.items) }
     requires keeps { with_steps ≡ J.keeps }
     ensures found { IfOk result (λ s. IsSummaryOf J.plan J.keeps s.tables s.journal.items) }
+    ensures pace { IfOk result (λ s. IsOkAnd ended.entry (λ r. s.pace ≡ pace_of r.speed (length r.groups.items))) }
     ensures exhausted { IfErr result (λ fault. fault ≡ Exhausted → UsesUpNumbers J.plan) }
 {
     match ended {
@@ -103,6 +107,7 @@ fn traced_of<'a, J: NetworkRun, K: TraceRun, S: Sink + Drop>(
     requires fault { IfSome fault IsPlaceFault }
     requires exhausted { IfErr summary (λ fault. fault ≡ Exhausted → UsesUpNumbers J.plan) }
     ensures found { IfOk result (λ t. IsSummaryOf J.plan J.keeps t.outcome.tables t.outcome.journal.items) }
+    ensures pace { IfOk result (λ t. IsOkAnd summary (λ s. t.outcome.pace ≡ s.pace)) }
     ensures written { IfOk result (λ t. IsWritten J.plan K.taken K.failures t.written (S.taken t.sink) (S.failures t.sink)) }
     ensures exhausted { IfErr result (λ fault. fault ≡ Exhausted → UsesUpNumbers J.plan) }
 {
@@ -141,6 +146,7 @@ fn run_beside<
     writer: JoinHandle<(Writing<'a, J, K, S>, Counted<J>)>,
 ) -> (Result<Traced<S>, PoolFault>, W)
     ensures found { IfOk result.0 (λ t. IsSummaryOf J.plan J.keeps t.outcome.tables t.outcome.journal.items) }
+    ensures pace { IfOk result.0 (λ t. t.outcome.pace ≡ pace_in start.entry.grouping.groups start.entry.pace) }
     ensures written { IfOk result.0 (λ t. IsWritten J.plan K.taken K.failures t.written (S.taken t.sink) (S.failures t.sink)) }
     ensures exhausted { IfErr result.0 (λ fault. fault ≡ Exhausted → UsesUpNumbers J.plan) }
     ensures watched { W.becomes watch result.1 }
@@ -197,6 +203,7 @@ fn traced_named<
     requires taken { S.taken sink ≡ K.taken }
     requires failures { S.failures sink ≡ K.failures }
     ensures found { IfOk result.0 (λ t. IsSummaryOf J.plan J.keeps t.outcome.tables t.outcome.journal.items) }
+    ensures pace { IfOk result.0 (λ t. t.outcome.pace ≡ pace_in start.entry.grouping.groups start.entry.pace) }
     ensures written { IfOk result.0 (λ t. IsWritten J.plan K.taken K.failures t.written (S.taken t.sink) (S.failures t.sink)) }
     ensures exhausted { IfErr result.0 (λ fault. fault ≡ Exhausted → UsesUpNumbers J.plan) }
     ensures watched { W.becomes watch result.1 }
@@ -215,6 +222,7 @@ fn traced_named<
         |scope| -> (Result<Traced<S>, PoolFault>, W)
             requires { network.now ≡ J.plan }
             ensures found { IfOk result.0 (λ t. IsSummaryOf J.plan J.keeps t.outcome.tables t.outcome.journal.items) }
+            ensures pace { IfOk result.0 (λ t. t.outcome.pace ≡ pace_in start.entry.grouping.groups start.entry.pace) }
             ensures written { IfOk result.0 (λ t. IsWritten J.plan K.taken K.failures t.written (S.taken t.sink) (S.failures t.sink)) }
             ensures exhausted { IfErr result.0 (λ fault. fault ≡ Exhausted → UsesUpNumbers J.plan) }
             ensures watched { W.becomes watch result.1 }
@@ -262,6 +270,7 @@ pub fn run_traced<S: Sink + Drop + Send, G: Gate + Sync, T: Threads + Wait + Syn
     ensures tables { IfOk result (λ t. (rows : List Row) × AreRowsOf network.now rows × (t.outcome.tables ≡ tables_of network.now rows)) }
     ensures each { IfOk result (λ t. (rows : List Row) → AreRowsOf network.now rows → t.outcome.tables ≡ tables_of network.now rows) }
     ensures journal { IfOk result (λ t. IsJournalAsked network.now with_steps t.outcome.journal.items) }
+    ensures pace { IfOk result (λ t. t.outcome.pace ≡ actual_pace (process_count network.now) pace) }
     ensures whole { IfOk result (λ t. OnOk t.written ((rows : List Row) → AreRowsOf network.now rows →
         S.taken t.sink ≡ append_known (S.taken sink) (trace_text network.now rows))) }
     ensures beginning { IfOk result (λ t. (rows : List Row) → AreRowsOf network.now rows →

@@ -1,10 +1,12 @@
 //! The end of the threads: their groups come back.
-ghost use Rattle.std.specs.Prelude.{◌≡◌, ◌<◌, IfErr, IsErr};
+ghost use Rattle.std.specs.Prelude.{◌≡◌, ◌<◌, IfOk, IfErr, IsErr};
 ghost use Rattle.journal.specs.declared.fault.PoolFault.TheVariants.{Spawn};
+ghost use Rattle.worker_pool.specs.Paces.{speed_of};
 
 use crate::ending::Unlocked;
 use crate::network_run::NetworkRun;
 use crate::run_fault::RunFault;
+use crate::speed::Speed;
 use crate::tasks::{CommonOf, NetworkTasks};
 use actor_run::Watch;
 use journal::Gate;
@@ -30,6 +32,7 @@ pub(crate) fn groups_worked<
     common: CommonOf<'_, 'n, J, G, T>,
     watch: &mut W,
 ) -> Result<Unlocked<'n, J>, RunFault<J>>
+    ensures speed { IfOk result (λ r. r.speed ≡ speed_of common.entry.workers common.entry.turn common.entry.window_ns) }
     ensures spawn { IfErr result (λ fault. fault ≡ Spawn → 0 < common.entry.workers) }
     ensures watched { W.becomes watch.old watch.new }
 {
@@ -43,7 +46,8 @@ fn unlocked_of<'n, J: NetworkRun, G: Gate, T: Wait>(
     worked: Result<(), RunFault<J>>,
     common: CommonOf<'_, 'n, J, G, T>,
 ) -> Result<Unlocked<'n, J>, RunFault<J>>
-    ensures { IfErr result (λ fault. fault ≡ Spawn → IsErr worked) }
+    ensures speed { IfOk result (λ r. r.speed ≡ speed_of common.entry.workers common.entry.turn common.entry.window_ns) }
+    ensures spawn { IfErr result (λ fault. fault ≡ Spawn → IsErr worked) }
 {
     match worked {
         Ok(()) => Ok(taken_back(alloc, common)?),
@@ -58,9 +62,14 @@ fn unlocked_of<'n, J: NetworkRun, G: Gate, T: Wait>(
 fn taken_back<'n, J: NetworkRun, G: Gate, T: Wait>(
     alloc: Global,
     common: CommonOf<'_, 'n, J, G, T>,
-) -> Result<Unlocked<'n, J>, AllocError> {
-    let turn = common.turn;
-    let window_ns = common.window_ns;
+) -> Result<Unlocked<'n, J>, AllocError>
+    ensures { IfOk result (λ r. r.speed ≡ speed_of common.entry.workers common.entry.turn common.entry.window_ns) }
+{
+    let speed = Speed {
+        workers: common.workers,
+        turn: common.turn,
+        window_ns: common.window_ns,
+    };
     let (groups, tasks) = common.into_groups(alloc)?;
     let NetworkTasks {
         network,
@@ -69,8 +78,7 @@ fn taken_back<'n, J: NetworkRun, G: Gate, T: Wait>(
     } = tasks;
     Ok(Unlocked {
         network,
-        turn,
-        window_ns,
+        speed,
         exchange: exchange.into_inner().into_inner(),
         groups,
     })

@@ -1,7 +1,7 @@
 use Rattle.std.proofs.Common.{◌∙◌, inl, inr, refl, sym, subst, true, option_map, string_bytes, is_some}
 use Rattle.worker_pool.specs.Runs.{IsJournalAsked}
 use Rattle.afdxsim.specs.Files.{LacksRun, LeavesRun}
-use Rattle.commands.specs.Progress.{IsWorkersLine}
+use Rattle.afdxsim.specs.Workers.{IsRunLine}
 use Rattle.commands.specs.Streams.{IsHeard, heard_host}
 use Rattle.commands.proofs.Lacking.{no_output}
 use Rattle.commands.proofs.Outcomes.{err_then, no_value, ok_then, same_err}
@@ -109,7 +109,7 @@ returns-in_err-keep_journal-clause-kept g c =
     (λ other. c.keep_journal.ensures.output ∙ c.simulate.ensures.output)
 
 pub returns-in_err-keep_journal-clause-heard : goal.returns-in_err-keep_journal-clause-heard
-returns-in_err-keep_journal-clause-heard g c = subst (IsHeard g.H.Host.outside c.args.host.now c.args.order.now.progress (IsWorkersLine c.args.network.now)) (sym c.keep_journal.ensures.quiet) c.simulate.ensures.heard
+returns-in_err-keep_journal-clause-heard g c = subst (IsHeard g.H.Host.outside c.args.host.now c.args.order.now.progress (IsRunLine c.args.order.now c.args.network.now)) (sym c.keep_journal.ensures.quiet) c.simulate.ensures.heard
 
 pub returns-clause-kept : goal.returns-clause-kept
 returns-clause-kept g c =
@@ -119,5 +119,5 @@ returns-clause-kept g c =
 
 pub returns-clause-heard : goal.returns-clause-heard
 returns-clause-heard g c =
-    subst (IsHeard g.H.Host.outside c.args.host.now c.args.order.now.progress (IsWorkersLine c.args.network.now))
+    subst (IsHeard g.H.Host.outside c.args.host.now c.args.order.now.progress (IsRunLine c.args.order.now c.args.network.now))
     (sym (g.met.H.Host.lawful.errors_beside c.keep_journal.new.host c.show_tables.new.output ∙ c.keep_journal.ensures.quiet)) c.simulate.ensures.heard

@@ -4,7 +4,7 @@ use Rattle.seqsim.specs.Networks.{AreRowsOf}
 use Rattle.trace_segments.specs.Words.{trace_text}
 use Rattle.commands.specs.Ending.{Took}
 use Rattle.afdxsim.specs.Files.{LacksTrace}
-use Rattle.commands.specs.Progress.{IsWorkersLine}
+use Rattle.afdxsim.specs.Workers.{IsRunLine}
 use Rattle.commands.specs.Streams.{heard_host}
 use Rattle.commands.specs.Sequencing.{IsTraceText}
 use Rattle.commands.proofs.Outcomes.{at_err, at_ok, no_value}
@@ -18,7 +18,7 @@ returns-in_err-outcome-clause-heard g c =
     let outside = g.H.Host.outside in
     let law = g.met.H.Host.lawful in
     let said = c.traced_by_workers.new.errors in
-    heard_beside outside law c.args.is_asked c.asked_of-asked.result.is_asked (IsWorkersLine c.args.network.now) c.args.path.now c.args.host.now c.make_file.new.host
+    heard_beside outside law c.args.is_asked c.asked_of-asked.result.is_asked (IsRunLine c.args.order.now c.args.network.now) c.args.path.now c.args.host.now c.make_file.new.host
     c.errors-errors.result.now said c.asked_of-asked.ensures c.in_ok-file.ensures.host c.errors-errors.ensures.value c.traced_by_workers.ensures.heard
     (outside.with_errors c.make_file.new.host said) (law.errors_stay c.make_file.new.host said)
 
@@ -40,19 +40,19 @@ returns-in-Ok-clause-trace g c =
     c.in_ok-outcome.ensures.trace in
     written outside law path (IsTraceText plan) (heard_host outside c.args.host.now c.args.is_asked (outside.errors new)) (outside.with_errors begun said) new
     c.in_ok-file.file found.sink (trace_text plan rows.0)
-    (begins_given outside law c.args.is_asked c.asked_of-asked.result.is_asked (IsWorkersLine plan) path c.args.host.now begun c.errors-errors.result.now said
+    (begins_given outside law c.args.is_asked c.asked_of-asked.result.is_asked (IsRunLine c.args.order.now plan) path c.args.host.now begun c.errors-errors.result.now said
     c.asked_of-asked.ensures c.in_ok-file.ensures.host c.errors-errors.ensures.value c.traced_by_workers.ensures.heard found.sink new c.close.ensures)
     c.in_ok-file.ensures.empty (all rows.0 rows.1) (rows.0, rows.1, refl) c.close.ensures
 
 pub returns-in-Ok-clause-heard : goal.returns-in-Ok-clause-heard
 returns-in-Ok-clause-heard g c =
-    heard_given g.H.Host.outside g.met.H.Host.lawful c.args.is_asked c.asked_of-asked.result.is_asked (IsWorkersLine c.args.network.now) c.args.path.now c.args.host.now
+    heard_given g.H.Host.outside g.met.H.Host.lawful c.args.is_asked c.asked_of-asked.result.is_asked (IsRunLine c.args.order.now c.args.network.now) c.args.path.now c.args.host.now
     c.make_file.new.host c.errors-errors.result.now c.traced_by_workers.new.errors c.asked_of-asked.ensures c.in_ok-file.ensures.host c.errors-errors.ensures.value
     c.traced_by_workers.ensures.heard c.in_ok-outcome.field-0.sink c.close.new.self c.close.ensures
 
 pub returns-in-Err-clause-heard : goal.returns-in-Err-clause-heard
 returns-in-Err-clause-heard g c =
-    heard_given g.H.Host.outside g.met.H.Host.lawful c.args.is_asked c.asked_of-asked.result.is_asked (IsWorkersLine c.args.network.now) c.args.path.now c.args.host.now
+    heard_given g.H.Host.outside g.met.H.Host.lawful c.args.is_asked c.asked_of-asked.result.is_asked (IsRunLine c.args.order.now c.args.network.now) c.args.path.now c.args.host.now
     c.make_file.new.host c.errors-errors.result.now c.traced_by_workers.new.errors c.asked_of-asked.ensures c.in_ok-file.ensures.host c.errors-errors.ensures.value
     c.traced_by_workers.ensures.heard c.in_ok-outcome.field-0.sink c.close.new.self c.close.ensures
 
@@ -81,7 +81,7 @@ returns-in-Err-clause-fault g c =
     let is : found.written ≡ Err c.in-Err.why = cc in
     inr (subst (λ fault. LacksTrace outside c.args.path.now plan heard new fault) (sym c.fault_of_trace.ensures)
     (lacks_trace outside law c.args.path (IsTraceText plan) heard (outside.with_errors begun said) new c.in_ok-file.file found.sink (trace_text plan rows.0)
-    (begins_given outside law c.args.is_asked c.asked_of-asked.result.is_asked (IsWorkersLine plan) c.args.path.now c.args.host.now begun c.errors-errors.result.now said
+    (begins_given outside law c.args.is_asked c.asked_of-asked.result.is_asked (IsRunLine c.args.order.now plan) c.args.path.now c.args.host.now begun c.errors-errors.result.now said
     c.asked_of-asked.ensures c.in_ok-file.ensures.host c.errors-errors.ensures.value c.traced_by_workers.ensures.heard found.sink new c.close.ensures)
     c.in_ok-file.ensures.empty c.in_ok-file.ensures.fresh (rows.0, rows.1, refl) c.close.ensures
     (makes_there outside law c.args.is_asked c.args.host.now c.args.path.now (outside.errors new) true c.in_ok-file.ensures.made)

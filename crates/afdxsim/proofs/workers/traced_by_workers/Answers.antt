@@ -1,13 +1,17 @@
-use Rattle.commands.specs.MoreProgress.{asked_none}
-use Rattle.commands.specs.Progress.{IsWorkersLine}
-use Rattle.afdxsim.proofs.Heard.{heard_whole}
+use Rattle.afdxsim.proofs.Heard.{heard_so_far, heard_whole, paced}
 use Rattle.afdxsim.proofs.workers.traced_by_workers.Goals as goal
+
+pub returns-clause-pace : goal.returns-clause-pace
+returns-clause-pace g c =
+    paced c.args.order.now c.args.network.now c.in_ok-found.found.outcome.pace c.pace_of-pace.result c.pace_of-pace.ensures c.in_ok-found.ensures.pace
 
 pub returns-clause-heard : goal.returns-clause-heard
 returns-clause-heard g c =
-    heard_whole g.E.Sink.taken g.E.Sink.failures c.args.network.now c.args.asked.is_asked c.in_ok-pace.pace.groups c.in_ok-pace.pace.workers
-    c.args.errors.now c.tell_groups.new.errors c.traced_at.new.errors c.in_ok-pace.ensures.few c.in_ok-pace.ensures.served c.tell_groups.ensures
-    c.traced_at.ensures.heard
+    heard_whole g.E.Sink.taken g.E.Sink.failures c.args.order.now c.args.network.now c.args.asked.is_asked c.args.errors.now c.traced_at.new.errors
+    c.tell_pace.new.errors c.in_ok-found.found.outcome.pace
+    (paced c.args.order.now c.args.network.now c.in_ok-found.found.outcome.pace c.pace_of-pace.result c.pace_of-pace.ensures c.in_ok-found.ensures.pace)
+    c.traced_at.ensures.heard c.tell_pace.ensures
 
-pub returns-in_err-pace-clause-heard : goal.returns-in_err-pace-clause-heard
-returns-in_err-pace-clause-heard g c = asked_none g.E.Sink.taken g.E.Sink.failures (IsWorkersLine c.args.network.now) c.args.asked.is_asked c.args.errors.now
+pub returns-in_err-found-clause-heard : goal.returns-in_err-found-clause-heard
+returns-in_err-found-clause-heard g c =
+    heard_so_far g.E.Sink.taken g.E.Sink.failures c.args.order.now c.args.network.now c.args.asked.is_asked c.args.errors.now c.traced_at.new.errors c.traced_at.ensures.heard

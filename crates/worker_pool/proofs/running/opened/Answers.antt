@@ -1,13 +1,18 @@
-use Rattle.std.proofs.Common.{◌≡◌, ◌<◌, ◌≤◌, min, length, subst, arith}
+use Rattle.std.proofs.Common.{◌≡◌, ◌<◌, ◌≤◌, IfOk, min, length, subst, arith}
 use Rattle.std.proofs.Math.Nat.{min-le_left, min-le_right}
 use Rattle.network.specs.Words.{process_count}
 use Rattle.actor_run.proofs.Errors.{ok-weaker}
 use Rattle.worker_pool.specs.Outcomes.{CanWantWorkers}
 use Rattle.worker_pool.proofs.running.opened.Goals as goal
 
+-- there are as many groups as the run begins with
+pub returns-clause-workers : goal.returns-clause-workers
+returns-clause-workers g c =
+    subst (λ n. IfOk c.of.result (λ common. common.workers ≡ min n c.args.start.pace.workers)) c.in_ok-exchange.ensures.count c.of.ensures.workers
+
 -- workers are no more than groups, and a group has a process
-pub returns : goal.returns
-returns g c =
+pub returns-clause-wanted : goal.returns-clause-wanted
+returns-clause-wanted g c =
     let start = c.args.start in
     let groups = length c.in_ok-exchange.groups.items in
     let asked = start.pace.workers in
@@ -17,4 +22,4 @@ returns g c =
     let most : min groups asked ≤ asked = min-le_right groups asked in
     let count : groups ≡ start.grouping.groups = c.in_ok-exchange.ensures.count in
     (omega arith, subst (λ plan. 0 < process_count plan) start.planned (start.grouped.some (omega arith))))
-    c.of.result c.of.ensures
+    c.of.result c.of.ensures.workers

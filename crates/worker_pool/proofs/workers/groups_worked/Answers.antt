@@ -8,7 +8,7 @@ use Rattle.worker_pool.proofs.workers.groups_worked.Goals as goal
 use Rattle.worker_pool.proofs.workers.groups_worked.Lts.{arg-0-0, arg-0-3}
 
 pub returns-clause-spawn : goal.returns-clause-spawn
-returns-clause-spawn g c = spawned _ c.unlocked_of.result c.work_all-worked.result.0 c.unlocked_of.ensures c.work_all-worked.ensures.some
+returns-clause-spawn g c = spawned _ c.unlocked_of.result c.work_all-worked.result.0 c.unlocked_of.ensures.spawn c.work_all-worked.ensures.some
 
 -- a group may be sent, and what workers do with groups is shared: the gate and the runtime by their bounds, all else by its type
 pub work_all-worked-requires-send-G : goal.work_all-worked-requires-send-G

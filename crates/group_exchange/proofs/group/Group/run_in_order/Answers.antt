@@ -1,7 +1,7 @@
-use Rattle.std.proofs.Common.{◌≡◌, ◌+◌, ◌≤◌, ◌⊎◌, inl, inr, All, Ok, Err, sym, ap, ◌∙◌, subst}
+use Rattle.std.proofs.Common.{◌≡◌, ◌+◌, ◌≤◌, ◌⊎◌, inl, inr, All, Ok, Err, refl, sym, ap, ◌∙◌, subst}
 use Rattle.vlink.specs.declared.message.Message.{Message}
 use Rattle.group_hand.specs.Hands.{IsAsBefore}
-use Rattle.group_hand.specs.Answered.{RunsInOrder}
+use Rattle.group_hand.specs.Answered.{RunsInOrder, WaitsBefore}
 use Rattle.group_queues.specs.Block.{runs_in}
 use Rattle.group_hand.specs.declared.in_order.InOrder.{InOrder}
 use Rattle.group_hand.specs.declared.in_order.InOrder.TheVariants.{Ran, Idle, Late}
@@ -63,7 +63,7 @@ returns-clause-short g c =
       | in-Ok w ↦ λ e. not-ok _ _ _ w.result-is e
       | in-Err-Exhausted w ↦ λ e.
           let t = subst (λ z. RunsInOrder (λ s. g.R.Reversible.plain.counter s) c.args.limit c.self.inside.hand new (Err z)) w.in-Err-Exhausted.field-0-is w.in-Err-Exhausted.ensures.told in
-          is-short h L.order new t.0 t.1 c.self.inside.gone
+          (is-short h L.order new t.0.0 t.0.1 c.self.inside.gone, subst (λ h. WaitsBefore c.args.limit h) (sym t.0.0) (t.1 refl))
       | in-Err-OutOfMemory w ↦ λ e. not-short _ w.result-is e
     ]
 

@@ -3,7 +3,7 @@ use Rattle.vlink.specs.declared.message.Message.{Message}
 use Rattle.vlink.specs.Order.{message_order}
 use Rattle.virtual_time.specs.Law.{IsAscending, one_if}
 use Rattle.reverse.specs.Rules.{rules_of}
-use Rattle.group_hand.specs.Answered.{RunsNext}
+use Rattle.group_hand.specs.Answered.{RunsNext, WaitsBefore}
 use Rattle.group_queues.specs.Block.{runs_in}
 use Rattle.group_queues.specs.DoneEvents.{messages_of}
 use Rattle.group_hand.specs.Hands.{FirstWaits}
@@ -68,7 +68,7 @@ returns-clause-short g c =
       | in-Err-Exhausted w ↦ λ e.
           let t = subst (λ z. RunsNext (rules_of g.R.Reversible.plain) g.R.Reversible.is_value (λ s. g.R.Reversible.plain.counter s) c.args.limit c.self.inside.hand new (Err z))
           w.in-Err-Exhausted.field-0-is w.in-Err-Exhausted.ensures.told in
-          is-short h L.order new t.0 t.1 c.self.inside.gone
+          (is-short h L.order new t.0.0 t.0.1 c.self.inside.gone, subst (λ h. WaitsBefore c.args.limit h) (sym t.0.0) (t.1 refl))
       | in-Err-OutOfMemory w ↦ λ e. not-short _ w.result-is e
     ]
 

@@ -155,8 +155,8 @@ told-back : {S K : Type 0} → IsOrder message_order → (counter : S → ℕ) (
 told-back O counter limit h new m a k (Ok Ran) other b = absurd (other refl)
 told-back O counter limit h new m a k (Ok Idle) other b = (a, all-late O limit m h.flow.queue k.1 b)
 told-back O counter limit h new m a k (Ok Late) other b = (a, (m, k.0, k.1, b.0, b.1))
-told-back O counter limit h new m a k (Err OutOfMemory) other b = a
-told-back O counter limit h new m a k (Err Exhausted) other b = (a, (m, k.0, k.1, (λ up. after-none O m (messages_of h.done) up b.1), b.2))
+told-back O counter limit h new m a k (Err OutOfMemory) other b = (a, λ e. (m, k.0, b.1))
+told-back O counter limit h new m a k (Err Exhausted) other b = ((a, (m, k.0, k.1, (λ up. after-none O m (messages_of h.done) up b.2), b.3)), λ e. (m, k.0, b.1))
 
 -- the result for it, as the group is seen
 becomes : (g : Over) (c : After-in_order_of-outcome g) →
@@ -167,7 +167,7 @@ becomes g c =
     c.in_order_of-outcome.ensures)
 
 pub returns-in_default-clause-told : goal.returns-in_default-clause-told
-returns-in_default-clause-told g c = roomy g (goal.at.returns-in_default-clause-told g c).After-make_room
+returns-in_default-clause-told g c = (roomy g (goal.at.returns-in_default-clause-told g c).After-make_room, λ e. absurd (let bad : OutOfMemory ≡ Exhausted = e in cc))
 
 pub returns-in_default-pop-clause-told : goal.returns-in_default-pop-clause-told
 returns-in_default-pop-clause-told g c =

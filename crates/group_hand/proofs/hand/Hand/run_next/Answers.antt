@@ -6,7 +6,7 @@ use Rattle.virtual_time.specs.Law.{IsAscending, IsOrder, Rules}
 use Rattle.reverse.specs.Plain.{Plain}
 use Rattle.reverse.specs.Rules.{is_before, rules_of}
 use Rattle.reverse.specs.declared.sends.Sends.{Sends}
-use Rattle.group_hand.specs.Answered.{HandlesOne, IsLateBefore, RefusesFirst, RunsInOrder, RunsNext}
+use Rattle.group_hand.specs.Answered.{HandlesOne, IsLateBefore, RefusesBefore, RefusesFirst, RunsInOrder, RunsNext}
 use Rattle.group_queues.specs.DoneEvents.{messages_of}
 use Rattle.group_hand.specs.Handling.{FirstLacksNumbers}
 use Rattle.group_hand.specs.Hands.{FirstWaits, Held, IsAsBefore}
@@ -20,9 +20,9 @@ use Rattle.group_hand.proofs.hand.Hand.run_next.Goals as goal
 
 -- a fault of the first call is passed on
 passed : {S K : Type 0} (r : Rules Message S K Note) (V : S → Message → Type 0) (counter : S → ℕ) (limit : ℕ) (old new : Held S K) (fault : HandFault) (told : Result Bool HandFault) →
-    IsErrAnd told (λ z. z ≡ fault) → RefusesFirst counter old new fault → RunsNext r V counter limit old new told
+    IsErrAnd told (λ z. z ≡ fault) → RefusesBefore counter limit old new fault → RunsNext r V counter limit old new told
 passed r V counter limit old new fault (Ok b) was t = absurd was
-passed r V counter limit old new fault (Err f) was t = subst (RefusesFirst counter old new) (sym was) t
+passed r V counter limit old new fault (Err f) was t = subst (RefusesBefore counter limit old new) (sym was) t
 
 -- so is one of the second, since the first changed nothing but room
 later : {S K : Type 0} (counter : S → ℕ) (old mid new : Held S K) → IsAsBefore old mid → (fault : HandFault) → RefusesFirst counter mid new fault → RefusesFirst counter old new fault
@@ -87,8 +87,10 @@ pub returns-in_err-run_out_of_order-in-Late-clause-told : goal.returns-in_err-ru
 returns-in_err-run_out_of_order-in-Late-clause-told g c =
     passed (rules_of g.R.Reversible.plain) g.R.Reversible.is_value (λ s. g.R.Reversible.plain.counter s) c.args.limit c.args.self.now c.run_out_of_order.new.self _
     c.from_residual-in_err-run_out_of_order-in-Late.result c.from_residual-in_err-run_out_of_order-in-Late.ensures.1
-    (later (λ s. g.R.Reversible.plain.counter s) c.args.self.now c.run_in_order.new.self c.run_out_of_order.new.self (late g (goal.at.returns-in_err-run_out_of_order-in-Late-clause-told g c).In-Late).0 _
-    c.in_err-run_out_of_order-in-Late.ensures.told)
+    (let k = late g (goal.at.returns-in_err-run_out_of_order-in-Late-clause-told g c).In-Late in (
+      later (λ s. g.R.Reversible.plain.counter s) c.args.self.now c.run_in_order.new.self c.run_out_of_order.new.self k.0 _ c.in_err-run_out_of_order-in-Late.ensures.told,
+      λ _. (k.1.0, k.1.1, k.1.3),
+    ))
 
 pub returns-in_ok-run_out_of_order-in-Late-clause-told : goal.returns-in_ok-run_out_of_order-in-Late-clause-told
 returns-in_ok-run_out_of_order-in-Late-clause-told g c =

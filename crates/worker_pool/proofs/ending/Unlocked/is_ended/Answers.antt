@@ -8,8 +8,11 @@ use Rattle.worker_pool.proofs.ending.Unlocked.is_ended.Goals as goal
 pub are_of_world-requires : goal.are_of_world-requires
 are_of_world-requires g c = c.until-until.ensures.value ∙ ap (λ (z : Plan). z.until) c.args.self.now.planned
 
-pub returns : goal.returns
-returns g c = λ yes.
+pub returns-clause-count : goal.returns-clause-count
+returns-clause-count g c = λ yes. c.are_of_world.ensures.count cc
+
+pub returns-clause-ended : goal.returns-clause-ended
+returns-clause-ended g c = λ yes.
     let plan = g.J.NetworkRun.plan in
     let steps = c.args.self.now.exchange.steps in
     let items = c.args.self.now.groups.items in

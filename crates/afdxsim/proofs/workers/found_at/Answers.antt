@@ -1,6 +1,6 @@
 use Rattle.std.proofs.Common.{◌∙◌, rules}
 use Rattle.commands.specs.MoreProgress.{one_behind_another}
-use Rattle.afdxsim.proofs.workers.found_in_groups.Goals as goal
+use Rattle.afdxsim.proofs.workers.found_at.Goals as goal
 
 pub returns-clause-heard : goal.returns-clause-heard
 returns-clause-heard g c =
