@@ -48,11 +48,13 @@ def percent_of(load: Number) -> str:
 
 
 def span(ns: int) -> str:
-    """A time with the unit that suits it."""
-    for size, unit in ((10**9, "s"), (10**6, "ms"), (10**3, "µs")):
-        if ns >= size:
-            return f"{ns // size:,}.{ns % size * (10**9 // size):09d}".rstrip("0").rstrip(".") + f" {unit}"
-    return f"{ns} ns"
+    """A time in microseconds, the one unit of a page, without zeros at its end."""
+    return f"{ns // 1000:,}.{ns % 1000:03d}".rstrip("0").rstrip(".") + " µs"
+
+
+def us_text(ns: int) -> str:
+    """The same for a terminal, whatever letters it has."""
+    return span(ns).replace("µs", "us")
 
 
 def counted(count: int, one: str, many: str | None = None) -> str:

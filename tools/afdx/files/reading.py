@@ -7,15 +7,20 @@ from afdx.files.faults import Fault, printable
 from afdx.files.identities import KNOWN
 
 
-def text_of(path: str) -> str:
-    """The text of a file."""
+def bytes_of(path: str) -> bytes:
+    """The bytes of a file."""
     watch.stage(f"reads {printable(path)}")
     try:
         with open(path, "rb") as file:
             KNOWN.note(KNOWN.read, path, os.fstat(file.fileno()))
-            found = file.read()
+            return file.read()
     except OSError as fault:
         raise Fault(path, None, f"cannot be read: {fault.strerror}") from None
+
+
+def text_of(path: str) -> str:
+    """The text of a file."""
+    found = bytes_of(path)
     try:
         return found.decode("utf-8")
     except UnicodeDecodeError as fault:

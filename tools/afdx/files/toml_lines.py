@@ -112,6 +112,10 @@ class Array(list):
     def lines(self) -> Any:
         return [self.line] * len(self) if self.own is None else list(self.own)
 
+    def line_of(self, place: int) -> int:
+        """The line of an item, counted from 0."""
+        return self.line if self.own is None else self.own[place]
+
     def put(self, value: Any, line: int) -> None:
         """Adds an item with its line."""
         if self.own is None and line != self.line:

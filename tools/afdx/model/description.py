@@ -56,10 +56,10 @@ class Description:
         line, found = lines[section], found[section]
         if type(found) is not toml_lines.Array or not row or row > len(found):
             return line
-        line, found = found.lines[row - 1], found[row - 1]
+        line, found = found.line_of(row - 1), found[row - 1]
         if type(found) is not toml_lines.Table or key not in found:
             return line
-        return found[key].lines[item - 1] if item else found.lines[key]
+        return found[key].line_of(item - 1) if item else found.lines[key]
 
     def fault(self, section: str, row: int | None, key: str | None, text: str) -> Fault:
         """A fault that names the place as the program does."""

@@ -19,7 +19,7 @@ NAMES = {
     8: "NotATree",
     9: "TooMany",
 }
-A_ROW = {"node": "a node", "link": "a link", "outage": "an outage", "vl": "a virtual link"}
+A_ROW = {"node": "a node", "link": "a link", "outage": "an outage", "vl": "a virtual link", "stream": "a stream"}
 
 # Stands for the value of a line that is no TOML. It is not judged.
 UNREAD = object()

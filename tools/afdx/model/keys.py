@@ -12,6 +12,8 @@ LEAST_FRAME, GREATEST_FRAME = 64, 1518
 BAGS_MS = (1, 2, 4, 8, 16, 32, 64, 128)
 MOST_PROCESSES, MOST_PORTS, MOST_OUTAGES, MOST_DESTINATIONS = 4096, 24, 1024, 64
 MOST_NODES_OF_A_PATH = 32
+# How many rows of `stream` there may be, and how many frames a burst has at most.
+MOST_STREAMS, MOST_FRAMES = 65_536, 64
 
 
 class Key(NamedTuple):
@@ -57,6 +59,22 @@ def paths_key(name: str, says: str) -> Key:
 
 
 COUNTED = "from the destination address to the check sequence"
+# The keys of a stream: each row of `vl` has one, and each row of `stream` is a further one.
+STREAM_KEYS = [
+    number_key("size", LEAST_FRAME, GREATEST_FRAME, f"Size of the frames that the application offers, in bytes, {COUNTED}."),
+    number_key("frames", 1, MOST_FRAMES, "How many frames are offered at one moment: a message that is longer than a frame, or several.", "none", 1),
+    number_key("last_size", LEAST_FRAME, GREATEST_FRAME, "Size of the last of these frames, in bytes; absent: as size.", "none"),
+    number_key("offset_ns", 0, LATEST_NS, "Moment of the first offer, before jitter, in ns."),
+    number_key("period_ns", 1000, LATEST_NS, "From one offer to the next, before jitter, in ns."),
+    number_key("jitter_ns", 0, SECOND_NS, "How late an offer may be at most, in ns; it is drawn for each offer."),
+    choice_key(
+        "timing", ("periodic", "sporadic"),
+        'Whether what is drawn makes one offer late ("periodic") or all later ones too ("sporadic": period_ns is the least distance).',
+        "none", "periodic",
+    ),
+    number_key("end_ns", 0, LATEST_NS, "No frame is offered later than this moment, in ns; absent: until the end of the run.", "none"),
+    number_key("sub_vl", 0, 3, "The sub-virtual link of all its frames, from 0; absent: offers go to all of them in turn.", "none"),
+]
 # The keys of each section, in the order of checks. Moments and times are whole ns.
 KEYS = {
     "top": [
@@ -106,13 +124,7 @@ KEYS = {
         number_key(
             "sub", 1, 4, "How many sub-virtual links take turns at the source; the offers go to them in turn.", "none", 1
         ),
-        number_key(
-            "size", LEAST_FRAME, GREATEST_FRAME,
-            f"Size of the frames that the application offers, in bytes, {COUNTED}.",
-        ),
-        number_key("offset_ns", 0, LATEST_NS, "Moment of the first offer, before jitter, in ns."),
-        number_key("period_ns", 1000, LATEST_NS, "From one offer to the next, before jitter, in ns."),
-        number_key("jitter_ns", 0, SECOND_NS, "How late an offer may be at most, in ns; it is drawn for each offer."),
+        *STREAM_KEYS,
         paths_key(
             "a",
             "Paths on network A: one list of names for each destination, from the source by switches to the destination. "
@@ -120,5 +132,6 @@ KEYS = {
         ),
         paths_key("b", "Paths on network B."),
     ],
+    "stream": [number_key("vl", 0, 65535, "Number of the virtual link to whose source it is offered."), *STREAM_KEYS],
 }
-SECTIONS = ["node", "link", "outage", "vl"]
+SECTIONS = ["node", "link", "outage", "vl", "stream"]

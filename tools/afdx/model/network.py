@@ -7,8 +7,9 @@ from fractions import Fraction
 from typing import Any, NoReturn
 
 from afdx.files import toml_lines
-from afdx.model import drawn_offers
+from afdx.model import drawn_offers, offered_rates
 from afdx.model.description import Description
+from afdx.model.drawn_offers import Offer, Stream
 from afdx.model.keys import KEYS, Key
 from afdx.model.network_parts import NETWORKS, Destinations, Link, Node, Outage, Places, VirtualLink
 
@@ -43,11 +44,14 @@ class Network:
         # Each line by its two nodes, so that its name is kept once.
         both_ways = [ends for link in self.links for ends in ((link.a, link.b), (link.b, link.a))]
         self.line_of: dict[tuple[str, str], str] = dict(zip(both_ways, self.mbit))
+        further = self.further_streams()
         self.vls: dict[int, VirtualLink] = {}
         for i, row in enumerate(self.rows("vl"), 1):
             if row["id"] in self.vls:
                 self.refuse("vl", i, "id", f"{row['id']} was there before")
-            self.vls[row["id"]] = self.virtual_link(i, row)
+            self.vls[row["id"]] = self.virtual_link(i, row, further.pop(row["id"], []))
+        for of, streams in further.items():
+            self.refuse("stream", streams[0].row, "vl", f"is {of}, which is no virtual link")
         self.destinations = Destinations(self.vls)
         self.load, self.users = self.loads()
 
@@ -110,7 +114,15 @@ class Network:
             self.refuse("outage", i, "to_ns", "is not after from_ns")
         return Outage(line, row["from_ns"], row["to_ns"])
 
-    def virtual_link(self, i: int, row: dict[str, Any]) -> VirtualLink:
+    def further_streams(self) -> dict[int, list[Stream]]:
+        """The streams of the rows of `stream` by the numbers of their virtual links."""
+        found: dict[int, list[Stream]] = {}
+        for i, row in enumerate(self.rows("stream"), 1):
+            self.check_numbers("stream", i, row)
+            found.setdefault(row["vl"], []).append(drawn_offers.stream_of("stream", i, row))
+        return found
+
+    def virtual_link(self, i: int, row: dict[str, Any], further: list[Stream]) -> VirtualLink:
         destinations: dict[str, frozenset[str]] = {}
         passed: dict[str, None] = {}
         for key in "ab":
@@ -125,38 +137,39 @@ class Network:
                 destinations[way[-1]] = NETWORKS[destinations.get(way[-1], frozenset()) | {key}]
         if not destinations:
             self.refuse("vl", i, "a", "has no path")
-        self.check_numbers(i, row)
+        self.check_numbers("vl", i, row)
+        streams = (drawn_offers.stream_of("vl", i, row), *further)
         source, paths, lines = (row["a"] or row["b"])[0][0], {"A": row["a"], "B": row["b"]}, list(passed)
         return VirtualLink(
             row["id"], i, row["bag_ms"] * 10**6, row["smax"], row["priority"], row["policing_jitter_ns"],
-            row["policing"], row["skew_max_ns"], row["depth"], row["sub"], row["size"], row["offset_ns"],
-            row["period_ns"], row["jitter_ns"], source, paths, destinations, lines, Places(paths, lines),
+            row["policing"], row["skew_max_ns"], row["depth"], row["sub"], source, paths, destinations, lines,
+            Places(paths, lines), streams, tuple(sorted({size for it in streams for size in it.sizes()})),
         )
 
-    def check_numbers(self, i: int, row: dict[str, Any]) -> None:
+    def check_numbers(self, section: str, i: int, row: dict[str, Any]) -> None:
         """What would make a number of a page, a bound or a draw meaningless."""
-        for key in KEYS["vl"]:
-            if key.value_type == "integer":
+        for key in KEYS[section]:
+            if key.value_type == "integer" and row[key.name] is not None:
                 least = min(map(int, key.choices)) if key.choices else min(key.limits()[0], 1)
                 if row[key.name] < least:
-                    self.refuse("vl", i, key.name, f"is less than {least}")
+                    self.refuse(section, i, key.name, f"is less than {least}")
 
     def loads(self) -> tuple[dict[str, Fraction], Counter[str]]:
-        """For each line its load in percent, and how many virtual links go over it. Each virtual link sends a frame in
-        each BAG, or in each period where that is longer."""
+        """For each line its load in percent, and how many virtual links go over it."""
         load = {line: Fraction(0) for line in self.mbit}
         users: Counter[str] = Counter()
         for vl in self.vls.values():
-            bits_by_us = Fraction((vl.size + BYTES_BETWEEN_FRAMES) * 8 * 1000, max(vl.bag_ns, vl.period_ns))
+            bits_by_us = offered_rates.bytes_by_ns(vl, BYTES_BETWEEN_FRAMES) * 8000
             for line in vl.lines:
                 load[line] += bits_by_us * 100 / self.mbit[line]
                 users[line] += 1
         return load, users
 
-    def offers(self, vl: VirtualLink, seed: int | None = None) -> list[int]:
-        """The moments in which frames of a virtual link are offered, until the end, in the order of their numbers."""
+    def offers(self, vl: VirtualLink, seed: int | None = None) -> list[Offer]:
+        """What is offered to the source of a virtual link until the end, in the order in which it comes there."""
         seed = self.seed if seed is None else seed
-        return [it for _, it in drawn_offers.offers(seed, vl.id, vl.offset_ns, vl.period_ns, vl.jitter_ns, self.until_ns)]
+        found = [(it.moment, stream.number, it) for stream in vl.streams for it in drawn_offers.offers(seed, stream, vl.sub, self.until_ns)]
+        return [it for _, _, it in sorted(found)]
 
     def of_kind(self, kind: str, net: str | None = None) -> list[str]:
         return [node.name for node in self.nodes.values() if node.kind == kind and node.net == net]

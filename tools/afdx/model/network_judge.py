@@ -5,7 +5,7 @@ from typing import Any
 from afdx.files.toml_lines import Table
 from afdx.model.description import Description
 from afdx.model.findings import is_name, meant, shown
-from afdx.model.keys import KEYS, MOST_DESTINATIONS, MOST_OUTAGES, MOST_PORTS, MOST_PROCESSES
+from afdx.model.keys import KEYS, MOST_DESTINATIONS, MOST_OUTAGES, MOST_PORTS, MOST_PROCESSES, MOST_STREAMS
 from afdx.model.row_judge import RowJudge
 
 # What the paths of a virtual link on one network have to be.
@@ -30,6 +30,7 @@ class Judge(RowJudge):
         self.outages()
         for i, row in self.tables["vl"]:
             self.virtual_link(i, row)
+        self.streams()
         self.too_many()
 
     def nodes(self) -> None:
@@ -197,10 +198,23 @@ class Judge(RowJudge):
                 if other != here and where != number:
                     self.broken(i, key, number, 6, f"{there} comes behind {here}, and behind {other} in path {where}")
 
+    # ---- streams ----
+
+    def streams(self) -> None:
+        """Streams of virtual links that there are not. If a row of `vl` has no number, it is not known which there are."""
+        numbers = [row.get("id") for _, row in self.tables["vl"]]
+        if len(numbers) < self.sizes["vl"] or any(type(number) is not int for number in numbers):
+            return
+        least, greatest = KEYS["stream"][0].limits()
+        for i, row in self.tables["stream"]:
+            number = row.get("vl")
+            if type(number) is int and least <= number <= greatest and number not in self.ids:
+                self.add(5, "stream", i, "vl", f"is {number}, and no virtual link has this number{meant(str(number), map(str, self.ids))}")
+
     # ---- 9: too many ----
 
     def too_many(self) -> None:
-        nodes, links, outages = (self.sizes[section] for section in ("node", "link", "outage"))
+        nodes, links, outages, streams = (self.sizes[section] for section in ("node", "link", "outage", "stream"))
         if nodes + 2 * links > MOST_PROCESSES:
             text = f"has {nodes} nodes and {links} links, which are {nodes + 2 * links} processes, two for each link; "
             self.add(9, "top", None, None, text + f"there may be {MOST_PROCESSES}: make the network smaller")
@@ -211,3 +225,6 @@ class Judge(RowJudge):
         if outages > MOST_OUTAGES:
             text = f"there are {outages} outages, and may be {MOST_OUTAGES}: take out the others"
             self.add(9, "outage", MOST_OUTAGES + 1, None, text)
+        if streams > MOST_STREAMS:
+            text = f"there are {streams} streams, and may be {MOST_STREAMS}: take out the others"
+            self.add(9, "stream", MOST_STREAMS + 1, None, text)

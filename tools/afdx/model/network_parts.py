@@ -2,8 +2,10 @@
 from __future__ import annotations
 
 import collections.abc
-from collections.abc import Iterable, Iterator, Sequence
+from collections.abc import Iterable, Iterator, Mapping, Sequence
 from typing import Any, NamedTuple
+
+from afdx.model.drawn_offers import Stream
 
 
 class Node(NamedTuple):
@@ -36,7 +38,8 @@ class Outage(NamedTuple):
 class VirtualLink(NamedTuple):
     """A virtual link: `row` is its row in the description; `policing_ns` the jitter that its accounts allow; `paths` has
     the paths of each network (A, B) as lists of names; `destinations` for each destination the networks (a, b) by which it
-    comes; `lines` the lines that it goes over, each once; `places` answers whether it may be at a node or line."""
+    comes; `lines` the lines that it goes over, each once; `places` answers whether it may be at a node or line; `streams` what is
+    offered to its source, its own stream first, and `sizes` the sizes of these frames, rising."""
 
     id: int
     row: int
@@ -48,15 +51,26 @@ class VirtualLink(NamedTuple):
     skew_ns: int
     depth: int
     sub: int
-    size: int
-    offset_ns: int
-    period_ns: int
-    jitter_ns: int
     source: str
     paths: dict[str, list[list[str]]]
     destinations: dict[str, frozenset[str]]
     lines: list[str]
     places: Places
+    streams: tuple[Stream, ...]
+    sizes: tuple[int, ...]
+
+    @property
+    def own(self) -> Stream:
+        """The stream of its own row."""
+        return self.streams[0]
+
+    def is_plain(self) -> bool:
+        """Whether one application offers one frame each period, as long as the run lasts, with jitter."""
+        return len(self.streams) == 1 and self.own.is_plain()
+
+    def with_offsets(self, offsets: Mapping[int, int]) -> VirtualLink:
+        """The same with other offsets of some streams, by their numbers."""
+        return self._replace(streams=tuple(it._replace(offset_ns=offsets.get(it.number, it.offset_ns)) for it in self.streams))
 
 
 def lines_of_path(path: Sequence[str]) -> list[str]:

@@ -45,8 +45,10 @@ class RowJudge:
         if section == "node":
             kind = {"es": "end system ", "switch": "switch "}.get(get("kind") if is_name(get("kind")) else "", "node ")
             named = kind + get("name") if is_name(get("name")) else ""
-        elif section == "vl":
-            named = f"virtual link {get('id')}" if type(get("id")) is int else ""
+        elif section in ("vl", "stream"):
+            key_of_number = "id" if section == "vl" else "vl"
+            of = "" if section == "vl" else "stream of "
+            named = f"{of}virtual link {get(key_of_number)}" if type(get(key_of_number)) is int else ""
         else:
             ends = [get(end) for end in (("a", "b") if section == "link" else ("from", "to"))]
             mark = "-" if section == "link" else ">"

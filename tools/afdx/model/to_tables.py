@@ -1,12 +1,15 @@
 """The tables of a description, from which afdx table makes the same description again. What a table has beside the
-keys, as limits, ports and remarks, stands in comments behind the head of each row; it has columns again."""
+keys, as limits, ports and remarks, stands in comments behind the head of each row; it has columns again.
+
+A further stream is a further line of its virtual link, whose own cells it repeats: the column `stream` has the number of its row of
+`stream`, from 1, and is empty in the lines of the virtual link itself."""
 import csv
 import io
 import re
 from collections.abc import Callable, Collection, Iterable, Iterator
 from typing import Any
 
-from afdx.model import KEYS, SECTIONS, Key, judge
+from afdx.model import KEYS, SECTIONS, STREAM_KEYS, Key, description_faults
 
 # How the text of a comment ends that is of some destinations alone.
 AT = re.compile("(.+) at (.+)")
@@ -57,13 +60,13 @@ class Back:
     states what a heading means."""
 
     def __init__(self, path: str, commented: Callable[[str], Collection[str]], said: re.Pattern[str]) -> None:
-        self.description = judge.accepted(path)
+        self.description = description_faults.accepted(path)
         self.commented = commented
         self.lines = self.description.text.split("\n")
         self.said = [(line, *found[1].rpartition("=")[::2]) for line in self.lines if (found := said.fullmatch(line.rstrip()))]
 
     def text(self) -> str:
-        blocks = [block for section in ("top", *SECTIONS) if (block := self.block(section))]
+        blocks = [block for section in ("top", *SECTIONS) if section != "stream" and (block := self.block(section))]
         used = {name for block in blocks for name in block[0]}
         said = [line for line, name, _ in self.said if name in used]
         return "".join(line + "\n" for line in said) + "\n".join(map(table, blocks))
@@ -72,11 +75,17 @@ class Back:
         """The lines of a section, the first with the names of the columns; none where it has no row."""
         tree = self.description.tree
         rows = [tree] if section == "top" else tree.get(section, [])
-        keys = [key for key in KEYS[section] if any(key.name in row for row in rows)]
-        lines = [line for i, row in enumerate(rows, 1) for line in self.row(section, i, row, keys)]
+        streams = self.streams() if section == "vl" else {}
+        further = [row for ones in streams.values() for _, row in ones]
+        keys = [key for key in KEYS[section] if any(key.name in row for row in [*rows, *further])]
+        lines: list[dict[str, str]] = []
+        for i, row in enumerate(rows, 1):
+            lines += self.row(section, i, row, keys)
+            lines += (self.stream(row, *it, keys) for it in streams.get(row["id"], ())) if streams else ()
         own = [key.name for key in keys]
         more = [name for name in self.commented(section) if any(name in line for line in lines)]
-        columns = own[:1] + (["source", "destinations"] if section == "vl" else []) + own[1:] + more
+        beside = ["source", "destinations"] + ["stream"] * bool(streams) if section == "vl" else []
+        columns = own[:1] + beside + own[1:] + more
         heads = {column: name for _, name, column in self.said}
         return [[heads.get(name, name) for name in columns]] + [[line.get(name, "") for name in columns] for line in lines] if lines else []
 
@@ -90,6 +99,22 @@ class Back:
         paths = [*row["a"], *row["b"]]
         of = of_destinations(found, list(dict.fromkeys(way[-1] for way in paths)))
         return [cells | {"source": paths[0][0], "destinations": " ".join(names)} | more for names, more in lines_of_comments(of)]
+
+
+    def streams(self) -> dict[int, list[tuple[int, dict[str, Any]]]]:
+        """The rows of `stream` by the numbers of their virtual links: each with its number, from 1."""
+        found: dict[int, list[tuple[int, dict[str, Any]]]] = {}
+        for i, row in enumerate(self.description.rows("stream"), 1):
+            found.setdefault(row["vl"], []).append((i, row))
+        return found
+
+    def stream(self, vl: dict[str, Any], i: int, row: dict[str, Any], keys: list[Key]) -> dict[str, str]:
+        """The line of a further stream of a virtual link."""
+        of_streams = {key.name for key in STREAM_KEYS}
+        cells = {key.name: cell_of(key, it[key.name]) for key in keys for it in (row if key.name in of_streams else vl,) if key.name in it}
+        paths = [*vl["a"], *vl["b"]]
+        cells |= {"source": paths[0][0], "destinations": " ".join(dict.fromkeys(way[-1] for way in paths)), "stream": str(i)}
+        return cells | dict(comments_behind(self.lines, self.description.line("stream", i), self.commented("vl")))
 
 
 def table(lines: list[list[str]]) -> str:

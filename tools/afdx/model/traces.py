@@ -22,18 +22,20 @@ FAR = 2**16
 
 class Came:
     """The frames of a virtual link that came to a destination: how long they took, and how often each came, by the moment of its
-    offer. If offers are a period apart whatever the jitter, a moment gives the number of the frame."""
+    offer. If one is offered each period, whatever the jitter, a moment gives the number of the frame. Else several may have one moment,
+    and `latest` has when the last of them came, by their moments."""
 
-    __slots__ = ("latencies", "offset", "period", "has_numbers", "marks", "squares", "others")
+    __slots__ = ("latencies", "offset", "period", "has_numbers", "marks", "squares", "others", "latest")
 
     def __init__(self, vl: VirtualLink) -> None:
         self.latencies = array("I")
-        self.offset, self.period = vl.offset_ns, vl.period_ns
-        self.has_numbers = vl.jitter_ns < vl.period_ns
+        self.offset, self.period = vl.own.offset_ns, vl.own.period_ns
+        self.has_numbers = vl.is_plain() and vl.own.jitter_ns < vl.own.period_ns
         # A byte for each number; and a checksum of the moments themselves, which are compared with it at the end.
         self.marks, self.squares = bytearray(), 0
         # How often others came, by their moments.
         self.others: Counter[int] | None = None
+        self.latest: dict[int, int] = {}
 
     def add(self, _: int, moment: int, latency: int) -> None:
         try:
@@ -41,12 +43,13 @@ class Came:
         except OverflowError:
             self.latencies = array("Q", self.latencies)
             self.latencies.append(latency)
-        moment -= latency
+        came, moment = moment, moment - latency
         number, marks = (moment - self.offset) // self.period, self.marks
         count = len(marks)
         if not self.has_numbers or not 0 <= number < count + FAR or number < count and marks[number] == 255:
             self.others = Counter() if self.others is None else self.others
             self.others[moment] += 1
+            self.latest[moment] = came
             return
         self.squares += moment * moment
         if number < count:
@@ -56,43 +59,57 @@ class Came:
             marks.extend(bytes(number - count))
         marks.append(1)
 
-    def frames(self) -> tuple[bytearray, int, Counter[int] | None]:
+    def frames(self) -> tuple[bytearray, int, Counter[int] | None, dict[int, int]]:
         """Which frames came and how often, as a key: the same for the same frames."""
-        return self.marks, self.squares, self.others
+        return self.marks, self.squares, self.others, self.latest
 
-    def among(self, moments: list[int]) -> tuple[int, int] | None:
-        """Of frames with these moments, in the order of their release: how many came, and the place of the last of them, or -1.
-        None where others came too."""
-        came, last, squares, marked = 0, -1, 0, 0
+    def among(self, released: Sequence[tuple[int, int]], soonest: int, may_be_twice: bool = False) -> tuple[int, int, int, int] | None:
+        """Of frames with these moments of offer and release, in the order of their release: how many came, at the least and at the
+        most, and the place of the last of them, or -1, at the least and at the most. Of several that were offered at one moment it is
+        not known which came; nor, if a frame may be delivered twice, how many. A frame takes `soonest` ns at the least. None where
+        others came too."""
+        least, most, first, last, squares, marked = 0, 0, -1, -1, 0, 0
         marks, count, offset, period, others = self.marks, len(self.marks), self.offset, self.period, Counter(self.others or ())
-        for i, moment in enumerate(moments):
+        of_moment = Counter(moment for moment, _ in released) if may_be_twice and others else Counter()
+        sure = {moment: -(-times // 2) if of_moment[moment] > 1 else times for moment, times in others.items()}
+        for i, (moment, release) in enumerate(released):
             number = (moment - offset) // period
-            times = marks[number] if number < count else 0
+            times = marks[number] if 0 <= number < count else 0
             if times:
                 marked, squares = marked + times, squares + times * moment * moment
+                least, most, first, last = least + 1, most + 1, i, i
             elif others and others[moment]:
                 others[moment] -= 1
-            else:
-                continue
-            came, last = came + 1, i
-        is_other = self.others and not self.others.keys() <= set(moments)
-        return None if squares != self.squares or marked != sum(marks) or is_other else (came, last)
+                most, last = most + 1, i
+                if sure[moment]:
+                    sure[moment] -= 1
+                    least, first = least + 1, i
+            elif moment in self.latest and release + soonest <= self.latest[moment]:
+                last = i
+        is_other = self.others and not self.others.keys() <= {moment for moment, _ in released}
+        return None if squares != self.squares or marked != sum(marks) or is_other else (least, most, first, last)
+
+    def by_moment(self) -> Counter[int]:
+        """How many frames came by the moment at which they were offered, of a virtual link that has bursts."""
+        return self.others or Counter()
 
 
 class Lost:
     """The frames of a virtual link that were lost at a place for a cause: how many, when, and how many in each step of the run."""
 
-    __slots__ = ("trace", "vl", "count", "moments", "over_time", "end")
+    __slots__ = ("trace", "vl", "count", "moments", "over_time", "end", "sizes")
 
     def __init__(self, trace: Trace, vl: VirtualLink, cause: str) -> None:
         self.trace, self.vl, self.count, self.end = trace, vl, 0, trace.net.until_ns + 1
         # When is needed only of what was lost on the way.
         self.moments = None if cause in ("queue_full", "duplicate") else array("Q")
         self.over_time = trace.over_time[cause]
+        self.sizes = vl.sizes
 
     def add(self, i: int, moment: int, size: int) -> None:
-        if size != self.vl.size:
-            text = f"a frame of virtual link {self.vl.id} has {size} bytes, and in {self.trace.net.path} it has {self.vl.size}"
+        if size not in self.sizes:
+            sizes = " or ".join(map(str, self.sizes[-4:]))
+            text = f"a frame of virtual link {self.vl.id} has {size} bytes, and in {self.trace.net.path} it has {sizes}"
             raise Fault(self.trace.path, i, text)
         self.count += 1
         self.over_time[moment * MOMENTS // self.end] += 1

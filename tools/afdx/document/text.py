@@ -1,14 +1,30 @@
 """The description that tables make, with comments that name the line and the table of each row; and its faults as those of the tables."""
 import re
 from collections.abc import Iterable
-from typing import Any
+from typing import Any, NamedTuple
 
+from afdx.document.joined import lines_of
+from afdx.document.lines import Line, commented
+from afdx.document.places import Said, Skip
+from afdx.document.receipt import Receipt
+from afdx.document.row_values import Value, one_line
+from afdx.document.rows import Maker
+from afdx.document.tables import Tables
+from afdx.document.together import together
 from afdx.files import Fault, sheets
-from afdx.model import judge, to_tables
+from afdx.model import description_faults, to_tables
 from afdx.model.description import Description, written
-from afdx.model.icd_lines import Line, Tables, commented, together
-from afdx.model.icd_rows import Maker, Value, one_line
+from afdx.model.headings import key_of
 from afdx.model.keys import COUNTED, KEYS, SECTIONS
+
+
+class Made(NamedTuple):
+    """The description of tables, their faults, what is passed over, and the receipt."""
+
+    text: str
+    faults: list[Fault]
+    notes: list[Fault]
+    receipt: Receipt
 
 
 def line_of_value(key: str, value: Value) -> str:
@@ -17,9 +33,11 @@ def line_of_value(key: str, value: Value) -> str:
 
 
 def lines_said(line: Line) -> str:
-    """The number of a line, or those of the lines that it is made of."""
-    numbers = [str(part.number) for part in line.parts or [line]]
-    return f"line{'s' if len(numbers) > 1 else ''} {', '.join(numbers)}"
+    """The lines of the tables that a line is made of."""
+    found = []
+    for path, numbers in lines_of(line):
+        found.append(f"{one_line(path)} line{'s' if len(numbers) > 1 else ''} {', '.join(map(str, numbers))}")
+    return "; ".join(found)
 
 
 def comments_of(section: str, line: Line) -> list[str]:
@@ -27,7 +45,7 @@ def comments_of(section: str, line: Line) -> list[str]:
     destinations."""
     parts, said = line.parts or [line], []
     # An end system without a line of its own is made of another row's.
-    is_own = section != "node" or "name" in line.cells
+    is_own = section != "node" or "name" in line.cells and line.section == "node"
     for column in commented(section) if is_own else ():
         cells = [one_line(part.cells.get(column, "")) for part in parts]
         for cell in dict.fromkeys(filter(None, cells)):
@@ -41,35 +59,41 @@ def comments_of(section: str, line: Line) -> list[str]:
 
 def text_of_rows(maker: Maker, paths: list[str]) -> str:
     """The description, and for each of its rows the line of the table."""
+    names = maker.tables.names.documents
     lines = [
         f"# Made of {one_line(', '.join(paths))} by afdx table.",
         "#",
         "# Behind a value stands where it is from, unless the table has it itself: `usual` where the table says nothing.",
         f"# smax and size count a frame {COUNTED}: the payload of UDP and 47 bytes.",
         "# Paths are the shortest ones; where two are equally short, names decide.",
-        *(f'# --column "{name}={column}"' for name, column in maker.tables.columns.items()),
+        *(f'# --column "{one_line(said.text())}"' for said in maker.tables.columns.said),
+        *(f'# --skip "{one_line(skip.text)}"' for skip in maker.tables.skips),
     ]
     lines += [line_of_value(key.name, maker.top[key.name]) for key in KEYS["top"] if key.name in maker.top]
     for section in SECTIONS:
         for row, made_of in zip(maker.rows[section], maker.made_of[section]):
-            lines += ["", f"[[{section}]] # {one_line(made_of.path)} {lines_said(made_of)}"]
-            lines += (f"# {text}" for text in comments_of(section, made_of))
+            lines += ["", f"[[{section}]] # {lines_said(made_of)}"]
+            said = comments_of(section, made_of)
+            own = names.get(row["name"].value, "") if section == "node" and "name" in row else ""
+            if own and own != row["name"].value and not any(text.startswith("document_name ") for text in said):
+                said.insert(0, f"document_name {one_line(own)}")
+            lines += (f"# {text}" for text in said)
             lines += [line_of_value(key.name, row[key.name]) for key in KEYS[section] if key.name in row]
     return "\n".join(lines) + "\n"
 
 
-def made(paths: list[str], columns: Iterable[tuple[str, str]] = ()) -> tuple[str, list[Fault], list[Fault]]:
-    """The description of tables, their faults, and what is passed over."""
-    tables = Tables(paths, columns)
+def made(paths: list[str], columns: Iterable[Said] = (), skips: Iterable[Skip] = ()) -> Made:
+    """The description of tables, their faults, what is passed over, and the receipt."""
+    tables = Tables(paths, columns, skips)
     maker = Maker(tables)
     text = text_of_rows(maker, paths)
     if not tables.faults:
-        for finding in judge.judged(Made(text, maker)):
+        for finding in description_faults.judged(OfTables(text, maker)):
             tables.faults.append(fault_of(finding, maker, paths))
-    return text, together(tables.faults), together(tables.notes)
+    return Made(text, together(tables.faults), together(tables.notes), Receipt(maker))
 
 
-class Made(Description):
+class OfTables(Description):
     """A description whose places are those of the tables that it is made of."""
 
     def __init__(self, text: str, maker: Maker) -> None:
@@ -77,16 +101,25 @@ class Made(Description):
         self.maker = maker
 
     def line(self, section: str, row: int | None = None, key: str | None = None, item: int | None = None) -> Any:
-        lines = self.maker.made_of[section]
-        return lines[(row or 1) - 1].number if (row or 1) <= len(lines) else 0
+        found = origin(self.maker, section, row, key)
+        return found.number if found else 0
 
 
-def fault_of(finding: judge.Finding, maker: Maker, paths: list[str]) -> Fault:
+def origin(maker: Maker, section: str, row: int | None, key: str | None) -> Line | None:
+    """The line of a table that has a value of a row."""
+    lines = maker.made_of[section]
+    if (row or 1) > len(lines):
+        return None
+    line = lines[(row or 1) - 1]
+    column = next((it for it in line.origin if key_of(it, section) == key), None)
+    return line.by(column) if column else line
+
+
+def fault_of(finding: description_faults.Finding, maker: Maker, paths: list[str]) -> Fault:
     """A fault of the description as one of a table."""
     assert finding.place is not None
-    section, row, _ = finding.place
-    lines = maker.made_of[section]
-    path = lines[(row or 1) - 1].path if (row or 1) <= len(lines) else paths[0]
+    section, row, key = finding.place
+    line = origin(maker, section, row, key)
     who = re.sub(r" ?\(?\w+ row \d+\)?", "", finding.who).strip(", ")
     joint = " " if finding.text.startswith(("is ", "has ")) else ": "
-    return Fault(path, finding.line, f"{who}{joint}{finding.text}" if who else finding.text)
+    return Fault(line.path if line else paths[0], finding.line, f"{who}{joint}{finding.text}" if who else finding.text)

@@ -1,8 +1,8 @@
 """What is wrong with a description: all faults, in the order in which `afdxsim` tries them, each with its line, the value, and
 what is allowed. The fault that `afdxsim` answers is the first one.
 
-    found, description = judge.findings_of(path, text)
-    description = judge.accepted(path)      # Fault where it is not accepted
+    found, description = description_faults.findings_of(path, text)
+    description = description_faults.accepted(path)      # Fault where it is not accepted
 """
 import re
 from typing import Any
@@ -92,18 +92,22 @@ def first_fault(path: str, text: str) -> Finding | None:
     return next(iter(findings_of(path, text)[0]), None)
 
 
-def accepted(path: str) -> model.Description:
-    """The description of a file, or a fault that names the first of those that it has."""
-    text = model.text_of(path)
+def accepted(path: str, text: str | None = None) -> model.Description:
+    """The description of a file, whose text may be given, or a fault that names the first of those that it has."""
+    text = model.text_of(path) if text is None else text
     found, description = findings_of(path, text)
     if found or description is None:
         raise Fault(path, found[0].line, f"is refused: {answer(found[0])}; {found[0].text}")
     return description
 
 
+def said_of(finding: Finding) -> str:
+    """Which row it is, and what is wrong with it."""
+    joint = "" if not finding.who else " " if finding.text.startswith(("is ", "has ")) else ": "
+    return f"{finding.who}{joint}{finding.text}"
+
+
 def line_of(path: str, finding: Finding) -> str:
     """A finding in one line, without what the program answers."""
     begin = "warning: " if finding.number == 0 else "no TOML: " if finding.number == 1 else ""
-    who = f"{finding.who}" if finding.who else ""
-    joint = "" if not who else " " if finding.text.startswith(("is ", "has ")) else ": "
-    return f"{path}:{finding.line}: {begin}{who}{joint}{finding.text}"
+    return f"{path}:{finding.line}: {begin}{said_of(finding)}"
