@@ -9,8 +9,9 @@ output, one line for each network and command:
   network    small     16 end systems, 2 x 2 switches, 60 virtual links, 1 simulated second
              aircraft  120 end systems, 2 x 8 switches, 1,000 virtual links, 1 simulated second
              limit     760 end systems, 2 x 38 switches (4,096 processes), 65,536 virtual links, 0.1 simulated seconds
-  command    check, seq, or run with a number of workers, if --workers names some; the whole run of the program counts,
-             with its start and the reading of the description
+  command    check, seq, or run with a number of workers, if --workers names some: run has that many, or as many as groups
+             of processes if these are fewer; the whole run of the program counts, with its start and the reading of the
+             description
   events     messages handled by seq, counted once by afdx second-opinion --events. Empty if afdx large-network was changed,
              so that its text is no longer the one that was counted
   rows       frames delivered and frames dropped, with duplicates, by the tables of seq. It is the number of lines that a
@@ -93,14 +94,14 @@ def rows_of(tables: str) -> int:
         return sum(int(line.split(",")[4]) for line in lines)
 
 
-def measure(program: str, size: str, folder: str, reps: int, workers: list[str]) -> Iterator[list[str]]:
+def measure(path: str, size: str, folder: str, reps: int, workers: list[str]) -> Iterator[list[str]]:
     """The lines of the table for one network."""
     net = os.path.join(folder, size + ".toml")
     write_description(size, net)
     counted = events_of(size, net)
     commands = [[name, net] for name in COMMANDS] + [["run", net, "--workers", str(number)] for number in workers]
     outputs = [os.path.join(folder, f"output-{at}") for at in range(len(commands))]
-    rounds = [[Run([program, *words], output) for words, output in zip(commands, outputs)] for _ in range(reps)]
+    rounds = [[Run([path, *words], output) for words, output in zip(commands, outputs)] for _ in range(reps)]
     for command, output, runs in zip(commands, outputs, zip(*rounds)):
         median = statistics.median(run.seconds for run in runs)
         name = " ".join([command[0], *command[3:]])
@@ -125,6 +126,14 @@ def print_line(cells: list[str]) -> None:
     files.say(" ".join(left + right))
 
 
+def judge(name: str, path: str) -> None:
+    """Refuses what is no program that can be measured."""
+    try:
+        program.given(path)
+    except program.NoProgram:
+        raise files.Fault(name, None, "cannot be run, or is no afdxsim: name the built program") from None
+
+
 @files.tool("afdx benchmark")
 def main(arguments: list[str] | None = None) -> None:
     parser = argparse.ArgumentParser(prog="afdx benchmark", description=__doc__, formatter_class=argparse.RawDescriptionHelpFormatter)
@@ -142,13 +151,12 @@ def main(arguments: list[str] | None = None) -> None:
         parser.error("workers are 1 to 64, with commas between")
     if words.reps < 1:
         parser.error("at least one repetition is needed")
-    program = os.path.abspath(words.program)
-    if not os.access(program, os.X_OK):
-        parser.error(f"{words.program} is no program")
+    path = os.path.abspath(words.program)
+    judge(words.program, path)
     print_line(COLUMNS)
     with tempfile.TemporaryDirectory() as folder:
         for size in sizes:
-            for line in measure(program, size, folder, words.reps, workers):
+            for line in measure(path, size, folder, words.reps, workers):
                 print_line(line)
         least = Run(["/bin/true"], os.path.join(folder, "output")).mebibytes
     files.say(f"The least MiB that can be seen here: {least:.1f}")

@@ -17,14 +17,13 @@ makes the runs, since it also measures what waits.
 import argparse
 import os
 import random
-import subprocess
 import sys
-import tempfile
 from collections.abc import Callable, Sequence
 from typing import Any
 
 from afdx import files, model
 from afdx.reckon import network_calculus, proved_bounds
+from afdx.runs import program_bounds
 from afdx.runs.measured_hops import Measured
 
 EXAMPLES = """
@@ -53,7 +52,7 @@ Row = dict[str, Any]
 class Drawn:
     """The network of a number, as the rows of its description."""
 
-    def __init__(self, number: int) -> None:
+    def __init__(self, number: int, has_streams: bool = False) -> None:
         self.number = number
         self.draw = draw = random.Random(number)
         self.until = draw.randint(3, 12) * MS
@@ -72,6 +71,9 @@ class Drawn:
         if draw.random() < 0.6:
             self.vls = self.fitting(self.vls)
         self.outages = [self.outage() for _ in range(draw.choice([0, 0, 0, 0, 1, 2]))]
+        self.streams: list[Row] = []
+        if has_streams:
+            self.add_streams(random.Random(f"{number} streams"))
 
     def join(self, one: int, other: int) -> None:
         self.beside[one].append(other)
@@ -119,6 +121,28 @@ class Drawn:
             "a": paths("A") if "A" in nets else [], "b": paths("B") if "B" in nets else [],
         }
 
+    def add_streams(self, draw: random.Random) -> None:
+        """Gives virtual links bursts, sporadic offers and ends, and further streams."""
+        for row in self.vls:
+            of_each = draw.choice([1, 1, 2, 3])
+            row["period_ns"] *= draw.choice([1, of_each, of_each])
+            row |= self.traffic(draw, row)
+            for _ in range(of_each - 1):
+                size = draw.choice([row["size"], draw.randint(64, max(64, min(row["smax"], row["size"]))), draw.randint(64, row["size"])])
+                stream = {"vl": row["id"], "size": size, "offset_ns": 0, "period_ns": row["period_ns"] + draw.choice([0, 0, 1, 10**5])}
+                self.streams.append(self.traffic(draw, stream | {"jitter_ns": draw.choice([0, row["jitter_ns"]]), "sub": row["sub"]}))
+
+    def traffic(self, draw: random.Random, row: Row) -> Row:
+        """The keys of a stream, with bursts and other timing here and there."""
+        found = {key: value for key, value in row.items() if key != "sub" or "id" in row}
+        frames = draw.choice([1, 1, 2, 3, 7])
+        if frames > 1:
+            found |= {"frames": frames, "last_size": draw.randint(64, row["size"])}
+            found["period_ns"] *= draw.choice([1, frames, frames])
+        found |= {"timing": "sporadic"} if draw.random() < 0.3 else {}
+        found |= {"end_ns": draw.randrange(self.until)} if draw.random() < 0.1 else {}
+        return found | ({"sub_vl": draw.randrange(row["sub"])} if draw.random() < 0.2 else {})
+
     def fitting(self, rows: list[Row]) -> list[Row]:
         """The virtual links, without those that would give a line more than it can send."""
         mbit = {(link[a], link[b]): link["mbit"] for link in self.links for a, b in (("a", "b"), ("b", "a"))}
@@ -158,13 +182,20 @@ class Drawn:
         return {"from": ends[0], "to": ends[1], "from_ns": begin, "to_ns": begin + self.draw.randint(1, self.until)}
 
     def tree(self, seed: int = 0, offsets: Sequence[int] = ()) -> Row:
-        """What the description says, with the offsets of a run."""
-        vls = [row | {"offset_ns": offset} for row, offset in zip(self.vls, offsets or [0] * len(self.vls))]
+        """What the description says, with the offsets of a run: those of virtual links, and behind them those of further streams."""
+        rows = [*self.vls, *self.streams]
+        rows = [row | {"offset_ns": offset} for row, offset in zip(rows, offsets or [0] * len(rows))]
         top = {"until_ns": self.until, "seed": seed}
-        return top | {"node": self.nodes, "link": self.links, "outage": self.outages, "vl": vls}
+        found = top | {"node": self.nodes, "link": self.links, "outage": self.outages, "vl": rows[: len(self.vls)]}
+        return found | ({"stream": rows[len(self.vls) :]} if self.streams else {})
 
     def offsets(self, run: int, found: network_calculus.Bounds) -> list[int]:
         """The offsets of a run."""
+        further = random.Random(f"{self.number} {run} streams")
+        own = self.own_offsets(run, found)
+        return own + [further.choice([0, int(further.random() * row["period_ns"])]) if run else 0 for row in self.streams]
+
+    def own_offsets(self, run: int, found: network_calculus.Bounds) -> list[int]:
         draw = random.Random(f"{self.number} {run}")
         if run == 0:
             return [0] * len(self.vls)
@@ -220,7 +251,7 @@ class Count:
 
     def hold_program(self, proved: proved_bounds.ProvedBounds, run: Measured, report: Callable[[str], None]) -> None:
         """Holds a run against the bounds that the program prints of its network."""
-        held = [(proved.of[key], greatest, f"virtual link {key[0]} at {key[1]} took") for key, greatest in greatest_latencies(run).items()]
+        held = [(proved.bound(*key), greatest, f"virtual link {key[0]} at {key[1]} took") for key, greatest in greatest_latencies(run).items()]
         ports = [(run.names[place], tally.greatest) for (kind, _, place), tally in run.found.items() if kind == "backlog"]
         for what, rows in enumerate((held, [(proved.waiting[where], most, f"before {where} waited") for where, most in ports])):
             for bound, greatest, text in rows:
@@ -257,29 +288,27 @@ def greatest_latencies(run: Measured) -> dict[tuple[int, str], int]:
     return found
 
 
-def bounds_by(program: str, net: model.Network, text: str) -> proved_bounds.ProvedBounds:
-    """The bounds that a program prints of a network with this text."""
-    with tempfile.TemporaryDirectory() as folder:
-        path, printed = os.path.join(folder, "net.toml"), os.path.join(folder, "bounds.csv")
-        files.write_whole(path, text)
-        with open(printed, "wb") as out:
-            said = subprocess.run([program, "bounds", path], stdout=out, stderr=subprocess.PIPE, check=False)
-        if said.returncode:
-            raise model.Fault(net.path, None, f"{program} ends with {said.returncode}: {said.stderr.decode(errors='replace').strip()}")
-        return proved_bounds.ProvedBounds(printed, net)
+def bounds_by(program: str, net: model.Network) -> proved_bounds.ProvedBounds:
+    """The bounds that a program prints of a network."""
+    found = program_bounds.bounds_of(program, net)
+    if found is None:
+        raise model.Fault(program, None, "has no command `bounds`")
+    return found.proved
 
 
-def hold_network(number: int, runs: int, keep: str | None, count: Count, report: Callable[[str], None], program: str | None = None) -> None:
+def hold_network(
+    number: int, runs: int, keep: str | None, count: Count, report: Callable[[str], None], program: str | None = None, has_streams: bool = False
+) -> None:
     """Makes the runs of a network and holds them against its bounds."""
-    drawn = Drawn(number)
+    drawn = Drawn(number, has_streams)
     text = model.text_of_tree(drawn.tree())
     net = model.Network(f"network {number}", text)
-    found, proved = network_calculus.Bounds(net), bounds_by(program, net, text) if program else None
+    found, proved = network_calculus.Bounds(net), bounds_by(program, net) if program else None
     for run in range(runs):
         tree = drawn.tree(run, drawn.offsets(run, found))
         simulation = Measured(tree)
         simulation.run()
-        again = f"afdx bounded-runs --networks 1 --first {number} --runs {run + 1} --keep DIR"
+        again = f"afdx bounded-runs{' --streams' * has_streams} --networks 1 --first {number} --runs {run + 1} --keep DIR"
         says = lambda text: report(f"network {number}, run {run}: {text}; again: {again}")
         count.hold(found, simulation, says)
         if proved:
@@ -296,6 +325,8 @@ def words_of(arguments: list[str] | None = None) -> argparse.Namespace:
     add("--networks", type=whole(1, 10**6), default=500, metavar="N", help="how many networks (default 500)")
     add("--first", type=whole(0, 10**9), default=0, metavar="N", help="number of the first (default 0)")
     add("--runs", type=whole(1, 10**4), default=10, metavar="N", help="how many runs of each (default 10)")
+    says = "draws bursts, further streams of virtual links, sporadic ones and ends, too"
+    add("--streams", action="store_true", help=says)
     add("--keep", metavar="DIR", help="writes the description of each run to this folder; it is made if need be")
     add("--program", metavar="FILE", help="a program `afdxsim`, whose bounds are compared too")
     return parser.parse_args(arguments)
@@ -308,7 +339,7 @@ def main(arguments: list[str] | None = None) -> int:
     if words.keep:
         os.makedirs(words.keep, exist_ok=True)
     for number in range(words.first, words.first + words.networks):
-        hold_network(number, words.runs, words.keep, count, files.say, words.program)
+        hold_network(number, words.runs, words.keep, count, files.say, words.program, words.streams)
     files.say(count.text(words.networks))
     if words.program:
         files.say(count.program_text())

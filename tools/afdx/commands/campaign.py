@@ -10,10 +10,11 @@ from typing import Any, NoReturn
 from afdx import files, model
 from afdx.commands.campaign_words import words_of
 from afdx.files import Fault, program
-from afdx.model import GREATEST_SEED, judge, long_form
-from afdx.reckon import network_calculus, output_sizes
+from afdx.files.page_text import us_text
+from afdx.model import GREATEST_SEED, description_faults, long_form
+from afdx.reckon import margins, network_calculus, output_sizes
 from afdx.reckon.limits import limits_of
-from afdx.runs import aim, campaign_record, cluster, each_outage, side_by_side, sweep, unproved_runs
+from afdx.runs import aim, campaign_record, cluster, each_outage, program_bounds, side_by_side, sweep, unproved_runs
 from afdx.runs.campaign_folder import Folder
 from afdx.runs.campaign_network import CampaignNetwork, ChangedNetwork
 from afdx.runs.campaign_progress import Progress
@@ -148,8 +149,8 @@ def over_settings(words: argparse.Namespace, net: CampaignNetwork, limits: Limit
     write_record(words, net, seeds)
     files.say(f"{table} and {page}: {len(whole)} combinations, {found.done} runs, in {time.monotonic() - begin:.1f} s")
     for it in found.effects()[:MOST_PRINTED]:
-        spread = f"seeds {it.spread} ns" if len(seeds) > 1 else "one seed"
-        files.say(f"virtual link {it.vl} at {it.where}: effect {it.effect} ns, {spread}")
+        spread = f"seeds {us_text(it.spread)}" if len(seeds) > 1 else "one seed"
+        files.say(f"virtual link {it.vl} at {it.where}: effect {us_text(it.effect)}, {spread}")
     broken = [(it.name, campaign.broken) for it, campaign in whole if campaign.broken]
     if limits:
         files.say(f"limits: {len(limits)}; combinations that break one: {len(broken)}")
@@ -164,7 +165,7 @@ def aims_of(words: argparse.Namespace, net: CampaignNetwork, limits: Limits) -> 
         return list(limits or sorted(net.destinations))
     for vl in words.aim:
         if vl not in net.vls:
-            known = judge.meant(str(vl), map(str, net.vls))
+            known = description_faults.meant(str(vl), map(str, net.vls))
             raise Fault(words.net, net.description.line("vl"), f"--aim {vl}: there is no such virtual link{known}")
     return [(vl, where) for vl in dict.fromkeys(words.aim) for where in net.vls[vl].destinations]
 
@@ -172,7 +173,8 @@ def aims_of(words: argparse.Namespace, net: CampaignNetwork, limits: Limits) -> 
 def over_aims(words: argparse.Namespace, net: CampaignNetwork, limits: Limits, seeds: range) -> int:
     """Runs all seeds with offsets that aim at virtual links, and answers the status."""
     begin = time.monotonic()
-    found = aim.AimedRuns(net, aims_of(words, net, limits), seeds, limits)
+    printed = None if words.by else program_bounds.bounds_of(words.program, net)
+    found = aim.AimedRuns(net, aims_of(words, net, limits), seeds, limits, printed=printed)
     if not found.ways:
         raise Fault(words.net, None, "no frame of the aimed virtual links arrives: size is above smax")
     progress = Progress(len(found.ways), "ways aimed at")
@@ -196,20 +198,24 @@ def over_aims(words: argparse.Namespace, net: CampaignNetwork, limits: Limits, s
         files.say(text)
     it: Any
     for it in found.above():
-        files.say(f"above its bound, so one of the two is wrong: {','.join(map(network_calculus.said, it))}")
+        files.say(f"above a bound, so one of the two is wrong: {','.join(map(network_calculus.said, it))}")
     report_limits(found)
     return found.status or (1 if found.above() or found.broken() else 0)
 
 
 def report_limits(found: aim.AimedRuns) -> None:
-    """Says which limits the aimed runs tried, and which they break."""
+    """Says which limits the aimed runs tried, which they break, and which are below their bounds."""
     if not found.limits:
         return
     tried, broken = found.tried(), found.broken()
-    files.say(f"limits: {len(found.limits)}, tried: {len(tried)}, broken: {len(broken)}")
+    below = [it for it in found.margins() if it.verdict() == margins.BELOW]
+    files.say(f"limits: {len(found.limits)}, tried: {len(tried)}, broken: {len(broken)}, below the bound: {len(below)}")
     for limit, latency, line in broken:
         how = f"aimed at by network {line.network}" if latency == line.aimed_ns else "as described"
-        files.say(f"limit broken: virtual link {limit.vl} at {limit.where} has {limit.ns} ns, and took {latency} ns {how} with the seed {line.seed}")
+        said = f"has {us_text(limit.ns)}, and took {us_text(latency)} {how} with the seed {line.seed}"
+        files.say(f"limit broken: virtual link {limit.vl} at {limit.where} {said}")
+    for it in below[:MOST_PRINTED]:
+        files.say(f"limit below its bound: virtual link {it.limit.vl} at {it.limit.where}: {it.in_words().partition(': ')[2]}")
     for key in [key for key in found.limits if key not in tried][:MOST_PRINTED]:
         files.say(f"limit not tried: virtual link {key[0]} at {key[1]}")
 

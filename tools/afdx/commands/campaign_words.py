@@ -86,10 +86,53 @@ def aimed_at(text: str) -> str | int:
 aimed_at.__name__ = "number of a virtual link"
 
 
+OF_OUTAGES = """Runs a network without an outage, and then with each link and each switch out in turn, for the whole run or from a moment on.
+
+DIR/outages.csv and the page DIR/outages.html show for each outage what is then lost end to end, and what becomes late,
+beside the same runs without it; the worst outage stands first. With a file of limits the status is 1 if an outage breaks a
+limit that is else kept. It is `afdx campaign --each-outage`, and has the words of a campaign.
+"""
+
+EXAMPLES_OF_OUTAGES = """
+examples:
+  afdx outages net.toml -o outages
+        what is lost and what becomes late without each link and each switch: outages/outages.html
+  afdx outages net.toml --each-outage 50000000 --seeds 5 --keep -o outages
+        with five seeds, and out from 50 ms on; the description and the tables of each run are kept
+  afdx outages net.toml --limits limits.csv --later 5% -o outages
+        compares each run with limits, and calls late what takes 5 percent longer
+
+status: 0; 1 if an outage alone breaks a limit, or a run failed; 2 if a word is wrong, or a file cannot be read or written;
+130 and 143 if it was interrupted: what was made before is kept
+"""
+# The words of a campaign that outages have not.
+NOT_OF_OUTAGES = ("--set", "--aim", "--histograms", "--json")
+
+
+def help_of_outages() -> str:
+    """The help of `afdx outages`: the words of a campaign that it has."""
+    parser = argparse.ArgumentParser(
+        prog="afdx outages", description=OF_OUTAGES, epilog=EXAMPLES_OF_OUTAGES, formatter_class=argparse.RawDescriptionHelpFormatter
+    )
+    add_words(parser)
+    for action in parser._actions:
+        if set(action.option_strings) & set(NOT_OF_OUTAGES):
+            action.help = argparse.SUPPRESS
+    return parser.format_help()
+
+
 def words_of(arguments: list[str] | None = None) -> argparse.Namespace:
     parser = argparse.ArgumentParser(
         prog="afdx campaign", description=SAYS, epilog=EXAMPLES, formatter_class=argparse.RawDescriptionHelpFormatter
     )
+    add_words(parser)
+    words = parser.parse_args(arguments)
+    judge_words(parser, words)
+    return words
+
+
+def add_kinds(parser: argparse.ArgumentParser) -> None:
+    """What is run: how many seeds, and which kind of campaign."""
     add = parser.add_argument
     add("net", metavar="NET", help="the description (TOML)")
     add("--seeds", type=whole(1, 10**9), metavar="N", help="how many seeds, so how many runs (with --each-outage: 1)")
@@ -110,6 +153,11 @@ def words_of(arguments: list[str] | None = None) -> argparse.Namespace:
         help="runs each seed (default: 1 seed) with offsets that let other frames meet those of this virtual link at each port; "
         "`all`: of each destination that has a limit, or without --limits of all virtual links",
     )
+
+
+def add_words(parser: argparse.ArgumentParser) -> None:
+    add_kinds(parser)
+    add = parser.add_argument
     add("--until", type=whole(1, model.LATEST_NS), metavar="NS", help="the end of the runs (default: that of NET)")
     add(
         "--first", "--seed", type=whole(0, GREATEST_SEED), metavar="SEED",
@@ -129,7 +177,10 @@ def words_of(arguments: list[str] | None = None) -> argparse.Namespace:
     add("--by", choices=("try", "second-opinion"), metavar="WHAT", help=says + "second-opinion, afdx second-opinion, without the kit")
     add("-o", "--output", metavar="DIR", required=True, help="the folder for what comes of it; it is made if need be")
     add("--replace", action="store_true", help="replace the files of an earlier campaign in DIR, which is else refused")
-    words = parser.parse_args(arguments)
+
+
+def judge_words(parser: argparse.ArgumentParser, words: argparse.Namespace) -> None:
+    """Refuses words that do not go together."""
     kinds = {"--each-outage": words.each_outage is not None, "--set": bool(words.set), "--aim": bool(words.aim)}
     named = [name for name, is_named in kinds.items() if is_named]
     if words.seeds is None and not named:
@@ -145,4 +196,3 @@ def words_of(arguments: list[str] | None = None) -> argparse.Namespace:
     if "all" in (words.aim or ()) and len(words.aim) > 1:
         parser.error("--aim all has each virtual link already")
     words.seeds = words.seeds or 1
-    return words

@@ -27,13 +27,43 @@ def taken_out(words: list[str], name: str) -> tuple[list[str], str | None]:
     return words, None
 
 
+# The variable of the environment that has what --by says where no word does.
+VARIABLE = "AFDX_BY"
+
+
+def asked(by: str | None, path: str | None) -> str | None:
+    """What --by says, or the environment in its place where --program does not say it either."""
+    name = "--by"
+    if by is None and path is None and os.environ.get(VARIABLE):
+        name, by = VARIABLE, os.environ[VARIABLE]
+    if by not in (None, "proved", "try", "second-opinion"):
+        raise Mistake(f"{name} is proved, try or second-opinion, and not {by!r}")
+    if path is not None and by is not None:
+        raise Mistake("--by and --program name a program each: give one of them")
+    return by
+
+
+def for_bounds(by: str | None, path: str | None) -> program.Program | None:
+    """The program whose bounds are printed, or None where there is none, or where the user wants none."""
+    by = asked(by, path)
+    if path is not None:
+        return program.given(path)
+    if by in ("try", "second-opinion"):
+        return None
+    if by is None and not os.path.isfile(program.PROGRAM) and not program.installed():
+        return None
+    try:
+        return program.proved()
+    except NoProgram:
+        if by == "proved":
+            raise
+        return None
+
+
 def chosen(by: str | None, path: str | None) -> program.Program:
     """The program that is to run, by what the user asks for."""
-    if by not in (None, "proved", "try", "second-opinion"):
-        raise Mistake(f"--by is proved, try or second-opinion, and not {by!r}")
+    by = asked(by, path)
     if path is not None:
-        if by is not None:
-            raise Mistake("--by and --program name a program each: give one of them")
         return program.given(path)
     if by == "second-opinion":
         return program.second_opinion()

@@ -2,7 +2,7 @@
 
     /usr/bin/afdxsim, /usr/bin/afdx       the program, and the one command
     /usr/lib/afdxsim                      the tools, and the record of what the program was built and proved of
-    /usr/lib/python3/dist-packages/afdx   a link to the tools, for `python3 -m afdx`
+    /usr/lib/python3/dist-packages/afdx   a link to the tools, for `import afdx` and `python3 -m afdx`
     /usr/share/doc/afdxsim                README, CHANGELOG, docs, examples, and that record once more: proof.json
     /usr/share/man, bash-completion       made of the texts of help
 
@@ -33,7 +33,8 @@ Architecture: amd64
 Maintainer: {maintainer}
 Installed-Size: {size}
 Depends: python3 (>= 3.11), libc6 (>= {libc})
-Suggests: python3-openpyxl, python3-distributed, python3-numpy, bash-completion
+Recommends: python3-openpyxl
+Suggests: python3-distributed, python3-numpy, python3-pandas, bash-completion
 Section: science
 Priority: optional
 Description: proved simulator of AFDX networks
@@ -181,6 +182,13 @@ def zipped(text: str) -> bytes:
 LIBRARY, DOCUMENTS = "/usr/lib/afdxsim", "/usr/share/doc/afdxsim"
 
 
+# What the README of a package has in place of how a clone gets the program.
+OF_PACKAGE = (
+    "## The proved program\n\nThis package contains it. `afdx` and `afdxsim` are commands with manual pages: `man afdx`. "
+    "`/usr/share/doc/afdxsim/proof.json` names what it was proved of.\n\n"
+)
+
+
 def for_package(text: str) -> str:
     """A document with the commands of the package, where it has those of a clone: in lines of commands, and in back quotes."""
     def renamed(found: re.Match[str]) -> str:
@@ -188,6 +196,10 @@ def for_package(text: str) -> str:
         code = re.sub(r"(?<![\w./])tools/", f"{LIBRARY}/tools/", code)
         return re.sub(r"(?<![\w./])examples/", f"{DOCUMENTS}/examples/", code)
 
+    # How a clone comes to its program is nothing for a package, which has one.
+    text = re.sub(r"(?s)## Get the proved program\n.*?(?=Error output and each page name)", OF_PACKAGE, text)
+    text = text.replace("`./test`, `./afdx build` or a package provides", "this package provides")
+    text = text.replace("`./test`, or `rt check` in a crate", "`rt check` in a crate of the sources")
     return re.sub(r"^    .*$|`[^`\n]+`", renamed, text, flags=re.MULTILINE)
 
 

@@ -12,7 +12,7 @@ from collections import Counter
 from collections.abc import Sized
 
 from afdx import files, model
-from afdx.model import Fault, judge
+from afdx.model import Fault, description_faults
 from afdx.reckon import bounds_file, description_warnings
 
 EXAMPLES = """
@@ -25,14 +25,16 @@ examples:
 what it prints, in this order:
   faults    by the number that `afdxsim` gives them, then by section, row and key; docs/FORMATS.md, section 4, has them.
             If the text is no TOML, the lines that can be read are judged all the same
-  warnings  size above smax: every frame is dropped at the first switch
+  warnings  size or last_size above smax: these frames are dropped at the first switch
             a destination that one network alone reaches, although there are two
-            a period below the BAG: frames wait in the regulator, and are dropped once its depth is full
+            a period below the BAG, or streams that offer more than a frame in each BAG: frames wait in the regulator, and
+            are dropped once its depth is full
+            a burst of more frames than depth + 1, a sub_vl that is not below sub, an end_ns before offset_ns
             a jitter of offers by which more frames may wait in the regulator than it holds, or longer than a BAG; then
             most of a latency is the regulator's and not the network's (afdx second-opinion --hops measures both)
             a line whose load is above 75 percent, or above 100
             an end system whose transmit jitter by the rule of ARINC 664 Part 7 is above 500 us
-            an outage that begins after the end; a virtual link that offers nothing before the end
+            an outage that begins after the end; a virtual link or a stream that offers nothing before the end
             a BAG longer than the run
             with --bounds, of the worst case: accounts that may refuse frames, destinations to which neither network
             brings each frame, copies that may be further apart than SkewMax, ports that are too small
@@ -47,7 +49,7 @@ file cannot be read.
 MOST_OF_A_KIND, PRINTED_OF_A_KIND = 10, 3
 
 
-def printed_of(path: str, warnings: list[judge.Finding], prints_all: bool) -> tuple[list[str], str]:
+def printed_of(path: str, warnings: list[description_faults.Finding], prints_all: bool) -> tuple[list[str], str]:
     """The lines of warnings, and lines that count them. Of many of one kind the first ones are printed."""
     kinds = Counter(it.kind for it in warnings)
     many = {} if prints_all else {kind: count for kind, count in kinds.items() if count > MOST_OF_A_KIND}
@@ -56,7 +58,7 @@ def printed_of(path: str, warnings: list[judge.Finding], prints_all: bool) -> tu
     for it in warnings:
         seen[it.kind] += 1
         if it.kind not in many or seen[it.kind] <= PRINTED_OF_A_KIND:
-            lines.append(judge.line_of(path, it))
+            lines.append(description_faults.line_of(path, it))
     lines += (f"{path}: warning: {kind}: {count - PRINTED_OF_A_KIND:,} more (--all)" for kind, count in many.items())
     more = f" of {counted(kinds, 'kind')}" if many else ""
     return lines, f", {counted(warnings, 'warning')}{more}" if warnings else ""
@@ -69,12 +71,12 @@ def explain(path: str, bounds: str | None = None, prints_all: bool = False) -> t
     except Fault as fault:
         if fault.line is None:
             raise
-        found, description = [judge.Finding(1, None, fault.line, "", "the file is not UTF-8")], None
+        found, description = [description_faults.Finding(1, None, fault.line, "", "the file is not UTF-8")], None
     else:
-        found, description = judge.findings_of(path, text)
-    lines = [judge.line_of(path, finding) for finding in found]
+        found, description = description_faults.findings_of(path, text)
+    lines = [description_faults.line_of(path, finding) for finding in found]
     if found:
-        lines[0] += f" [afdxsim: description: {judge.answer(found[0])}]"
+        lines[0] += f" [afdxsim: description: {description_faults.answer(found[0])}]"
         behind = "" if description else f"; what is behind line {found[-1].line} was not judged"
         lines.append(f"{path}: {counted(found, 'fault')}, the first is what afdxsim answers{behind}")
     else:

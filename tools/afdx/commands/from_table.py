@@ -2,11 +2,12 @@
 """Makes a description from the tables of an interface control document: one line for each virtual link or each of its
 destinations, one line for each node, and one line for each link, in one or several files, CSV or workbooks (.xlsx).
 
-Paths are shortest ones on both networks. What the tables leave open gets usual values. Comments of the description name
-each usual value, each frame size that was computed from a payload, and the line and table of each row. The tool knows
-the usual headings of interface control documents (Tx LRU, VL ID, Lmax, Rate (Hz), ..). A heading that looks misspelt,
-or that fits two columns, is a fault; --column states its meaning. Unknown columns are ignored, with a note on error
-output.
+Sheets are joined by the number of the virtual link. Paths are shortest ones on both networks. What the tables leave
+open gets usual values. Comments of the description name each usual value, each frame size that was computed from a
+payload, and the line and table of each row. The tool knows the usual headings of interface control documents (Tx LRU,
+VL ID, Lmax, Rate (Hz), ..). A heading that looks misspelt, or that fits two columns, is a fault; --column states its
+meaning. Unknown columns are ignored, with a note on error output. A row that belongs to no table is a fault; --skip
+leaves it out.
 
 --back makes the tables of a description, with the limits, ports and remarks of its comments.
 """
@@ -14,9 +15,11 @@ import argparse
 import sys
 
 from afdx import files
+from afdx.document.lines import commented
+from afdx.document.places import PASSED, Said, Skip, said_of
+from afdx.document.tables import COLUMN_SAID
+from afdx.document.text import made
 from afdx.model import headings, to_tables
-from afdx.model.icd_lines import COLUMN_SAID, PASSED, commented, mapped
-from afdx.model.icd_text import made
 
 EXAMPLES = """
 examples:
@@ -28,43 +31,56 @@ examples:
         the same of two tables
   afdx table icd.xlsx --column 'Box=source' --column 'Repetition=period_ms' --column 'Phase=-' -o net.toml
         with three headings that the tool does not know, of which the last is ignored. net.toml keeps them in comments
+  afdx table icd.xlsx --skip History --skip 'VLs!A40:A52' --receipt rows.csv -o net.toml
+        leaves out a sheet and some rows, and writes what became of the rows of each sheet
   afdx table --back net.toml -o tables.csv
         the tables of a description
 
-a table begins with a line that names its columns, and ends with an empty line or with the file. Its columns show what
-it has. Columns marked * are required. Lines that begin with # are ignored:
+a table begins with one or two lines that name its columns, and ends with the next such line or with the sheet. Its columns
+show what it has. Columns marked * are required. Lines that begin with # are ignored:
   virtual links   id*, source*, destinations* (names with blanks between), bag_ms, smax or payload (bytes), priority,
                   sub, policing, policing_jitter_ns, skew_max_ns, depth, size, offset_ns, period_ns, jitter_ns; bag_ms
                   or period_ns is required, and one of smax, size and payload. Of two ways that are equally short the
                   one over a switch that `via` names is taken, else the name decides. `a` and `b` state the paths of a
                   network themselves, as `ADC SWA DU | ADC SWA FWC`, and - for none. Lines that differ in the
-                  destination alone are one virtual link. limit_us, udp_port, udp_source_port, udp_destination_port and
-                  remarks become comments
+                  destination alone are one virtual link, also in several sheets; what one leaves empty another may have.
+                  message_bytes (of a UDP message), network (A, B, A & B), sub_vl (lines for 1 to n), timing,
+                  direction beside equipment. name, message, port, limit_us, udp_port, udp_source_port,
+                  udp_destination_port and remarks become comments
   nodes           name*, kind (es or switch; a node with a net is a switch), net, port_bytes, latency_ns
-  links           a*, b*, mbit, propagation_ns or length_m
+  links           a*, b*, mbit, propagation_ns or length_m, net
   outages         from*, to*, from_ns*, to_ns*
   the run         until_ns, seed
-A node that has no line of its own is an end system. A time may have another unit: period_ms, jitter_us, until_s; and a
+A node that has no line of its own is an end system, or a switch if it is no end of a virtual link and has several links of
+one network. Each row is used, a title (one or two cells, none a value of its column), skipped, or left, which is a fault. A time may have another unit: period_ms, jitter_us, until_s; and a
 period may be a rate: rate_hz. Capital letters, blanks and brackets in the name of a column do not matter: `BAG (ms)` is
 bag_ms. docs/TOOLS.md, section 2, lists the other headings that are known; section 13 has more.
 
 status:
-  0  the description is written. Error output has a note for each column, title or sheet that is ignored, and for what is
-     hidden in a workbook
-  1  the tables have a fault, and nothing is written. Error output has each fault once, with the first line that has it
-     and the number of the others
+  0  the description is written. Error output has a note for each column or title that is ignored, and for what is hidden
+     or struck out in a workbook. Its last line is the receipt: what was made, and how many rows were left
+  1  the tables have a fault, or a row is of no table, and no description is written. Error output has each fault once, with
+     the first line that has it and the number of the others
   2  a word is wrong, or a file cannot be read or written
 """
 
 
-def column_word(text: str) -> tuple[str, str]:
+def column_word(text: str) -> Said:
     """The type of a word of --column: a heading in normal form, and the column for which it stands."""
-    name, column = mapped(text)
-    if not name:
-        raise argparse.ArgumentTypeError(f"{text!r} is not HEADING=COLUMN, as 'Tx LRU=source'")
-    if column != PASSED and not headings.is_known(column):
-        raise argparse.ArgumentTypeError(f"{text!r}: there is no column {column!r}: see the columns above")
-    return name, column
+    said = said_of(text)
+    if not said.name:
+        raise argparse.ArgumentTypeError(f"{text!r} is not [SHEET!]HEADING=COLUMN, as 'Tx LRU=source'")
+    if said.column != PASSED and not headings.is_known(said.column):
+        raise argparse.ArgumentTypeError(f"{text!r}: there is no column {said.column!r}: see the columns above")
+    return said
+
+
+def skip_word(text: str) -> Skip:
+    """The type of a word of --skip: a sheet, or rows of one."""
+    skip = Skip(text)
+    if skip.is_bad:
+        raise argparse.ArgumentTypeError(f"{text!r} is not SHEET, nor SHEET!A20:A35")
+    return skip
 
 
 def words_of(arguments: list[str] | None) -> argparse.Namespace:
@@ -75,35 +91,53 @@ def words_of(arguments: list[str] | None) -> argparse.Namespace:
     parser.add_argument("-o", "--output", metavar="FILE", type=files.output_name, help="the file to write (default: standard output)")
     parser.add_argument("--back", action="store_true", help="makes the tables of a description")
     parser.add_argument(
-        "--column", type=column_word, action="append", default=[], metavar="HEADING=COLUMN",
-        help="says which column a heading stands for, as 'Tx LRU=source' or 'Rate=period_ms'; HEADING=- passes over it",
+        "--column", type=column_word, action="append", default=[], metavar="[SHEET!]HEADING=COLUMN",
+        help="says which column a heading stands for, as 'Tx LRU=source' or 'Ports!Rate=period_ms'; HEADING=- passes over it",
     )
+    parser.add_argument(
+        "--skip", type=skip_word, action="append", default=[], metavar="SHEET[!A20:A35]",
+        help="leaves out a sheet, or rows of it; a file of CSV is a sheet of its name",
+    )
+    parser.add_argument("--receipt", metavar="FILE", help="writes what became of the rows of each sheet (CSV)")
     words = parser.parse_args(arguments)
-    if words.back and words.column:
-        parser.error("--column is about the headings of tables; --back has those of the description")
-    twice = [name for name, _ in words.column if [it for it, _ in words.column].count(name) > 1]
+    if words.back and (words.column or words.skip or words.receipt):
+        parser.error("--column, --skip and --receipt are about tables that are read; --back makes those of the description")
+    names = [said[:2] for said in words.column]
+    twice = next((said for said in words.column if names.count(said[:2]) > 1), None)
     if twice:
-        parser.error(f"--column says of {twice[0]!r} what it stands for, and says it again")
+        parser.error(f"--column says of {twice.name!r} what it stands for, and says it again")
     if words.back and len(words.tables) > 1:
         parser.error("--back makes the tables of one description")
+    if words.receipt == "-":
+        parser.error("--receipt names a file: error output has the receipt in one line")
     return words
 
 
 @files.tool("afdx table")
 def main(arguments: list[str] | None = None) -> int:
     words = words_of(arguments)
-    text, faults, notes = (to_tables.Back(words.tables[0], commented, COLUMN_SAID).text(), [], []) if words.back else made(words.tables, words.column)
-    for note in notes:
+    if words.back:
+        written(words.output, to_tables.Back(words.tables[0], commented, COLUMN_SAID).text(), {})
+        return 0
+    found = made(words.tables, words.column, words.skip)
+    for note in found.notes:
         files.report("afdx table", f"note: {note}")
-    for fault in faults:
+    for fault in found.faults:
         files.report("afdx table", fault)
-    if faults:
-        return 1
-    if words.output:
-        files.write_whole(words.output, text)
+    receipt = {words.receipt: found.receipt.csv()} if words.receipt else {}
+    if found.faults:
+        files.write_all(receipt)
     else:
+        written(words.output, found.text, receipt)
+    files.report("afdx table", found.receipt.text())
+    return 1 if found.faults else 0
+
+
+def written(output: str | None, text: str, more: dict[str, str]) -> None:
+    """Writes a text into a file or on standard output, and other files."""
+    files.write_all(({output: text} if output else {}) | more, prints=output is None)
+    if output is None:
         files.write_out(text)
-    return 0
 
 
 if __name__ == "__main__":

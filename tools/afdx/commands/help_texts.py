@@ -45,11 +45,13 @@ OF_TOOLS = {
     "explain": OfTool("afdx.commands.explain", None, "NET", "print all faults of a description with their lines, or its warnings"),
     "bounds": OfTool("afdx.commands.bounds", None, "NET [-o FILE]", "compute worst-case bounds of latencies and ports, as CSV"),
     "table": OfTool("afdx.commands.from_table", None, "TABLE.. -o NET", "make a description from the tables of an interface document"),
+    "results": OfTool("afdx.commands.results", None, "BOOK NET -o OUT", "write the results of a network into its interface document"),
     "campaign": OfTool("afdx.commands.campaign", None, "NET --seeds N -o DIR", "run many seeds, and merge their tables"),
     "outages": OfTool(
         "afdx.commands.campaign", "--each-outage", "NET [--each-outage NS] -o DIR", "run with one link or switch out, each in turn"
     ),
     "pcap": OfTool("afdx.commands.pcap", None, "NET TRACE -o FILE", "make a capture for Wireshark from a trace"),
+    "judge": OfTool("afdx.commands.judge", None, "NET CAPTURE [--tap NAME=PLACE]", "judge a capture of a bench against a description"),
     "report": OfTool("afdx.commands.report", None, "NET TABLES -o FILE", "make a page of existing tables, also of a campaign"),
     "second-opinion": OfTool(
         "afdx.runs.second_opinion", None, "NET [--trace FILE] [--hops FILE]", "simulate the network by a plain simulator, and measure each hop"
@@ -74,8 +76,9 @@ WRITES = ("--trace", "--journal")
 
 # What is said of `run` alone.
 OF_RUN = (
-    "run uses threads that run ahead and roll back (Time Warp). Whether it is faster than seq depends on the network and on the\n"
-    "machine: if you want tables alone, and you have not measured it, use seq."
+    "run uses threads that run ahead and roll back (Time Warp): 4 threads unless --workers orders another number, whatever the\n"
+    "network. Whether it is faster than seq depends on the network and on the machine: if you want tables alone, and\n"
+    "you have not measured it, use seq."
 )
 # What is said of the tools that have the program run.
 OF_CHOICE = "--by WHAT (proved, try or second-opinion; default: proved, else try) or --program PATH names who makes the runs."

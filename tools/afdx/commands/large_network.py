@@ -21,7 +21,8 @@ from typing import TypeVar
 
 from afdx import files
 from afdx.model import (
-    BYTES_BETWEEN_FRAMES, GREATEST_SEED, LATEST_NS, MOST_DESTINATIONS, MOST_NODES_OF_A_PATH, MOST_PORTS, MOST_PROCESSES, whole,
+    BYTES_BETWEEN_FRAMES, GREATEST_SEED, LATEST_NS, LEAST_FRAME, MOST_DESTINATIONS, MOST_NODES_OF_A_PATH, MOST_PORTS, MOST_PROCESSES,
+    MOST_STREAMS, whole,
 )
 
 # Percent of the virtual links with this BAG in ms.
@@ -54,6 +55,8 @@ examples:
         four times as many virtual links; periods are stretched until the busiest line has a load of 80 percent
   afdx large-network --end-systems 760 --switches 38 --virtual-links 65536 --load 90 --until 10000000 > limit.toml
         the limits: 4,096 processes and 65,536 virtual links (10 ms; some 38 MB of text)
+  afdx large-network --streams 40 > messages.toml
+        40 percent of the virtual links have messages longer than a frame, further streams, or sporadic offers
   afdx large-network --end-systems 60 --switches 30 --columns 1 --reach 95 --virtual-links 200 > row.toml
         a row of 30 switches, with paths of up to 32 nodes
 
@@ -157,6 +160,32 @@ class Wiring:
         return None
 
 
+class Traffic:
+    """What a virtual link has beyond one frame each period: bursts, further streams, or sporadic offers. The period of each is so much
+    longer that no more than a frame is offered in each BAG."""
+
+    def __init__(self, greatest: int, draw: Draw) -> None:
+        self.frames = 2 + draw.below(5) if draw.happens(50) else 1
+        self.last_size = LEAST_FRAME + draw.below(greatest - LEAST_FRAME + 1) if self.frames > 1 else greatest
+        self.is_sporadic = draw.happens(30)
+        self.further = [LEAST_FRAME + draw.below(greatest - LEAST_FRAME + 1) for _ in range(draw.below(4))]
+
+    def stretch(self) -> int:
+        """How many times as long as that of a virtual link with one frame each period is the period of each stream."""
+        return self.frames + len(self.further)
+
+    def keys(self) -> str:
+        """The keys of its own stream."""
+        burst = f"frames = {self.frames}\nlast_size = {self.last_size}\n" if self.frames > 1 else ""
+        return burst + ('timing = "sporadic"\n' if self.is_sporadic else "")
+
+    def write_further(self, number: int, phase: float, period: int, out: Callable[[str], object]) -> None:
+        """Writes the further streams, spread over the period."""
+        for i, size in enumerate(self.further, 1):
+            offset = int(period * (phase + i / (1 + len(self.further)))) % period
+            out(f"[[stream]]\nvl = {number}\nsize = {size}\noffset_ns = {offset}\nperiod_ns = {period}\njitter_ns = 0\n")
+
+
 class VirtualLink:
     """One virtual link: what is drawn for it, and its ways through the switches."""
 
@@ -181,6 +210,7 @@ class VirtualLink:
         # Nothing is drawn for what was not asked for: the same words give the same text in every edition.
         self.sub = 1 + draw.below(words.sub) if words.sub > 1 else None
         self.policing = draw.one_of(POLICINGS) if words.policing == "both" else words.policing
+        self.traffic = Traffic(self.size, draw) if words.streams and draw.happens(words.streams) else None
 
     def by_distance(self, wiring: Wiring, tree: dict[int, list[int]]) -> list[list[int]]:
         """The end systems but the source, as lists by the number of switches on the way. No list is empty."""
@@ -242,15 +272,19 @@ def write_links(wiring: Wiring, draw: Draw, out: Callable[[str], object]) -> Non
             out(f'[[link]]\na = "{a}"\nb = "{b}"\nmbit = 100\npropagation_ns = {20 + draw.below(280)}\n')
 
 
+def period_of(vl: VirtualLink, stretch: Fraction) -> int:
+    return min(LATEST_NS, int(vl.bag_ms * 10**6 * stretch) * (vl.traffic.stretch() if vl.traffic else 1))
+
+
 def write_virtual_link(number: int, vl: VirtualLink, stretch: Fraction, out: Callable[[str], object]) -> None:
     bag_ns = vl.bag_ms * 10**6
-    period = min(LATEST_NS, int(bag_ns * stretch))
+    period = period_of(vl, stretch)
     out(f"[[vl]]\nid = {number}\nbag_ms = {vl.bag_ms}\nsmax = {vl.size}\n")
     policing = f'policing = "{vl.policing}"\n' if vl.policing else ""
     sub = f"sub = {vl.sub}\n" if vl.sub else ""
     out(f'priority = "{"high" if vl.high else "low"}"\npolicing_jitter_ns = 500000\n{policing}skew_max_ns = 5000000\n')
     out(f"depth = 16\n{sub}size = {vl.size}\noffset_ns = {int(period * vl.phase)}\nperiod_ns = {period}\n")
-    out(f"jitter_ns = {bag_ns // 20}\n")
+    out(f"jitter_ns = {bag_ns // 20}\n{vl.traffic.keys() if vl.traffic else ''}")
     for net in "AB":
         paths = []
         for target, way in vl.ways.items():
@@ -268,6 +302,9 @@ def write_network(words: argparse.Namespace, out: Callable[[str], object], repor
         return refusal
     trees = [wiring.tree(root, draw) for root in range(words.switches)]
     virtual_links = [VirtualLink(words, wiring, trees, draw) for _ in range(words.virtual_links)]
+    streams = sum(len(vl.traffic.further) for vl in virtual_links if vl.traffic)
+    if streams > MOST_STREAMS:
+        return f"there would be {streams} further streams, and may be {MOST_STREAMS}: take a smaller part by --streams"
     natural = greatest_load(virtual_links)
     stretch = max(Fraction(1), natural * 100 / words.load) if words.load else Fraction(1)
     out(f"until_ns = {words.until}\nseed = {words.seed}\n\n")
@@ -275,6 +312,9 @@ def write_network(words: argparse.Namespace, out: Callable[[str], object], repor
     write_links(wiring, draw, out)
     for number, vl in enumerate(virtual_links):
         write_virtual_link(number, vl, stretch, out)
+    for number, vl in enumerate(virtual_links):
+        if vl.traffic:
+            vl.traffic.write_further(number, vl.phase, period_of(vl, stretch), out)
     paths = sum(len(vl.ways) for vl in virtual_links)
     longest = max((len(way) + 2 for vl in virtual_links for way in vl.ways.values()), default=0)
     report(
@@ -314,6 +354,10 @@ def words_of(arguments: list[str] | None = None) -> argparse.Namespace:
     parser.add_argument(
         "--policing", choices=[*POLICINGS, "both"],
         help="how switches police; both: drawn for each virtual link (default: no key policing is written, so bytes)",
+    )
+    number(
+        "streams", 0, 100, 0, "PERCENT",
+        "how many of the virtual links have bursts, further streams or sporadic offers. 0: no key of these is written",
     )
     number("port-bytes", 1518, 1048576, 65536, "BYTES", "waiting bytes of each port")
     number("until", 1, LATEST_NS, 10**9, "NS", "end time in ns")

@@ -19,7 +19,7 @@ from collections.abc import Iterator, Mapping
 from typing import Any
 
 from afdx import files
-from afdx.model import judge
+from afdx.model import description_faults
 from afdx.runs.plain_simulator import BODIES, Simulation
 
 # Its process, the event that sent its message, and who receives what it sends.
@@ -114,7 +114,7 @@ def main(arguments: list[str] | None = None) -> None:
     given = words.parse_args(arguments)
     if given.turn < 1 or given.window < 1:
         words.error("a turn has at least one message, and a window at least 1 ns")
-    journal = Journal(judge.accepted(given.net).tree)
+    journal = Journal(description_faults.accepted(given.net).tree)
     files.write_out("".join(step + "\n" for step in journal.steps(given.turn, given.window)))
 
 

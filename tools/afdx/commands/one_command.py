@@ -6,13 +6,18 @@ import sys
 
 from afdx import files, model
 from afdx.commands import debian_package, help_texts
-from afdx.commands.chosen_program import Mistake, asks_for_help, chosen, taken_out
+from afdx.commands.campaign_words import help_of_outages
+from afdx.commands.chosen_program import Mistake, asks_for_help, chosen, for_bounds, taken_out
 from afdx.commands.page_command import explained, page
 from afdx.commands.program_commands import by_program
 from afdx.files import program
 from afdx.files.program import NoProgram
 from afdx.runs import by_rt
 from afdx.runs.by_rt import report
+
+
+# What is said where bounds are those of the tool alone.
+NO_BOUNDS = "no program prints bounds here: all numbers are those of afdx bounds, which no proof covers"
 
 
 def version_text() -> str:
@@ -34,6 +39,9 @@ def by_tool(name: str, words: list[str]) -> int:
     tool = help_texts.OF_TOOLS[name]
     if asks_for_help(words) and name in help_texts.RUN_IT:
         files.say(f"{help_texts.OF_CHOICE}\n")
+    if asks_for_help(words) and name == "outages":
+        files.write_out(help_of_outages())
+        return 0
     asks = asks_for_help(words) or not words
     # At the end of the options, since it may have a value.
     end = words.index("--") if "--" in words else len(words)
@@ -43,8 +51,21 @@ def by_tool(name: str, words: list[str]) -> int:
         words, status = with_program(words)
         if status:
             return status
+    elif name == "bounds" and not asks:
+        words = with_bounds(words)
     sys.argv = [f"afdx {name}", *words]
     return importlib.import_module(tool.module).main()
+
+
+def with_bounds(words: list[str]) -> list[str]:
+    """The words of `afdx bounds`, with the program whose numbers it prints if there is one."""
+    words, by = taken_out(words, "--by")
+    words, path = taken_out(words, "--program")
+    if any(word.split("=")[0] in ("--proved", "--fit") for word in words):
+        return words if path is None else ["--program", path, *words]
+    it = for_bounds(by, path)
+    report(it.says if it else NO_BOUNDS)
+    return ["--program", it.path, *words] if it and it.path else words
 
 
 def with_program(words: list[str]) -> tuple[list[str], int]:
@@ -84,12 +105,18 @@ def completion(arguments: list[str]) -> int:
     return 0
 
 
+def asks_for_version(words: list[str]) -> bool:
+    """Whether --version is among the words, alone or behind a command."""
+    before = words[: words.index("--")] if "--" in words else words
+    return "--version" in before and (words[0] == "--version" or words[0] in help_texts.commands())
+
+
 def answer(words: list[str]) -> int:
     """Does what the words say, and answers the status."""
     if words[:1] in (["--help"], ["-h"], ["help"]):
         files.write_out(help_texts.help_text())
         return 0
-    if words[:1] == ["--version"]:
+    if asks_for_version(words):
         files.write_out(version_text())
         return 0
     # What is said of the program may also stand before the command.

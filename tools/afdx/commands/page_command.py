@@ -7,10 +7,11 @@ import tempfile
 from typing import BinaryIO
 
 from afdx import files, model
-from afdx.commands.chosen_program import chosen, ended, foresee, taken_out, write
+from afdx.commands.chosen_program import chosen, ended, for_bounds, foresee, taken_out, write
 from afdx.files import program, watch
 from afdx.files.program import NoProgram
 from afdx.reckon import output_sizes
+from afdx.reckon.limits import limits_of
 from afdx.runs import by_rt
 from afdx.runs.by_rt import report
 
@@ -38,7 +39,15 @@ def page_words(arguments: list[str]) -> tuple[argparse.Namespace, list[str]]:
     words, more = parser.parse_known_args(["NET", *options] if names else options)
     words.net, words.tables = [*map(no_option, names), None, None][:2] if names else (words.net, None)
     words.no_bounds = words.no_bounds or any(word.split("=")[0] == "--bounds" for word in more)
+    if not words.tables:
+        for name in OF_TABLES:
+            if any(len(option := word.split("=")[0]) > 3 and name.startswith(option) for word in more):
+                parser.error(f"{name} is of tables that are there already, and the page makes its own: name TABLES behind NET")
     return words, more
+
+
+# What belongs to tables of an earlier run.
+OF_TABLES = ("--trace", "--made-by")
 
 
 def names_and_options(arguments: list[str]) -> tuple[list[str], list[str]]:
@@ -77,12 +86,15 @@ def page(arguments: list[str]) -> int:
     files.ready(list(filter(None, outputs)))
     if status := explained(words.net):
         return status
+    if limits := taken_out(more, "--limits")[1]:
+        # Before the run, which may take long.
+        limits_of(limits, model.Network(words.net))
     it = None if words.tables else chosen(words.by, words.program)
     if it:
         report(it.says)
     with tempfile.TemporaryDirectory(prefix="afdx-page-") as folder:
         tables, trace, bounds = (os.path.join(folder, name) for name in ("tables.csv", "trace.csv", "bounds.csv"))
-        reckoning = None if words.no_bounds else subprocess.Popen(program.command("bounds", words.net, "-o", bounds))
+        reckoning = None if words.no_bounds else reckoning_of(words, bounds)
         try:
             status = simulate(it, words.net, tables, trace) if it else 0
         except BaseException:
@@ -101,6 +113,14 @@ def page(arguments: list[str]) -> int:
         tables = linked_tables(words.tables, folder) if words.tables else "tables.csv"
         command = program.command("report", linked(words.net, folder), tables, "-o", os.path.abspath(words.output), *more)
         return subprocess.run(command, cwd=folder).returncode
+
+
+def reckoning_of(words: argparse.Namespace, output: str) -> subprocess.Popen[bytes]:
+    """The process that computes the bounds, with the numbers of the program if there is one."""
+    it = for_bounds(words.by, words.program)
+    named = ["--program", it.path] if it and it.path else []
+    command = [sys.executable, "-m", "afdx.commands.bounds", words.net, "-o", output, *named]
+    return subprocess.Popen(command, env=program.environment())
 
 
 def linked_tables(path: str, folder: str) -> str:

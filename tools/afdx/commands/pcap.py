@@ -18,7 +18,7 @@ from typing import Any, NamedTuple
 
 from afdx import files, model
 from afdx.files import Fault, program
-from afdx.model import judge
+from afdx.model import description_faults
 from afdx.runs.plain_simulator import Frame, Simulation
 from afdx.runs.second_opinion import small_enough
 
@@ -231,7 +231,7 @@ def words_of(arguments: list[str] | None) -> argparse.Namespace:
 @files.tool("afdx pcap")
 def main(arguments: list[str] | None = None) -> None:
     words = words_of(arguments)
-    description = judge.accepted(words.net)
+    description = description_faults.accepted(words.net)
     found = model.lines_of(words.trace, [model.TRACE_HEAD], "a trace")
     files.ready([words.output])
     simulation = KINDS[words.each](small_enough(description))

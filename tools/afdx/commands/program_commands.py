@@ -8,7 +8,7 @@ from afdx.commands import help_texts
 from afdx.commands.chosen_program import Mistake, asks_for_help, chosen, ended, foresee, taken_out, write
 from afdx.files import program
 from afdx.files.program import NoProgram
-from afdx.model import judge
+from afdx.model import description_faults
 from afdx.runs import by_rt
 from afdx.runs.by_rt import report
 
@@ -74,24 +74,28 @@ def by_program(name: str, words: list[str]) -> int:
 
 def check_by_opinion(words: list[str], read: list[int]) -> int:
     """Judges a description as `afdxsim check` does, by afdx explain, and answers the status."""
-    if len(read) < 1 or len(words) > 1 + ("--" in words):
-        raise Mistake(f"usage: afdx check {help_texts.OF_PROGRAM['check'].usage}")
+    if len(read) < 1:
+        raise Mistake(f"check of which description? afdx check {help_texts.OF_PROGRAM['check'].usage}")
+    if rest := [word for i, word in enumerate(words) if i not in read and word != "--"]:
+        raise Mistake(f"check reads one description, and {rest[0]!r} is a word more: afdx check {help_texts.OF_PROGRAM['check'].usage}")
     path = words[read[0]]
     try:
         text = files.text_of(path)
     except files.Fault as fault:
         print("afdxsim: description: 1 Syntax" if fault.line else f"afdxsim: cannot read {files.printable(path)}", file=sys.stderr)
         return 3 if fault.line else 4
-    found, description = judge.findings_of(path, text)
+    found, description = description_faults.findings_of(path, text)
     if found:
-        print(f"afdxsim: description: {judge.answer(found[0])}", file=sys.stderr)
+        print(f"afdxsim: description: {description_faults.answer(found[0])}", file=sys.stderr)
         return 3
-    net = model.Network(path, text, description)
-    offers = sum(
-        model.count_of_offers(net.seed, vl.id, vl.offset_ns, vl.period_ns, vl.jitter_ns, net.until_ns) for vl in net.vls.values()
-    )
-    files.say(f"ok: {len(net.process)} processes, {len(net.vls)} virtual links, {offers} offers")
+    files.say(said_if_accepted(model.Network(path, text, description)))
     return 0
+
+
+def said_if_accepted(net: model.Network) -> str:
+    """What the program prints of a description that it accepts."""
+    offers = sum(model.count_of_offers(net.seed, it, net.until_ns) for vl in net.vls.values() for it in vl.streams)
+    return f"ok: {len(net.process)} processes, {len(net.vls)} virtual links, {offers} offers"
 
 
 def help_of_program(name: str, words: list[str], path: str | None) -> int:

@@ -19,7 +19,7 @@ import sys
 from afdx import files, model
 from afdx.page.given import Given, given_by
 from afdx.page.html_page import Page
-from afdx.reckon import limits
+from afdx.reckon import junit, margins
 
 EXAMPLES = """
 examples:
@@ -57,9 +57,10 @@ what the numbers are:
               bits in each max(BAG, period). 100 % is all that the link carries; above it frames are lost or late
   mean        the sum of the latencies / their number, to the nearest ns
   percentile  the least latency that this percentage of the frames does not exceed (the nearest rank)
-  bound       of afdx bounds: a bound of this model, computed outside the proofs
+  bound       the greatest latency that can be: by the program (afdxsim bounds) where the file of bounds has its number.
+              Else by afdx bounds: a bound of this model, computed outside the proofs. The page says which
   margin      the limit less the bound; if no bounds are given, less the greatest latency. Red is a limit below the
-              greatest latency, amber one below the bound, or one without a bound
+              greatest latency, amber one below the bound, or one without a bound. The worst verdict comes first
   ten frames  fewer show little. For such a destination the page states how long the run must be for ten
 
 status: 0; 1 if a latency is above its bound, or a limit is broken (with --strict also if one is below its bound, or
@@ -115,9 +116,9 @@ def report_above(given: Given) -> bool:
     """Prints the latencies above their bounds, and returns whether there are any."""
     bounds = given.bounds
     above = bounds.above(given.tables.latencies) if bounds else []
-    for row in above[:MOST_PRINTED]:
-        assert bounds is not None
-        text = f"virtual link {row.vl} at {row.where} took {row.greatest} ns, and its bound is {bounds.of[row.vl, row.where].ns} ns"
+    for row, bound, by in above[:MOST_PRINTED]:
+        of = f" by {margins.IN_WORDS[by]}," if by else ""
+        text = f"virtual link {row.vl} at {row.where} took {row.greatest} ns, and its bound{of} is {bound} ns"
         files.report("afdx report", f"{text}: one of the two is wrong")
     if len(above) > MOST_PRINTED:
         files.report("afdx report", f"so are {len(above) - MOST_PRINTED:,} more latencies above their bounds")
@@ -133,16 +134,15 @@ def main(arguments: list[str] | None = None) -> int:
     outputs: list[str] = list(filter(None, [words.output, words.junit]))
     files.ready(outputs, prints=bool(words.limits))
     given = given_by(words)
-    margins = list(given.margins.values())
+    held = list(given.margins.values())
     files.judge(outputs, prints=bool(words.limits))
     files.write_pieces(words.output, (piece.encode("utf-8", "backslashreplace") for piece in Page(given).pieces()))
     if words.junit:
-        text = limits.junit_text(margins, words.strict, os.path.basename(words.net))
-        files.write_whole(words.junit, text)
+        files.write_whole(words.junit, junit.text_of(held, words.strict, os.path.basename(words.net), given.names))
     if words.limits:
-        files.write_out(limits.margins_text(margins))
+        files.write_out(margins.text_of(held, given.names))
     is_above = report_above(given)
-    return 1 if is_above or limits.has_failed(margins, words.strict) else 0
+    return 1 if is_above or margins.has_failed(held, words.strict) else 0
 
 
 if __name__ == "__main__":

@@ -13,7 +13,8 @@ AnyRows = Mapping[str, Iterable[Any]]
 
 class Column(NamedTuple):
     """A column of a table of the page: where its values stand, how they look, its name and unit, what more there is to know
-    of it, where it stands how a cell is marked, and where the numbers stand by which its rows are sorted, if not in itself."""
+    of it, where it stands how a cell is coloured, where the numbers stand by which its rows are sorted, if not in itself, and
+    where it stands which numbers are by another program and so have a mark."""
 
     key: str
     look: str
@@ -22,6 +23,7 @@ class Column(NamedTuple):
     hint: str = ""
     tone: str = ""
     order: str = ""
+    mark: str = ""
 
     def data(self) -> dict[str, str]:
         """The column as the script has it: what is empty is left out."""

@@ -1,4 +1,5 @@
 """What changed from one run to another: latencies and losses, bounds, and what the two descriptions say."""
+from collections import Counter
 from fractions import Fraction
 from typing import Any
 
@@ -63,17 +64,19 @@ def differences(before: model.Network, now: model.Network) -> list[tuple[str, ..
 
 
 def named_rows(net: model.Network, section: str) -> dict[str, dict[str, Any]]:
-    """The rows of a section by what they are called. Outages of one line are named by their numbers."""
+    """The rows of a section by what they are called. Outages of one line, and streams of one virtual link, have numbers."""
     if section == "top":
         return {"the run": net.description.tree}
     found: dict[str, dict[str, Any]] = {}
+    seen: Counter[str] = Counter()
     for row in net.description.rows(section):
         name = {
             "node": lambda: f"node {row['name']}", "vl": lambda: f"virtual link {row['id']}",
             "link": lambda: f"link {'-'.join(sorted((row['a'], row['b'])))}", "outage": lambda: f"outage {row['from']}>{row['to']}",
+            "stream": lambda: f"stream of virtual link {row['vl']}",
         }[section]()
-        number = sum(other == name or other.startswith(name + ", ") for other in found)
-        found[name if not number else f"{name}, number {number + 1}"] = row
+        seen[name] += 1
+        found[name if seen[name] == 1 else f"{name}, number {seen[name]}"] = row
     return found
 
 

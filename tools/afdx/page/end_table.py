@@ -1,19 +1,18 @@
 """What the page has of each virtual link at each destination, column by column."""
 from array import array
-from collections import defaultdict
+from collections import Counter, defaultdict
 from collections.abc import Iterator, Sequence
 from typing import Any
 
 from afdx.files.page_text import mean_ns, one_or_range, round_up
-from afdx.model import Latency, VirtualLink
+from afdx.model import Latency, Network, Stream, VirtualLink
+from afdx.model.traces import Came
+from afdx.page import limit_columns
 from afdx.page.columns import BAD, WARN
 from afdx.page.given import Given
-from afdx.reckon import limits
 from afdx.reckon.frames import End, Way, ways_of
 from afdx.runs.campaign_record import PERCENTS
 
-# Stands for the margin of a limit without a bound where margins are sorted.
-NO_BOUND = -(2**53)
 # Fewer frames than this show little of a destination.
 FEW = 10
 # This many frames or more have a histogram; fewer are drawn one by one.
@@ -60,18 +59,44 @@ class Numbers(Sequence):
         return len(self.kept)
 
 
+class Messages:
+    """The messages of virtual links that have bursts. What is offered at one moment is one message; it came whole where as many frames
+    came as were offered then."""
+
+    def __init__(self, net: Network) -> None:
+        self.net = net
+        self.known: tuple[int, Counter[int]] = (-1, Counter())
+
+    def offered(self, vl: VirtualLink) -> Counter[int]:
+        """How many frames are offered at each moment. Those of one virtual link are asked for one after another."""
+        if self.known[0] != vl.id:
+            self.known = vl.id, Counter(it.moment for it in self.net.offers(vl))
+        return self.known[1]
+
+    def of(self, vl: VirtualLink, came: Came | None) -> tuple[int | None, int | None]:
+        """How many messages are offered, and how many of them came whole; None where there are no bursts."""
+        if all(it.frames == 1 for it in vl.streams):
+            return None, None
+        offered, found = self.offered(vl), came.by_moment() if came else Counter()
+        return len(offered), sum(found[moment] >= count for moment, count in offered.items())
+
+
 class EndTable:
     """What the page shows of each virtual link at each destination, column by column."""
 
     def __init__(self, given: Given) -> None:
         self.given = given
         # Without a row each column is empty.
-        self.columns: defaultdict[str, Numbers | list[Any]] = defaultdict(Numbers)
+        self.columns: defaultdict[str, Any] = defaultdict(Numbers)
         worst = sorted(given.tables.latencies.values(), key=lambda row: -row.greatest)[:MOST_HISTOGRAMS]
         self.drawn = {(row.vl, row.where) for row in worst}
+        has_bursts = any(it.frames > 1 for vl in given.net.vls.values() for it in vl.streams)
+        self.messages = Messages(given.net) if given.trace and has_bursts else None
         for key, row in given.tables.latencies.items():
             for name, value in self.of(key, row):
                 self.add(name, value)
+        if given.margins:
+            self.columns["verdict_order"] = limit_columns.order_of(given)
 
     def add(self, name: str, value: Any) -> None:
         column = self.columns.setdefault(name, Numbers())
@@ -84,19 +109,25 @@ class EndTable:
         is_there = row.count > 0
         copies = given.tables.losses.get((*key, "duplicate"))
         yield from (("vl", row.vl), ("where", row.where), ("count", row.count))
+        if given.names.vls:
+            yield "named", given.names.name(row.vl)
         yield "copies", copies.count if copies else 0
         yield from (("least", row.least if is_there else None), ("mean", mean_ns(row) if is_there else None))
         yield "greatest", row.greatest if is_there else None
         yield "spread", row.greatest - row.least if is_there else None
-        yield from (("bag", vl.bag_ns), ("jitter", vl.jitter_ns), ("policing", vl.policing_ns))
+        yield from (("bag", vl.bag_ns), ("jitter", max(it.jitter_ns for it in vl.streams)), ("policing", vl.policing_ns))
         needed = self.needed_ns(vl, row)
         yield from (("few", WARN if row.count < FEW else 0), ("needed", needed))
         if given.tables.merged:
             yield "seed", row.seed
         if given.ends:
             yield from self.of_end(given.ends.of[key])
-        if given.margins or given.bounds:
-            yield from self.of_limit(key, vl, row)
+        if given.margins:
+            yield from limit_columns.of_limit(given.margins.get(key))
+        if given.bounds:
+            yield from limit_columns.of_bounds(given, given.bounds, key, vl, row)
+        if self.messages and given.trace:
+            yield from zip(("messages", "whole"), self.messages.of(vl, given.trace.came.get(key)))
         if given.trace:
             rising = given.trace.rising(key)
             for percent in PERCENTS:
@@ -113,8 +144,15 @@ class EndTable:
             return None
         ways = (Way(self.given.net, vl, path) for path in ways_of(vl, row.where).values())
         latency = row.greatest if row.count else min(way.arrival for way in ways)
-        needed = vl.offset_ns + vl.jitter_ns + (FEW - 1) * max(vl.period_ns, vl.bag_ns) + latency
+        needed = min(self.comes_by(vl, it) for it in vl.streams) + latency
         return round_up(needed) if needed > self.given.net.until_ns else None
+
+    @staticmethod
+    def comes_by(vl: VirtualLink, stream: Stream) -> int:
+        """When ten frames of a stream have left the source at the latest, if nothing else waits there."""
+        bursts = -(-FEW // stream.frames) - 1
+        late = stream.jitter_ns * (bursts + 1 if stream.is_sporadic else 1)
+        return stream.offset_ns + late + max(bursts * stream.period_ns, (FEW - 1) * vl.bag_ns)
 
     @staticmethod
     def of_end(end: End) -> Iterator[tuple[str, Any]]:
@@ -124,21 +162,3 @@ class EndTable:
         yield "why", end.why
         for side in "AB":
             yield "lost" + side, one_or_range(end.lost[side]) if side in end.lost else None
-
-    def of_limit(self, key: tuple[int, str], vl: VirtualLink, row: Latency) -> Iterator[tuple[str, Any]]:
-        bounds, margin = self.given.bounds, self.given.margins.get(key)
-        found = bounds.of[key] if bounds else None
-        yield from (("limit", margin.limit.ns if margin else None), ("bound", found.ns if found else None))
-        yield "margin", margin.ns() if margin else None
-        # A limit without a bound stands before all margins.
-        yield "margin_order", (NO_BOUND if margin.has_bound and margin.bound is None else margin.ns()) if margin else None
-        yield "limit_tone", {limits.BROKEN: BAD, limits.BELOW: WARN}.get(margin.verdict(), 0) if margin else 0
-        if bounds:
-            is_above = found.ns is not None and row.count and row.greatest > found.ns
-            yield from (("bound_tone", BAD if is_above else 0), ("skew", found.skew_ns))
-            if bounds.has_proved():
-                proved = bounds.proved(*key)
-                is_above = proved is not None and row.count and row.greatest > proved
-                yield from (("proved", proved), ("proved_tone", BAD if is_above else 0))
-            yield from (("sure", " and ".join(found.sure) or "neither"), ("sure_tone", 0 if found.sure else WARN))
-            yield from (("skew_max", vl.skew_ns), ("skew_tone", WARN if found.may_be_twice else 0))

@@ -8,8 +8,9 @@ from afdx import files, model
 from afdx.files import cut
 from afdx.files.page_text import counted
 from afdx.model import Network, Tables
+from afdx.model.document_names import DocumentNames
 from afdx.model.traces import Trace
-from afdx.reckon import bounds_file, frames, hops, limits, transmit_jitter
+from afdx.reckon import bounds_file, frames, hops, limits, margins, transmit_jitter
 from afdx.reckon.frames import Ends
 from afdx.runs import campaign_record
 
@@ -24,16 +25,17 @@ class Other(NamedTuple):
 
 class Given(NamedTuple):
     """What a page is made of. `ends` is what became of all frames, if it can be known. `margins` has those of the destinations
-    with a limit, the least first, and `files` all files that the page is made of. `way` has what was measured on the way and its
+    with a limit, by verdict and then the least first, and `files` all files that the page is made of. `way` has what was measured on the way and its
     bounds, and is None if there is neither. `percentiles` has those of all frames of merged tables if their campaign has counted
-    each latency. `transmit` has what is known of the transmit jitter of end systems."""
+    each latency. `transmit` has what is known of the transmit jitter of end systems, and `names` what the document
+    calls virtual links and nodes."""
 
     net: Network
     tables: Tables
     trace: Trace | None
     percentiles: dict[tuple[int, str], list[int] | None] | None
     ends: Ends | None
-    margins: dict[tuple[int, str], limits.Margin]
+    margins: dict[tuple[int, str], margins.Margin]
     bounds: bounds_file.Bounds | None
     other: Other | None
     way: hops.OnTheWay | None
@@ -41,6 +43,9 @@ class Given(NamedTuple):
     files: list[str]
     made_by: str | None
     date: str | None
+    # Whether limits are compared with the bounds that hold whatever other end systems send.
+    by_contract: bool
+    names: DocumentNames
 
 
 class Runs(NamedTuple):
@@ -110,7 +115,7 @@ def given_by(words: argparse.Namespace) -> Given:
         raise files.Fault(words.trace, None, f"is the trace of one run, and {tables.path} has the tables of several")
     trace = Trace(words.trace, tables) if words.trace else None
     bounds = bounds_file.Bounds(words.bounds, net) if words.bounds else None
-    held = limits.margins_of(limits.limits_of(words.limits, net), tables.latencies, bounds) if words.limits else []
+    held = margins.margins_of(limits.limits_of(words.limits, net), net, tables.latencies, bounds) if words.limits else []
     measured = hops.Hops(words.hops, tables) if words.hops else None
     way = hops.OnTheWay(net, measured, bounds.of_kind if bounds else None, tables.latencies) if measured or bounds else None
     other = None
@@ -121,10 +126,10 @@ def given_by(words: argparse.Namespace) -> Given:
     made_of = [net.path, tables.path, words.trace, words.limits, words.bounds, words.hops]
     made_of += [words.against, words.against_net, words.against_bounds]
     made_by = words.made_by or (f"{found.program.in_words()}, as their campaign says" if found else None)
-    margins = {(it.limit.vl, it.limit.where): it for it in held}
+    by_place = {(it.limit.vl, it.limit.where): it for it in held}
     percentiles = campaign_record.percentiles(found, tables) if tables.merged else None
     made_of += [os.path.join(os.path.dirname(tables.path), campaign_record.GREATEST)] if percentiles else []
     ends, made_of = ends_of(words, tables, found, trace), list(filter(None, made_of))
     of_delay = lambda found: found and (lambda vl, line: found("delay", vl, line))
     transmit = transmit_jitter.TransmitJitter(net, of_delay(measured and measured.greatest), of_delay(bounds and bounds.of_kind))
-    return Given(net, tables, trace, percentiles, ends, margins, bounds, other, way, transmit, made_of, made_by, words.date)
+    return Given(net, tables, trace, percentiles, ends, by_place, bounds, other, way, transmit, made_of, made_by, words.date, margins.by_contract(net, bounds), DocumentNames(net))

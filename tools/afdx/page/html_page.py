@@ -8,7 +8,8 @@ from typing import Any
 from afdx import files, model
 from afdx.files import program
 from afdx.files.page_text import counted, esc, hundredths, span
-from afdx.page import comparison_panels, json_text, loss_panels, panels, worst_case_panels
+from afdx.model import offered_rates
+from afdx.page import comparison_panels, json_text, latency_panel, loss_panels, panels, worst_case_panels
 from afdx.page.columns import WARN, AnyRows, Column, Rows
 from afdx.page.drawing import heat
 from afdx.page.end_table import BARS, ENOUGH_FOR_BARS, EndTable
@@ -20,9 +21,9 @@ from afdx.runs.campaign_record import PERCENTS
 # Of more lines of latencies the data of a page is packed. Browsers have what unpacks it since 2023.
 MOST_PLAIN = 20_000
 
-# What the page shows of a virtual link itself.
-FACTS = ["id", "source", "bag_ns", "period_ns", "offset_ns", "jitter_ns", "size", "smax", "priority", "policing"]
-FACTS += ["policing_ns", "skew_ns", "depth", "sub"]
+# What the page shows of a virtual link itself, and of its own stream.
+FACTS = ["id", "source", "bag_ns", "smax", "priority", "policing", "policing_ns", "skew_ns", "depth", "sub"]
+OF_STREAM = ["size", "period_ns", "offset_ns", "jitter_ns"]
 
 
 def part_of_page(name: str) -> str:
@@ -55,12 +56,13 @@ class Page:
 
     def grid(
         self, name: str, columns: list[Column], sort: str, rows: str | Rows = "ends", only: list[int] | None = None,
-        what: str = "lines", up: bool = False,
+        what: str = "lines", up: bool = False, always: int = 0,
     ) -> str:
         """A table: its columns, the one by which it is sorted, the greatest first or (`up`) the least, and where its values
-        stand. It has all rows, or those of these numbers alone."""
+        stand. It has all rows, or those of these numbers alone, and of many shows the first ten, or as many as are `always` shown."""
         spec: dict[str, Any] = {"name": name, "columns": [it.data() for it in columns], "sort": sort, "rows": rows, "what": what}
         spec |= {"up": True} if up else {}
+        spec |= {"always": always} if always else {}
         self.grids.append(spec if only is None else spec | {"only": only})
         return f'<div class="grid" id="grid-{name}"></div>'
 
@@ -93,13 +95,16 @@ class Page:
             }
             if self.is_packed():
                 paths = {side: list(json_text.after_the_one_before(found)) for side, found in paths.items()}
-            row = {key: getattr(vl, key) for key in FACTS}
+            row = {key: getattr(vl, key) for key in FACTS} | {key: getattr(vl.own, key) for key in OF_STREAM}
+            if not vl.is_plain():
+                row |= {"sends": float(offered_rates.bytes_by_ns(vl, model.BYTES_BETWEEN_FRAMES) * 800_000), "streams": [it[3:] for it in vl.streams]}
             lost = [[it.where, loss_panels.side_of(self, it), it.cause, it.count] for it in self.lost.get(vl.id, ())]
-            yield row | {"paths": paths, "lost": lost}
+            named = self.given.names.vls.get(vl.id)
+            yield row | {"paths": paths, "lost": lost} | ({"named": named} if named else {})
 
     def axis(self) -> tuple[int, int]:
         """From which to which power of ten the axis of all latencies goes, in ns."""
-        values = [ns for vl in self.net.vls.values() for ns in (vl.bag_ns, vl.jitter_ns, vl.policing_ns)]
+        values = [ns for vl in self.net.vls.values() for ns in (vl.bag_ns, *(it.jitter_ns for it in vl.streams), vl.policing_ns)]
         for name in ("least", "greatest", "limit", "bound"):
             values += [ns for ns in self.ends.get(name, ()) if ns]
         values = [max(1000, ns) for ns in values if ns] or [1000]
@@ -113,7 +118,7 @@ class Page:
         return {
             "ends": self.ends, "lines": self.lines(), "nodes": list(self.ends_of.values()), "vls": self.virtual_links(),
             "grids": self.grids, "low": low, "high": high, "percents": PERCENTS, "bars": BARS,
-            "enough": ENOUGH_FOR_BARS, "packed": self.is_packed(), **self.rows,
+            "enough": ENOUGH_FOR_BARS, "packed": self.is_packed(), "named": self.given.names.nodes, **self.rows,
         }
 
     def pack(self) -> None:
@@ -137,7 +142,9 @@ class Page:
 
     def parts(self) -> list[str]:
         given = self.given
-        found = [panels.network(self), panels.end_to_end(self), panels.latency(self)]
+        found = [panels.network(self), panels.end_to_end(self)]
+        # Verdicts come first.
+        found.insert(0 if given.margins else 2, latency_panel.latency(self))
         found += [worst_case_panels.worst_case(self, given.bounds, given.way)] if given.bounds and given.way else []
         found += [worst_case_panels.on_the_way(self, given.way)] if given.way else []
         found += [worst_case_panels.transmit_jitter(self)]
@@ -154,7 +161,8 @@ class Page:
         yield (
             f'<!DOCTYPE html>\n<html lang="en"><head><meta charset="utf-8"><title>{esc(name)} – afdxsim</title>\n'
             f'<meta name="viewport" content="width=device-width,initial-scale=1"><style>\n{part_of_page("report.css")}</style></head>\n'
-            f"<body><main><header><h1>{esc(name)}</h1><p>{self.words()}</p><nav>{links}</nav></header>\n"
+            f"<body><main><header><h1>{esc(name)}</h1><p>{self.words()}</p>\n"
+            f'<p class="made">{self.who()} <span id="printed"></span></p><nav>{links}</nav></header>\n'
             "<noscript><p>The tables of this page are drawn by its script, which may not run here.</p></noscript>\n"
             f"{tiles(self.given, self.ends)}\n" + "\n".join(parts) + f"\n<footer>{self.foot()}</footer></main>\n"
         )
@@ -178,20 +186,24 @@ class Page:
             return words + "Several runs, merged: counts are those of all runs together."
         return words + f"One run of {span(net.until_ns)} with the seed {net.seed}."
 
-    def foot(self) -> str:
-        """What the page is made of, and who made that: a date stands there where it is given, so the same words make the
-        same page."""
+    def who(self) -> str:
+        """Who made what the page is made of, and a date where it is given: the same words make the same page."""
         given = self.given
         by = f"The tables are by {esc(given.made_by)}." if given.made_by else "Nothing says who made the tables (--made-by)."
         by += f" The bounds are by {esc(given.bounds.made_by)}." if given.bounds and given.bounds.made_by else ""
-        by += f" This page is by {esc(program.tool('report').in_words())}."
-        date = f" {esc(given.date)}." if given.date else ""
-        return f"{self.made_of()} {by} Description: SHA-256 {model.checksum(self.net.text)}..{date}"
+        return by + (f" {esc(given.date)}." if given.date else "")
+
+    def foot(self) -> str:
+        """What the page is made of, and who made that."""
+        by = f"{self.who()} This page is by {esc(program.tool('report').in_words())}."
+        return f"{self.made_of()} {by} Description: SHA-256 {model.checksum(self.net.text)}.."
 
     def made_of(self) -> str:
         given = self.given
         runs = "these runs" if self.tables.merged else "this run"
         said = f"Made of {esc(', '.join(map(files.printable, given.files)))}. It shows what happened in {runs}"
+        if given.bounds and given.bounds.is_by_both():
+            return said + ". Bounds hold for this model; which of them the program prints stands with the latencies."
         if given.bounds:
             return said + ". Bounds are bounds of this model, computed outside the proofs."
         return said + ", and is no bound on what can happen."

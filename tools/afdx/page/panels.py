@@ -27,7 +27,7 @@ class OfPage(Protocol):
 
     def grid(
         self, name: str, columns: list[Column], sort: str, rows: str | Rows = "ends", only: list[int] | None = None,
-        what: str = "lines", up: bool = False,
+        what: str = "lines", up: bool = False, always: int = 0,
     ) -> str: ...
 
 
@@ -73,11 +73,16 @@ def network(page: OfPage) -> str:
 
 def outages(page: OfPage) -> str:
     found = sorted(page.net.outages, key=lambda it: it.from_ns - it.to_ns)
-    columns = [Column("line", "line", "line"), Column("from", "ms", "out from", "ms")]
-    columns += [Column("to", "ms", "to", "ms"), Column("for", "ms", "for", "ms")]
+    columns = [Column("line", "line", "line"), time_column("from", "out from"), time_column("to", "to"), time_column("for", "for")]
     rows: dict[str, list[Any]] = {"line": [it.line for it in found], "from": [it.from_ns for it in found]}
     rows |= {"to": [it.to_ns for it in found], "for": [it.to_ns - it.from_ns for it in found]}
     return page.grid("outages", columns, "for", rows)
+
+
+def of_virtual_link(page: OfPage) -> list[Column]:
+    """The columns that say which line it is, with the name that the document has for the virtual link if it has any."""
+    named = [Column("named", "words", "name", hint="as the document calls it")] if page.given.names.vls else []
+    return [VL_COLUMN, *named, DESTINATION_COLUMN]
 
 
 def end_to_end(page: OfPage) -> str:
@@ -89,8 +94,7 @@ def end_to_end(page: OfPage) -> str:
         return panel("ends", "End to end", words)
     wide = "range_of_counts"
     columns = [
-        VL_COLUMN,
-        DESTINATION_COLUMN,
+        *of_virtual_link(page),
         count_column("offered", "offered", "offered by the application until the end, drawn anew"),
         DELIVERED_COLUMN,
         count_column("under_way", "under way", "not delivered yet at the end, and may still come", look=wide),
@@ -102,9 +106,12 @@ def end_to_end(page: OfPage) -> str:
         hint = f"on the way by network {side}, or refused at the destination"
         columns.append(count_column("lost" + side, "lost on " + side, hint, unit="copies", look=wide))
     columns.append(COPIES_COLUMN)
+    if any(page.ends["messages"]):
+        columns.append(count_column("messages", "messages", "moments at which frames were offered, of a virtual link with bursts", unit="offered"))
+        columns.append(count_column("whole", "whole", "messages of which as many frames came as were offered at that moment", unit="messages"))
     if any(page.ends["needed"]):
         hint = "how long a run must be to bring ten frames"
-        columns.append(Column("needed", "ms", "ten frames take", "ms", hint))
+        columns.append(time_column("needed", "ten frames take", hint))
     if any(page.ends["why"]):
         columns.append(Column("why", "words", "why it is open", hint="if missing is a range"))
     words = (
@@ -115,70 +122,19 @@ def end_to_end(page: OfPage) -> str:
 
 
 def by_trouble(ends: Ends) -> list[int]:
-    """The destinations, those first that lack most: frames, copies, or enough frames to show anything."""
+    """The destinations, those first that lack most: frames, copies, or enough frames to show anything; and those last to which
+    nothing was sent."""
     found = []
     for i, end in enumerate(ends.of.values()):
         lost = sum(count.least for count in end.lost.values())
-        found.append((-end.missing.least, -lost, min(FEW, end.delivered), i))
+        found.append((-end.missing.least, -lost, not end.offered, min(FEW, end.delivered), i))
     return [i for *_, i in sorted(found)]
-
-
-def latency(page: OfPage) -> str:
-    bounds = page.given.bounds
-    has_limits, has_bounds = bool(page.given.margins), bounds is not None
-    columns = [
-        VL_COLUMN,
-        DESTINATION_COLUMN,
-        Column("greatest", "range", "range"),
-        time_column("least", "least"),
-        time_column("mean", "mean"),
-        time_column("greatest", "greatest"),
-        time_column("spread", "spread", "greatest less least"),
-    ]
-    if has_limits:
-        columns.append(time_column("limit", "limit", "", "limit_tone"))
-    if has_bounds:
-        columns.append(time_column("bound", "bound", "a bound of this model, computed outside the proofs", "bound_tone"))
-    if bounds and bounds.has_proved():
-        hint = "the bound that the program prints: proved to be the number of the formula in docs/BOUNDS.md"
-        columns.append(time_column("proved", "bound by the program", hint, "proved_tone"))
-    if has_limits:
-        hint = "the limit less " + ("the bound" if has_bounds else "the greatest")
-        columns.append(time_column("margin", "margin", hint, "limit_tone")._replace(order="margin_order"))
-    closer = "policing_jitter_ns: how much closer than a BAG frames may come to a switch"
-    columns += [
-        Column("bag", "bag", "BAG", "ms"),
-        time_column("jitter", "jitter", "jitter_ns: how late the application may offer a frame"),
-        time_column("policing", "policing jitter", closer),
-        DELIVERED_COLUMN,
-        COPIES_COLUMN,
-    ]
-    if page.tables.merged:
-        columns.append(seed_column("the seed whose run gave the greatest latency"))
-    words = (
-        "From the offer of the application until the frame is whole at the destination, with the wait in the "
-        "regulator. Each step of the axis is ten times the one before."
-    )
-    marks = marks_of_ranges(has_limits, has_bounds)
-    # Where there are limits, the least margin comes first.
-    grid = page.grid("latencies", columns, "margin", up=True) if has_limits else page.grid("latencies", columns, "greatest")
-    return panel("latency", "Latencies", words, marks, grid)
-
-
-def marks_of_ranges(has_limits: bool, has_bounds: bool) -> str:
-    marks = [("range", "least to greatest"), ("range late", "the same, where the greatest is above the BAG")]
-    marks += [("dot", "mean"), ("bag", "BAG"), ("jit", "jitter of the offers"), ("pol", "policing jitter")]
-    if has_limits:
-        marks.append(("limit", "limit; red below the greatest" + (", amber below the bound" if has_bounds else "")))
-    if has_bounds:
-        marks.append(("bound", "worst-case bound of this model, computed outside the proofs"))
-    return legend(*marks)
 
 
 def distribution(page: OfPage) -> str:
     drawn = [Column("histogram", "histogram", "histogram")] if page.given.trace else []
     percents = [time_column(f"p{it}", f"{it}th", f"{it} % of the frames took no longer") for it in PERCENTS]
-    columns = [VL_COLUMN, DESTINATION_COLUMN, *drawn, *percents, time_column("greatest", "greatest"), DELIVERED_COLUMN]
+    columns = [*of_virtual_link(page), *drawn, *percents, time_column("greatest", "greatest"), DELIVERED_COLUMN]
     title, grid = "Distribution of the latencies", page.grid("percentiles", columns, "greatest")
     if not drawn:
         words = "Of the frames of all runs together, as the campaign has counted them: histograms.csv has each latency."

@@ -32,13 +32,9 @@ const parts = (number, unit, places) => {
   return (number < 0 ? "-" : "") + whole(Math.floor(size / unit)) + "." + String(size % unit).padStart(places, "0");
 };
 const us = ns => parts(ns, 1e3, 3);
-const ms = ns => parts(ns, 1e6, 6);
 const percent = hundredths => parts(hundredths, 100, 2);
-const span = ns => {
-  for (const [unit, name, places] of [[1e9, "s", 9], [1e6, "ms", 6], [1e3, "µs", 3]])
-    if (ns >= unit) return parts(ns, unit, places).replace(/\.?0+$/, "") + " " + name;
-  return ns + " ns";
-};
+// A time as a text has it, without zeros at its end.
+const span = ns => us(ns).replace(/\.?0+$/, "") + " µs";
 const counts = found => Array.isArray(found) ? whole(found[0]) + " to " + whole(found[1]) : whole(found);
 const counted = (count, one, many) => whole(count) + " " + (count === 1 ? one : many || one + "s");
 const toVl = (id, text) => `<a href="#vl-${id}">${text ?? id}</a>`;
@@ -106,8 +102,6 @@ const LOOKS = {
   count: {number: true, show: whole},
   range_of_counts: {number: true, show: counts},
   us: {number: true, show: us},
-  ms: {number: true, show: ms},
-  bag: {number: true, show: ns => whole(ns / 1e6)},
   percent: {number: true, show: percent},
   load: {number: true, show: percent, words: (value, i) => `style="${shade(i)}"`, more: "load"},
   heat: {number: true, show: whole, words: (value, i, grid) => value ? heat(value, grid.top) : "", none: true},
@@ -138,7 +132,7 @@ class Grid {
 
   build(place) {
     const folds = this.numbers.length > FOLD_ABOVE;
-    const asked = `<p class="asked"><button type="button" class="all"></button><label>Only
+    const asked = `<p class="asked"><span class="shown"></span><button type="button" class="all"></button><label>Only
       <input type="search" class="only" placeholder="number or name"></label></p>`;
     const head = this.columns.map(column => this.head(column)).join("");
     const wide = column => `<td class="${this.look(column)}${column.tone ? " warn" : ""}">${this.widest(column)}`;
@@ -156,6 +150,7 @@ class Grid {
     }));
     this.box.addEventListener("scroll", () => this.draw());
     this.button = place.querySelector(".all");
+    this.shown = place.querySelector(".shown");
     this.button?.addEventListener("click", () => {
       this.isAll = !this.isAll;
       this.box.scrollTop = 0;
@@ -190,9 +185,11 @@ class Grid {
   sortBy(at, down) {
     if (at >= 0) {
       const {key, order, number} = this.columns[at], values = this.rows[order ?? key];
+      // Whether those rows stand first that are always shown.
+      this.isWorstFirst = key === this.sort && !down === Boolean(this.up);
       // What is not known stands last.
       const last = down ? -Infinity : Infinity;
-      const keys = number ? values.map(value => value === null ? last : least(value)) : values;
+      const keys = number || order ? values.map(value => value === null ? last : least(value)) : values;
       const compare = (a, b) => keys[a] < keys[b] ? -1 : keys[a] > keys[b] ? 1 : 0;
       this.numbers.sort((a, b) => (down ? compare(b, a) : compare(a, b)) || this.rank[a] - this.rank[b]);
       this.table.querySelectorAll("th").forEach((th, i) =>
@@ -224,24 +221,31 @@ class Grid {
       const none = column.none && !value ? "none" : "";
       const look = [this.look(column), tone, none].filter(Boolean).join(" ");
       const words = column.words && value !== null ? " " + column.words(value, i, this) : "";
-      const shown = value === null && !column.fixed ? "–" : column.show(value, i, this);
+      const marked = column.mark && this.rows[column.mark]?.[i] ? "<sup>†</sup>" : "";
+      const shown = value === null && !column.fixed ? "–" : column.show(value, i, this) + marked;
       return `<td${look ? ` class="${look}"` : ""}${words}>${shown}`;
     });
     return "<tr>" + cells.join("");
   }
 
+  // How many of the rows are shown, of which those are drawn that are in sight: all, or the worst.
+  most() {
+    const always = this.isWorstFirst && !this.wants ? this.always ?? 0 : 0;
+    return this.isAll ? this.asked.length : Math.min(Math.max(WORST, always), this.asked.length);
+  }
+
   // The first and the last of the rows that are drawn.
   window() {
-    const count = this.asked.length;
-    if (!this.isAll) return [0, Math.min(WORST, count)];
+    const count = this.most();
     if (Grid.prints || count <= 4 * SPARE) return [0, count];
-    const high = this.high ??= Math.max(10, this.body.rows[1]?.getBoundingClientRect().height ?? 26);
-    const first = Math.max(0, Math.floor(this.box.scrollTop / high) - SPARE);
+    const row = this.body.rows[1];
+    if (row) this.high ??= Math.max(10, row.getBoundingClientRect().height);
+    const high = this.high ?? 26, first = Math.max(0, Math.floor(this.box.scrollTop / high) - SPARE);
     return [first, Math.min(count, first + Math.ceil(this.box.clientHeight / high) + 2 * SPARE)];
   }
 
   draw(isNew) {
-    const isHigh = this.isAll && this.asked.length > FOLD_ABOVE;
+    const most = this.most(), isHigh = most > FOLD_ABOVE;
     this.box.classList.toggle("high", isHigh);
     // What scrolls can be reached by keys.
     if (isHigh) this.box.tabIndex = 0;
@@ -250,21 +254,25 @@ class Grid {
     if (!isNew && first === this.first && last === this.last) return;
     [this.first, this.last] = [first, last];
     this.body.innerHTML = this.asked.slice(first, last).map(i => this.row(i)).join("");
-    const space = count => count && this.isAll ? `<tr><td colspan="99" style="height:${count * this.high}px">` : "";
+    const space = count => count ? `<tr><td colspan="99" style="height:${count * (this.high ?? 26)}px">` : "";
     this.before.innerHTML = space(first);
-    this.after.innerHTML = space(this.asked.length - last);
+    this.after.innerHTML = space(most - last);
     this.say();
   }
 
   say() {
     if (!this.button) return;
-    const all = whole(this.asked.length), only = this.wants ? " with this name" : "";
-    this.button.hidden = this.asked.length <= WORST;
-    this.button.textContent = this.isAll ? `All ${all} ${this.what}${only}. Show the first ${WORST}`
-      : `The first ${WORST} of ${all} ${this.what}${only}. Show all`;
+    const all = whole(this.asked.length), most = whole(this.most()), only = this.wants ? " with this name" : "";
+    const isWhole = this.asked.length <= this.most() && !this.isAll;
+    this.button.hidden = this.asked.length <= WORST || isWhole;
+    this.shown.textContent = this.isAll || isWhole ? `All ${all} ${this.what}${only}.` : `The first ${most} of ${all} ${this.what}${only}.`;
+    this.button.textContent = this.isAll ? "Show the first alone" : "Show all";
   }
 }
 
+// A power of ten as an axis has it: short, whatever it is.
+const SMALL = "⁰¹²³⁴⁵⁶⁷⁸⁹";
+const power = ten => ten < 6 ? span(10 ** ten) : "10" + [...String(ten - 3)].map(digit => SMALL[digit]).join("") + " µs";
 // Of the marks of an axis so many are written that they do not touch each other where the column is narrowest.
 const MOST_MARKS = {screen: 4, print: 2};
 const axis = () => {
@@ -272,7 +280,7 @@ const axis = () => {
   const looks = i => [...Object.keys(MOST_MARKS).filter(look => i % Math.ceil(count / MOST_MARKS[look]) === 0),
     ...(i > 0.85 * count ? ["end"] : [])].join(" ");
   const ticks = Array.from({length: count + 1}, (_, i) =>
-    `<i class="${looks(i)}" style="left:${(100 * i / count).toFixed(2)}%">${span(10 ** (data.low + i))}</i>`);
+    `<i class="${looks(i)}" style="left:${(100 * i / count).toFixed(2)}%">${power(data.low + i)}</i>`);
   return `<span class="axis">${ticks.join("")}</span>`;
 };
 
@@ -289,7 +297,18 @@ if (data.delays && !data.delays.line) {
   data.delays.vl = data.vls.flatMap(vl => vl.lines.map(() => vl.id));
   data.delays.line = data.vls.flatMap(vl => vl.lines.map(line => lines.name[line]));
 }
-const share = (vl, line) => (vl.size + 20) * 8e5 / Math.max(vl.bag_ns, vl.period_ns) / lines.mbit[line];
+const share = (vl, line) => (vl.sends ?? (vl.size + 20) * 8e5 / Math.max(vl.bag_ns, vl.period_ns)) / lines.mbit[line];
+// The sizes of the frames of a virtual link, from the least to the greatest.
+const sizesOf = vl => {
+  const found = (vl.streams ?? [[vl.size, 1, vl.size]]).flatMap(([size, frames, last]) => frames > 1 ? [size, last] : [last]);
+  const [least, greatest] = [Math.min(...found), Math.max(...found)];
+  return least === greatest ? whole(least) : `${whole(least)} to ${whole(greatest)}`;
+};
+const wordsOfStream = ([size, frames, last, offset, period, jitter, isSporadic, end, sub]) =>
+  (frames > 1 ? `${frames} frames of ${size === last ? "" : `${size} bytes, the last of `}${last} bytes` : `${last} bytes`)
+  + (isSporadic ? `, sporadic, ${span(period)} apart at the least` : ` each ${span(period)}`)
+  + (jitter ? `, jitter ${span(jitter)}` : "") + `, from ${span(offset)} on` + (end === null ? "" : ` until ${span(end)}`)
+  + (sub === null ? "" : `, sub-virtual link ${sub}`);
 const table = (id, columns, rows) => {
   const look = ([, unit]) => unit === undefined ? "" : "n";
   const heads = columns.map(it => `<th class="${look(it)}">${it[0]}<small>${it[1] ?? ""}</small></th>`);
@@ -303,9 +322,14 @@ const lostAt = (vl, where, side = "") => vl.lost.filter(it => it[0] === where &&
 const shade = line => `--w:${Math.min(100, lines.load[line] / 100)}%;--c:${lines.colour[line]}`;
 const bar = line => `<i class="bar" style="${shade(line)}"></i>`;
 
+// What the document calls a virtual link or a node.
+const namesOf = vl => Object.values(vl.named ?? {});
 const factsOf = vl => [
-  ["BAG", span(vl.bag_ns)], ["period", span(vl.period_ns)], ["size", vl.size + " bytes"], ["Smax", vl.smax + " bytes"],
-  ["priority", vl.priority], ["offset", span(vl.offset_ns)], ["jitter", span(vl.jitter_ns)],
+  ...Object.entries(vl.named ?? {}).map(([kind, text]) => [kind, esc(text)]),
+  ["BAG", span(vl.bag_ns)],
+  ...(vl.streams ? [] : [["period", span(vl.period_ns)], ["size", vl.size + " bytes"]]),
+  ["Smax", vl.smax + " bytes"], ["priority", vl.priority],
+  ...(vl.streams ? [] : [["offset", span(vl.offset_ns)], ["jitter", span(vl.jitter_ns)]]),
   ["policing", "by " + vl.policing + ", jitter " + span(vl.policing_ns)], ["SkewMax", span(vl.skew_ns)],
   ["depth", counted(vl.depth, "frame")], ...(vl.sub > 1 ? [["sub-virtual links", vl.sub]] : []),
 ];
@@ -353,14 +377,14 @@ const endColumns = [
   ["mean", "µs", "mean"],
   ...data.percents.map(it => [it + "th", "µs", "p" + it]), ["greatest", "µs", "greatest"], ["limit", "µs", "limit"],
   ["bound", "µs", "bound"], ["margin", "µs", "margin"], ["copies", "frames", "copies"],
-  ["lost on A", "copies", "lostA"], ["lost on B", "copies", "lostB"], ["ten frames take", "ms", "needed"],
+  ["lost on A", "copies", "lostA"], ["lost on B", "copies", "lostB"], ["ten frames take", "µs", "needed"],
 ];
 const columnsFor = own => endColumns.filter(([, , key]) => !key || key in ends && own.some(i => ends[key][i] !== null));
 
 const endCell = (i, unit, key) => {
   const value = ends[key][i];
   const tone = {limit: "limit_tone", margin: "limit_tone", missing: "missing_tone", count: "few"}[key];
-  const shown = value === null ? "–" : unit === "µs" ? us(value) : unit === "ms" ? ms(value) : counts(value);
+  const shown = value === null ? "–" : unit === "µs" ? us(value) : counts(value);
   return `<span class="${TONES[ends[tone]?.[i] ?? 0]}">${shown}</span>`;
 };
 
@@ -378,6 +402,7 @@ const vlPart = vl => {
   const drawn = "histogram" in ends ? own.map(figure).join("") : "";
   const percentiles = data.percents.map(it => `<span><b class="k p${it}"></b> ${it}th percentile</span>`).join("");
   const facts = factsOf(vl).map(([name, value]) => `<div><dt>${name}</dt><dd>${value}</dd></div>`).join("");
+  const streams = (vl.streams ?? []).map(it => `<li>${wordsOfStream(it)}</li>`).join("");
   return `<h3>At each destination</h3>${table("vl-ends", columns, rows)}
     <h3>Hop by hop</h3>${table("vl-hops", [["network"], ["hop", "number"], ["line"], ["load", "%"], ["of this", "%"],
       ["virtual links", "number"], ...delayColumns.map(([key, unit]) => [key === "delay" ? "delay" : "bound of it", unit]),
@@ -385,15 +410,15 @@ const vlPart = vl => {
     <h3>Copies lost</h3>${lost.length ? table("vl-lost", [["place"], ["network"], ["cause"], ["lost", "frames"],
       ["on the way to"]], lost) : "<p><b>No copy was lost.</b></p>"}
     ${drawn ? `<h3>Latencies</h3><div class="legend">${percentiles}</div><div class="figures">${drawn}</div>` : ""}
-    <h3>What it is</h3><dl class="facts">${facts}</dl>`;
+    <h3>What it is</h3><dl class="facts">${facts}</dl>${streams ? `<h3>What is offered to it</h3><ul id="vl-streams">${streams}</ul>` : ""}`;
 };
 
 const linePart = line => {
   const users = [...usersOf[line]].sort((a, b) => share(b, line) - share(a, line));
-  const rows = users.map(vl => [toVl(vl.id), share(vl, line).toFixed(2), whole(vl.bag_ns / 1e6), whole(vl.size),
+  const rows = users.map(vl => [toVl(vl.id), share(vl, line).toFixed(2), us(vl.bag_ns), sizesOf(vl),
     lostAt(vl, lines.name[line]) || "–", esc(vl.source),
     `<div class="wrap">${esc((endsOf.get(vl.id) ?? []).map(i => ends.where[i]).join(", "))}</div>`]);
-  return `<h3>Virtual links that use it</h3>` + table("line-vls", [["VL", "number"], ["takes", "%"], ["BAG", "ms"],
+  return `<h3>Virtual links that use it</h3>` + table("line-vls", [["VL", "number"], ["takes", "%"], ["BAG", "µs"],
     ["size", "bytes"], ["lost on the line"], ["source"], ["destinations"]], rows);
 };
 
@@ -402,8 +427,8 @@ const headOf = (title, words, more) =>
 
 const vlHead = vl => {
   const own = endsOf.get(vl.id) ?? [], where = own.map(i => esc(ends.where[i]));
-  const said = `from <b>${esc(vl.source)}</b> to <b>${where.join(", ")}</b>: ${vl.size} bytes, BAG ${span(vl.bag_ns)}`;
-  return headOf(`Virtual link ${vl.id}`, said, strips(vl));
+  const said = `from <b>${esc(vl.source)}</b> to <b>${where.join(", ")}</b>: ${sizesOf(vl)} bytes, BAG ${span(vl.bag_ns)}`;
+  return headOf(`Virtual link ${vl.id}${vl.named ? " " + esc(namesOf(vl)[0]) : ""}`, said, strips(vl));
 };
 
 const lineHead = line => {
@@ -481,8 +506,9 @@ const findVls = text => {
     return [...data.vls.filter(vl => String(vl.id) === wants),
       ...data.vls.filter(vl => String(vl.id) !== wants && String(vl.id).startsWith(wants))];
   const exact = shapes.node.has(text) || shapes.line.has(text);
-  const is = name => exact ? name === text : name.toLowerCase().includes(wants);
-  const rank = vl => is(vl.source) ? 0 : (endsOf.get(vl.id) ?? []).some(i => is(ends.where[i])) ? 1 :
+  const has = name => (name ?? "").toLowerCase().includes(wants);
+  const is = name => exact ? name === text : has(name) || has(data.named[name]);
+  const rank = vl => is(vl.source) || !exact && namesOf(vl).some(has) ? 0 : (endsOf.get(vl.id) ?? []).some(i => is(ends.where[i])) ? 1 :
     vl.nodes.some(is) || vl.lines.some(line => is(lines.name[line])) ? 2 : String(vl.id).startsWith(wants) ? 3 : 4;
   return [0, 1, 2, 3].flatMap(wanted => data.vls.filter(vl => rank(vl) === wanted));
 };
@@ -527,7 +553,11 @@ drawing?.addEventListener("keydown", event => {
 
 document.documentElement.style.setProperty("--decades", data.high - data.low);
 const grids = data.grids.map(spec => new Grid(spec, element("grid-" + spec.name)));
-const print = prints => { Grid.prints = prints; grids.forEach(grid => grid.draw(true)); };
+const print = prints => {
+  Grid.prints = prints;
+  element("printed").textContent = prints ? `Printed ${new Date().toISOString().slice(0, 16).replace("T", " ")} UTC.` : "";
+  grids.forEach(grid => grid.draw(true));
+};
 addEventListener("beforeprint", () => print(true));
 addEventListener("afterprint", () => print(false));
 addEventListener("hashchange", choose);

@@ -6,9 +6,10 @@ from urllib.parse import quote
 
 from afdx.files.page_text import counted, esc, frame_count, frames_of, span, two_places
 from afdx.model import Tables
-from afdx.page.columns import BAD, WARN, Rows
+from afdx.page.columns import Rows
 from afdx.page.end_table import FEW
 from afdx.page.given import Given
+from afdx.reckon import margins
 from afdx.reckon.bounds_file import Bounds
 from afdx.reckon.frames import Range
 
@@ -36,19 +37,17 @@ def tile_of_transmit_jitter(given: Given) -> str:
 
 
 def tiles(given: Given, ends: Rows) -> str:
-    found = [tile_of_above(given), tile_of_way(given), tile_of_transmit_jitter(given), tile_of_lost(given, ends), tile_of_too_long(given), tile_of_copies_lost(given.tables)]
-    found += [*tiles_of_limits(given, ends), *tiles_of_bounds(given.bounds), tile_of_few(given, ends), *tiles_of_run(given)]
+    found = [*tiles_of_limits(given, ends), tile_of_above(given), tile_of_way(given), tile_of_transmit_jitter(given), tile_of_lost(given, ends)]
+    found += [tile_of_too_long(given), tile_of_copies_lost(given.tables), *tiles_of_bounds(given.bounds), tile_of_few(given, ends), *tiles_of_run(given)]
     return '<div class="tiles">' + "".join(filter(None, found)) + "</div>"
 
 
 def tile_of_above(given: Given) -> str:
     """The latencies above their bounds."""
-    bounds = given.bounds
-    above = bounds.above(given.tables.latencies) if bounds else []
-    if not bounds or not above:
+    above = given.bounds.above(given.tables.latencies) if given.bounds else []
+    if not above:
         return ""
-    of = bounds.of
-    worst = max(above, key=lambda row: row.greatest - of[row.vl, row.where].ns)
+    worst = max(above, key=lambda it: it[0].greatest - it[1])[0]
     more = f"most virtual link {worst.vl} at {worst.where}: one of the two is wrong"
     return tile("above their bound", counted(len(above), "latency", "latencies"), more, "bad", "latency")
 
@@ -104,18 +103,19 @@ def tile_of_copies_lost(tables: Tables) -> str:
 
 
 def tiles_of_limits(given: Given, ends: Rows) -> Iterator[str]:
+    """What became of the limits; nothing is green of which nothing is known."""
     if not given.margins:
         return
-    found = [i for i, limit in enumerate(ends["limit"]) if limit is not None]
-    broken = sum(ends["limit_tone"][i] == BAD for i in found)
-    below = sum(ends["limit_tone"][i] == WARN for i in found)
-    silent = sum(ends["count"][i] == 0 for i in found)
-    said = [f"{broken} broken"] if broken else []
-    said += [f"{below} below the bound"] if below else []
-    said += [f"nothing was delivered at {silent}"] if silent else []
-    look = "bad" if broken else "warn" if below or silent else "good"
-    kept = f"{len(found) - broken - silent:,} of {len(found):,}"
-    yield tile("limits kept", kept, ", ".join(said) or "none is broken", look, "latency")
+    counts = Counter(it.verdict() for it in given.margins.values())
+    broken, below, unknown = (counts[it] for it in (margins.BROKEN, margins.BELOW, margins.UNKNOWN))
+    silent = sum(ends["count"][i] == 0 for i, limit in enumerate(ends["limit"]) if limit is not None) - unknown
+    parts = [(broken, "broken"), (below, "below the bound"), (unknown, "not known: nothing was delivered there")]
+    said = [f"{count:,} {words}" for count, words in parts if count]
+    value = said.pop(0).partition(":")[0] if said else "all kept"
+    said.append(f"{counts[margins.KEPT]:,} of {len(given.margins):,} kept")
+    said += [f"by the bound alone at {silent:,}, where nothing was delivered"] if silent > 0 else []
+    said += [] if given.bounds else ["by this run alone, without bounds"]
+    yield tile("limits", value, ", ".join(said), "bad" if broken else "warn" if below or unknown else "good", "latency")
 
 
 def tile_of_few(given: Given, ends: Rows) -> str:

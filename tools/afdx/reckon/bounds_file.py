@@ -41,13 +41,15 @@ COLUMNS = [
     "description",
 ]
 # What is kept of a destination, a line and a switch of a virtual link.
-OF_DESTINATIONS = ("bound", "proved", "network", "network_a", "network_b", "skew", "flags")
+OF_DESTINATIONS = ("bound", "bound_tool", "contract", "network", "network_a", "network_b", "skew", "flags")
 OF_LINES, OF_SWITCHES = ("delay",), ("jitter", "refuses")
 # What stands in an array for a number that is none, and for one that the file does not have.
 NONE, ABSENT = -1, -2
-# The networks by which each frame comes to a destination, and the flag of a second delivery.
+# The networks by which each frame comes to a destination, and the flags of a second delivery, and of a bound by the program.
 SURE = ["", "A", "B", "AB"]
-TWICE = 4
+TWICE, BY_PROGRAM = 4, 8
+# The columns of a destination that have numbers, beside that of the bound.
+NUMBERS = ("bound_ns_tool", "contract_ns", "network_ns", "network_a_ns", "network_b_ns", "skew_ns")
 
 
 def switches_of(net: Network, vl: VirtualLink) -> list[str]:
@@ -66,7 +68,12 @@ class Bounds:
         # Who computed them, where the file says so.
         self.made_by: str | None = None
         self.numbers: dict[str, dict[int, Any]] = {kind: {} for kind in (*OF_DESTINATIONS, *OF_LINES, *OF_SWITCHES)}
+        # By virtual link; and by destination where that has another one.
         self.waits: dict[int, int | None] = {}
+        self.waits_at: dict[Key, int | None] = {}
+        # Whether numbers are by the program, and the ports whose bound is.
+        self.has_program = False
+        self.ports_by_program: set[str] = set()
         self.whys: dict[Key, str] = {}
         # The places of the virtual link that was asked for last, by the first kind of those that share them.
         self.last: tuple[int | None, dict[str, dict[str, int]]] = (None, {})
@@ -110,7 +117,7 @@ class Bounds:
         where, warnings = row["where"], row["warning"].split(" ")
         number = lambda name: None if row[name] == "none" else model.whole_number(self.path, i, name, row[name])
         if not row["vl"]:
-            return self.port(i, where, lambda: number("waiting_bytes"), row["why"])
+            return self.port(i, where, lambda: number("waiting_bytes"), row)
         vl = model.whole_number(self.path, i, "the virtual link", row["vl"])
         places = self.places(vl) if vl in self.net.vls else {}
         for first in ("bound", "delay", "jitter"):
@@ -121,13 +128,7 @@ class Bounds:
         if self.number(first, vl, where, ABSENT) != ABSENT:
             raise Fault(self.path, i, f"says again what line {self.line_of(row['vl'], where)} says")
         if first == "bound":
-            known: dict[str, int | None] = {kind: number(kind + "_ns") for kind in ("wait", "proved", "network", "network_a", "network_b", "skew") if row.get(kind + "_ns")}
-            self.waits[vl] = known.pop("wait", None)
-            if row["sure"] not in SURE:
-                raise Fault(self.path, i, f"sure is {cut(row['sure'])}, and must be A, B, AB or nothing")
-            known |= {"bound": number("bound_ns"), "flags": SURE.index(row["sure"]) + TWICE * ("delivered_twice" in warnings)}
-            if row["why"]:
-                self.whys[vl, where] = row["why"]
+            known = self.destination_of(i, vl, where, row, number)
         elif first == "delay":
             known = {"delay": number("delay_ns") if row.get("delay_ns") else None}
         else:
@@ -136,12 +137,31 @@ class Bounds:
         for kind, found in known.items():
             self.put(kind, vl, where, NONE if found is None else found)
 
-    def port(self, i: int, line: str, most: Callable[[], int | None], why: str) -> None:
+    def destination_of(self, i: int, vl: int, where: str, row: dict[str, str], number: Callable[[str], int | None]) -> dict[str, int | None]:
+        """What a line has of a destination, by kinds."""
+        wait = number("wait_ns") if row.get("wait_ns") else None
+        if self.waits.setdefault(vl, wait) != wait:
+            self.waits_at[vl, where] = wait
+        if row["sure"] not in SURE:
+            raise Fault(self.path, i, f"sure is {cut(row['sure'])}, and must be A, B, AB or nothing")
+        by = row.get("bound_by", "")
+        if by not in ("", "program", "tool"):
+            raise Fault(self.path, i, f"bound_by is {cut(by)}, and must be program, tool or nothing")
+        self.has_program |= by == "program"
+        flags = SURE.index(row["sure"]) + TWICE * ("delivered_twice" in row["warning"].split(" ")) + BY_PROGRAM * (by == "program")
+        if row["why"]:
+            self.whys[vl, where] = row["why"]
+        found = {"bound": number("bound_ns"), "flags": flags}
+        return found | {name.replace("_ns", ""): number(name) for name in NUMBERS if row.get(name)}
+
+    def port(self, i: int, line: str, most: Callable[[], int | None], row: dict[str, str]) -> None:
         if line not in self.net.mbit:
             raise Fault(self.path, i, f"{cut(line)} is no line in {self.net.path}")
         if line in self.waiting:
             raise Fault(self.path, i, f"says again what line {self.line_of('', line)} says")
-        self.waiting[line] = Waiting(most(), why)
+        self.waiting[line] = Waiting(most(), row["why"])
+        if row.get("bound_by") == "program":
+            self.ports_by_program.add(line)
 
     def line_of(self, vl: str, where: str) -> int | None:
         """The line of the file that first speaks of a virtual link and a place."""
@@ -197,7 +217,7 @@ class Bounds:
     def destination(self, vl: int, where: str) -> Bound:
         flags = self.flags(vl, where)
         ns, why = self.number("bound", vl, where), self.whys.get((vl, where), "")
-        return Bound(ns, why, SURE[flags % TWICE], self.number("skew", vl, where), flags >= TWICE)
+        return Bound(ns, why, SURE[flags % TWICE], self.number("skew", vl, where), bool(flags & TWICE))
 
     def switches(self) -> Iterator[Key]:
         for vl in self.numbers["jitter"]:
@@ -214,18 +234,40 @@ class Bounds:
     def bound(self, vl: int, where: str) -> int | None:
         return self.number("bound", vl, where)
 
-    def has_proved(self) -> bool:
-        """Whether the file has the bounds of the program, too."""
-        return "proved_ns" in self.columns
+    def bound_by(self, vl: int, where: str) -> str:
+        """Who the bound of a destination is by: the program, the tool, or nobody where there is none or the file does not say."""
+        if self.flags(vl, where) & BY_PROGRAM:
+            return "program"
+        return "tool" if self.states_by() and self.bound(vl, where) is not None else ""
 
-    def proved(self, vl: int, where: str) -> int | None:
-        return self.number("proved", vl, where)
+    def states_by(self) -> bool:
+        """Whether the file says who each number is by."""
+        return "bound_by" in self.columns
+
+    def is_by_both(self) -> bool:
+        """Whether the file has numbers of the program beside those of the tool."""
+        return self.has_program
+
+    def of_tool(self, vl: int, where: str) -> int | None:
+        """The bound of the tool, also where the program has one."""
+        return self.number("bound_tool", vl, where)
+
+    def has_contract(self) -> bool:
+        """Whether the file has bounds that hold whatever other end systems send."""
+        return "contract_ns" in self.columns
+
+    def contract_of(self, vl: int, where: str) -> int | None:
+        return self.number("contract", vl, where)
 
     def of_kind(self, kind: str, vl: int, where: str) -> int | None:
         """The bound of what `afdx second-opinion --hops` measures, or None."""
         if kind == "backlog":
             return self.waiting[where].most if where in self.waiting else None
-        return self.waits.get(vl) if kind == "wait" else self.number(kind, vl, where)
+        return self.wait(vl, where) if kind == "wait" else self.number(kind, vl, where)
+
+    def wait(self, vl: int, where: str) -> int | None:
+        """The longest wait in the regulator, by a destination or, if that is the source, of all."""
+        return self.waits_at.get((vl, where), self.waits.get(vl))
 
     def holds(self, line: str) -> int:
         """How many bytes may wait at the port before a line."""
@@ -238,18 +280,19 @@ class Bounds:
         return [key for key in self.of if not self.flags(*key) % TWICE]
 
     def twice(self) -> list[Key]:
-        return [key for key in self.of if self.flags(*key) >= TWICE]
+        return [key for key in self.of if self.flags(*key) & TWICE]
 
     def too_small(self) -> list[str]:
         return [line for line, port in self.waiting.items() if port.most is None or port.most > self.holds(line)]
 
-    def above(self, latencies: dict[Key, Latency]) -> list[Latency]:
-        """The latencies of a run that are above their bounds: of the two one is wrong."""
+    def above(self, latencies: dict[Key, Latency]) -> list[tuple[Latency, int, str]]:
+        """The latencies of a run that are above a bound, with that bound and who it is by: of the two one is wrong."""
         found = []
         for key, row in latencies.items():
-            bound = self.bound(*key)
-            if bound is not None and row.count and row.greatest > bound:
-                found.append(row)
+            for bound, by in ((self.bound(*key), self.bound_by(*key)), (self.of_tool(*key), "tool")) if row.count else ():
+                if bound is not None and row.greatest > bound:
+                    found.append((row, bound, by))
+                    break
         return found
 
 

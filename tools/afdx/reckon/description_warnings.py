@@ -3,10 +3,15 @@ worst case."""
 from collections.abc import Callable, Iterable
 
 from afdx import model
-from afdx.model import Link, Network, VirtualLink
+from afdx.files.page_text import counted, two_places
+from afdx.model import Link, Network, Stream, VirtualLink, offered_rates
 from afdx.model.findings import Finding
 from afdx.reckon import output_ports, transmit_jitter
 from afdx.reckon.bounds_file import Bounds
+
+# Warns of a key: the key, the text, and what all warnings of one kind say.
+Add = Callable[[str, str, str], None]
+
 
 class Warnings:
     """What an accepted description has that is hardly meant."""
@@ -52,36 +57,71 @@ class Warnings:
             self.add("link", i, None, f"link {link.a}-{link.b}", text + late, kind)
 
     def virtual_link(self, vl: VirtualLink) -> None:
-        net = self.net
-        add: Callable[[str, str, str], None] = lambda key, text, kind: self.add("vl", vl.row, key, f"virtual link {vl.id}", text, kind)
-        if vl.size > vl.smax:
-            text = f"is {vl.size}, above smax, which is {vl.smax}: every frame is dropped at the first switch (too_long)"
-            add("size", text, "size is above smax")
-        if vl.period_ns < vl.bag_ns:
-            text = f"is {vl.period_ns}, below the BAG of {vl.bag_ns} ns: frames wait in the regulator, and are dropped "
-            add("period_ns", text + "once as many wait as depth says (queue_full)", "the period is below the BAG")
+        add = self.adder(vl)
+        if vl.is_plain():
+            if vl.own.period_ns < vl.bag_ns:
+                text = f"is {vl.own.period_ns}, below the BAG of {vl.bag_ns} ns: frames wait in the regulator, and are dropped "
+                add("period_ns", text + "once as many wait as depth says (queue_full)", "the period is below the BAG")
+            else:
+                self.wait(vl, add)
         else:
-            self.wait(vl, add)
-        if vl.bag_ns > net.until_ns:
-            add("bag_ms", f"is longer than the run, which ends at {net.until_ns} ns: one frame leaves at most", "the BAG is longer than the run")
-        drawn = model.offers(net.seed, vl.id, vl.offset_ns, vl.period_ns, vl.jitter_ns, net.until_ns)
-        if next(drawn, None) is None:
-            text = f"is {vl.offset_ns}: nothing is offered before the end, which is at {net.until_ns} ns"
-            add("offset_ns", text, "nothing is offered before the end")
+            self.regulator(vl)
+        for it in vl.streams:
+            self.stream(vl, it)
+        if vl.bag_ns > self.net.until_ns:
+            add("bag_ms", f"is longer than the run, which ends at {self.net.until_ns} ns: one frame leaves at most", "the BAG is longer than the run")
         self.networks(vl, add)
 
+    def adder(self, vl: VirtualLink, it: Stream | None = None) -> Add:
+        """What warns of a key of a virtual link, or of one of its streams."""
+        section, row = (it.section, it.row) if it else ("vl", vl.row)
+        name = f"virtual link {vl.id}" if section == "vl" else f"stream of virtual link {vl.id}"
+        return lambda key, text, kind: self.add(section, row, key, name, text, kind)
+
+    def stream(self, vl: VirtualLink, it: Stream) -> None:
+        """What is hardly meant of a stream by itself."""
+        add, until = self.adder(vl, it), self.net.until_ns
+        if it.size > vl.smax and it.size in it.sizes():
+            which = "every frame is" if it.frames == 1 or it.last_size > vl.smax else "all frames but the last are"
+            add("size", f"is {it.size}, above smax, which is {vl.smax}: {which} dropped at the first switch (too_long)", "size is above smax")
+        elif it.last_size > vl.smax:
+            which = "every frame is" if it.frames == 1 else "the last frame of each burst is"
+            add("last_size", f"is {it.last_size}, above smax, which is {vl.smax}: {which} dropped at the first switch (too_long)", "last_size is above smax")
+        if it.frames > vl.depth + 1:
+            lost = counted(it.frames - vl.depth - 1, "frame")
+            text = f"is {it.frames}, and depth is {vl.depth}: the regulator drops at least {lost} of each burst (queue_full)"
+            add("frames", text, "a burst is longer than its queue")
+        if it.sub_vl is not None and it.sub_vl >= vl.sub:
+            text = f"is {it.sub_vl}, and sub is {vl.sub}, so the last is {vl.sub - 1}: every frame is dropped (queue_full)"
+            add("sub_vl", text, "sub_vl names a sub-virtual link that there is not")
+        if it.end_ns is not None and it.end_ns < it.offset_ns:
+            add("end_ns", f"is {it.end_ns}, before offset_ns, which is {it.offset_ns}: nothing is offered", "end_ns is before offset_ns")
+        elif next(model.offers(self.net.seed, it, 1, until), None) is None:
+            text = f"is {it.offset_ns}: nothing is offered before the end, which is at {until} ns"
+            add("offset_ns", text, "nothing is offered before the end")
+
+    def regulator(self, vl: VirtualLink) -> None:
+        """Streams that give the regulator more than a frame in each BAG."""
+        often = offered_rates.frames_in_a_bag(vl)
+        if often > 1:
+            of = f"{len(vl.streams)} streams offer" if len(vl.streams) > 1 else "bursts have"
+            text = f"{of} {two_places(often)} frames in a BAG of {vl.bag_ns} ns: frames wait in the regulator, and are dropped "
+            text += "once as many wait as depth says (queue_full)"
+            self.adder(vl)("period_ns" if len(vl.streams) == 1 else "bag_ms", text, "more than a frame is offered in a BAG")
+
     @staticmethod
-    def wait(vl: VirtualLink, add: Callable[[str, str, str], None]) -> None:
+    def wait(vl: VirtualLink, add: Add) -> None:
         """What the jitter of offers alone may keep in the regulator."""
-        most, depth = -(-vl.jitter_ns // vl.period_ns), vl.depth * vl.sub
+        jitter = vl.own.jitter_ns
+        most, depth = -(-jitter // vl.own.period_ns), vl.depth * vl.sub
         if most > depth:
-            text = f"is {vl.jitter_ns}: {most} frames may wait in the regulator, and it holds {depth} (queue_full)"
+            text = f"is {jitter}: {most} frames may wait in the regulator, and it holds {depth} (queue_full)"
             add("jitter_ns", text, "more frames may wait in the regulator than it holds")
         elif (wait := output_ports.longest_wait(vl)) > vl.bag_ns:
-            text = f"is {vl.jitter_ns}: up to {wait} ns of a latency, which begins at the offer, are the regulator's"
+            text = f"is {jitter}: up to {wait} ns of a latency, which begins at the offer, are the regulator's"
             add("jitter_ns", text, "much of a latency may be the regulator's")
 
-    def networks(self, vl: VirtualLink, add: Callable[[str, str, str], None]) -> None:
+    def networks(self, vl: VirtualLink, add: Add) -> None:
         """Destinations without a second copy, where the description has two networks."""
         if not (self.net.of_kind("switch", "A") and self.net.of_kind("switch", "B")):
             return

@@ -10,7 +10,7 @@ from collections.abc import Callable, Iterable, Iterator
 from typing import Any, NamedTuple
 
 from afdx import model
-from afdx.files import toml_lines
+from afdx.files import toml_edits, toml_lines
 from afdx.model import Network, VirtualLink
 from afdx.reckon import network_calculus
 
@@ -49,7 +49,7 @@ def relaxed(net: Network) -> tuple[network_calculus.Bounds, dict[int, str]]:
 
 def least_policing(vl: VirtualLink, spread: int) -> int:
     """The least policing jitter in whole us by which an account never refuses frames that come closer than a BAG by this much."""
-    size = vl.smax if vl.policing == "frames" else vl.size
+    size = vl.smax if vl.policing == "frames" else max(size for size in vl.sizes if size <= vl.smax)
     needed = max(0, -(-size * (vl.bag_ns + spread) // vl.smax) - vl.bag_ns)
     return -(-needed // STEP_NS) * STEP_NS
 
@@ -93,21 +93,12 @@ def replaced(text: str, proposed: Iterable[Proposal]) -> str:
     """The text of a description with the values that are proposed in place of those that differ."""
     reader = toml_lines.Reader(text, (POLICING, PORT))
     tree = reader.document()
-    edits: list[tuple[int, int, int]] = []
+    edits: list[toml_edits.Edit] = []
     for it in proposed:
         if it.after is not None and it.after != it.before:
-            edits.append((*reader.places[id(tree[it.section][it.row - 1]), it.key], it.after))
-    pieces: list[str] = []
-    last = 0
-    for begin, end, value in sorted(edits):
-        new = f"{value:_}" if "_" in text[begin:end] else str(value)
-        # A comment behind it stays in its column, as far as there is room.
-        line_end = text.find("\n", end) if "\n" in text[end:] else len(text)
-        rest = text[end:line_end]
-        blanks = len(rest) - len(rest.lstrip(" ")) if rest.lstrip(" ").startswith("#") else 0
-        pieces += [text[last:begin], new, " " * max(1, blanks + end - begin - len(new)) if blanks else ""]
-        last = end + blanks
-    return "".join([*pieces, text[last:]])
+            place = reader.places[id(tree[it.section][it.row - 1]), it.key]
+            edits.append(toml_edits.value(text, place, toml_edits.number(text, place, it.after)))
+    return toml_edits.edited(text, edits)
 
 
 HEAD = "section,name,key,before,after,why"

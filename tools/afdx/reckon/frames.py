@@ -15,7 +15,7 @@ from typing import Any, NamedTuple, NoReturn
 
 from afdx import model
 from afdx.files.page_text import counted
-from afdx.model import Fault, Latency, Loss, Network, Tables, VirtualLink
+from afdx.model import Fault, Latency, Loss, Network, Offer, Tables, VirtualLink
 from afdx.model.traces import Trace
 from afdx.reckon import many_seeds
 
@@ -73,8 +73,8 @@ class End(NamedTuple):
     why: str
 
 
-def through_regulator(vl: VirtualLink, offers: Iterable[tuple[int, int]], until_ns: int) -> Sent:
-    """What the regulator of a virtual link does with its offers, numbers with moments in ns. At one moment a release
+def through_regulator(vl: VirtualLink, offers: Iterable[Offer], until_ns: int) -> Sent:
+    """What the regulator of a virtual link does with its offers, in the order in which they come. At one moment a release
     comes before an offer."""
     lists: list[deque[int]] = [deque() for _ in range(vl.sub)]
     released: list[tuple[int, int]] = []
@@ -87,15 +87,15 @@ def through_regulator(vl: VirtualLink, offers: Iterable[tuple[int, int]], until_
         released.append((lists[place].popleft(), moment))
         pointer, last = (place + 1) % vl.sub, moment
 
-    for number, moment in sorted(offers, key=lambda it: (it[1], it[0])):
+    for _, moment, _, sub in offers:
         offered += 1
         while any(lists) and last + vl.bag_ns <= moment:
             release(last + vl.bag_ns)
-        own, waits = lists[number % vl.sub], any(lists)
-        if len(own) == vl.depth:
+        if sub >= vl.sub or len(lists[sub]) == vl.depth:
             refused += 1
             continue
-        own.append(moment)
+        waits = any(lists)
+        lists[sub].append(moment)
         if not waits and (last is None or moment >= last + vl.bag_ns):
             release(moment)
     while any(lists) and last + vl.bag_ns <= until_ns:
@@ -118,7 +118,7 @@ class Way:
         self.soonest = {path[0]: 0}
         for here, there in zip(path, path[1:]):
             line = here + ">" + there
-            after += (vl.size + BYTES_BEFORE_A_FRAME) * (8000 // net.mbit[line])
+            after += (vl.sizes[0] + BYTES_BEFORE_A_FRAME) * (8000 // net.mbit[line])
             self.soonest[line] = after
             after += net.propagation_ns[line]
             self.soonest[there] = after
@@ -223,15 +223,14 @@ class Ends:
         numpy = many_seeds.library(seeds)
         offsets = [drawn_offsets(self.net, seed) if draws_offsets else {} for seed in seeds]
         for vl in self.net.vls.values():
-            own = [drawn.get(vl.id, vl.offset_ns) for drawn in offsets]
+            runs = [(seed, vl.with_offsets(drawn) if draws_offsets else vl) for seed, drawn in zip(seeds, offsets)]
             if numpy:
-                yield vl, many_seeds.sent_of_all(numpy, vl, seeds, own, self.net.until_ns, functools.partial(self.sent, vl))
+                yield vl, many_seeds.sent_of_all(numpy, runs, self.net.until_ns, self.sent)
             else:
-                yield vl, self.once(vl.id, lambda: many_seeds.together([self.sent(vl, *it) for it in zip(seeds, own)]))
+                yield vl, self.once(vl.id, lambda: many_seeds.together([self.sent(*it) for it in runs]))
 
-    def sent(self, vl: VirtualLink, seed: int, offset: int) -> Sent:
-        until = self.net.until_ns
-        return through_regulator(vl, model.offers(seed, vl.id, offset, vl.period_ns, vl.jitter_ns, until), until)
+    def sent(self, seed: int, vl: VirtualLink) -> Sent:
+        return through_regulator(vl, self.net.offers(vl, seed), self.net.until_ns)
 
     def refuse(self, line: int | None, text: str) -> NoReturn:
         raise Fault(self.tables.path, line, f"{text}; so they are tables of another run than that of {self.net.path}")
@@ -291,6 +290,8 @@ class Ends:
         full = [where for where, cause in self.trace.lost_on_the_way(journey.vl.id) if cause == "port_full" and where in journey.forks]
         if full:
             return f"at {' and '.join(sorted(full))} copies go on by several ports, and no trace shows which of them was full"
+        if not journey.vl.is_plain():
+            return "of frames that were offered at one moment no trace shows which came, nor after the last that came which were lost"
         return "copies were lost after the last frame that came, and no trace shows of which frames"
 
     def may_be_under_way(self, journey: Journey, sent: many_seeds.SentOfAll, row: Latency) -> int:
@@ -303,19 +304,29 @@ class Ends:
         """What tables alone show of frames that were delivered again, are under way, and are missing."""
         latest = self.net.until_ns - journey.surely_under_way_ns()
         sure = sent.released_after(latest)
-        # A second copy is delivered again only where it comes later than SkewMax.
-        may_be_again = len(journey.ways) == 2 and row.greatest > journey.vl.skew_ns
         released = len(sent.releases)
-        return Range(0, row.count // 2 if may_be_again else 0), Range(sure, released), Range(0, released)
+        return Range(0, row.count // 2 if self.may_be_twice(journey, row) else 0), Range(sure, released), Range(0, released)
 
     def by_trace(self, trace: Trace, journey: Journey, released: list[tuple[int, int]], row: Latency) -> tuple[Range, Range, Range]:
         """The same by what a trace shows: which frames came, by the moments at which they had been offered, and when copies were
-        lost."""
+        lost. Of several frames that were offered at one moment it does not show which came."""
         frames = trace.came.get((journey.vl.id, journey.where))
-        found = frames.among([moment for moment, _ in released]) if frames else (0, -1)
+        soonest = min(way.arrival for way in journey.ways.values())
+        found = frames.among(released, soonest, self.may_be_twice(journey, row)) if frames else (0, 0, -1, -1)
         if found is None:
             self.refuse(row.line, f"at {row.where} frames of virtual link {row.vl} came that nobody would offer")
-        came, last = found
+        least, most, *lasts = found
+        ranges = [self.behind_the_last(trace, journey, released, Range(least, most), last) for last in sorted(set(lasts))]
+        under_way, missing = (Range(min(it.least for it in ones), max(it.most for it in ones)) for ones in zip(*ranges))
+        return Range(row.count - most, row.count - least), under_way, missing
+
+    @staticmethod
+    def may_be_twice(journey: Journey, row: Latency) -> bool:
+        """Whether a second copy may have been delivered again, which it is only where it comes later than SkewMax."""
+        return len(journey.ways) == 2 and row.greatest > journey.vl.skew_ns
+
+    def behind_the_last(self, trace: Trace, journey: Journey, released: list[tuple[int, int]], came: Range, last: int) -> tuple[Range, Range]:
+        """How many frames are under way and how many are missing, if so many came, and this is the place of the last of them."""
         rest = [moment for _, moment in released[last + 1 :]]
         # On each network how many copies of the rest may have been lost, and when the last of these was released at the latest.
         lost = {side: (0, -1) for side in journey.ways}
@@ -330,8 +341,7 @@ class Ends:
         may_be_lost = min(latest for _, latest in lost.values()) if is_few else self.net.until_ns
         sure = sum(moment > may_be_lost for moment in rest)
         most = min(count for count, _ in lost.values()) if is_few else len(rest)
-        before = last + 1 - came
-        return exactly(row.count - came), Range(sure, len(rest)), Range(before, before + most)
+        return Range(sure, len(rest)), Range(max(0, last + 1 - came.most), max(0, last + 1 - came.least) + most)
 
 
 def hold(tables: Tables) -> None:
@@ -339,7 +349,7 @@ def hold(tables: Tables) -> None:
     net, other = tables.net, f"so they are tables of another network than {tables.net.path}"
     for (number, where), row in tables.latencies.items():
         vl = net.vls[number]
-        if row.count and vl.size > vl.smax:
+        if row.count and vl.sizes[0] > vl.smax:
             text = f"frames of virtual link {number} came to {where}, and its size is above its smax"
             raise Fault(tables.path, row.line, f"{text}; {other}")
         soonest = min(Way(net, vl, path).arrival for path in ways_of(vl, where).values())
@@ -349,13 +359,15 @@ def hold(tables: Tables) -> None:
     out = {outage.line for outage in net.outages}
     for (number, where, cause), loss in tables.losses.items():
         vl = net.vls[number]
-        if cause == "outage" and where not in out or cause == "too_long" and vl.size <= vl.smax:
+        if cause == "outage" and where not in out or cause == "too_long" and vl.sizes[-1] <= vl.smax:
             why = f"{where} has no outage" if cause == "outage" else "its size is not above its smax"
             text = f"frames of virtual link {number} were lost at {where} as {cause}, and {why}"
             raise Fault(tables.path, loss.line, f"{text}; {other}")
 
 
 def drawn_offsets(net: Network, seed: int) -> dict[int, int]:
-    """The offsets that afdx campaign draws for the run of a seed."""
+    """The offsets that afdx campaign draws for the run of a seed, of each stream by its number."""
     draw = random.Random(seed).random
-    return {vl.id: int(draw() * vl.period_ns) for vl in net.vls.values()}
+    further = sorted((it.number, it) for vl in net.vls.values() for it in vl.streams[1:])
+    streams = [*(vl.own for vl in net.vls.values()), *(it for _, it in further)]
+    return {it.number: int(draw() * it.period_ns) for it in streams}

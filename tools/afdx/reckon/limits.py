@@ -1,17 +1,14 @@
-"""Limits of latencies, the worst-case bounds that afdx bounds prints, and the margins between them, as a page has them
-and as a build server takes them (JUnit's XML)."""
+"""Limits of latencies, as a file of its own has them or the comments of a description."""
 import csv
+import io
 import re
-import xml.etree.ElementTree as xml
-from collections.abc import Callable, Mapping
 from fractions import Fraction
 from typing import Any, NamedTuple
 
 from afdx import model
 from afdx.files import Fault, cut, sheets
-from afdx.model import Latency, Network, VirtualLink, headings
-
-# ---- limits ----
+from afdx.model import Network, VirtualLink, headings
+from afdx.model.document_names import DocumentNames
 
 
 class Limit(NamedTuple):
@@ -26,14 +23,17 @@ class Limit(NamedTuple):
 # The names of the columns where none stand above.
 LIMIT_COLUMNS = ["vl", "destination", "limit_ns"]
 # How a description that afdx table made has the limits of a table.
-COMMENT = re.compile(r"# limit_(ns|us|ms|s) ([0-9_.]+)(?: at (.+))?")
+COMMENT = re.compile(r"# *limit_(ns|us|ms|s) *[ =:] *([0-9_.]+)(?: at (.+))?")
 
 
 def limits_of(path: str, net: Network) -> dict[tuple[int, str], Limit]:
-    """The limits of a file, by virtual link and destination. Of the description itself they are those of its comments."""
+    """The limits of a file, by virtual link and destination. Of the description itself, or of another variant of it, they are those
+    of its comments."""
     found = Limits(path, net)
     if model.is_same_file(path, net.path):
-        found.read_comments()
+        found.read_comments(net)
+    elif path.endswith(".toml"):
+        found.read_comments(Network(path))
     else:
         found.read_table()
     if not found.of:
@@ -47,6 +47,7 @@ class Limits:
     def __init__(self, path: str, net: Network) -> None:
         self.path, self.net = path, net
         self.of: dict[tuple[int, str], Limit] = {}
+        self.names = DocumentNames(net)
         # Whether numbers may have a comma in place of the point.
         self.has_commas = False
 
@@ -95,8 +96,9 @@ class Limits:
             return
         number = model.whole_number(self.path, line, "the virtual link", cells.get("vl", ""))
         ns = self.ns(line, column, text)
-        for where in sheets.names_of(cells.get("destination", "")) or [""]:
-            self.add(line, number, where, ns)
+        whole = self.names.node_of(cells.get("destination", ""))
+        for where in [whole] if whole else sheets.names_of(cells.get("destination", "")) or [""]:
+            self.add(line, number, self.names.node_of(where) or where, ns)
 
     def ns(self, line: int, column: str, text: str) -> int:
         if column == "limit_ns":
@@ -110,13 +112,13 @@ class Limits:
             raise Fault(self.path, line, f"the limit is {text}, which is no whole number of ns")
         return int(ns)
 
-    def read_comments(self) -> None:
-        """Reads the comments that stand behind the head of a virtual link."""
-        rows = {vl.row: vl for vl in self.net.vls.values()}
-        lines = self.net.text.split("\n")
+    def read_comments(self, of: Network) -> None:
+        """Reads the comments of a description that stand behind the head of a virtual link."""
+        rows = {vl.row: vl for vl in of.vls.values()}
+        lines = of.text.split("\n")
         heads: dict[int, VirtualLink] = {}
         for row, vl in rows.items():
-            heads[self.net.description.line("vl", row)] = vl
+            heads[of.description.line("vl", row)] = vl
         for head, vl in heads.items():
             for i, text in enumerate(lines[head:], head + 1):
                 if not text.startswith("#"):
@@ -135,83 +137,3 @@ class Limits:
         if key in self.of:
             raise Fault(self.path, line, f"says again what line {self.of[key].line} says")
         self.of[key] = Limit(*key, ns, line)
-
-
-# ---- margins ----
-
-MARGINS_HEAD = "vl,destination,limit_ns,greatest_ns,bound_ns,margin_ns,verdict"
-BROKEN, BELOW, KEPT, UNKNOWN = "broken", "below its bound", "kept", "not known"
-
-
-class Margin(NamedTuple):
-    """How far a limit is from what is known of a destination: the greatest latency of a run, or None, and the bound, or
-    None where there is none, if bounds are given (`has_bound`)."""
-
-    limit: Limit
-    greatest: int | None
-    has_bound: bool
-    bound: int | None
-
-    def ns(self) -> int | None:
-        """The limit less the worst that is known; None where nothing is, or a bound is given as none."""
-        known = [it for it in (self.greatest, self.bound) if it is not None]
-        return None if not known or self.has_bound and self.bound is None else self.limit.ns - max(known)
-
-    def verdict(self) -> str:
-        if self.greatest is not None and self.greatest > self.limit.ns:
-            return BROKEN
-        if self.has_bound:
-            return BELOW if self.bound is None or self.bound > self.limit.ns else KEPT
-        return UNKNOWN if self.greatest is None else KEPT
-
-    def in_words(self) -> str:
-        parts = [f"limit {self.limit.ns} ns"]
-        parts += [f"greatest latency {self.greatest} ns"] if self.greatest is not None else []
-        parts += [f"bound {'none' if self.bound is None else f'{self.bound} ns'}"] if self.has_bound else []
-        return f"{self.verdict()}: {', '.join(parts)}"
-
-    def line(self) -> str:
-        show = lambda number: "" if number is None else number
-        bound = ("none" if self.bound is None else self.bound) if self.has_bound else ""
-        numbers = self.limit.ns, show(self.greatest), bound, show(self.ns())
-        return f"{self.limit.vl},{self.limit.where},{','.join(map(str, numbers))},{self.verdict()}\n"
-
-
-def margins_of(limits: dict[tuple[int, str], Limit], latencies: Mapping[tuple[int, str], Latency] | None = None, bounds: Any = None) -> list[Margin]:
-    """The margins of limits, the least first; those that nothing is known of before them."""
-    found = []
-    for key, limit in limits.items():
-        row = latencies[key] if latencies else None
-        bound = bounds.bound(*key) if bounds else None
-        found.append(Margin(limit, row.greatest if row and row.count else None, bool(bounds), bound))
-    rank: Callable[[Margin], tuple[bool, int, int, str]] = lambda it: (it.ns() is not None, it.ns() or 0, it.limit.vl, it.limit.where)
-    return sorted(found, key=rank)
-
-
-def margins_text(margins: list[Margin]) -> str:
-    return MARGINS_HEAD + "\n" + "".join(it.line() for it in margins)
-
-
-def has_failed(margins: list[Margin], is_strict: bool) -> bool:
-    """Whether a limit is broken by a latency, or, where that counts too, below its bound."""
-    return any(it.verdict() == BROKEN or is_strict and it.verdict() == BELOW for it in margins)
-
-
-def junit_text(margins: list[Margin], is_strict: bool, name: str) -> str:
-    """The margins as JUnit's XML: a case for each limit."""
-    suite = xml.Element("testsuite", name=name)
-    failed = skipped = 0
-    for it in margins:
-        case = xml.SubElement(suite, "testcase", classname=f"virtual link {it.limit.vl}", name=it.limit.where)
-        if has_failed([it], is_strict):
-            failed += 1
-            xml.SubElement(case, "failure", message=it.in_words())
-        elif it.verdict() == UNKNOWN:
-            skipped += 1
-            xml.SubElement(case, "skipped", message="nothing was delivered, and there is no bound")
-        else:
-            xml.SubElement(case, "system-out").text = it.in_words()
-    for key, number in (("tests", len(margins)), ("failures", failed), ("errors", 0), ("skipped", skipped)):
-        suite.set(key, str(number))
-    xml.indent(suite)
-    return '<?xml version="1.0" encoding="UTF-8"?>\n' + xml.tostring(suite, encoding="unicode") + "\n"

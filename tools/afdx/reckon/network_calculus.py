@@ -8,23 +8,13 @@ from collections.abc import Callable, Iterable, Iterator
 from typing import Any
 
 from afdx import model
-from afdx.files import program
 from afdx.model import Network, VirtualLink
-from afdx.reckon import proved_bounds, transmit_jitter
+from afdx.reckon import transmit_jitter
 from afdx.reckon.on_demand import OnDemand
 from afdx.reckon.output_ports import Hop, Link, Port
 
-COLUMNS = [
-    "vl", "where", "bound_ns", "wait_ns", "waiting_bytes", "port_bytes", "why", "sure", "skew_ns", "skew_max_ns", "jitter_ns",
-    "policing_jitter_ns", "warning", "network_ns", "network_a_ns", "network_b_ns", "delay_ns", "transmit_jitter_ns",
-    "transmit_rule_ns", "description", "program",
-]
-
 # What a receiver can distinguish: a number up to 126 steps behind is one that was delivered before.
 MOST_STEPS = 126
-
-# How many lines of bounds.csv are written at once.
-AT_ONCE = 4096
 
 
 class Way:
@@ -40,7 +30,7 @@ class Way:
         self.longest = None if None in delays else far + sum(delays)
         self.why = next((hop.port.why for hop in hops if hop.delay is None), "")
         # Whether each frame arrives.
-        self.is_sure = all(
+        self.is_sure = link.passes_all() and all(
             not hop.port.has_outage
             and hop.port.most is not None
             and hop.port.most <= hop.port.node.port_bytes
@@ -81,7 +71,7 @@ class Bounds:
         return self.in_order_of_tables(lambda link: link.vl.destinations)
 
     def keys_of_ways(self) -> Iterator[tuple[int, str]]:
-        return self.in_order_of_tables(lambda link: link.vl.destinations if link.size <= link.vl.smax else ())
+        return self.in_order_of_tables(lambda link: link.vl.destinations if link.passes() else ())
 
     def keys_of_hops(self) -> Iterator[tuple[int, str]]:
         return self.in_order_of_tables(lambda link: link.hops)
@@ -93,12 +83,12 @@ class Bounds:
                 yield number, place
 
     def add(self, link: Link) -> None:
-        """Adds a virtual link to the ports of its paths. A frame that is longer than smax comes to the first switch."""
+        """Adds a virtual link to the ports of its paths. A frame that is longer than Smax comes to the first switch."""
         for side, paths in link.vl.paths.items():
             for path in paths:
                 before = None
                 for here, there in zip(path, path[1:]):
-                    if before is not None and link.size > link.vl.smax:
+                    if before is not None and not link.passes():
                         break
                     line = self.net.line_of[here, there]
                     hop = link.hops.get(line)
@@ -112,7 +102,7 @@ class Bounds:
     def ways(self, vl: int, where: str) -> dict[str, Way]:
         """The way of a virtual link to a destination on each network."""
         link = self.links[vl]
-        if link.size > link.vl.smax:
+        if not link.passes():
             raise KeyError((vl, where))
         found = {}
         for side, hop in link.ends[where]:
@@ -181,7 +171,7 @@ class Bounds:
         link = self.links[vl]
         if where not in link.vl.destinations:
             raise KeyError((vl, where))
-        if link.size > link.vl.smax:
+        if not link.passes():
             return None, "no frame arrives: size is above smax"
         ways = list(self.by_network[vl, where].values())
         whys = [way.why for way in ways if way.longest is None]
@@ -252,10 +242,10 @@ class Bounds:
     def may_refuse(self, vl: int, switch: str) -> bool:
         return not self.links[vl].is_never_refused(self.jitter(vl, switch))
 
-    # ---- as text ----
+    # ---- as rows ----
 
     def rows(self) -> Iterator[dict[str, Any]]:
-        """The rows of bounds.csv by columns: destinations, then accounts, then hops, then ports."""
+        """The rows of bounds.csv by columns, without those of the program: destinations, then accounts, then hops, then ports."""
         for (vl, where), (bound, why) in self.latencies.items():
             row: dict[str, Any] = {"vl": vl, "where": where, "bound_ns": said(bound), "wait_ns": self.links[vl].wait, "why": why}
             row["network_ns"] = said(self.of_kind("network", vl, where))
@@ -285,31 +275,6 @@ class Bounds:
                 row |= {"transmit_jitter_ns": said(transmit.bound[line]), "transmit_rule_ns": transmit.allowed[line].sum_ns}
                 warnings += ["transmit_jitter"] if transmit.is_broken(line) else []
             yield row | {"why": port.why if port.most is None else "", "warning": " ".join(warnings)}
-
-    def pieces(self, proved: proved_bounds.ProvedBounds | None = None) -> Iterator[str]:
-        """The text of bounds.csv, in pieces of which no two need be in memory, with the proved bounds beside these if they are given."""
-        columns = [*COLUMNS[:-2], *(proved_bounds.COLUMNS if proved else []), *COLUMNS[-2:]]
-        behind = f",{model.checksum(self.net.text)},{program.tool('bounds').cell()}\n"
-        lines = [",".join(columns) + "\n"]
-        for row in self.rows():
-            row |= proved.cells(row) if proved else {}
-            lines.append(",".join([str(row.get(column, "")) for column in columns[:-2]]) + behind)
-            if len(lines) == AT_ONCE:
-                yield "".join(lines)
-                lines = []
-        yield "".join(lines)
-
-    def text(self) -> str:
-        return "".join(self.pieces())
-
-
-def long_rows(rows: Iterable[dict[str, Any]]) -> Iterator[tuple[str, int | None, str, str, int]]:
-    """The rows of bounds.csv in long form, without what is no number."""
-    for row in rows:
-        kind = "port" if "vl" not in row else "account" if "jitter_ns" in row else "hop" if "delay_ns" in row else "bound"
-        for column in [*COLUMNS[2:], *proved_bounds.COLUMNS]:
-            if str(row.get(column, "")).isdigit():
-                yield kind, row.get("vl"), row["where"], column, int(row[column])
 
 
 def said(number: object) -> str:

@@ -1,11 +1,12 @@
 """Output ports with the virtual links that come to them: how late their frames are sent, and how many bytes wait."""
 from __future__ import annotations
 
-from collections.abc import Callable
-from typing import Any
+from collections.abc import Callable, Sequence
+from typing import Any, NamedTuple
 
 from afdx import model
 from afdx.model import Network, VirtualLink
+from afdx.reckon import regulator_waits
 from afdx.reckon.arrival_curves import PARTS, BehindHigh, Group, Piece, curve, peak
 from afdx.reckon.whole_frames import WholeBehindHigh, peak_of_frames
 
@@ -27,10 +28,11 @@ class Hop:
     arrival of a frame there to its last bit on the line, in ns. None: not known to have an end."""
 
     # A network of 65,536 virtual links has 1.4 million hops.
-    __slots__ = ("link", "port", "before", "after", "came", "spread", "delay")
+    __slots__ = ("link", "port", "before", "after", "came", "spread", "delay", "frames")
 
     def __init__(self, link: Link, port: Port, before: Hop | None) -> None:
         self.link, self.port, self.before = link, port, before
+        self.frames = link.offered if before is None else link.passing
         self.after: tuple[Hop, ...] = ()
         self.came: int | None = 0
         # A whole number or None; who reckons with it has asked before whether all of them are numbers.
@@ -40,9 +42,19 @@ class Hop:
             before.after += (self,)
 
     @property
+    def amount(self) -> int:
+        """What its greatest frame takes on the line, in bytes."""
+        return self.frames.amounts[-1]
+
+    @property
+    def rate(self) -> int:
+        """What it sends in each ns, in parts of a byte, if all frames are the greatest."""
+        return self.frames.rate
+
+    @property
     def least(self) -> int:
-        """From the start of a frame to its last bit: the least delay."""
-        return (self.link.size + 8) * self.port.byte_ns
+        """From the start of its least frame to the last bit: the least delay."""
+        return (self.frames.amounts[0] - GAP_BYTES) * self.port.byte_ns
 
     def take(self) -> bool:
         """Takes over what the hop before says. Answers whether it is something new."""
@@ -59,28 +71,48 @@ class Hop:
 
     def burst(self) -> int | None:
         """What can come at once, in parts of a byte, or None."""
-        return None if self.spread is None else self.link.amount * PARTS + self.link.rate * self.spread
+        return None if self.spread is None else self.amount * PARTS + self.rate * self.spread
+
+
+class Frames(NamedTuple):
+    """The frames of a virtual link at a port: what they take on a line, in bytes, each amount once and rising; and what comes in
+    each ns, in parts of a byte, if each is the greatest."""
+
+    amounts: tuple[int, ...]
+    rate: int
 
 
 class Link:
-    """What the bounds need of a virtual link: its frames on the line, in bytes, and what it sends in each ns in parts of
-    a byte. `hops` has those of the virtual link by line, in the order of its paths."""
+    """What the bounds need of a virtual link: its frames where they are offered, and those that switches pass: the ones that are
+    not above Smax. `hops` has those of the virtual link by line, in the order of its paths."""
 
-    __slots__ = ("vl", "size", "amount", "rate", "is_high", "wait", "hops", "ends")
+    __slots__ = ("vl", "offered", "passing", "is_high", "wait", "hops", "ends")
 
     def __init__(self, vl: VirtualLink) -> None:
         self.hops: dict[str, Hop] = {}
         self.ends: dict[str, tuple[tuple[str, Hop | None], ...]] = {}
-        self.vl, self.size = vl, vl.size
-        self.amount = vl.size + model.BYTES_BETWEEN_FRAMES
-        self.rate = self.amount * (PARTS // vl.bag_ns)
+        self.vl = vl
+        sizes = vl.sizes
+        self.offered = self.frames_of(sizes)
+        self.passing = self.offered if sizes[-1] <= vl.smax else self.frames_of([size for size in sizes if size <= vl.smax])
         self.is_high = vl.priority == "high"
         self.wait = longest_wait(vl)
+
+    def frames_of(self, sizes: Sequence[int]) -> Frames:
+        amounts = tuple(size + model.BYTES_BETWEEN_FRAMES for size in sizes)
+        return Frames(amounts, max(amounts, default=0) * (PARTS // self.vl.bag_ns))
+
+    def passes(self) -> bool:
+        """Whether switches pass any of its frames."""
+        return bool(self.passing.amounts)
+
+    def passes_all(self) -> bool:
+        return self.passing is self.offered
 
     def let_through(self, spread: int | None) -> int | None:
         """The spread behind an account. It lets through what is in keeping with the jitter that it allows, where each
         frame takes what one BAG gives."""
-        if self.vl.policing == "bytes" and self.size < self.vl.smax:
+        if self.vl.policing == "bytes" and self.passing.amounts[0] - model.BYTES_BETWEEN_FRAMES < self.vl.smax:
             return spread
         return self.vl.policing_ns if spread is None else min(spread, self.vl.policing_ns)
 
@@ -88,7 +120,7 @@ class Link:
         """Whether an account passes all its frames, which come with this spread."""
         if spread is None:
             return False
-        size = self.vl.smax if self.vl.policing == "frames" else self.size
+        size = self.vl.smax if self.vl.policing == "frames" else self.passing.amounts[-1] - model.BYTES_BETWEEN_FRAMES
         return size * (self.vl.bag_ns + spread) <= self.vl.smax * (self.vl.bag_ns + self.vl.policing_ns)
 
 
@@ -98,8 +130,10 @@ def longest_wait(vl: VirtualLink) -> int:
     n + 1 offers need n periods less the jitter, and n BAGs to leave. Where there are more offers than BAGs, or where
     several frames may wait and sub-virtual links take turns, each frame that is ahead of it in its own list may have a
     turn of all the others before it."""
-    bag, period, jitter = vl.bag_ns, vl.period_ns, vl.jitter_ns
+    bag, period, jitter = vl.bag_ns, vl.own.period_ns, vl.own.jitter_ns
     full = vl.depth * vl.sub * bag
+    if not vl.is_plain():
+        return full if vl.sub > 1 else min(full, regulator_waits.longest(vl.streams, bag))
     if period < bag:
         return full
     waiting = -(-jitter // period)
@@ -136,8 +170,8 @@ class Port:
             groups.setdefault((high, hop.before.port if hop.before else None), []).append(hop)
         self.groups = {high: [(up, hops) for (is_high, up), hops in groups.items() if is_high == high] for high in (True, False)}
         # The sizes of a group do not change.
-        self.greatest = {(high, up): max(hop.link.amount for hop in hops) for (high, up), hops in groups.items()}
-        self.rates = {(high, up): sum(hop.link.rate for hop in hops) for (high, up), hops in groups.items()}
+        self.greatest = {(high, up): max(hop.amount for hop in hops) for (high, up), hops in groups.items()}
+        self.rates = {(high, up): sum(hop.rate for hop in hops) for (high, up), hops in groups.items()}
 
     def come(self, high: bool) -> list[Group]:
         """What can come of a priority, as groups."""
@@ -160,7 +194,7 @@ class Port:
             starts = self.longest_behind(high, low)
             # Of one size all are alike: the bytes behind the last bit are no part of the delay.
             delays: Any = starts and {amount: start + (amount - GAP_BYTES) * self.byte_ns for amount, start in starts.items()}
-            self.set_delays(False, lambda hop: delays and delays[hop.link.amount])
+            self.set_delays(False, lambda hop: delays and max(delays[amount] for amount in hop.frames.amounts))
         else:
             longest = self.longest_first(low, 0, False)
             self.set_delays(False, lambda hop: longest)
@@ -180,7 +214,7 @@ class Port:
             return None
         behind = BehindHigh(high, low, self.speed)
         ahead, after = ([hop for _, hops in self.groups[high] for hop in hops] for high in (True, False))
-        found = {amount: behind.longest(amount * PARTS) for amount in {hop.link.amount for hop in after}}
+        found = {amount: behind.longest(amount * PARTS) for amount in {amount for hop in after for amount in hop.frames.amounts}}
         if not found or any(hop.spread is None for hop in self.hops):
             return found
         whole = WholeBehindHigh(ahead, after, self.speed, MOST_WHOLE // len(found))
@@ -215,7 +249,7 @@ class Port:
             burst = None if None in bursts else sum(bursts)
             greatest = max(group.greatest for group in parts)
             groups.append(Group(parts[0].speed, greatest, burst, sum(group.rate for group in parts)))
-        least = min(hop.link.amount for hop in self.hops)
+        least = min(hop.frames.amounts[0] for hop in self.hops)
         excess = peak(curve(groups), self.speed, least * self.byte_ns)
         return None if excess is None else frames_of(excess // PARTS, least, max(self.greatest.values()))
 

@@ -17,8 +17,11 @@ DIGITS = 6
 
 def frames_of(net: Network, vl: VirtualLink) -> tuple[int, int]:
     """How many frames of a virtual link are offered, and how many of them its regulator lets go."""
-    offered = model.count_of_offers(net.seed, vl.id, vl.offset_ns, vl.period_ns, vl.jitter_ns, net.until_ns)
-    return offered, min(offered, max(0, net.until_ns - vl.offset_ns) // vl.bag_ns + 1)
+    # Those of a sporadic stream are counted as if none was late: what is drawn of one moves all behind it.
+    count = lambda it: it.frames * it.count_due(net.until_ns) if it.is_sporadic else model.count_of_offers(net.seed, it, net.until_ns)
+    offered = sum(map(count, vl.streams))
+    first = min(it.offset_ns for it in vl.streams)
+    return offered, min(offered, max(0, net.until_ns - first) // vl.bag_ns + 1)
 
 
 def of_tables(net: Network) -> int:

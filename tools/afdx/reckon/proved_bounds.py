@@ -1,24 +1,35 @@
 """The worst-case bounds that the program prints by `afdxsim bounds NET`: proved to be those of the formula in docs/BOUNDS.md."""
-from typing import Any
+from array import array
+from collections.abc import Iterable
+from typing import NoReturn
 
 from afdx import files, model
-from afdx.files import Fault, cut
+from afdx.files import Fault, cut, program
 from afdx.model import Network
 
-COLUMNS = ["proved_ns", "proved_bytes"]
 AGAIN = "`afdxsim bounds NET` prints it anew"
+# How many columns of a line are read. Later versions print others behind them.
+READ = model.BOUNDS_HEAD.count(",") + 1
+# What stands in an array for a number that is none, and for one that was not read.
+NONE, ABSENT = -1, -2
+# Of a destination an array has these numbers one after another: from the release on, in the regulator, and their sum.
+OF_EACH = 3
+KINDS = ("network_ns", "wait_ns", "bound_ns")
 
 
 class ProvedBounds:
-    """The bounds of a file, which must be those of this network: `of` has for each virtual link and destination the latency in ns,
-    or None, and `waiting` for each line the bytes that wait before it, or None."""
+    """The bounds of a file, which must be those of this network: of each virtual link at its destinations the latency in ns, or None;
+    and `waiting` for each line the bytes that wait before it, or None. `maker` is who printed them, if that is known, and
+    `is_contract` says that they hold whatever other end systems send."""
 
-    def __init__(self, path: str, net: Network) -> None:
-        self.path, self.net = path, net
-        self.of: dict[tuple[int, str], int | None] = {}
+    def __init__(self, path: str, net: Network, lines: Iterable[str] | None = None, maker: program.Maker | None = None, is_contract: bool = False) -> None:
+        self.path, self.net, self.maker, self.is_contract = path, net, maker, is_contract
+        self.numbers: dict[int, array[int]] = {}
         self.waiting: dict[str, int | None] = {}
+        # The places of the virtual link that was asked for last.
+        self.last: tuple[int, dict[str, int]] = (-1, {})
         last = 0
-        for last, line in enumerate(files.lines_of(path), 1):
+        for last, line in enumerate(files.lines_of(path) if lines is None else lines, 1):
             if not line.endswith("\n"):
                 raise Fault(path, last, f"the line feed at the end is missing, so the file is not whole; {AGAIN}")
             if last == 1:
@@ -29,44 +40,66 @@ class ProvedBounds:
             self.judge_head("")
         self.judge_end(last)
 
+    # ---- reading ----
+
     def judge_head(self, line: str) -> None:
-        if line != model.BOUNDS_HEAD:
+        columns = line.split(",")
+        if columns[:READ] != model.BOUNDS_HEAD.split(","):
             raise Fault(self.path, 1, f"begins with {cut(line)} in place of {model.BOUNDS_HEAD}: give what `afdxsim bounds NET` prints")
+        self.count = len(columns)
 
     def row(self, i: int, fields: list[str]) -> None:
-        if len(fields) != 6 or fields[0] not in ("bound", "port", "none"):
+        if len(fields) != self.count or fields[0] not in ("bound", "port", "none"):
             raise Fault(self.path, i, f"is no line of bounds; {AGAIN}")
-        kind, of, where, first, _, whole = fields
-        number = lambda name, text: model.whole_number(self.path, i, name, text)
+        kind, of, where, first, second, whole = fields[:READ]
         if kind == "port" or kind == "none" and not where:
-            self.put(i, self.waiting, of in self.net.mbit, of, number("the bytes", first) if kind == "port" else None)
-        else:
-            key = number("the virtual link", of), where
-            self.put(i, self.of, key in self.net.destinations, key, number("the bound", whole) if kind == "bound" else None)
+            return self.port(i, of, None if kind == "none" else model.whole_number(self.path, i, "the bytes", first))
+        vl = model.whole_number(self.path, i, "the virtual link", of)
+        if vl not in self.net.vls or where not in self.places(vl):
+            self.refuse(i, f"virtual link {vl} at {cut(where)}")
+        found = self.numbers.setdefault(vl, array("q", [ABSENT]) * (OF_EACH * len(self.places(vl))))
+        at = OF_EACH * self.places(vl)[where]
+        if found[at] != ABSENT:
+            raise Fault(self.path, i, f"says virtual link {vl} at {cut(where)} again; {AGAIN}")
+        texts = zip(("the time from the release", "the wait", "the bound"), (first, second, whole))
+        numbers = [model.whole_number(self.path, i, *it) for it in texts] if kind == "bound" else [NONE] * OF_EACH
+        if kind == "bound" and numbers[0] + numbers[1] != numbers[2]:
+            raise Fault(self.path, i, f"{first} and {second} are not {whole}, the bound; {AGAIN}")
+        # What no clock shows is as good as none.
+        found[at : at + OF_EACH] = array("q", numbers if numbers[2] < 2**63 else [NONE] * OF_EACH)
 
-    def put(self, i: int, table: dict[Any, int | None], is_known: bool, key: str | tuple[int, str], value: int | None) -> None:
-        shown = key if isinstance(key, str) else f"virtual link {key[0]} at {cut(key[1])}"
-        if not is_known:
-            raise Fault(self.path, i, f"{shown} is not in {self.net.path}: give the bounds of this network; {AGAIN}")
-        if key in table:
-            raise Fault(self.path, i, f"says {shown} again; {AGAIN}")
-        table[key] = value
+    def port(self, i: int, line: str, most: int | None) -> None:
+        if line not in self.net.mbit:
+            self.refuse(i, line)
+        if line in self.waiting:
+            raise Fault(self.path, i, f"says {line} again; {AGAIN}")
+        self.waiting[line] = most
+
+    def refuse(self, i: int, shown: str) -> NoReturn:
+        raise Fault(self.path, i, f"{shown} is not in {self.net.path}: give the bounds of this network; {AGAIN}")
 
     def judge_end(self, last: int) -> None:
-        lacks = [f"virtual link {vl} at {where}" for vl, where in self.net.destinations if (vl, where) not in self.of]
-        lacks += [f"the port before {line}" for line in self.net.mbit if line not in self.waiting]
+        lacks = next((f"virtual link {vl} at {where}" for vl, where in self.net.destinations if self.number("bound_ns", vl, where) == ABSENT), None)
+        lacks = lacks or next((f"the port before {line}" for line in self.net.mbit if line not in self.waiting), None)
         if lacks:
-            raise Fault(self.path, last, f"the file ends without {lacks[0]}; {AGAIN}")
+            raise Fault(self.path, last, f"the file ends without {lacks}; {AGAIN}")
+
+    # ---- answers ----
+
+    def places(self, vl: int) -> dict[str, int]:
+        """The destinations of a virtual link, each with its number in the arrays."""
+        if self.last[0] != vl:
+            self.last = vl, {name: i for i, name in enumerate(self.net.vls[vl].destinations)}
+        return self.last[1]
+
+    def number(self, kind: str, vl: int, where: str) -> int:
+        found = self.numbers.get(vl)
+        return ABSENT if found is None else found[OF_EACH * self.places(vl)[where] + KINDS.index(kind)]
+
+    def of_kind(self, kind: str, vl: int, where: str) -> int | None:
+        """The number of a destination: network_ns, wait_ns or bound_ns; None where the program has none."""
+        found = self.number(kind, vl, where)
+        return None if found == NONE else found
 
     def bound(self, vl: int, where: str) -> int | None:
-        return self.of[vl, where]
-
-    def cells(self, row: dict[str, Any]) -> dict[str, str]:
-        """What stands beside a row of bounds.csv."""
-        if "bound_ns" in row:
-            return {"proved_ns": said(self.of[row["vl"], row["where"]])}
-        return {"proved_bytes": said(self.waiting[row["where"]])} if "waiting_bytes" in row else {}
-
-
-def said(number: int | None) -> str:
-    return "none" if number is None else str(number)
+        return self.of_kind("bound_ns", vl, where)

@@ -43,8 +43,8 @@ def users_of(net: Network) -> dict[str, list[VirtualLink]]:
 
 def jitters(net: Network, line: str, users: list[VirtualLink], delay: Delay) -> list[int | None]:
     """The jitter of each virtual link at such a line, of its longest delay from the arrival at the port to the last bit,
-    which `delay` answers, or None."""
-    delays = [(delay(vl.id, line), (vl.size + 8) * 8000 // net.mbit[line]) for vl in users]
+    which `delay` answers, or None. If it has frames of several sizes, the delay may be that of the least one."""
+    delays = [(delay(vl.id, line), (vl.sizes[0] + 8) * 8000 // net.mbit[line]) for vl in users]
     return [None if longest is None else longest - own for longest, own in delays]
 
 

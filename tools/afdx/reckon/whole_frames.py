@@ -13,23 +13,22 @@ LONGEST_BAG_NS = 128 * 10**6
 
 
 class Sender(Protocol):
-    """A virtual link, with what its frames take on a line, in bytes, and what it sends in each ns, in parts of a byte."""
-
     @property
     def vl(self) -> VirtualLink: ...
+
+
+class Flow(Protocol):
+    """A virtual link at a port: what its greatest frame takes on the line, in bytes, what it sends in each ns, in parts of a byte, and
+    by how much its frames may come there closer than a BAG, in ns; None: not known to have an end."""
+
+    @property
+    def link(self) -> Sender: ...
 
     @property
     def amount(self) -> int: ...
 
     @property
     def rate(self) -> int: ...
-
-
-class Flow(Protocol):
-    """A virtual link at a port: by how much its frames may come there closer than a BAG, in ns; None: not known to have an end."""
-
-    @property
-    def link(self) -> Sender: ...
 
     @property
     def spread(self) -> Any: ...
@@ -44,15 +43,15 @@ def peak_of_frames(hops: Sequence[Flow], speed: int, most: int) -> int:
     divides the longest one, so that where no more comes than the port sends, no excess after that is greater."""
     if any(hop.spread is None for hop in hops):
         return most
-    came = sum((1 + hop.spread // hop.link.vl.bag_ns) * hop.link.amount for hop in hops) * PARTS
-    if came >= most or sum(hop.link.rate for hop in hops) > speed:
+    came = sum((1 + hop.spread // hop.link.vl.bag_ns) * hop.amount for hop in hops) * PARTS
+    if came >= most or sum(hop.rate for hop in hops) > speed:
         return most
     found, due = came, [(hop.link.vl.bag_ns - hop.spread % hop.link.vl.bag_ns, i) for i, hop in enumerate(hops)]
     heapq.heapify(due)
     while due[0][0] * speed < came and due[0][0] < LONGEST_BAG_NS:
         t, i = due[0]
         heapq.heapreplace(due, (t + hops[i].link.vl.bag_ns, i))
-        came += hops[i].link.amount * PARTS
+        came += hops[i].amount * PARTS
         found = max(found, came - t * speed)
         if found >= most:
             return most
@@ -70,7 +69,7 @@ class WholeFrames:
         by_bag: dict[int, list[tuple[int, int, int]]] = {}
         for hop in hops:
             turns, rest = divmod(hop.spread, hop.link.vl.bag_ns)
-            by_bag.setdefault(hop.link.vl.bag_ns, []).append((rest, hop.link.amount, turns))
+            by_bag.setdefault(hop.link.vl.bag_ns, []).append((rest, hop.amount, turns))
         for bag, found in by_bag.items():
             found.sort()
             # The amounts of those from a place on.
@@ -119,7 +118,7 @@ class WholeBehindHigh:
         while due:
             t, i = due[0]
             heapq.heapreplace(due, (t + hops[i].link.vl.bag_ns, i))
-            yield t, hops[i].link.amount * PARTS
+            yield t, hops[i].amount * PARTS
 
     def start(self, ahead: int) -> int:
         """The first moment, cut to whole ns, by which the low ones ahead and the high ones until then could have been sent."""

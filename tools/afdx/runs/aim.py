@@ -14,10 +14,12 @@ from typing import Any, NamedTuple
 
 from afdx import files, model
 from afdx.files import Fault
+from afdx.files.page_text import us_text
 from afdx.files.program import Maker
-from afdx.reckon import network_calculus, output_ports
+from afdx.reckon import margins, network_calculus, output_ports
+from afdx.reckon.bounds_rows import BoundsRows
 from afdx.reckon.limits import Limit
-from afdx.runs import reading_processes, run_results, side_by_side
+from afdx.runs import program_bounds, reading_processes, run_results, side_by_side
 from afdx.runs.campaign_network import CampaignNetwork
 from afdx.runs.plain_simulator import Frame, Simulation
 from afdx.runs.side_by_side import Keep, Run, Runs, Shown
@@ -73,10 +75,15 @@ class Aim:
         self.due: dict[int, int] = {}
 
     def of_these(self) -> dict[str, Any]:
-        """What the description says, with the virtual links alone that meet."""
+        """What the description says, with the virtual links alone that meet, and of these the first frame of their own streams:
+        what else is offered to their sources leaves a BAG later at the soonest."""
         tree = dict(self.net.description.tree)
-        tree["vl"] = [row for row in tree["vl"] if row["id"] == self.vl.id or row["id"] in self.meets]
-        tree["outage"] = []
+        rows = [row for row in tree["vl"] if row["id"] == self.vl.id or row["id"] in self.meets]
+        left_out = ("frames", "last_size", "timing", "end_ns")
+        tree["vl"] = [
+            {key: value for key, value in row.items() if key not in left_out} | {"size": self.net.vls[row["id"]].own.first_size} for row in rows
+        ]
+        tree["outage"], tree["stream"] = [], []
         return tree
 
     def met(self) -> Met:
@@ -113,14 +120,14 @@ class Aim:
         lines: dict[output_ports.Port | None, int] = {}
         first = behind
         # The longest frame comes last, so that most of it is still to be sent.
-        for other in sorted(others, key=lambda it: (-self.net.vls[it].size, it)):
+        for other in sorted(others, key=lambda it: (-self.net.vls[it].own.first_size, it)):
             _, earliest, up = self.meets[other]
             ahead = lines.get(up, behind)
             self.due[other] = came - ahead
             self.offers[other] = came - ahead - earliest
             first = max(first, ahead)
             if up is not None:
-                lines[up] = ahead + (self.net.vls[other].size + model.BYTES_BETWEEN_FRAMES) * up.byte_ns
+                lines[up] = ahead + (self.net.vls[other].own.first_size + model.BYTES_BETWEEN_FRAMES) * up.byte_ns
         return first
 
     def set_right(self) -> None:
@@ -145,7 +152,7 @@ class Aim:
         for _ in range(moves * OF_FRAMES // max(OF_FRAMES, len(others)) if others else 0):
             other = draw.choice(others)
             before = self.offers.get(other)
-            frame = (self.net.vls[draw.choice(others)].size + model.BYTES_BETWEEN_FRAMES) * 80
+            frame = (self.net.vls[draw.choice(others)].own.first_size + model.BYTES_BETWEEN_FRAMES) * 80
             step = draw.choice([1, -1]) * draw.choice([1, 2, frame, frame, 2 * frame, 10 * frame, draw.randrange(1, 200_000)])
             self.offers[other] = (before or 0) + step
             reached = self.arrival()
@@ -158,19 +165,20 @@ class Aim:
         return best
 
     def offsets(self, seed: int) -> dict[int, int]:
-        """The offset of each virtual link, so that its first offer is at its moment with the jitter that this seed draws.
-        Those that do not meet are first offered when the aimed frame has arrived."""
+        """The offset of each stream, so that the first offer of a virtual link is at its moment with the jitter that this seed
+        draws. Those that do not meet, and further streams, are first offered when the aimed frame has arrived."""
         first: dict[int, int] = {}
         arrived = self.arrival()
         for vl in self.net.vls.values():
             first[vl.id] = self.offers[vl.id] - self.drawn(seed, vl) if vl.id in self.offers else arrived
+            first |= {it.number: arrived for it in vl.streams[1:]}
         begin = -min(first.values())
-        return {vl: moment + begin for vl, moment in first.items()}
+        return {number: moment + begin for number, moment in first.items()}
 
     @staticmethod
     def drawn(seed: int, vl: model.VirtualLink) -> int:
         """The jitter of the first offer."""
-        return next(model.words(seed, vl.id)) % (vl.jitter_ns + 1)
+        return next(model.words(seed, vl.id)) % (vl.own.jitter_ns + 1)
 
     def name(self) -> str:
         return f"virtual link {self.vl.id} at {self.where} by {self.side}"
@@ -202,6 +210,8 @@ class Line(NamedTuple):
     way_ns: int | None
     bound_ns: int | None
     wait_ns: int | None
+    bound_by: str
+    bound_ns_tool: int | None
 
 
 HEAD = ",".join(Line._fields)
@@ -238,11 +248,14 @@ class AimedRuns:
     network and each seed, beside that of the description with this seed. Limits are held against them."""
 
     def __init__(
-        self, net: CampaignNetwork, wanted: Iterable[Key], seeds: Sequence[int], limits: Mapping[Key, Limit] | tuple[()] = (), moves: int = MOVES
+        self, net: CampaignNetwork, wanted: Iterable[Key], seeds: Sequence[int], limits: Mapping[Key, Limit] | tuple[()] = (), moves: int = MOVES,
+        printed: program_bounds.OfProgram | None = None,
     ) -> None:
         self.net, self.seeds = net, seeds
         self.limits: dict[Key, Limit] = dict(limits)
         self.bounds = network_calculus.Bounds(net)
+        # The bounds with which runs are compared: those of the program where it prints them.
+        self.deciding = BoundsRows(self.bounds, printed.proved, printed.contract) if printed else BoundsRows(self.bounds)
         self.ways = [
             (vl, where, side)
             for vl, where in sorted(wanted, key=self.bounds.order)
@@ -280,6 +293,9 @@ class AimedRuns:
                 if arrives > self.net.until_ns:
                     text = f"the run ends before the aimed frame arrives: until_ns must be {arrives} at the least"
                     raise Fault(self.net.path, self.net.description.line("top", None, "until_ns"), text)
+                if offsets[aim.vl.id] > aim.vl.own.last_ns(self.net.until_ns):
+                    text = f"the aimed frame would be due at {offsets[aim.vl.id]}: end_ns must be that at the least"
+                    raise self.net.description.fault("vl", aim.vl.row, "end_ns", text)
                 yield side_by_side.Run(f"aimed at {aim.name()}, seed {seed}", self.net.with_offsets(seed, offsets))
 
     def run(self, maker: Runs, keep: Keep, progress: Shown, jobs: int) -> None:
@@ -313,9 +329,9 @@ class AimedRuns:
     def line(self, seed: int, aim: Aim, frame: int, plain: dict[Key, int], aimed: dict[Key, int]) -> Line:
         """What a line of the table has, by the greatest latencies of two runs."""
         key = aim.vl.id, aim.where
-        bound, _ = self.bounds.latencies[key]
-        way = self.bounds.by_network[key][aim.side].longest
-        return Line(*key, aim.side, seed, plain[key], aimed[key], frame, way, bound, self.bounds.links[aim.vl.id].wait)
+        way, of = self.bounds.by_network[key][aim.side].longest, self.deciding
+        found = *key, aim.side, seed, plain[key], aimed[key], frame, way
+        return Line(*found, of.bound(*key), of.wait(*key), of.bound_by(*key), self.bounds.bound(*key))
 
     def tried(self) -> dict[Key, Limit]:
         """The limits at whose destinations a run was aimed, by virtual link and destination."""
@@ -332,8 +348,17 @@ class AimedRuns:
 
     def above(self) -> list[Line]:
         """The lines whose latency is above a bound: one of the two is wrong."""
-        is_above = lambda found, bound: bound is not None and found > bound
-        return [it for it in self.lines if is_above(max(it.plain_ns, it.aimed_ns), it.bound_ns) or is_above(it.frame_ns, it.way_ns)]
+        is_above = lambda found, *bounds: any(bound is not None and found > bound for bound in bounds)
+        latency = lambda it: max(it.plain_ns, it.aimed_ns)
+        return [it for it in self.lines if is_above(latency(it), it.bound_ns, it.bound_ns_tool) or is_above(it.frame_ns, it.way_ns)]
+
+    def margins(self) -> list[margins.Margin]:
+        """The margins of the limits that were tried, by the worst run and by the bounds."""
+        worst: dict[Key, int] = {}
+        for it in self.lines:
+            worst[it[:2]] = max(it.plain_ns, it.aimed_ns, worst.get(it[:2], 0))
+        latencies = {key: model.Latency(*key, 1, ns, ns, ns, None, 0) for key, ns in worst.items()}
+        return margins.margins_of(self.tried(), self.net, latencies, self.deciding)
 
     def table(self, maker: Maker) -> str:
         """The table; its last column names the program."""
@@ -342,7 +367,7 @@ class AimedRuns:
     def long_rows(self) -> Iterator[tuple[Any, ...]]:
         for it in self.lines:
             for measure in HEAD.split(",")[4:]:
-                if getattr(it, measure) is not None:
+                if type(getattr(it, measure)) is int:
                     yield "aim", it.vl, it.where, measure, getattr(it, measure), {"network": it.network, "seed": it.seed}
 
     def in_words(self) -> Iterator[str]:
@@ -353,7 +378,8 @@ class AimedRuns:
         for (vl, where), ones in found.items():
             best = max(ones, key=lambda it: it.frame_ns)
             latency = max(it.aimed_ns for it in ones)
-            of = f"{latency * 100 / best.bound_ns:.1f} percent of its bound, {best.bound_ns} ns" if best.bound_ns else "it has no bound"
-            way = f"{best.frame_ns} of {best.way_ns} ns" if best.way_ns else f"{best.frame_ns} ns"
+            by = f"{us_text(best.bound_ns or 0)} by {margins.IN_WORDS.get(best.bound_by)}"
+            of = f"{latency * 100 / best.bound_ns:.1f} percent of its bound, {by}" if best.bound_ns else "it has no bound"
+            way = f"{us_text(best.frame_ns)} of {us_text(best.way_ns)}" if best.way_ns else us_text(best.frame_ns)
             plain = max(it.plain_ns for it in ones)
-            yield f"virtual link {vl} at {where}: {latency} ns, {of}; from the release on {way}; as described {plain} ns"
+            yield f"virtual link {vl} at {where}: {us_text(latency)}, {of}; from the release on {way}; as described {us_text(plain)}"

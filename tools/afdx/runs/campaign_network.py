@@ -7,7 +7,7 @@ from typing import Any
 
 from afdx import model
 from afdx.files import Fault, text_of
-from afdx.model import judge
+from afdx.model import description_faults
 
 
 class CampaignNetwork(model.Network):
@@ -19,7 +19,7 @@ class CampaignNetwork(model.Network):
             self.check(path, text, program)
             description = model.Description(path, text)
         else:
-            description = judge.accepted(path)
+            description = description_faults.accepted(path)
         if until_ns is not None:
             description.tree["until_ns"] = until_ns
         super().__init__(path, description=description)
@@ -43,14 +43,15 @@ class CampaignNetwork(model.Network):
     def write(self, found: dict[str, Any]) -> None:
         """Writes the description anew, line by line, but for the seed, which stands first."""
         self.lines = [f"until_ns = {found['until_ns']}"]
-        # For each virtual link the place of its offset in the lines, and its period.
-        self.offsets: list[tuple[int, int]] = []
-        for section in ("node", "link", "outage", "vl"):
-            for row in found.get(section, []):
+        # For each stream the place of its offset in the lines, its period, and its number.
+        self.offsets: list[tuple[int, int, int]] = []
+        for section in model.SECTIONS:
+            for i, row in enumerate(found.get(section, []), 1):
                 self.lines.append(f"[[{section}]]")
                 for key, value in row.items():
-                    if section == "vl" and key == "offset_ns":
-                        self.offsets.append((len(self.lines), row["period_ns"]))
+                    if key == "offset_ns":
+                        number = model.stream_of(section, i, row).number
+                        self.offsets.append((len(self.lines), row["period_ns"], number))
                     self.lines.append(f"{key} = {model.written(value)}")
 
     def with_seed(self, seed: int, drawn: bool) -> str:
@@ -58,15 +59,15 @@ class CampaignNetwork(model.Network):
         lines = [f"seed = {seed}", *self.lines]
         if drawn:
             draw = random.Random(seed).random
-            for place, period in self.offsets:
+            for place, period, _ in self.offsets:
                 lines[place + 1] = f"offset_ns = {int(draw() * period)}"
         return "\n".join(lines) + "\n"
 
     def with_offsets(self, seed: int, offsets: dict[int, int]) -> str:
-        """The text of the description with another seed, and these offsets of its virtual links by their numbers."""
+        """The text of the description with another seed, and these offsets of its streams by their numbers."""
         lines = [f"seed = {seed}", *self.lines]
-        for (place, _), row in zip(self.offsets, self.description.rows("vl")):
-            lines[place + 1] = f"offset_ns = {offsets[row['id']]}"
+        for place, _, number in self.offsets:
+            lines[place + 1] = f"offset_ns = {offsets[number]}"
         return "\n".join(lines) + "\n"
 
 

@@ -3,6 +3,7 @@ seeds of merged tables need not be given again."""
 import hashlib
 import json
 import os
+import re
 from typing import Any, NamedTuple
 
 from afdx.files import Fault, cut, program, text_of
@@ -70,6 +71,9 @@ def maker_of(found: dict[str, Any]) -> program.Maker | None:
     """The program that a record names, or None."""
     is_text = all(isinstance(found.get(name), (str, type(None))) for name in program.Maker._fields[:-1])
     if not is_text or not found.get("name") or type(found.get("proved")) is not bool:
+        return None
+    # What was proved has a checksum, by which it is known again.
+    if found["proved"] and not re.fullmatch("[0-9a-f]{64}", found.get("sha256") or ""):
         return None
     fields: dict[str, Any] = {name: found.get(name) for name in program.Maker._fields}
     return program.Maker(**fields)

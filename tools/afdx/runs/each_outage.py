@@ -9,6 +9,7 @@ from typing import NamedTuple
 
 from afdx import files, model
 from afdx.files import program
+from afdx.files.page_text import us_text
 from afdx.reckon.frames import Range, exactly
 from afdx.reckon.limits import Limit
 from afdx.runs import reading_processes, side_by_side
@@ -248,7 +249,7 @@ class Summary(NamedTuple):
         text = f"{said(self.lost())} frames more lost end to end at {said(self.losing())} destinations, {len(self.late())} later"
         if self.late():
             worst = max(self.late(), key=later)
-            text += f", most virtual link {worst.vl} at {worst.where} from {worst.greatest_before} to {worst.greatest} ns"
+            text += f", most virtual link {worst.vl} at {worst.where} from {us_text(worst.greatest_before)} to {us_text(worst.greatest)}"
         return text
 
 

@@ -124,7 +124,7 @@ class First:
         drawn = drawn_offsets(net, seed) if draws_offsets else {}
         self.net, self.seed, self.kept = copy.copy(net), seed, kept
         self.drawn: dict[Any, Any] = {}
-        self.net.vls = {vl.id: vl._replace(offset_ns=drawn.get(vl.id, vl.offset_ns)) for vl in net.vls.values()}
+        self.net.vls = {vl.id: vl.with_offsets(drawn) for vl in net.vls.values()}
         self.observed: dict[int, Observed] = {}
         self.came: CameOf | None = None
 

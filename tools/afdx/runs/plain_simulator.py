@@ -7,6 +7,8 @@ from typing import Any, NamedTuple
 from afdx import model
 from afdx.model import CAUSES
 
+# The sender of the offers of a stream is this number and that of the stream.
+FIRST_SENDER = 4096
 BODIES = ["Offer", "Release", "PortFree", "Arrive", "Enqueue", "Carry"]
 
 
@@ -110,11 +112,10 @@ class Simulation:
         self.heap: list[tuple[int, int, int, int, int, tuple[Any, ...]]] = []
         self.rows: list[tuple[int, int, int, str, int]] = []
         self.handled = 0
-        for vl in sorted(self.vls):
-            row = self.vls[vl]
-            drawn = model.offers(net["seed"], vl, row["offset_ns"], row["period_ns"], row["jitter_ns"], self.until)
-            for k, time in drawn:
-                self.push(time, self.source[vl], 4096 + vl, k, "Offer", (vl, row["size"], k % row.get("sub", 1)))
+        for vl, streams in model.streams_of(net.get("vl", []), net.get("stream", [])).items():
+            for stream in streams:
+                for it in model.offers(net["seed"], stream, self.vls[vl].get("sub", 1), self.until):
+                    self.push(it.moment, self.source[vl], FIRST_SENDER + stream.number, it.number, "Offer", (vl, it.size, it.sub))
 
     def push(self, time: int, receiver: int, sender: int, number: int, variant: str, fields: tuple[Any, ...]) -> None:
         heapq.heappush(self.heap, (time, receiver, sender, number, BODIES.index(variant), fields))

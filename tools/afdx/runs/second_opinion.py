@@ -11,7 +11,7 @@ from collections.abc import Mapping
 from typing import Any
 
 from afdx import files, model
-from afdx.model import Fault, judge, long_form
+from afdx.model import Fault, description_faults, long_form
 from afdx.runs.measured_hops import Measured
 from afdx.runs.plain_simulator import Simulation
 
@@ -45,8 +45,8 @@ MOST_OFFERS = 20_000_000
 
 def small_enough(description: model.Description) -> Mapping[str, Any]:
     """The table that a description is, or a fault where it has more offers than this simulator can take."""
-    until, rows = description.tree["until_ns"], description.rows("vl")
-    count = sum(max(0, (until - row["offset_ns"]) // row["period_ns"] + 1) for row in rows)
+    until, streams = description.tree["until_ns"], model.streams_of(description.rows("vl"), description.rows("stream"))
+    count = sum(it.count_due(until) * it.frames for ones in streams.values() for it in ones)
     if count > MOST_OFFERS:
         line, text = description.line("top", None, "until_ns"), f"{count:,} frames would be offered until the end, and"
         raise Fault(description.path, line, f"{text} this simulator takes {MOST_OFFERS:,}")
@@ -64,7 +64,7 @@ def main(arguments: list[str] | None = None) -> None:
     parser.add_argument("--json", action="store_true", help="prints the tables as JSON in long form (docs/TOOLS.md, section 7)")
     parser.add_argument("--events", action="store_true", help="prints on error output how many messages were handled")
     words = parser.parse_args(arguments)
-    description = judge.accepted(words.net)
+    description = description_faults.accepted(words.net)
     net = small_enough(description)
     written = [path for path in (words.trace, words.hops) if path]
     files.ready(written, prints=True)

@@ -3,6 +3,7 @@ from collections.abc import Iterator
 from itertools import repeat
 
 from afdx import files
+from afdx.files.page_text import us_text
 from afdx.reckon.limits import Limit
 from afdx.runs import reading_processes, run_results
 from afdx.runs.campaign_network import CampaignNetwork
@@ -71,13 +72,13 @@ class Campaign:
         files.say(f"{path}: {runs} merged, seeds {self.seeds[0]} to {self.seeds[self.done - 1]}, in {took:.1f} s")
         worst = self.merged.worst()
         if worst:
-            files.say(f"greatest latency: {worst.ns} ns, virtual link {worst.vl} at {worst.where}, seed {worst.seed}")
-        files.say(f"lost: {self.merged.copies_lost()} frames or copies, duplicates not counted")
+            files.say(f"greatest latency: {us_text(worst.ns)}, virtual link {worst.vl} at {worst.where}, seed {worst.seed}")
+        files.say(f"lost: {self.merged.copies_lost():,} frames or copies, duplicates not counted")
         if self.limits:
-            files.say(f"limits: {len(self.limits)}, broken: {len(self.broken)}")
+            files.say(f"limits: {len(self.limits):,}, broken: {len(self.broken):,}")
         for key in sorted(self.broken, key=lambda it: self.limits[it].line):
             limit, row = self.limits[key], self.merged.latencies[key]
             files.say(
-                f"limit broken: virtual link {limit.vl} at {limit.where} has {limit.ns} ns, and took {row.greatest} ns with "
+                f"limit broken: virtual link {limit.vl} at {limit.where} has {us_text(limit.ns)}, and took {us_text(row.greatest)} with "
                 f"the seed {row.seed}; broken by {self.broken[key]} of {runs}"
             )

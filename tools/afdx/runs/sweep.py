@@ -2,7 +2,7 @@
 do beside what the seed does.
 
     vl.157.bag_ms=4,8,16      of the virtual link with this number
-    link.3.mbit=10,100        of the third link of the description; outages have numbers too
+    link.3.mbit=10,100        of the third link of the description; outages and streams have numbers too
     node.SWA.latency_ns=8000  of the node with this name
 """
 import argparse
@@ -17,7 +17,7 @@ from typing import Any, NamedTuple
 from afdx import files, model
 from afdx.files import Fault, program
 from afdx.files.page_text import esc, span
-from afdx.model import judge
+from afdx.model import description_faults
 from afdx.runs import reading_processes, run_results
 from afdx.runs.each_outage import STYLE, plain, row, tile
 from afdx.runs.seeds_campaign import Campaign
@@ -43,16 +43,16 @@ class Setting(NamedTuple):
 
 def setting(text: str) -> Setting:
     """The type of a word of the command line."""
-    found = re.fullmatch(r"(vl|link|node|outage)\.([\w-]+)\.(\w+)=(.+)", text)
+    found = re.fullmatch(r"(vl|link|node|outage|stream)\.([\w-]+)\.(\w+)=(.+)", text)
     if not found:
         raise argparse.ArgumentTypeError(f"{text!r} is none as vl.157.bag_ms=4,8,16 or link.3.mbit=10,100 or node.SWA.latency_ns=8000")
     section, who, name, texts = found.groups()
     key = next((key for key in model.KEYS[section] if key.name == name and key.value_type != "paths"), None)
     if key is None:
         known = [key.name for key in model.KEYS[section] if key.value_type != "paths"]
-        raise argparse.ArgumentTypeError(f"{name} is no key of {judge.A_ROW[section]} that can be set{judge.meant(name, known)}")
+        raise argparse.ArgumentTypeError(f"{name} is no key of {description_faults.A_ROW[section]} that can be set{description_faults.meant(name, known)}")
     if section != "node" and not (model.NUMBER.fullmatch(who) and len(who) < 20):
-        raise argparse.ArgumentTypeError(f"{who!r} is no number of {judge.A_ROW[section]}")
+        raise argparse.ArgumentTypeError(f"{who!r} is no number of {description_faults.A_ROW[section]}")
     values: list[int | str] = [*texts.split(",")]
     if key.value_type == "integer":
         for value in texts.split(","):
@@ -74,9 +74,9 @@ def place_of(description: model.Description, it: Setting) -> int:
     else:
         found = [int(it.who)] if 1 <= int(it.who) <= len(rows) else []
     if not found:
-        known = f": there are {len(rows)}" if it.section in ("link", "outage") else ""
+        known = f": there are {len(rows)}" if it.section in ("link", "outage", "stream") else ""
         if it.section == "node":
-            known = judge.meant(it.who, [found["name"] for found in rows])
+            known = description_faults.meant(it.who, [found["name"] for found in rows])
         raise Fault(description.path, description.line(it.section), f"--set {it.name}: there is no such {it.section}{known}")
     return found[0]
 
@@ -113,7 +113,7 @@ def combinations_of(description: model.Description, settings: Sequence[Setting])
                 row.put(it.key.name, value, description.line(it.section, place))
         text = " ".join(f"{name}={value}" for name, value in zip(names, values))
         changed = model.Description(description.path, description.text, tree)
-        fault = min(judge.Judge(changed).findings, key=judge.rank, default=None)
+        fault = min(description_faults.Judge(changed).findings, key=description_faults.rank, default=None)
         if fault and fault.number:
             raise Fault(description.path, fault.line, f"with {text}: {fault.who} {fault.text}")
         found.append(Combination(number, values, text, changed))

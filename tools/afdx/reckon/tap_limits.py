@@ -1,0 +1,123 @@
+"""What the model allows at a tap: how close frames of a virtual link may come, how long they take from one tap to another, and
+whether the description itself lets frames be lost on the way."""
+from collections.abc import Callable
+from typing import NamedTuple
+
+from afdx.model import Network, VirtualLink, lines_of_path
+from afdx.reckon import bounds_file, network_calculus, transmit_jitter
+
+# By how much the clock of a source or of a tap may be fast or slow, in parts of a million: Ethernet allows as much.
+CLOCK_PPM = 100
+# Preamble and start of a frame, which a line carries before its first byte.
+BYTES_BEFORE = 8
+
+Bounds = bounds_file.Bounds | network_calculus.Bounds
+
+
+class Transit(NamedTuple):
+    """From one line to a later one: the greatest time in ns, or None, and the least, for frames of no bytes, with how many ns each byte
+    adds."""
+
+    most: int | None
+    least: int
+    each_byte: int
+
+    def least_of(self, size: int) -> int:
+        return self.least + size * self.each_byte
+
+
+class TapLimits:
+    """The limits at the lines of a network, by bounds of `afdx bounds`, or of their file."""
+
+    def __init__(self, net: Network, bounds: Bounds) -> None:
+        self.net, self.bounds = net, bounds
+        self.transmit = transmit_jitter.TransmitJitter(net)
+        self.out = {it.line for it in net.outages}
+        self.small = set(bounds.too_small()) if isinstance(bounds, bounds_file.Bounds) else {
+            line for line, port in bounds.ports.items() if port.most is None or port.most > port.node.port_bytes
+        }
+
+    # ---- numbers of bounds ----
+
+    def known(self, ask: Callable[[], int | None]) -> int | None:
+        """A number, None where the bounds have none, also since no frame comes there."""
+        try:
+            return ask()
+        except KeyError:
+            return None
+
+    def delay(self, vl: VirtualLink, line: str) -> int | None:
+        return self.known(lambda: self.bounds.of_kind("delay", vl.id, line))
+
+    def may_refuse(self, vl: VirtualLink, switch: str) -> bool:
+        if isinstance(self.bounds, bounds_file.Bounds):
+            return bool(self.bounds.number("refuses", vl.id, switch))
+        return self.bounds.may_refuse(vl.id, switch)
+
+    # ---- the ways ----
+
+    def way_to(self, vl: VirtualLink, line: str) -> list[str]:
+        """The lines of a virtual link from its source to a line, which is the last of them."""
+        for paths in vl.paths.values():
+            for path in paths:
+                lines = lines_of_path(path)
+                if line in lines:
+                    return lines[: lines.index(line) + 1]
+        return []
+
+    def byte_ns(self, line: str) -> int:
+        return 8000 // self.net.mbit[line]
+
+    def least(self, vl: VirtualLink, line: str) -> int:
+        """The least time from the start of a frame on a line to its last bit."""
+        return (vl.sizes[0] + BYTES_BEFORE) * self.byte_ns(line)
+
+    def spacing(self, vl: VirtualLink, line: str) -> int | None:
+        """By how much frames may come closer than a BAG at a line, in ns; None where that has no bound. The source has the transmit
+        jitter that ARINC 664 Part 7 allows, where the model has less."""
+        way = self.way_to(vl, line)
+        delay = self.delay(vl, line)
+        before = 0 if len(way) == 1 else self.known(lambda: self.bounds.of_kind("jitter", vl.id, line.split(">")[0]))
+        if delay is None or before is None:
+            return None
+        first = self.delay(vl, way[0])
+        own = 0 if first is None else first - self.least(vl, way[0])
+        return before + delay - self.least(vl, line) + max(0, self.transmit.allowed[way[0]].most_ns - own)
+
+    def transit(self, vl: VirtualLink, line: str, later: str) -> Transit:
+        """From one line of a virtual link to a later one. A tap may stand at either end of a cable, and stamp frames at their first
+        bit or their last one."""
+        way = self.way_to(vl, later)
+        lines = way[way.index(line) + 1 :]
+        latency = sum(self.net.nodes[it.split(">")[0]].latency_ns for it in lines)
+        between = sum(self.net.propagation_ns[it] for it in lines[:-1])
+        faster = self.byte_ns(line) - self.byte_ns(later)
+        each_byte = sum(map(self.byte_ns, lines)) + min(0, faster)
+        least = latency + between + BYTES_BEFORE * each_byte
+        delays = [self.delay(vl, it) for it in lines]
+        known = [it for it in delays if it is not None]
+        if len(known) < len(delays):
+            return Transit(None, least, each_byte)
+        ends = self.net.propagation_ns[line] + self.net.propagation_ns[later]
+        most = latency + between + ends + sum(known) + max(0, faster) * (vl.sizes[-1] + BYTES_BEFORE)
+        return Transit(most, least, each_byte)
+
+    # ---- what the description itself allows ----
+
+    def why_lost(self, vl: VirtualLink, line: str) -> str:
+        """Why the model may lose frames of a virtual link before the end of a line; nothing where it loses none."""
+        way = self.way_to(vl, line)
+        out = [it for it in way if it in self.out]
+        if out:
+            return f"NET has an outage of {out[0]}"
+        if vl.sizes[-1] > vl.smax and len(way) > 1:
+            return "NET has frames above smax, which the first switch drops"
+        refusing = [it.split(">")[0] for it in way[1:] if self.may_refuse(vl, it.split(">")[0])]
+        if refusing:
+            return f"by the bounds the account at {refusing[0]} may refuse frames"
+        small = [it for it in way if it in self.small]
+        return f"by the bounds the port before {small[0]} may be too small" if small else ""
+
+    def skew(self, vl: VirtualLink, where: str) -> int | None:
+        """The longest time between the copies of a frame at a destination in the worst case, or None."""
+        return self.known(lambda: self.bounds.of_kind("skew", vl.id, where))
