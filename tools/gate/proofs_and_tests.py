@@ -16,10 +16,13 @@ import subprocess
 import sys
 import time
 from collections.abc import Iterable, Mapping
+from typing import Any
 
 from afdx.files import program
 from afdx.runs import by_rt, crate_times
 from afdx.runs.crate_times import minutes, now
+from gate.test_files import Counts, TestFiles
+from gate.unit import Unit, seconds_of_children
 
 # What the tests of the tools need: programs, and libraries of Python, each by the package of Debian that has it.
 PROGRAMS = {"chromium": "chromium", "tshark": "tshark", "git": "git"}
@@ -39,8 +42,14 @@ Seconds = dict[str, dict[str, float]]
 INSTALL = ["apt-get", "install", "-y", "--no-install-recommends"]
 
 
+def show(text: str) -> None:
+    """Prints a text in one piece: several threads print."""
+    sys.stdout.write(text)
+    sys.stdout.flush()
+
+
 def report(text: str) -> None:
-    print(f"test: {text}", flush=True)
+    show(f"test: {text}\n")
 
 
 # ---- what is needed ----
@@ -114,6 +123,8 @@ class Last:
 
     seconds: float | None
     date: str | None
+    # What each file of the tests of the tools took, in s.
+    tests: dict[str, float]
 
     def __init__(self) -> None:
         cache = os.environ.get("XDG_CACHE_HOME") or os.path.join(os.path.expanduser("~"), ".cache")
@@ -122,14 +133,17 @@ class Last:
             with open(self.path, encoding="utf-8") as file:
                 found = json.load(file)
             self.seconds, self.date = float(found["seconds"]), str(found["date"])
+            self.tests = {str(name): float(took) for name, took in dict(found.get("tests", {})).items()}
         except (OSError, ValueError, KeyError, TypeError):
             self.seconds = self.date = None
+            self.tests = {}
 
-    def keep(self, seconds: float, crates: Mapping[str, int]) -> None:
+    def keep(self, seconds: float, crates: Mapping[str, int], tests: Mapping[str, float]) -> None:
         try:
             os.makedirs(os.path.dirname(self.path), exist_ok=True)
             with open(self.path, "w", encoding="utf-8") as out:
-                json.dump({"seconds": round(seconds), "date": time.strftime("%Y-%m-%d"), "crates": crates}, out, indent=1)
+                took = {name: round(took, 1) for name, took in tests.items()}
+                json.dump({"seconds": round(seconds), "date": time.strftime("%Y-%m-%d"), "crates": crates, "tests": took}, out, indent=1)
         except OSError:
             # Then there is no estimate next time.
             pass
@@ -172,33 +186,42 @@ def crates_of() -> set[str]:
 # ---- what is run ----
 
 
-def said_by(command: list[str], progress: Progress | None = None, times: Seconds | None = None) -> tuple[str, int]:
-    """What a command says, which is shown as it comes, and its status. Of `rt ci` it prints besides how far it is, and takes
-    down what each crate takes."""
-    said = []
-    try:
-        run = subprocess.Popen(command, stdout=subprocess.PIPE, stderr=subprocess.STDOUT, text=True, errors="replace")
-    except OSError as fault:
-        print(f"{command[0]}: {fault.strerror}", flush=True)
-        return "", 127
+class Proofs:
+    """The runs of `rt ci`: what they prove, how far they are, and what each crate takes."""
 
-    def listen() -> tuple[str, int]:
+    def __init__(self, last: Last) -> None:
+        self.progress = Progress(last)
+        self.times: Seconds = {}
+
+    def run(self, folder: str, is_measured: bool = False) -> tuple[str, int]:
+        """Runs `rt ci` in a folder. It returns what that says, which is shown as it comes, and the status. If it is measured, one crate
+        is proved by one process, whatever the machine has, and nothing is shown."""
+        env = os.environ | ({"RT_JOBS": "1"} if is_measured else {})
+        how: dict[str, Any] = {"cwd": folder, "env": env, "stdout": subprocess.PIPE, "stderr": subprocess.STDOUT, "text": True}
+        try:
+            run = subprocess.Popen(["rt", "ci"], errors="replace", **how)
+        except OSError as fault:
+            show(f"rt: {fault.strerror}\n")
+            return "", 127
+        if is_measured:
+            return run.communicate()[0], run.returncode
+        with crate_times.CrateTimes(run.pid, folder) as watched:
+            with by_rt.Meanwhile(lambda _: f"{self.progress.says()}; {watched.at_work()}", EACH, report):
+                found = self.listen(run)
+        for name, mine in watched.seconds().items():
+            sums = self.times.setdefault(name, dict.fromkeys(mine, 0.0))
+            for kind in mine:
+                sums[kind] += mine[kind]
+        return found
+
+    def listen(self, run: subprocess.Popen[str]) -> tuple[str, int]:
+        said = []
         assert run.stdout is not None
         for line in run.stdout:
-            print(line, end="", flush=True)
+            show(line)
             said.append(line)
-            if progress:
-                progress.take(line.rstrip("\n"))
+            self.progress.take(line.rstrip("\n"))
         return "".join(said), run.wait()
-
-    if progress is None or times is None:
-        return listen()
-    says = progress.says
-    with crate_times.CrateTimes(run.pid, os.getcwd()) as watched:
-        with by_rt.Meanwhile(lambda _: f"{says()}; {watched.at_work()}", EACH, report):
-            found = listen()
-    times.update(watched.seconds())
-    return found
 
 
 def counts_of_rt(said: str) -> tuple[int, int]:
@@ -207,56 +230,27 @@ def counts_of_rt(said: str) -> tuple[int, int]:
     return (int(lines[-1][0]), int(lines[-1][1])) if lines else (0, 0)
 
 
-def counts_of_unittest(said: str) -> tuple[int, int]:
-    """What the tests of the tools have passed and failed, by their last two lines."""
-    ran = re.findall(r"^Ran (\d+) tests? in ", said, re.MULTILINE)
-    end = re.findall(r"^(?:OK|FAILED)(?: \((.*)\))?$", said, re.MULTILINE)
-    if not (ran and end):
-        return 0, 0
-    pieces = dict(piece.split("=") for piece in end[-1].split(", ")) if end[-1] else {}
-    failed = sum(int(pieces.get(word, 0)) for word in ("failures", "errors", "unexpected successes"))
-    return max(0, int(ran[-1]) - failed - int(pieces.get("skipped", 0))), failed
-
-
-class Counts:
-    """What has passed and failed so far."""
-
-    def __init__(self) -> None:
-        self.passed = self.failed = 0
-
-    def add(self, found: tuple[int, int], status: int) -> None:
-        """Adds what a command counted. What ends badly, or has passed nothing, has failed, whatever it counts."""
-        more, less = found
-        self.passed += more
-        self.failed += less or (1 if status or not more else 0)
-
-
-def prove(counts: Counts, last: Last, times: Seconds) -> None:
+def prove(counts: Counts, proofs: Proofs) -> None:
     """Runs `rt ci`, and writes down what the program that it leaves was built of."""
     kit_line = program.kit(os.getcwd())
     before = program.sum_of_judged(kit_line, os.getcwd())
-    said, status = said_by(["rt", "ci"], Progress(last), times)
+    said, status = proofs.run(os.getcwd())
     counts.add(counts_of_rt(said), status)
     if not counts.failed and os.path.isfile(program.BUILT) and program.sum_of_judged(kit_line, os.getcwd()) == before:
         sources = program.sum_of_sources(kit_line, os.getcwd())
         program.write_record(kit_line, sources, f"{counts.passed} passed, 0 failed", os.getcwd())
 
 
-def try_tools(counts: Counts, python: str) -> tuple[dict[str, float], list[str]]:
-    """Runs the tests of the tools, file by file, and answers how long each took, and which tests were skipped and why."""
-    files = sorted(glob.glob("tools/tests/test_*.py"))
-    took: dict[str, float] = {}
-    skipped: list[str] = []
-    for number, file in enumerate(files, 1):
-        name, begin = os.path.basename(file), now()
-        report(f"tools: file {number} of {len(files)}, {name}")
-        said, status = said_by([python, os.path.join("tools", "gate", "one_test_file.py"), name])
-        counts.add(counts_of_unittest(said), status)
-        took[name] = now() - begin
-        skipped += re.findall(r"^skipped: .*$", said, re.MULTILINE)
-    if not files:
-        counts.add((0, 0), 0)
-    return took, skipped
+def tell_times(proofs: Proofs, tests: TestFiles) -> None:
+    """Prints what each crate and each file of tests took, and which tests were skipped."""
+    report("seconds of processors that each crate took in this run:")
+    for line in crate_times.in_lines(proofs.times):
+        report(f"  {line}")
+    report("seconds that each file of the tests of the tools took, several at once:")
+    for name, seconds in sorted(tests.took.items(), key=lambda it: -it[1]):
+        report(f"  {name:<26}{seconds:>6.0f}")
+    for line in tests.skipped:
+        report(line)
 
 
 def main() -> int:
@@ -265,23 +259,25 @@ def main() -> int:
     if python is None:
         print("0 passed, 1 failed", flush=True)
         return 1
-    times: Seconds = {}
     last, counts, begin = Last(), Counts(), now()
     if last.seconds:
         report(f"the last run on this machine took {minutes(last.seconds)} ({last.date}); what has not changed is not proved again")
-    prove(counts, last, times)
-    proved = now() - begin
-    took, skipped = try_tools(counts, python)
-    report("seconds of processors that each crate took in this run:")
-    for line in crate_times.in_lines(times):
-        report(f"  {line}")
-    report("seconds that each file of the tests of the tools took:")
-    for name, seconds in sorted(took.items(), key=lambda it: -it[1]):
-        report(f"  {name:<26}{seconds:>6.0f}")
-    for line in skipped:
-        report(line)
+    proofs, tests = Proofs(last), TestFiles(python, report, last.tests)
+    before = seconds_of_children()
+    with Unit(os.getcwd(), proofs.run) as unit:
+        unit.prove_below()
+        report(unit.measure())
+        tests.begin_beside_proofs()
+        prove(counts, proofs)
+        proved = now() - begin
+        tests.run_rest()
+        counts.passed, counts.failed = counts.passed + tests.counts.passed, counts.failed + tests.counts.failed
+        used = seconds_of_children() - before - unit.seconds()
+        report(unit.measure())
+    tell_times(proofs, tests)
     report(f"proofs and edits {minutes(proved)}, tools {minutes(now() - begin - proved)}, all {minutes(now() - begin)}")
+    report(f"cost without the unit itself: {unit.in_units(used)}; the tests of the tools, of these: {unit.in_units(tests.used)}")
     if not counts.failed:
-        last.keep(now() - begin, {name: round(sum(mine.values())) for name, mine in times.items()})
+        last.keep(now() - begin, {name: round(sum(mine.values())) for name, mine in proofs.times.items()}, tests.took)
     print(f"{counts.passed} passed, {counts.failed} failed", flush=True)
     return 1 if counts.failed else 0

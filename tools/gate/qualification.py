@@ -22,11 +22,12 @@ MARK = "<!-- by tools/gate/qualification.py --write: {} -->\n\n", "\n\n<!-- to h
 
 ELEMENTS = "element_rows/src/tests/elements.rt"
 NODES = "element_rows/src/tests/node_rows.rt"
+STREAMS = "tools/tests/rows/stream_tables.txt"
 
 
 class Rule(NamedTuple):
     """A rule of TRAFFIC. `defined` has files of specs/ with names; `carried` files of src/ with a public function and its
-    clauses, or with a type that implements `reverse::Reversible`; `shown` edits by their paths, and rows by their files with
+    clauses, or with a type that implements `reverse::Reversible`, or `reverse::Actor` too; `shown` edits by their paths, and rows by their files with
     a piece of their text. `against` states, for a rule marked [profile], how it stands to ARINC 664 Part 7."""
     number: str
     defined: tuple[str, ...]
@@ -43,11 +44,14 @@ class Requirement(NamedTuple):
     carried: tuple[str, ...]
 
 
-# Where the clauses of `apply` stand, for each type that implements the trait.
+# Where the clauses of `apply` and of `handle` stand, for each type that implements the trait. The program calls `handle` of an
+# actor, and `apply` of its elements.
 REVERSIBLE = "reverse/src/reversible.rt", ("state", "answer", "saved")
+ACTOR = "reverse/src/actor.rt", ("state", "messages", "notes", "saved")
+ACTORS = ("Node",)
 
 RULES = (
-    Rule("1.1", ("vlink/specs/Moment.antt: greatest_moment",), ("vlink/src/time.rt: moment_limits_law (greatest)",),
+    Rule("1.1", ("vlink/specs/Moment.antt: greatest_moment",), ("vlink/src/time.rt: Time::ns (value, within)", "vlink/src/time.rt: moment_limits_law (greatest)"),
          ("tools/tests/rows/runs.txt: until_ns = 1000000000000000",),
          "Exact. A byte takes a whole number of ns, so nothing is rounded."),
     Rule("2.1", ("vlink/specs/Wire.antt: last_bit_after, busy_for",), ("vlink/src/frame.rt: FrameSize::new (within)", "vlink/src/wire.rt: busy_ns"),
@@ -70,10 +74,10 @@ RULES = (
     Rule("4.2", ("vlink/specs/Numbering.antt: steps_between",), ("vlink/src/numbering.rt: steps",), (f"{ELEMENTS}: redundancy 1000, 250@100 122@300",),
          "Exact. It only names the distance of two numbers of rule 4.1."),
     Rule("5.1", ("bag_regulator/specs/Spacing.antt: IsSpaced",),
-         ("bag_regulator/src/spacing.rt: releases_law (apart)", "element_bounds/src/releases.rt: spacing_law"),
+         ("bag_regulator/src/regulator.rt: BagRegulator", "bag_regulator/src/spacing.rt: releases (apart)", "element_bounds/src/releases.rt: spacing_law"),
          (f"{ELEMENTS}: release@999999 release@1000000",)),
     Rule("5.2", ("bag_regulator/specs/RoundRobin.antt: round_robin", "bag_regulator/specs/Regulator.antt: next_served"),
-         ("bag_regulator/src/spacing.rt: releases_law (by_round_robin)",),
+         ("bag_regulator/src/regulator.rt: BagRegulator", "bag_regulator/src/spacing.rt: releases (by_round_robin)"),
          ("crates/bag_regulator/must-fail/undo_leaves_the_pointer.edit", f"{ELEMENTS}: regulator 1000000 2 2")),
     Rule("5.3", ("bag_regulator/specs/Regulator.antt: Regulator, opening, is_due",), ("bag_regulator/src/regulator.rt: BagRegulator::new",),
          (f"{ELEMENTS}: regulator 1000000 16385 1",),
@@ -86,9 +90,9 @@ RULES = (
     Rule("5.6", ("bag_regulator/specs/Regulator.antt: let_go, released",), ("bag_regulator/src/regulator.rt: BagRegulator",),
          ("crates/bag_regulator/must-fail/undo_leaves_the_pointer.edit",),
          "Equal if the pointer moves only at a release. Other equipment serves sub-virtual links in another order."),
-    Rule("5.7", ("bag_regulator/specs/Spacing.antt: spaced",), ("bag_regulator/src/spacing.rt: releases_law (moments, all, apart)",),
+    Rule("5.7", ("bag_regulator/specs/Spacing.antt: spaced",), ("bag_regulator/src/regulator.rt: BagRegulator", "bag_regulator/src/spacing.rt: releases (moments, all, apart)"),
          (f"{ELEMENTS}: Released 2:20:2000000",), "Follows from rules 5.3 to 5.6."),
-    Rule("5.8", ("bag_regulator/specs/Serving.antt: served_at, IsRoundRobin",), ("bag_regulator/src/spacing.rt: releases_law (by_round_robin, in_order)",),
+    Rule("5.8", ("bag_regulator/specs/Serving.antt: served_at, IsRoundRobin",), ("bag_regulator/src/regulator.rt: BagRegulator", "bag_regulator/src/spacing.rt: releases (by_round_robin, in_order)"),
          (f"{ELEMENTS}: regulator 1000000 2 2",), "Follows from rules 5.3 to 5.6 and 11.11."),
     Rule("6.1", ("policer/specs/Account.antt: charged", "nodes/specs/rules/Switch.antt: entered"), ("nodes/src/node.rt: Node",),
          (f"{NODES}: node by_frames 2",)),
@@ -99,15 +103,15 @@ RULES = (
     Rule("6.4", ("policer/specs/Account.antt: grown, passes, account",), ("policer/src/account.rt: Account",),
          ("crates/policer/must-fail/undo_subtracts_the_growth_without_the_cap.edit", f"{ELEMENTS}: 100@0 100@999999 100@1000000 => Passed Refused Passed"),
          "Exact. Equipment that requires more than the frame's amount refuses frames that pass here at equality."),
-    Rule("6.5", ("policer/specs/Bound.antt: IsPassageBounded, AreFramesBounded",), ("policer/src/limit.rt: bound_law (amounts, frames)",),
+    Rule("6.5", ("policer/specs/Bound.antt: IsPassageBounded, AreFramesBounded",), ("policer/src/account.rt: Account", "policer/src/limit.rt: bound (amounts, frames)"),
          (f"{ELEMENTS}: 64@0 64@640000 64@1000000 => Passed Refused Passed",), "Follows from rules 6.2 to 6.4."),
     Rule("7.1", ("output_port/specs/StrictPriority.antt: StartsNothing, started_frame",),
-         ("output_port/src/strict_priority.rt: strict_priority_law (uninterrupted, high_first, in_order)",),
+         ("output_port/src/port.rt: Port::free (state, answer, kept)", "output_port/src/strict_priority.rt: order (uninterrupted, high_first, in_order)"),
          (f"{ELEMENTS}: port 1518, low:1:1518 low:2:64 high:3:64",)),
     Rule("7.2", ("output_port/specs/Port.antt: PortState, opening",), ("output_port/src/port.rt: Port::new",), (f"{ELEMENTS}: port 0, low:1:64 low:2:64",),
          "Exact."),
     Rule("7.3", ("output_port/specs/Port.antt: put, may_wait",),
-         ("output_port/src/port.rt: Port::put (state, answer, kept, within)", "output_port/src/strict_priority.rt: strict_priority_law (within)"),
+         ("output_port/src/port.rt: Port::put (state, answer, kept, within)", "output_port/src/strict_priority.rt: order (within)"),
          (f"{ELEMENTS}: high:0:64 low:1:1518 high:2:64", f"{NODES}: lost 1 PortFull 64"),
          "Depends on the equipment. Set `port_bytes` to the least memory of a port; separate limits by priority cannot be described."),
     Rule("7.4", ("output_port/specs/Port.antt: next, free",), ("output_port/src/port.rt: Port::free (state, answer, kept)",),
@@ -130,6 +134,22 @@ RULES = (
          "No rule of Part 7: drawn delays that can be repeated."),
     Rule("10.4", ("traffic/specs/Offers.antt: offer_by, offers_of",), ("traffic/src/offering.rt: offers",), (f"{NODES}: offers shared",),
          "No rule of Part 7: the applications of a virtual link take turns."),
+    Rule("10.5", ("traffic/specs/Offers.antt: stream_of, own_of, row_streams, streams_of, sender_of",),
+         ("traffic/src/offering.rt: offers", "traffic/src/law.rt: own_law (same)", "netdesc/src/reading.rt: read (network, fault)"), (f"{STREAMS}: n1 => offset_ns = 0 -> offset_ns = 3000000 => + [[stream]]",),
+         "No rule of Part 7: several ports share a virtual link. Their order at one moment is that of the description."),
+    Rule("10.6", ("traffic/specs/Offers.antt: size_of, offer_by, offer_of",), ("traffic/src/offering.rt: offers",),
+         ("crates/traffic/must-fail/last_frame_of_a_burst_has_the_size.edit", f"{STREAMS}: frames = 6;last_size = 879", f"{STREAMS}: sub = 2;frames = 3"),
+         "No rule of Part 7: IP cuts a message into frames, which equipment may hand to the regulator over some time, not at one moment. Then latencies are shorter."),
+    Rule("10.7", ("traffic/specs/Offers.antt: due_of, drawn_before, late_by, moment_of",), ("traffic/src/offering.rt: offers",),
+         ("crates/traffic/must-fail/sporadic_delays_do_not_add_up.edit", f"{STREAMS}: timing = \"sporadic\"",),
+         "No rule of Part 7: a model of applications that send by events. A run shows one behaviour, not the worst."),
+    Rule("10.8", ("traffic/specs/Offers.antt: last_of, due_count, offers_from",), ("traffic/src/offering.rt: offers", "traffic/src/law.rt: offers_law (due)"),
+         ("crates/traffic/must-fail/end_of_a_stream_cuts_due_moments_only.edit", f"{STREAMS}: end_ns = 1000850", f"{STREAMS}: end_ns = 799999"), "No rule of Part 7: a model of a change of mode."),
+    Rule("10.9", ("traffic/specs/Offers.antt: sub_of",), ("traffic/src/offering.rt: offers",), (f"{STREAMS}: sub = 2;frames = 3;sub_vl = 0", f"{STREAMS}: sub_vl = 1"),
+         "No rule of Part 7: a port has a sub-virtual link of its own, or bursts take turns."),
+    Rule("10.10", ("bag_regulator/specs/Regulator.antt: let_go", "nodes/specs/rules/EndSystem.antt: offered, received_reply"),
+         ("bag_regulator/src/spacing.rt: releases (in_order)", "nodes/src/node.rt: Node"), (f"{STREAMS}: n1 => until_ns = 2000000 -> until_ns = 3000000 => depth = 16 -> depth = 16;frames = 3",),
+         "Follows from rules 5.8, 10.6 and 11.3. The time in which equipment puts the frames of a message together is 0 here. Add it."),
     Rule("11.1", ("nodes/specs/rules/EndSystem.antt: offered, regulated",), ("nodes/src/node.rt: Node",),
          (f"{NODES}: node two 0, offer@0:1.64", "crates/sender/must-fail/the_counter_is_not_undone.edit"),
          "Not conservative. Equipment takes time to send (technological latency) and may send the two copies apart; both are 0 here. Add them to latencies, and the skew to SkewMax."),
@@ -153,7 +173,7 @@ RULES = (
          ("crates/heap_message/must-fail/messages_are_ordered_by_time_alone.edit", f"{NODES}: 0.0.2/release@1000000:1"),
          "Depends on the equipment, which may handle events of one moment in another order."),
     Rule("11.12", ("network_tables/specs/PortLaws.antt: IsInput, IsOutput, ExactlyOne", "nodes/specs/rules/Meeting.antt: meetings"),
-         ("network_tables/src/laws.rt: port_law (inputs, outputs, one_input)",), (f"{NODES}: arrive@5860:1:1.64 arrive@5860:0:9.64",),
+         ("netdesc/src/reading.rt: read (network)", "network_tables/src/laws.rt: port_law (inputs, outputs, one_input)"), (f"{NODES}: arrive@5860:1:1.64 arrive@5860:0:9.64",),
          "Equal for switches that are configured by these paths. Other configurations cannot be described."),
 )
 
@@ -166,7 +186,8 @@ REQUIREMENTS = (
                 ("seq_tables/src/running.rt: run_tables (whole, each)", "seqsim/src/simulating.rt: run (tables)",
                  "trace_tables/src/tables.rt: Tables::of")),
     Requirement("TOR-4", "A run by workers that ends without a fault has the tables and the trace of the one-thread run",
-                ("worker_pool/src/running.rt: run (rows, tables, finished)", "worker_pool/src/tracing.rt: run_traced (each, whole, beginning)")),
+                ("worker_pool/src/summary.rt: run_summary (tables, each, journal, pace)",
+                 "worker_pool/src/tracing.rt: run_traced (each, whole, beginning, pace)")),
     Requirement("TOR-5", "`replay` has the tables of the one-thread run if the journal finishes the run, and states whether it does",
                 ("timewarp/src/journal.rt: replay (safe, whole)",)),
     Requirement("TOR-6", "A fault has its line and status, and what was written is whole or a beginning ([FORMATS.md](FORMATS.md), section 9)",
@@ -220,7 +241,8 @@ def header_of(text: str, name: str) -> str | None:
 
 
 def parts_of(call: str) -> tuple[str, str, list[str]]:
-    """The type of a call, its function and its clauses. A type alone is one that implements `reverse::Reversible`."""
+    """The type of a call, its function and its clauses. A type alone is one that implements `reverse::Reversible`, or
+    `reverse::Actor` too."""
     name, _, clauses = call.partition(" (")
     of_type, _, function = name.rpartition("::")
     if function[0].isupper():
@@ -231,7 +253,8 @@ def parts_of(call: str) -> tuple[str, str, list[str]]:
 def faults_of_contract(text: str, call: str) -> list[str]:
     of_type, name, clauses = parts_of(call)
     if not name:
-        return [] if re.search(rf"^impl Reversible for {of_type}\b", text, re.MULTILINE) else [f"{of_type} is not Reversible"]
+        traits = ["Reversible", "Actor"] if of_type in ACTORS else ["Reversible"]
+        return [f"{of_type} is not {trait}" for trait in traits if not re.search(rf"^impl {trait} for {of_type}\b", text, re.MULTILINE)]
     if of_type and not re.search(rf"^impl(?:<.*>)? {of_type}\b", text, re.MULTILINE):
         return [f"{of_type} has no function of its own"]
     head = header_of(text, name)
@@ -301,9 +324,10 @@ def calls(top: str = TOP) -> list[str]:
 
 
 def check(top: str = TOP) -> list[str]:
-    path, clauses = REVERSIBLE
-    head = header_of(read(os.path.join(top, of_crates(path))), "apply") or ""
-    faults = [f"`apply` has no clause {clause}" for clause in clauses if f"ensures {clause} " not in head]
+    faults = []
+    for (path, clauses), name in ((REVERSIBLE, "apply"), (ACTOR, "handle")):
+        head = header_of(read(os.path.join(top, of_crates(path))), name) or ""
+        faults += [f"`{name}` has no clause {clause}" for clause in clauses if f"ensures {clause} " not in head]
     faults += faults_of_marks(rules_of(read(TRAFFIC)))
     for rule in RULES:
         faults += faults_of_rule(rule, top)
@@ -320,7 +344,7 @@ def contract_in_words(reference: str) -> str:
     if not call:
         return code(path) + ", tested"
     of_type, name, clauses = parts_of(call)
-    called = "::".join(filter(None, (path.split("/")[1], of_type, name or "apply")))
+    called = "::".join(filter(None, (path.split("/")[1], of_type, name or ("handle" if of_type in ACTORS else "apply"))))
     return code(called) + (": " + ", ".join(map(code, clauses)) if clauses else "")
 
 

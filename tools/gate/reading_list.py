@@ -33,7 +33,6 @@ MARKS = "<!-- by tools/gate/reading_list.py --write: from here -->\n\n", "\n\n<!
 BEGINNINGS = {
     "replay": [("timewarp", "journal", "replay"), ("commands", "replaying", "replay")],
     "run": [
-        ("worker_pool", "running", "run"),
         ("worker_pool", "summary", "run_summary"),
         ("worker_pool", "tracing", "run_traced"),
         ("afdxsim", "run", "run"),

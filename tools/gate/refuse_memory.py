@@ -128,8 +128,8 @@ COMMANDS = (
     ),
     Command("bounds n1.toml", BOUNDS, "", {}, (NO_MEMORY,)),
     Command("run n1.toml --workers 2", TABLES, "", {}, (NO_MEMORY, NO_WORKER)),
-    # One group: no thread is started.
-    Command("run n1.toml --groups 1", TABLES, "", {}, (NO_MEMORY,)),
+    # One group has one worker.
+    Command("run n1.toml --groups 1", TABLES, "", {}, (NO_MEMORY, NO_WORKER)),
     Command(
         "run n1.toml --workers 2 --journal journal.txt --trace trace.csv",
         TABLES,

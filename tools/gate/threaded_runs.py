@@ -127,6 +127,8 @@ def bend(tree: toml_lines.Table, draw: random.Random) -> None:
         for key in ("sub", "policing"):
             if draw.random() < 0.1:
                 del vl[key]
+    if draw.random() < 0.5:
+        add_streams(tree, draw)
     tree["outage"] = []
     for _ in range(draw.choice([0, 0, 1, 3]) if tree["link"] else 0):
         link, begin = draw.choice(tree["link"]), draw.randrange(tree["until_ns"])
@@ -135,12 +137,28 @@ def bend(tree: toml_lines.Table, draw: random.Random) -> None:
         tree["outage"].append({"from": ends[0], "to": ends[1]} | times)
 
 
+def add_streams(tree: toml_lines.Table, draw: random.Random) -> None:
+    """Gives virtual links bursts, sporadic offers, ends, sub-virtual links of ports, and further streams."""
+    tree["stream"] = []
+    for vl in tree["vl"]:
+        for _ in range(draw.choice([0, 0, 1, 2])):
+            stream = {"vl": vl["id"], "size": draw.randint(64, GREATEST_FRAME), "jitter_ns": draw.choice([0, vl["jitter_ns"]])}
+            stream |= {"offset_ns": draw.choice([0, vl["offset_ns"]]), "period_ns": vl["period_ns"] * draw.choice([1, 2, 5])}
+            tree["stream"].append(stream)
+    for row in [*tree["vl"], *tree["stream"]]:
+        row |= draw.choice([{}, {"frames": draw.choice([1, 2, 3, 9])}, {"frames": 3, "last_size": draw.choice([64, 300, GREATEST_FRAME])}])
+        row |= draw.choice([{}, {}, {"timing": "sporadic"}, {"timing": "periodic", "end_ns": draw.randrange(tree["until_ns"] + 2)}])
+        row |= draw.choice([{}, {}, {}, {"sub_vl": draw.randrange(4)}])
+
+
 def move_to_the_latest_end(tree: toml_lines.Table) -> None:
     """The same network, with all of its moments as late as can be."""
     late = LATEST_NS - tree["until_ns"]
     tree["until_ns"] = LATEST_NS
-    for vl in tree["vl"]:
-        vl["offset_ns"] = min(LATEST_NS, vl["offset_ns"] + late)
+    for row in [*tree["vl"], *tree.get("stream", [])]:
+        row["offset_ns"] = min(LATEST_NS, row["offset_ns"] + late)
+        if "end_ns" in row:
+            row["end_ns"] = min(LATEST_NS, row["end_ns"] + late)
     for outage in tree["outage"]:
         outage["from_ns"] = outage["from_ns"] + late
         outage["to_ns"] = min(LATEST_NS, outage["to_ns"] + late)

@@ -14,7 +14,7 @@ class State:
 
     LISTS = (
         "next_ns", "letter_ns", "rests", "seats", "floors", "boxes", "trays", "abroad", "counts", "done", "otherwise", "committed",
-        "blocks", "seen", "unposted", "seat_next",
+        "blocks", "seen", "unposted", "seat_next", "deques",
     )
     NUMBERS = ("resting", "gvt_ns", "gvt", "sections", "stop")
     __slots__ = (*LISTS, *NUMBERS, "workers")
@@ -34,6 +34,7 @@ class State:
     seen: list[int]
     unposted: list[int]
     seat_next: list[int]
+    deques: list[tuple[int, ...]]
     resting: int
     gvt_ns: int
     gvt: int
@@ -61,7 +62,7 @@ class Worker:
 
     OWN = (
         "at", "group", "place", "is_own", "worked", "has_worked", "handled", "limit", "other_limit", "looks", "patience", "then",
-        "is_parked", "behind_wakes",
+        "is_parked", "behind_wakes", "round_limit", "listed", "order", "begun", "stole",
     )
     __slots__ = (*OWN, "letters")
     at: str
@@ -78,6 +79,11 @@ class Worker:
     then: str | None
     is_parked: bool
     behind_wakes: str | None
+    round_limit: int
+    listed: int
+    order: tuple[int, ...]
+    begun: bool
+    stole: bool
     letters: list[int]
 
     def __init__(self, groups: int) -> None:
@@ -90,6 +96,9 @@ class Worker:
         self.group = self.place = self.handled = self.limit = self.other_limit = 0
         self.is_own = self.worked = self.has_worked = False
         self.then = self.behind_wakes = None
+        self.round_limit = self.listed = 0
+        self.order = ()
+        self.begun = self.stole = False
 
     def copy(self) -> "Worker":
         other = Worker.__new__(Worker)

@@ -15,6 +15,7 @@ WRONG = {
     "mute": "call_all reports the letters to no group",
     "blind": "is_to_meet does not look at letters",
     "unposted": "a turn never ends with a meeting, and what is not due is never posted",
+    "unwoken": "where a start fails or a run stands still, the workers are to stop, and nobody wakes those that rest",
 }
 
 
@@ -23,11 +24,14 @@ class Model:
 
     def __init__(
         self, network: Network, workers: int, window: int, has_wake_up: bool = True, has_timeouts: bool = False, gives_up: bool = False,
-        wrong: Collection[str] = (),
+        wrong: Collection[str] = (), started: int | None = None,
     ) -> None:
+        """Of the workers only the first `started` start, if it is given: then the calling thread gives them up."""
         self.network, self.count, self.window = network, workers, window
+        self.started = workers if started is None else started
         self.groups = Groups(network)
-        self.has_wake_up, self.has_timeouts, self.gives_up, self.wrong = has_wake_up, has_timeouts, gives_up, wrong
+        self.has_wake_up, self.has_timeouts, self.wrong = has_wake_up, has_timeouts, wrong
+        self.gives_up = gives_up or self.started < workers
 
     def beginning(self) -> State:
         network, s = self.network, State.__new__(State)
@@ -39,9 +43,12 @@ class Model:
         s.trays, s.abroad = [(0, 0)] * events, [(0, 0)] * events
         s.counts, s.done, s.otherwise, s.committed = [0] * events, [False] * events, [0] * events, [False] * events
         s.rests = [False] * self.count
+        s.deques = [()] * self.count
         s.resting = s.gvt_ns = s.gvt = s.sections = 0
         s.stop = False
         s.workers = [Worker(groups) for _ in range(self.count)]
+        for worker in s.workers[self.started:]:
+            worker.at = "ended"
         return s
 
     def is_end(self, s: State) -> bool:
@@ -62,12 +69,13 @@ class Model:
         return s
 
     def after_giving_up(self, state: State) -> State | None:
-        """The state after the calling thread gives the workers up, at any moment: they are to stop, and are woken."""
+        """The state after the calling thread gives the workers up, at any moment: they are to stop, and are woken. It does so where a
+        run stands still, and where a worker could not be started."""
         if not self.gives_up or state.stop:
             return None
         s = state.copy(None)
         s.stop = True
-        for number in range(self.count):
+        for number in range(self.count if "unwoken" not in self.wrong else 0):
             self.wake_worker(s, number)
         return s
 
@@ -88,8 +96,11 @@ class Model:
     def is_due(self, s: State, group: int, limit: int) -> bool:
         return s.seat_next[group] < limit and not self.waits_for_gvt(s, group)
 
+    def first(self, s: State, group: int) -> int:
+        return min(s.next_ns[group], s.letter_ns[group])
+
     def is_told_due(self, s: State, group: int, limit: int) -> bool:
-        return s.next_ns[group] < limit or s.letter_ns[group] < limit
+        return self.first(s, group) < limit
 
     def is_to_meet(self, s: State, group: int, limit: int, looks: int) -> bool:
         if s.unposted[group] >= MOST_UNPOSTED:
@@ -111,9 +122,10 @@ class Model:
 
     def own_turns(self, s: State, me: Worker, number: int) -> None:
         """The next group of its own, or what follows behind them."""
-        own = [group for group in range(me.place, self.network.groups) if self.owner(group) == number]
-        if own:
-            me.group, me.place, me.is_own, me.at = own[0], own[0] + 1, True, "turn_of"
+        if not me.begun:
+            me.at = "begin_round"
+        elif me.place < len(me.order):
+            me.at = "next_own"
         elif me.has_worked:
             me.looks, me.patience = 0, min(LOOKS_BEFORE_HELP, me.patience + 1)
             me.at = "turns_until_over"
@@ -121,15 +133,35 @@ class Model:
             me.forget()
             me.at = "turn_of_others" if me.looks >= me.patience else "found_nothing"
 
+    def begin_round(self, s: State, me: Worker, number: int) -> None:
+        me.begun, me.round_limit = True, self.limit(s)
+        own = [group for group in range(self.network.groups) if self.owner(group) == number]
+        me.order = tuple(sorted(own, key=lambda group: self.first(s, group)))
+        due = tuple(group for group in me.order if self.first(s, group) < me.round_limit)
+        s.deques[number] = s.deques[number] + due
+        me.listed, me.at = len(due), "own_turns"
+
+    def next_own(self, s: State, me: Worker, number: int) -> None:
+        if me.place < me.listed:
+            me.place += 1
+            if not s.deques[number]:
+                me.at = "own_turns"
+                return
+            me.group, s.deques[number] = s.deques[number][0], s.deques[number][1:]
+        else:
+            me.group, me.place = me.order[me.place], me.place + 1
+        me.is_own, me.at = True, "turn_of"
+
     def turn_of(self, s: State, me: Worker, number: int) -> None:
         group, me.at = me.group, "behind_turn"
         if s.seats[group] is None:
             s.seats[group] = number
-            me.limit = self.limit(s)
-            if self.is_to_meet(s, group, me.limit, me.looks):
+            limit = me.round_limit if me.is_own else me.other_limit
+            if self.is_to_meet(s, group, limit, me.looks):
                 me.at, me.then = "meet", "handle_due"
             else:
-                me.at = "handle_due" if self.is_due(s, group, me.limit) else "give_back"
+                me.at = "handle_due" if self.is_due(s, group, limit) else "give_back"
+            me.limit = self.limit(s)
 
     def behind_turn(self, s: State, me: Worker, number: int) -> None:
         worked, me.worked, me.limit, me.at = me.worked, False, 0, "own_turns"
@@ -139,10 +171,31 @@ class Model:
             me.patience //= 2
             me.looks, me.at = me.patience, "turns_until_over"
         else:
+            if me.stole:
+                me.stole, me.place = False, 0
             me.at = "look_at_others"
 
     def turn_of_others(self, s: State, me: Worker, number: int) -> None:
-        me.other_limit, me.at = self.limit(s), "look_at_others"
+        me.other_limit = self.limit(s)
+        others = [group for group in range(self.network.groups) if self.owner(group) != number and self.first(s, group) < me.other_limit]
+        if not others:
+            me.forget()
+            me.at = "found_nothing"
+            return
+        me.group, me.at = min(others, key=lambda group: self.first(s, group)), "steal"
+
+    def steal(self, s: State, me: Worker, number: int) -> None:
+        victim = self.owner(me.group)
+        me.at = "look_at_others"
+        if s.deques[victim]:
+            me.group, s.deques[victim] = s.deques[victim][0], s.deques[victim][1:]
+            me.stole, me.at = True, "look_at_stolen"
+
+    def look_at_stolen(self, s: State, me: Worker, number: int) -> None:
+        if self.is_told_due(s, me.group, me.other_limit):
+            me.at = "turn_of"
+        else:
+            me.stole, me.at = False, "look_at_others"
 
     def look_at_others(self, s: State, me: Worker, number: int) -> None:
         """Whether the next group is another worker's and due."""

@@ -17,8 +17,9 @@ from unittest import mock
 from afdx import model
 from afdx.commands import bounded_runs, large_network
 from afdx.files import program
-from afdx.reckon import network_calculus, output_ports, whole_frames
+from afdx.reckon import network_calculus, output_ports, regulator_waits, whole_frames
 from afdx.reckon.arrival_curves import PARTS
+from afdx.reckon.bounds_rows import BoundsRows
 from tests.places import EXAMPLES, tool_words
 
 MS = 10**6
@@ -198,7 +199,7 @@ class ByHand(unittest.TestCase):
         whole = whole_frames.WholeFrames(hops)
         for t in (it for it in moments if it >= 0):
             count = lambda hop: 1 + (t + hop.spread) // hop.link.vl.bag_ns
-            self.assertEqual(whole.come(t), sum(count(hop) * hop.link.amount for hop in hops) * PARTS)
+            self.assertEqual(whole.come(t), sum(count(hop) * hop.amount for hop in hops) * PARTS)
 
     def test_a_slow_line_brings_less(self):
         """As above, but the first line has 10 Mbit/s: a byte takes ten times the time, so it brings one frame in 67,200
@@ -286,7 +287,7 @@ class ByHand(unittest.TestCase):
                 changes = {"bag_ms": bag, "period_ns": period, "jitter_ns": jitter, "depth": depth, "sub": sub}
                 found = network([virtual_link(1, way("E1", "A", "E2"), **changes)])
                 self.assertEqual(found.latencies[1, "E2"], (27720 + wait, ""))
-                self.assertIn(f"1,E2,{27720 + wait},{wait},,,,A,,,,,,", found.text())
+                self.assertIn(f"1,E2,{27720 + wait},{wait},,,,A,,,,,,", BoundsRows(found).text())
 
     def test_both_networks(self):
         """The lesser bound of two where each frame arrives by the faster network and the copy is known; else the greater.
@@ -369,8 +370,8 @@ class ByHand(unittest.TestCase):
         vls = [virtual_link(i, way(f"E{i}", "A", "E3"), **size) for i in (1, 2)]
         found = network(vls, slow)
         self.assertEqual(found.latencies, {(1, "E3"): (None, too_much), (2, "E3"): (None, too_much)})
-        self.assertIn(f"1,E3,none,0,,,{too_much},,,,,,not_sure,", found.text())
-        self.assertIn(f",A>E3,,,none,65536,{too_much},,,,,,too_small,", found.text())
+        self.assertIn(f"1,E3,none,0,,,{too_much},,,,,,not_sure,", BoundsRows(found).text())
+        self.assertIn(f",A>E3,,,none,65536,{too_much},,,,,,too_small,", BoundsRows(found).text())
         # A high one goes first, and waits for one low frame at most.
         found = network([*vls, virtual_link(3, way("E4", "A", "E3"), priority="high")], slow)
         self.assertEqual(found.latencies[1, "E3"], (None, too_much))
@@ -434,6 +435,38 @@ class OfExamples(unittest.TestCase):
             self.assertEqual(network_calculus.Bounds(net).latencies[last.vl, last.where], (last.greatest, ""))
 
 
+class Waits(unittest.TestCase):
+    """The longest wait in a regulator to which several streams offer bursts, in BAGs of 1 ms."""
+
+    @staticmethod
+    def stream(frames, period, jitter=0, **more):
+        row = {"id": 1, "size": 64, "offset_ns": 0, "frames": frames, "period_ns": period * MS, "jitter_ns": int(jitter * MS)}
+        return model.stream_of("vl", 1, row | more)
+
+    def test_by_hand(self):
+        for streams, wanted in (
+            # The last of three frames waits for two.
+            ([self.stream(3, 3)], 2 * MS),
+            # Late by 1 ms at the most, the next burst may come 2 ms behind this one: of six frames the last waits for five, less 2 ms.
+            ([self.stream(3, 3, 1)], 3 * MS),
+            ([self.stream(3, 3, 1, timing="sporadic")], 2 * MS),
+            ([self.stream(3, 10, 1)], 2 * MS),
+            # Five come at once; at 10 ms there are as many once more.
+            ([self.stream(2, 10), self.stream(3, 10)], 4 * MS),
+            # Each second BAG one, and a burst of two each 5 ms: at 0 three, and the next one comes when one is left.
+            ([self.stream(1, 2), self.stream(2, 5)], 2 * MS),
+            # More than a frame in each BAG.
+            ([self.stream(2, 1)], model.LATEST_NS),
+        ):
+            with self.subTest(streams):
+                self.assertEqual(regulator_waits.longest(streams, MS), wanted)
+
+    def test_many_streams_are_rounded_up(self):
+        streams = [self.stream(1, 1 + i) for i in range(40, 100)]
+        self.assertGreaterEqual(regulator_waits.rate(streams, MS), sum(Fraction(1, 1 + i) for i in range(40, 100)))
+        self.assertEqual(regulator_waits.longest(streams, MS), 59 * MS)
+
+
 class OfRuns(unittest.TestCase):
     def call(self, *words):
         said = io.StringIO()
@@ -445,6 +478,11 @@ class OfRuns(unittest.TestCase):
         status, said = self.call("--networks", "60")
         self.assertEqual(status, 0, said)
         self.assertRegex(said, r"^60 networks, 600 runs: \d{5} latencies, \d{5} ports and \d{6} others held against bounds, 0 above; ")
+
+    def test_drawn_networks_with_streams(self):
+        status, said = self.call("--networks", "40", "--runs", "6", "--streams")
+        self.assertEqual(status, 0, said)
+        self.assertRegex(said, r"^40 networks, 240 runs: \d{4} latencies, \d{4} ports and \d{5} others held against bounds, 0 above; ")
 
     def test_what_is_above_its_bound_is_reported_and_can_be_run_again(self):
         """With all bounds a hundredth lower, some latency is above its bound. The words that are printed run it again."""
@@ -474,11 +512,11 @@ class OfProgram(unittest.TestCase):
     def shares(self, text):
         """What each of these bounds is by that of the tool, which takes the network where a frame takes longer, too."""
         net = model.Network("net.toml", text)
-        found, proved, shares = network_calculus.Bounds(net), bounded_runs.bounds_by(model.PROGRAM, net, text), []
+        found, proved, shares = network_calculus.Bounds(net), bounded_runs.bounds_by(model.PROGRAM, net), []
         for key in net.destinations:
             ways = [way.longest for way in found.by_network.get(key, {}).values()]
-            if ways and None not in ways and proved.of[key] is not None:
-                shares.append(proved.of[key] / (max(ways) + found.links[key[0]].wait))
+            if ways and None not in ways and proved.bound(*key) is not None:
+                shares.append(proved.bound(*key) / (max(ways) + found.links[key[0]].wait))
         return sorted(shares)
 
     def test_they_are_near_those_of_the_tool(self):
@@ -523,13 +561,33 @@ class Proved(unittest.TestCase):
         run = subprocess.run([*tool_words("bounds"), self.net, "--proved", path, *words], capture_output=True, text=True)
         return run.returncode, run.stdout, run.stderr.replace(path, "proved.csv")
 
-    def test_they_stand_beside_the_others(self):
-        status, text, errors = self.call(self.LINES)
+    def rows(self, lines):
+        """The rows of bounds.csv by columns."""
+        status, text, errors = self.call(lines)
         self.assertEqual((status, errors), (0, ""))
         head, *rows = (line.split(",") for line in text.splitlines())
-        rows = [dict(zip(head, row)) for row in rows]
-        self.assertEqual((rows[0]["bound_ns"], rows[0]["proved_ns"], rows[0]["proved_bytes"]), ("27720", "27720", ""))
-        self.assertEqual({row["where"]: row["proved_bytes"] for row in rows if row["waiting_bytes"]}, {"ES1>SW1": "84", "SW1>ES2": "84"})
+        return [dict(zip(head, row)) for row in rows]
+
+    def test_they_stand_before_those_of_the_tool(self):
+        """Where the program has a number; else that of the tool stands, and bound_by says so."""
+        line = "bound,1,ES2,27721,2,27723"
+        for lines, number, wait, network, by in (
+            (self.LINES, "27720", "0", "27720", "program"),
+            ((self.LINES[0], line, *self.LINES[2:]), "27723", "2", "27721", "program"),
+            ((self.LINES[0], "none,1,ES2,rate,,", *self.LINES[2:]), "27720", "0", "27720", "tool"),
+            # Later versions print more columns.
+            ((self.LINES[0] + ",least_ns", line + ",5", *(it + "," for it in self.LINES[2:])), "27723", "2", "27721", "program"),
+        ):
+            with self.subTest(lines[1]):
+                first, *rest = self.rows(lines)
+                names = ("bound_ns", "wait_ns", "network_ns", "bound_by", "bound_ns_tool", "wait_ns_tool", "network_ns_tool")
+                self.assertEqual([first[name] for name in names], [number, wait, network, by, "27720", "0", "27720"])
+                ports = {row["where"]: [row[name] for name in ("waiting_bytes", "waiting_bytes_tool", "bound_by")] for row in rest if row["port_bytes"]}
+                self.assertEqual(ports, {"ES1>SW1": ["84", "0", "program"], "SW1>ES2": ["84", "0", "program"]})
+
+    def test_a_port_is_judged_by_them(self):
+        rows = self.rows((*self.LINES[:4], "port,SW1>ES2,,65537,no,", self.LINES[5]))
+        self.assertEqual([row["warning"] for row in rows if row["port_bytes"]], ["", "too_small"])
 
     def test_a_page_shows_both(self):
         both, page = os.path.join(self.folder, "bounds.csv"), os.path.join(self.folder, "page.html")
@@ -538,7 +596,9 @@ class Proved(unittest.TestCase):
         run = subprocess.run([*tool_words("report"), self.net, tables, "--bounds", both, "-o", page], capture_output=True, text=True)
         self.assertEqual((run.returncode, run.stderr), (0, ""))
         with open(page, encoding="utf-8") as file:
-            self.assertIn("bound by the program", file.read())
+            found = file.read()
+        for said in ("µs, afdxsim bounds", "µs, afdx bounds", "is printed by <b>afdxsim bounds</b>", "bound of the tool"):
+            self.assertIn(said, found)
 
     def test_limits_go_by_them(self):
         limits = os.path.join(self.folder, "limits.csv")
@@ -547,13 +607,23 @@ class Proved(unittest.TestCase):
         for bound, verdict, wanted in (("27720", "below its bound", 1), ("27000", "kept", 0)):
             lines = [self.LINES[0], f"bound,1,ES2,{bound},0,{bound}", *self.LINES[2:]]
             status, text, _ = self.call(lines, "--limits", limits, "--strict")
-            self.assertEqual((status, text.splitlines()[1].split(",")[-1]), (wanted, verdict))
+            self.assertEqual((status, text.splitlines()[1].split(",")[-2:]), (wanted, [verdict, "program"]))
 
-    def test_none_is_none(self):
-        lines = [self.LINES[0], "none,1,ES2,rate,,", *self.LINES[2:4], "none,SW1>ES2,,rate,,", self.LINES[5]]
-        status, text, _ = self.call(lines)
-        self.assertEqual(status, 0)
-        self.assertIn(",none,,", text.splitlines()[1])
+    def test_a_page_marks_what_the_program_has_not(self):
+        both, page = os.path.join(self.folder, "bounds.csv"), os.path.join(self.folder, "page.html")
+        with open(os.path.join(EXAMPLES, "five_links.toml"), encoding="utf-8") as file:
+            net = model.Network(os.path.join(EXAMPLES, "five_links.toml"), file.read())
+        lines = [model.BOUNDS_HEAD] + [f"none,{vl},{where},rate,," if vl == 5 else f"bound,{vl},{where},999999,1,1000000" for vl, where in net.destinations]
+        self.net = net.path
+        self.assertEqual(self.call([*lines, *(f"port,{line},,9,yes," for line in net.mbit)], "-o", both)[0], 0)
+        tables = self.net.replace(".toml", ".tables.csv")
+        run = subprocess.run([*tool_words("report"), self.net, tables, "--bounds", both, "-o", page], capture_output=True, text=True)
+        self.assertEqual((run.returncode, run.stderr), (0, ""))
+        with open(page, encoding="utf-8") as file:
+            found = file.read()
+        self.assertIn("It has none for 1 destination, where that of afdx bounds stands with the mark †.", found)
+        self.assertIn('"bound":[1000000,1000000,1000000,1000000,134082]', found)
+        self.assertIn('"bound_mark":[0,0,0,0,1]', found)
 
     def test_another_file_is_refused(self):
         for lines, printed in (
@@ -565,6 +635,7 @@ class Proved(unittest.TestCase):
             ((self.LINES[0], *self.LINES[2:]), "the file ends without virtual link 1 at ES2"),
             (self.LINES[:-1], "the file ends without the port before ES2>SW1"),
             ((self.LINES[0], "bounds,1,ES2"), "line 2: is no line of bounds"),
+            ((self.LINES[0], "bound,1,ES2,5,6,12"), "line 2: 5 and 6 are not 12, the bound"),
         ):
             with self.subTest(printed):
                 status, text, errors = self.call(lines)
@@ -585,10 +656,11 @@ class Command(unittest.TestCase):
             own = hashlib.sha256(file.read()).hexdigest()[:16]
         own += "," + program.tool("bounds").cell()
         text = "vl,where,bound_ns,wait_ns,waiting_bytes,port_bytes,why,sure,skew_ns,skew_max_ns,jitter_ns,"
-        text += "policing_jitter_ns,warning,network_ns,network_a_ns,network_b_ns,delay_ns,transmit_jitter_ns,transmit_rule_ns,description,program\n"
-        text += f"1,ES2,27720,0,,,,A,,,,,,27720,27720,,,,,{own}\n1,SW1,,,,,,,,,0,0,,,,,,,,{own}\n"
-        text += f"1,ES1>SW1,,,,,,,,,,,,,,,5760,,,{own}\n1,SW1>ES2,,,,,,,,,,,,,,,5760,,,{own}\n"
-        text += f",ES1>SW1,,,0,4096,,,,,,,,,,,,0,46720,{own}\n,SW1>ES2,,,0,65536,,,,,,,,,,,,,,{own}\n"
+        text += "policing_jitter_ns,warning,network_ns,network_a_ns,network_b_ns,delay_ns,transmit_jitter_ns,transmit_rule_ns,"
+        text += "bound_by,bound_ns_tool,wait_ns_tool,network_ns_tool,waiting_bytes_tool,description,program\n"
+        text += f"1,ES2,27720,0,,,,A,,,,,,27720,27720,,,,,tool,27720,0,27720,,{own}\n1,SW1,,,,,,,,,0,0,,,,,,,,,,,,,{own}\n"
+        text += f"1,ES1>SW1,,,,,,,,,,,,,,,5760,,,,,,,,{own}\n1,SW1>ES2,,,,,,,,,,,,,,,5760,,,,,,,,{own}\n"
+        text += f",ES1>SW1,,,0,4096,,,,,,,,,,,,0,46720,tool,,,,0,{own}\n,SW1>ES2,,,0,65536,,,,,,,,,,,,,,tool,,,,0,{own}\n"
         self.assertEqual(self.call(path), (0, text, ""))
         with tempfile.TemporaryDirectory() as folder:
             out = os.path.join(folder, "bounds.csv")
@@ -616,15 +688,16 @@ class Command(unittest.TestCase):
             self.assertEqual((status, printed.count("\n")), (2, 1))
 
     def test_984_virtual_links(self):
-        """It takes a second or so of a processor that does nothing else, and may take three beside other work."""
+        """It takes some seven times the processor time of what draws the network, beside other work too, and may take fifteen times."""
+        used = lambda: resource.getrusage(resource.RUSAGE_CHILDREN).ru_utime
         with tempfile.TemporaryDirectory() as folder:
-            path = os.path.join(folder, "net.toml")
+            path, begin = os.path.join(folder, "net.toml"), used()
             words = [*tool_words("large-network"), "--virtual-links", "984"]
             with open(path, "w", encoding="utf-8") as out:
                 subprocess.run(words, stdout=out, stderr=subprocess.DEVNULL, check=True)
-            before = resource.getrusage(resource.RUSAGE_CHILDREN).ru_utime
+            drawn = used()
             status, said, _ = self.call(path)
-            self.assertLess(resource.getrusage(resource.RUSAGE_CHILDREN).ru_utime - before, 3)
+            self.assertLess(used() - drawn, 15 * (drawn - begin))
             self.assertEqual(status, 0)
             latencies = [line for line in said.splitlines()[1:] if line[0] != "," and line.split(",")[2]]
             self.assertGreater(len(latencies), 5000)
@@ -648,7 +721,7 @@ class Command(unittest.TestCase):
     def test_help_says_what_it_is(self):
         status, said, _ = self.call("--help")
         self.assertEqual(status, 0)
-        self.assertIn("A bound of this model, computed outside the proofs.", said)
+        self.assertIn("it is proved that no frame\nof a run is later", said)
         for word in ("columns (", "may_refuse", "There is no bound", "wait_ns", "status:"):
             self.assertIn(word, said)
 

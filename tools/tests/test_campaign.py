@@ -33,7 +33,7 @@ STAND_IN = """#!{python}
 import os, signal, sys, time, tomllib
 from afdx.runs.plain_simulator import Simulation
 if sys.argv[1] == "--version":
-    sys.exit(print("stand-in 1"))
+    sys.exit(print("afdxsim stand-in 1"))
 with open(sys.argv[2], "rb") as file:
     net = tomllib.load(file)
 seed = net["seed"]
@@ -47,6 +47,10 @@ if sys.argv[3:4] == ["--trace"]:
         print(*simulation.trace(), sep="\\n", file=out)
 print("\\n".join(simulation.tables()))
 """
+
+
+def us(ns):
+    return f"{ns / 1000:g} us" if ns < 10**6 else f"{ns / 1000:.3f} us"
 
 
 def read(path):
@@ -209,9 +213,9 @@ class WithAStandIn(Here):
             out.splitlines()[-3:],
             [
                 "limits: 3, broken: 2",
-                f"limit broken: virtual link 102 at DU_L has {limit} ns, and took {limit + 1} ns with the seed {worst}"
+                f"limit broken: virtual link 102 at DU_L has {us(limit)}, and took {us(limit + 1)} with the seed {worst}"
                 f"; broken by {by} of 4 runs",
-                "limit broken: virtual link 402 at FWC has 49529 ns, and took 49530 ns with the seed 7; "
+                "limit broken: virtual link 402 at FWC has 49.529 us, and took 49.53 us with the seed 7; "
                 "broken by 4 of 4 runs",
             ],
         )
@@ -497,7 +501,7 @@ class Evidence(Here):
     def test_the_record_names_the_program_by_its_sum(self):
         """A program is taken for the proved one only where it has the sum of a record, whatever it prints as its version."""
         self.stand_in()
-        text = read(self.program).replace("stand-in 1", "afdxsim 0.1.0")
+        text = read(self.program).replace("afdxsim stand-in 1", "afdxsim 0.1.0")
         self.program = self.file("afdxsim", text)
         own = hashlib.sha256(text.encode()).hexdigest()
         proved = {"version": "0.1.0", "commit": "c" * 40, "kit": "kit-1 logic 2", "program": own}

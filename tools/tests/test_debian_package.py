@@ -34,6 +34,7 @@ DONE = (
     ("seq NET --trace trace.csv", TABLES, "trace.csv"),
     ("seq NET --trace second.csv --by second-opinion", TABLES, "second.csv"),
     ("pcap NET trace.csv -o net.pcapng", "", "net.pcapng"),
+    ("judge NET net.pcapng -o judged.csv", "", "judged.csv"),
     ("page NET -o page.html", "", "page.html"),
     ("page NET EXAMPLES/cockpit.tables.csv -o drawn.html --bounds bounds.csv", "", "drawn.html"),
     ("campaign NET --seeds 2 -o campaign", "2 runs merged", "campaign/merged.csv"),
@@ -283,7 +284,8 @@ class Used:
         self.same("trace.csv", "second.csv")
         # A benchmark takes minutes.
         done = {words.split()[0] for words, _, _ in DONE + DONE_BY_THE_PROGRAM}
-        self.assertEqual(done | {"benchmark"}, set(help_texts.commands(is_clone=False)))
+        # Tests of their own try these two.
+        self.assertEqual(done | {"benchmark", "judge", "results"}, set(help_texts.commands(is_clone=False)))
 
     def test_so_does_what_only_the_program_does(self):
         if not self.is_real:
@@ -374,6 +376,9 @@ class Installed(Used, Package):
         self.assertEqual(self.run_there("dpkg", "--verify", "afdxsim").stdout, "")
         self.assertTrue(glob.glob(os.path.join(self.root, "usr/lib/afdxsim/tools/afdx/commands/__pycache__/one_command.*")))
         self.does([row for row in DONE if row[2] == "page.html"])
+        code = f"import afdx; print(afdx.read('{self.examples}/cockpit.toml').check(by='second-opinion')[:3])"
+        found = self.run_there("/usr/bin/python3", "-c", code)
+        self.assertEqual((found.stdout, found.stderr), ("(48, 10, 769)\n", ""))
         found = self.run_there("dpkg", "--remove", "afdxsim")
         self.assertEqual((found.returncode, found.stderr), (0, ""))
         for name in ("bin/afdx", "bin/afdxsim", "lib/afdxsim", "share/doc/afdxsim", "share/man/man1/afdx.1.gz"):

@@ -136,8 +136,8 @@ class EachOutage(Here):
         self.assertEqual(
             lines, ["link FCC SWA,2,ACT,18,0,7,7,25,25,75080,0", "link FCC SWA,3,FCC,25,25,0,0,0,0,33480,33880"]
         )
-        printed = "link FCC SWA: 18 frames more lost end to end at 1 destinations, 1 later, most virtual link 3 at FCC from 33480"
-        self.assertIn(printed + " to 33880 ns\n", out)
+        printed = "link FCC SWA: 18 frames more lost end to end at 1 destinations, 1 later, most virtual link 3 at FCC from 33.48 us"
+        self.assertIn(printed + " to 33.88 us\n", out)
         self.assertEqual(len(os.listdir(self.output)), 3 + 2 * 7)
         with open(os.path.join(self.output, "outage-5-seed-1.toml"), "rb") as file:
             outages = tomllib.load(file)["outage"]
@@ -153,7 +153,7 @@ class EachOutage(Here):
         page = Rows(read(os.path.join(self.output, "outages.html")))
         text = " ".join(page.all)
         self.assertIn("was out in turn, the whole run, with the seed", text)
-        self.assertIn("is no bound on what can happen. They are by stand-in 1, not proved, SHA-256 ", text)
+        self.assertIn("is no bound on what can happen. They are by afdxsim stand-in 1, not proved, SHA-256 ", text)
         self.assertEqual(page.rows[0], ["out", "frames more lost end to end", "destinations that lose", "destinations later", "latest by"])
         # A row that holds a table of its own ends where that begins.
         names = [row[0] for row in page.rows if row and row[0].startswith(("link", "switch"))]

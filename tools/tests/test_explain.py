@@ -22,7 +22,7 @@ import unittest
 from afdx import model
 from afdx.commands import explain
 from afdx.files import toml_lines
-from afdx.model import judge
+from afdx.model import description_faults
 from tests import drawn
 from tests.row_files import changed, rows
 from tests.places import EXAMPLES, TOOLS, tool_words
@@ -39,8 +39,8 @@ def examples():
 
 
 def answered_by_explain(text):
-    finding = judge.first_fault("net.toml", text)
-    return "ok" if finding is None else judge.answer(finding)
+    finding = description_faults.first_fault("net.toml", text)
+    return "ok" if finding is None else description_faults.answer(finding)
 
 
 class Program:
@@ -182,7 +182,7 @@ class WithTheProgram(unittest.TestCase):
 class Rows(unittest.TestCase):
     def test_each_row_of_the_programs_tests(self):
         """The first fault is that of the row, by number and place."""
-        for row in rows("descriptions"):
+        for row in rows("descriptions") + rows("stream_descriptions"):
             text, printed = changed(row)
             with self.subTest(row):
                 self.assertEqual(answered_by_explain(text), "ok" if printed.startswith("ok") else printed)
@@ -380,7 +380,7 @@ class Explained(unittest.TestCase):
         ):
             with self.subTest(wanted):
                 status, lines = self.printed(*changes)
-                self.assertEqual((status, lines[0]), (1, f"{wanted} [afdxsim: description: {number} {judge.NAMES[number]} at {place}]"))
+                self.assertEqual((status, lines[0]), (1, f"{wanted} [afdxsim: description: {number} {description_faults.NAMES[number]} at {place}]"))
 
     def test_too_many(self):
         n1, node = examples()["n1"], '[[node]]\nname = "{}"\nkind = "es"\nport_bytes = 1518\n'
@@ -413,7 +413,7 @@ class Explained(unittest.TestCase):
         ):
             with self.subTest(rule):
                 status, lines = self.printed(*two, ('[["ADC", "SWA", "DU"]]', paths))
-                wanted = f", a, {said} (broken: rule {rule} of 6, {judge.RULES[rule]})"
+                wanted = f", a, {said} (broken: rule {rule} of 6, {description_faults.RULES[rule]})"
                 self.assertEqual(status, 1)
                 self.assertTrue(any(wanted in line for line in lines), lines)
                 self.assertIn("[afdxsim: description: 8 NotATree at vl 1 a]", lines[0])
@@ -439,6 +439,15 @@ class Explained(unittest.TestCase):
         status, lines = self.printed(text=BAD.encode() + b"# \xff\n")
         self.assertEqual((status, lines[0]), (1, "26: no TOML: the file is not UTF-8 [afdxsim: description: 1 Syntax]"))
 
+    def test_streams_that_take_turns_are_no_warning(self):
+        """One ends before the other begins; and two that offer a frame in every second BAG."""
+        further = "\n[[stream]]\nvl = 120\nsize = 64\njitter_ns = 0\noffset_ns = {}\nperiod_ns = {}\n"
+        for changes in (
+            [("offset_ns = 0", "offset_ns = 0\nend_ns = 4_000_000"), ("b = []", "b = []" + further.format(4_000_000, 8_000_000))],
+            [("8_000_000", "16_000_000"), ("b = []", "b = []" + further.format(8_000_000, 16_000_000))],
+        ):
+            self.assertEqual(self.printed(*changes), (0, ["accepted"]))
+
     def test_many_warnings_of_one_kind(self):
         """Of more than ten the first three are printed, and how many more there are; of others each, and of all each with --all."""
         head, link = BAD.split("[[vl]]")
@@ -461,6 +470,7 @@ class Explained(unittest.TestCase):
 
     def test_warnings(self):
         vl = "virtual link 120 (vl row 1)"
+        further = "\n[[stream]]\nvl = 120\nsize = 64\njitter_ns = 0\noffset_ns = {offset}\nperiod_ns = {period}\n"
         self.assertEqual(self.printed(), (0, ["accepted"]))
         other = '{ name = "SWB", kind = "switch", port_bytes = 1518, net = "B", latency_ns = 1 },\n  { name = "SWA"'
         links = '{ a = "ADC", b = "SWB", mbit = 100, propagation_ns = 1 },\n  { a = "FWC", b = "SWB", mbit = 100, propagation_ns = 1 },\n  { a = "FWC", b = "SWA", mbit = 100, propagation_ns = 1 },\n  { a = "ADC"'
@@ -478,6 +488,15 @@ class Explained(unittest.TestCase):
             (both, f"30: warning: {vl}, b is empty: no destination has a second copy, by network B"),
             ([*both, ('["ADC", "SWA", "DU"]]', '["ADC", "SWA", "DU"], ["ADC", "SWA", "FWC"]]'), ("b = []", 'b = [["ADC", "SWB", "FWC"]]')], f"30: warning: {vl}, b has no path to DU: reached by network A alone, without a second copy"),
             ([("bag_ms = 8", "bag_ms = 1"), ("8_000_000", "15_000"), ("mbit = 100", "mbit = 10")], "22: warning: "),
+            ([("period_ns = 8_000_000", "period_ns = 8_000_000\nframes = 2")], f"22: warning: {vl}, period_ns: bursts have 2.00 frames in a BAG of 8000000 ns: frames wait in the regulator, and are dropped once as many wait as depth says (queue_full)"),
+            ([("8_000_000", "80_000_000\nframes = 7")], f"23: warning: {vl}, frames is 7, and depth is 4: the regulator drops at least 2 frames of each burst (queue_full)"),
+            ([("size = 128", "size = 128\nsub_vl = 1")], f"21: warning: {vl}, sub_vl is 1, and sub is 1, so the last is 0: every frame is dropped (queue_full)"),
+            ([("size = 128", "size = 128\nlast_size = 129")], f"21: warning: {vl}, last_size is 129, above smax, which is 128: every frame is dropped at the first switch (too_long)"),
+            ([("8_000_000", "80_000_000\nframes = 2\nlast_size = 129")], f"24: warning: {vl}, last_size is 129, above smax, which is 128: the last frame of each burst is dropped at the first switch (too_long)"),
+            ([("8_000_000", "80_000_000\nframes = 2\nlast_size = 64"), ("size = 128", "size = 129")], f"20: warning: {vl}, size is 129, above smax, which is 128: all frames but the last are dropped at the first switch (too_long)"),
+            ([("offset_ns = 0", "offset_ns = 7\nend_ns = 6")], f"22: warning: {vl}, end_ns is 6, before offset_ns, which is 7: nothing is offered"),
+            ([("b = []", "b = []" + further.format(offset=10_000_001, period=10**9))], "30: warning: stream of virtual link 120 (stream row 1), offset_ns is 10000001: nothing is offered before the end, which is at 10000000 ns"),
+            ([("b = []", "b = []" + further.format(offset=0, period=8_000_000))], f"14: warning: {vl}, bag_ms: 2 streams offer 2.00 frames in a BAG of 8000000 ns: frames wait in the regulator, and are dropped once as many wait as depth says (queue_full)"),
         ):
             with self.subTest(wanted):
                 status, lines = self.printed(*changes)

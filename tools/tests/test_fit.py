@@ -11,7 +11,7 @@ import unittest
 from afdx import model
 from afdx.commands import bounds
 from afdx.files import toml_lines
-from afdx.model import judge
+from afdx.model import description_faults
 from afdx.reckon import fit, network_calculus
 from tests.test_bounds import busy, last_bit, network, virtual_link, way
 from tests.places import EXAMPLES
@@ -100,7 +100,7 @@ class Written(unittest.TestCase):
                 self.assertEqual(without(toml_lines.read(text)), without(toml_lines.read(before)))
                 blank = lambda it: re.sub(rf"({'|'.join(KEYS)})( *= *)[0-9_]+ *", r"\1\2", it)
                 self.assertEqual(blank(text), blank(before))
-                self.assertIsNone(judge.first_fault("net.toml", text))
+                self.assertIsNone(description_faults.first_fault("net.toml", text))
                 if status == 0:
                     found = network_calculus.Bounds(model.Network("net.toml", text))
                     warnings = {word for row in found.rows() for word in row.get("warning", "").split(" ")}

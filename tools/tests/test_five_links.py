@@ -82,7 +82,7 @@ class FiveLinks(unittest.TestCase):
 
     def test_the_example_is_what_the_textbook_reckons_with(self):
         self.assertEqual({vl.id: vl.paths for vl in self.net.vls.values()}, {vl: {"A": [way.split()], "B": []} for vl, way in WAYS.items()})
-        self.assertEqual({(vl.bag_ns, (vl.size + 20) * 8, vl.smax) for vl in self.net.vls.values()}, {(BAG * 1000, FRAME, 480)})
+        self.assertEqual({(vl.bag_ns, (vl.streams[0].size + 20) * 8, vl.smax) for vl in self.net.vls.values()}, {(BAG * 1000, FRAME, 480)})
         self.assertEqual({node.latency_ns for node in self.net.nodes.values() if node.kind == "switch"}, {LATENCY * 1000})
         self.assertEqual((set(self.net.mbit.values()), set(self.net.propagation_ns.values())), ({SPEED}, {1}))
 

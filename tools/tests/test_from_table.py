@@ -4,6 +4,7 @@ import contextlib
 import glob
 import io
 import os
+import re
 import resource
 import shutil
 import subprocess
@@ -14,7 +15,7 @@ from unittest import mock
 from afdx import model
 from afdx.commands import from_table
 from afdx.files import toml_lines, workbook
-from afdx.model import judge
+from afdx.model import description_faults
 from afdx.runs.plain_simulator import Simulation
 from tests.places import EXAMPLES, tool_words
 
@@ -24,13 +25,18 @@ LINKS = "a,b\nADC,SWA\nDU,SWA\nADC,SWB\nDU,SWB\n\n"
 LINE = "id,source,destinations,bag_ms,smax\n1,ADC,DU,8,100\n"
 
 
+# The last line of error output.
+RECEIPT = re.compile(r"^afdx table: ([0-9,]+ virtual links? of .* left)\n\Z", re.MULTILINE)
+
+
 def read(path):
     with open(path, encoding="utf-8") as file:
         return file.read()
 
 
 def examples():
-    return sorted(glob.glob(os.path.join(EXAMPLES, "*.toml")))
+    """Those without streams: `table` refuses the lines that say them (test_streams_are_refused)."""
+    return sorted(it for it in glob.glob(os.path.join(EXAMPLES, "*.toml")) if "[[stream]]" not in read(it))
 
 
 def tables_by_second_opinion(text):
@@ -62,13 +68,16 @@ class Here(unittest.TestCase):
                 status = from_table.main(list(words))
             except SystemExit as ended:
                 status = ended.code
-        return status, out.getvalue(), said.getvalue()
+        text = said.getvalue()
+        end = RECEIPT.search(text)
+        self.receipt = end[1] if end else None
+        return status, out.getvalue(), text[: end.start()] if end else text
 
     def made(self, *texts):
         """The description of tables, which must be accepted."""
         paths = [self.file(f"table{i}.csv", text) for i, text in enumerate(texts)]
         self.assertEqual(self.call(*paths, "-o", self.output), (0, "", ""))
-        self.assertIsNone(judge.first_fault(self.output, read(self.output)))
+        self.assertIsNone(description_faults.first_fault(self.output, read(self.output)))
         return toml_lines.read(read(self.output))
 
     def faults(self, *texts):
@@ -204,7 +213,6 @@ class OfTables(Here):
             (good.replace("ADC,SWB", "ADC,SWA"), ["line 8: link ADC-SWA, b: there is a link of ADC and SWA already, in line 6", "line 8: link ADC-SWA, b: it is the second link of the end system ADC on network A; the first is in line 6"]),
             (good.replace("SWB,B", "SWB,C"), ["line 3: switch SWB, net is \"C\", and must be \"A\" or \"B\""]),
             (good.replace("8,100", "8,100,7"), ["line 12: has 6 cells, and the table has 5 columns"]),
-            ("x,y\n1,2\n", ["line 1: names no columns of a table, but x, y: --help has them"]),
             (good.replace("SWB,B", "SWB,B,hub").replace("name,net", "name,net,kind"), ['line 3: node SWB, kind is "hub", and must be "es" or "switch"', "line 3: node SWB, net is a key of switches, whose kind is \"switch\""]),
             (good + "\nuntil_ns\n1000\n\nuntil_ns\n2000\n", ["line 18: says until_ns again"]),
             (good + "\nuntil_us\n0.0001\n", ["line 15: until_us is 0.0001, which is no whole number of ns"]),
@@ -231,9 +239,9 @@ class OfTables(Here):
         self.assertEqual(self.call("--back", table, table)[0], 2)
         status, out, said = self.call(table)
         self.assertEqual((status, said), (0, ""))
-        self.assertIsNone(judge.first_fault("net.toml", out))
+        self.assertIsNone(description_faults.first_fault("net.toml", out))
         status, out, said = self.call(self.file("latin.csv", b"id\xe4\n"))
-        self.assertEqual((status, out), (2, ""))
+        self.assertEqual((status, out), (1, ""))
         run = subprocess.run(
             [*tool_words("table"), "--help"], capture_output=True, text=True
         )
@@ -264,7 +272,6 @@ class AsItIs(Here):
         self.assertEqual(said, [
             "table0.csv line 1: the column part_number is passed over",
             "table1.csv line 1: is a title, 'Virtual links of the aircraft', and is passed over",
-            "table1.csv line 2: the column message is passed over",
             "table1.csv line 2: the column depht is passed over; depth?",
         ])
         self.assertEqual((tree["vl"][0]["smax"], tree["vl"][0]["depth"]), (100, 5))
@@ -293,7 +300,8 @@ id = 1
         head = "id,Reference,source,dest,bag_ms,smax,priority,Message\n"
         for alike in ("8,100,High", "8.0,100,high"):
             tree, said = self.noted(NODES + links, head + f"1,R-17,ADC,DU,8,100,High,Air data\n1,R-18,ADC,FWC,{alike},Air data 2\n")
-            self.assertEqual(said, ["table1.csv line 1: the column reference is passed over", "table1.csv line 1: the column message is passed over"])
+            self.assertEqual(said, ["table1.csv line 1: the column reference is passed over"])
+            self.assertIn("# message Air data at DU\n# message Air data 2 at FWC\n", read(self.output))
             self.assertEqual([vl["a"] for vl in tree["vl"]], [[["ADC", "SWA", "DU"], ["ADC", "SWA", "FWC"]]])
 
     def test_lines_that_differ_in_more_are_a_fault(self):
@@ -301,8 +309,8 @@ id = 1
         (said,) = self.faults(NODES + LINKS + LINE + "1,ADC,DU,16,99\n")
         wanted = "virtual link 1 is in line 12 too, and bag_ms is '16' here and '8' there; smax is '99' here and '100' there"
         self.assertEqual(said, f"table0.csv line 13: {wanted}")
-        (said,) = self.faults(NODES + LINKS + LINE, LINE.replace("8,100", ",100"))
-        wanted = f"virtual link 1 is in line 12 of {self.folder}/table0.csv too, and bag_ms is empty here and '8' there"
+        (said,) = self.faults(NODES + LINKS + LINE, LINE.replace("8,100", ",101"))
+        wanted = f"virtual link 1 is in line 12 of {self.folder}/table0.csv too, and smax is '101' here and '100' there"
         self.assertEqual(said, f"table1.csv line 2: {wanted}")
 
     def test_headings_of_interface_control_documents(self):
@@ -331,10 +339,9 @@ id = 1
         or_by = lambda names, one: f"{names}: say which one by --column {one!r}, or {one.partition('=')[0] + '=-'!r} where it is to be passed over"
         for heads, said in (
             ("bag_ms,Frame size", "the column 'Frame size' may be " + or_by("smax or size", "Frame size=smax")),
-            ("bag_ms,smax,Period", "the column 'Period' may be " + or_by("period_ns, period_us, period_ms or period_s", "Period=period_ns")),
+            ("bag_ms,smax,Period", "the column 'Period' may be " + or_by("period_ns, period_us, period_ms or period_s", "Period=period_ms")),
             ("bag_ms,smax,Max jitter (us)", "the column 'Max jitter (us)' may be " + or_by("policing_jitter_us or jitter_us", "Max jitter (us)=policing_jitter_us")),
-            ("bag_ms,smax,Network", "the column 'Network' may be " + or_by("a or b", "Network=a")),
-            ("bag_ms,smax,Lmax", "has the column smax twice, as 'smax' and as 'Lmax'"),
+            ("bag_ms,smax,Lmax", "has the column smax twice, as 'smax' and as 'Lmax': pass one over by --column 'Lmax=-'"),
             ("bag_ms,smax,prioritty", "the column 'prioritty' is not known, and priority may be meant: write it so, or say what it is by --column 'prioritty=priority', or 'prioritty=-' where it is to be passed over"),
             ("bag_ms,smax,Refresh periodd (ms)", "the column 'Refresh periodd (ms)' is not known, and period_ms may be meant: write it so, or say what it is by --column 'Refresh periodd (ms)=period_ms', or 'Refresh periodd (ms)=-' where it is to be passed over"),
         ):
@@ -365,7 +372,10 @@ id = 1
         self.assertEqual((said, len(tree["node"])), (["table0.csv line 11: the column description is passed over: 'Remarks' is there as remarks"], 4))
         self.assertIn("# remarks left\n", read(self.output))
         os.unlink(self.output)
-        self.assertEqual(self.faults(NODES + LINKS + LINE, "LRU,Type,Description\nADC,computer,air data\n"), ["table1.csv line 1: names no columns of a table, but lru, type, description: --help has them"])
+        self.assertEqual(self.faults(NODES + LINKS + LINE, "LRU,Type,Description\nADC,computer,air data\n"), [
+            f"{self.folder}/table1.csv: has no table: --help has their columns".removeprefix(self.folder + "/"),
+            "table1.csv line 1: is left: it names no columns of a table, but LRU, Type, Description. --column says what headings mean, and --skip 'table1.csv' leaves out the sheet; so has 1 more line: 2",
+        ])
         tree, _ = self.noted("Switch,Network,Latency (us)\nSWA,A,16\nSWB,B,16\n\n" + LINKS + LINE)
         self.assertEqual([row.get("net") for row in tree["node"]], ["A", "B", None, None])
 
@@ -375,8 +385,8 @@ id = 1
             ("Box=source", 1, f"afdx table: {table}: no table has a column 'box' that --column can make 'source'"),
             ("smax=mbit", 1, f"afdx table: {table}: no table has a column 'smax' that --column can make 'mbit'"),
             ("Box=sorce", 2, "'Box=sorce': there is no column 'sorce': see the columns above"),
-            ("=source", 2, "'=source' is not HEADING=COLUMN, as 'Tx LRU=source'"),
-            ("Box", 2, "'Box' is not HEADING=COLUMN, as 'Tx LRU=source'"),
+            ("=source", 2, "'=source' is not [SHEET!]HEADING=COLUMN, as 'Tx LRU=source'"),
+            ("Box", 2, "'Box' is not [SHEET!]HEADING=COLUMN, as 'Tx LRU=source'"),
         ):
             with self.subTest(word):
                 found = self.call(table, "-o", self.output, "--column", word)
@@ -400,6 +410,25 @@ id = 1
         self.assertEqual(said, "table0.csv line 12: jitter_us is '1.5', and line 12 has a number with ',' in place of '.'")
         (said,) = self.faults(NODES + LINKS + LINE.replace("smax", "smax,jitter_us").replace("100", '100,"1,5"'))
         self.assertEqual(said, "table0.csv line 12: jitter_us is '1,5', and no number")
+
+    def test_a_further_stream_is_a_line_of_its_virtual_link(self):
+        net = os.path.join(self.folder, "net.toml")
+        with open(net, "w", encoding="utf-8") as out:
+            out.write(read(os.path.join(EXAMPLES, "n1.toml")).replace("size = 64", "size = 64\nframes = 2"))
+            out.write('[[stream]]\n# remarks its status\nvl = 1\nsize = 65\noffset_ns = 7\nperiod_ns = 2000000\njitter_ns = 0\ntiming = "sporadic"\n')
+        lines = self.call("--back", net)[1].splitlines()[-3:]
+        self.assertEqual(lines[0], "id,source,destinations,stream,bag_ms,smax,priority,policing_jitter_ns,skew_max_ns,depth,size,frames,"
+                         "offset_ns,period_ns,jitter_ns,timing,a,b,remarks")
+        self.assertEqual(lines[1], "1,ES1,ES2,,1,64,low,0,1000000,16,64,2,0,1000000000000,0,,ES1 SW1 ES2,-,")
+        self.assertEqual(lines[2], "1,ES1,ES2,1,1,64,low,0,1000000,16,65,,7,2000000,0,sporadic,ES1 SW1 ES2,-,its status")
+
+    def test_streams_are_refused(self):
+        """`table` makes no streams: it makes nothing of the tables of a description that has some, and says why."""
+        tables = os.path.join(self.folder, "back.csv")
+        self.assertEqual(self.call("--back", os.path.join(EXAMPLES, "displays.toml"), "-o", tables), (0, "", ""))
+        status, out, said = self.call(tables)
+        self.assertEqual((status, out), (1, ""))
+        self.assertIn("has frames, and a description cannot have that yet: pass it over by --column", said)
 
     def test_limits_ports_and_remarks_come_back(self):
         links = LINKS.replace("a,b", "a,b,remarks").replace("DU,SWB\n", 'DU,SWB,"long, and old"\nFWC,SWA\nFWC,SWB\n')
@@ -448,11 +477,14 @@ class Workbooks(Here):
         """A line a destination, further columns, a title and a sheet of something else: the tables are those of the CSV."""
         path = os.path.join(EXAMPLES, "flight_deck.xlsx")
         status, out, said = self.call(path, "-o", self.output)
-        self.assertEqual((status, out), (0, ""))
-        printed = ["line 1: is a title, 'Flight deck, interface control document', and is passed over", "line 3: the column message is passed over"]
-        wanted = [f"afdx table: note: {path}, sheet Virtual links, {text}" for text in printed]
-        wanted.append(f"afdx table: note: {path}, sheet History, line 1: names no columns of a table, but issue, author, change, and is passed over")
-        self.assertEqual(said.splitlines(), wanted)
+        title = f"afdx table: note: {path}, sheet Virtual links, line 1: is a title, 'Flight deck, interface control document', and is passed over"
+        left = "is left: it names no columns of a table, but Issue, Author, Change. --column says what headings mean, and --skip 'History' leaves out the sheet"
+        left = f"afdx table: {path}, sheet History, line 1: {left}; so have 2 more lines: 2, 3"
+        self.assertEqual((status, out, said.splitlines()), (1, "", [title, left]))
+        self.assertEqual(self.receipt, "12 virtual links of 30 rows, 13 nodes, 20 cables; 5 titles, 3 rows left")
+        status, out, said = self.call(path, "-o", self.output, "--skip", "History")
+        self.assertEqual((status, out, said.splitlines()), (0, "", [title]))
+        self.assertEqual(self.receipt, "12 virtual links of 30 rows, 13 nodes, 20 cables; 5 titles, 3 rows skipped, 0 rows left")
         found = read(self.output)
         self.assertEqual(tables_by_second_opinion(found), read(path.replace(".xlsx", ".tables.csv")))
         self.assertEqual(self.call(path.replace(".xlsx", ".csv"), "-o", self.output), (0, "", ""))
@@ -489,7 +521,7 @@ class Workbooks(Here):
                 little = lambda: resource.setrlimit(resource.RLIMIT_AS, (500_000_000, 500_000_000))
                 command = [*tool_words("table"), path, "-o", self.output]
                 run = subprocess.run(command, capture_output=True, text=True, preexec_fn=little, timeout=60)
-                self.assertEqual((run.returncode, run.stderr), (status, f"afdx table: {said.format(path)}\n"))
+                self.assertEqual((run.returncode, RECEIPT.sub("", run.stderr)), (status, f"afdx table: {said.format(path)}\n"))
 
     def test_what_is_hidden_is_noted(self):
         rows = [["name", "net"], ["SWA", "A"], [], ["a", "b"], ["ADC", "SWA"], ["DU", "SWA"], [], ["id", "source", "destinations", "bag_ms", "smax"], [1, "ADC", "DU", 8, 100], [2, "ADC", "DU", 8, 100]]
@@ -507,13 +539,15 @@ class Workbooks(Here):
 
     def test_a_formula_without_a_value(self):
         path = self.of_rows(["id", "smax"], [1, "=64+36"])
-        printed = f"afdx table: {path}: sheet Sheet, cell B2, is a formula without a value: open and save it in the program that has made it\n"
-        self.assertEqual(self.call(path), (2, "", printed))
+        printed = f"afdx table: {path}, sheet Sheet, line 2: cell B2 is a formula without a value: open and save it in the program that has made it"
+        status, out, said = self.call(path)
+        self.assertEqual((status, out, said.splitlines()[0]), (1, "", printed))
 
     def test_a_workbook_without_a_table(self):
         path = self.of_rows(["Issue", "Author"], ["A", "B"])
         status, out, said = self.call(path)
-        self.assertEqual((status, out, said.splitlines()[-1]), (1, "", f"afdx table: {path}: has no table: --help has their columns"))
+        self.assertEqual((status, out), (1, ""))
+        self.assertIn(f"afdx table: {path}: has no table: --help has their columns", said.splitlines())
 
     def test_what_is_no_workbook(self):
         path = self.file("icd.xlsx", b"PK\x03\x04 and nothing more")
@@ -524,7 +558,7 @@ class Workbooks(Here):
     def test_it_is_not_written_over(self):
         path = os.path.join(self.folder, "icd.xlsx")
         shutil.copy(os.path.join(EXAMPLES, "flight_deck.xlsx"), path)
-        status, _, said = self.call(path, "-o", os.path.join(self.folder, ".", "icd.xlsx"))
+        status, _, said = self.call(path, "--skip", "History", "-o", os.path.join(self.folder, ".", "icd.xlsx"))
         self.assertEqual((status, said.count("would be written over"), workbook.is_workbook(path)), (2, 1, True))
 
 

@@ -36,6 +36,30 @@ PROVES = """
     echo program > crates/afdxsim/out/afdxsim
     echo "51 passed, 0 failed"
 """
+# Writes down what it is asked to prove, and proves it; what takes some time of a processor is the unit alone.
+UNIT = """
+    echo $(ls crates) = $(sed 's/:.*//' crates.txt | sort) = $RT_JOBS = $(tail -n 1 crates/heap_message/src/lib.rt 2> /dev/null) >> {folder}/asked.log
+    if [ -d crates/afdxsim ]; then echo "51 passed, 0 failed"; exit 0; fi
+    if grep -q heap_message crates.txt; then
+        {python} -c 'import time
+    while time.process_time() < 0.5: pass'
+        echo "rt: heap_message proved"
+    fi
+"""
+# Passes where the other file of the two runs meanwhile. What it prints takes it some time.
+TWIN = """
+    import os, time, unittest
+    class It(unittest.TestCase):
+        def test_both(self):
+            print("{mine} begins", flush=True)
+            open("{folder}/{mine}", "w").close()
+            end = time.monotonic() + 20
+            while not os.path.exists("{folder}/{other}") and time.monotonic() < end:
+                time.sleep(0.1)
+            self.assertTrue(os.path.exists("{folder}/{other}"))
+            time.sleep(0.5)
+            print("{mine} ends", flush=True)
+"""
 # A process that is like those of the prover, and takes some time of a processor.
 WORKS = """
     for kind in "" "--test"; do
@@ -196,7 +220,7 @@ class Gate(unittest.TestCase):
             "test: crate 1 of 2, edits of 0 of 1 crates, 0 s",
             "test: crate 2 of 2, edits of 0 of 1 crates, 0 s",
             "test: crate 2 of 2, edits of 1 of 1 crates, 0 s",
-            "test: tools: file 1 of 1, test_it.py",
+            "test: tools: file 1 of 1, test_it.py, 0 s",
         ])
 
     def test_the_next_run_has_an_estimate_of_the_last(self):
@@ -223,7 +247,61 @@ class Gate(unittest.TestCase):
         both, proof, tests, edits = map(int, row.split()[2:])
         self.assertTrue(proof >= 1 and tests >= 1 and edits == 0 and abs(proof + tests - both) <= 1, row)
         self.assertTrue(any(re.match(r"test:   test_it.py +[0-9]+$", line) for line in lines))
-        self.assertRegex(lines[lines.index(last) - 1], "^test: proofs and edits .*, tools .*, all .*$")
+        self.assertRegex(lines[lines.index(last) - 2], "^test: proofs and edits .*, tools .*, all .*$")
+
+    def test_it_reports_its_cost_in_units(self):
+        """One fixed crate is proved first and last, each time of a text of its own and without the crates above it; those below it are proved before."""
+        self.sources()
+        self.write("crates.txt", "low:\nheap_message: low\nafdxsim: low heap_message\n")
+        self.write("crates/heap_message/src/lib.rt", "// own\n")
+        lines, last, status = self.ended(UNIT.format(folder=self.folder, python=sys.executable))
+        self.assertEqual((last, status), ("53 passed, 0 failed", 0))
+        said = [re.sub(r"[0-9.]+", "N", line) for line in lines if " unit" in line]
+        one = "test: heap_message, proved from nothing and alone, took N s of a processor: the unit of cost"
+        of_all = "test: cost without the unit itself: N s of processors, N units; the tests of the tools, of these: N s of processors, N units"
+        self.assertEqual(said, [one, one, of_all])
+        took = [float(line.split()[8]) for line in lines if "the unit of cost" in line]
+        self.assertTrue(all(0.4 < it < 5 for it in took), took)
+        # What is there, what is listed, how many processes may prove it, and the last line of its text.
+        asked = [[word.strip() for word in line.split("=")] for line in self.text("asked.log").splitlines()]
+        there = ["low", "heap_message low", "afdxsim command_line heap_message low", "heap_message low"]
+        self.assertEqual([names for names, *_ in asked], there)
+        self.assertEqual([names for _, names, *_ in asked], [*there[:2], "afdxsim heap_message low", there[3]])
+        self.assertEqual([jobs for _, _, jobs, _ in asked], ["", "1", "", "1"])
+        texts = [text for *_, text in asked]
+        self.assertEqual((texts[0], texts[2], len(set(texts))), ("", "// own", 4))
+
+    def test_without_the_unit_it_reports_seconds_alone(self):
+        self.sources()
+        self.assertIn("test: no unit of cost: there is no crate heap_message", self.ended(PROVES)[0])
+        self.write("crates.txt", "low:\nheap_message: low\nafdxsim: low\n")
+        self.write("crates/heap_message/src/lib.rt", "// own\n")
+        lines, last, status = self.ended(PROVES)
+        self.assertEqual((last, status), ("53 passed, 0 failed", 0))
+        self.assertIn("test: no unit of cost: heap_message was not proved", lines)
+        self.assertFalse([line for line in lines if " units" in line])
+
+    @unittest.skipUnless(len(os.sched_getaffinity(0)) > 1, "there is one processor alone")
+    def test_files_of_tests_run_side_by_side(self):
+        """What each prints stands in one piece."""
+        for mine, other in (("one", "two"), ("two", "one")):
+            self.write(f"tools/tests/test_{mine}.py", textwrap.dedent(TWIN.format(folder=self.folder, mine=mine, other=other)))
+        lines, last, status = self.ended(GOOD)
+        self.assertEqual((last, status), ("55 passed, 0 failed", 0))
+        for name in ("one", "two"):
+            at = next(place for place, line in enumerate(lines) if re.match(rf"test: tools: file \d of 3, test_{name}.py, \d s$", line))
+            piece = "\n".join(lines[at : at + 8])
+            self.assertRegex(piece, rf"{name} begins\n(\.\n)?{name} ends\n[^t]*Ran 1 test in [0-9.]+s\n\nOK")
+
+    def test_the_longest_file_of_the_last_run_comes_first(self):
+        took = {"test_it.py": 1.0, "test_long.py": 9.0, "test_mean.py": 5.0}
+        for name in ("long", "mean"):
+            self.write(f"tools/tests/test_{name}.py", PASSES)
+        self.write("cache/afdxsim/last-test.json", json.dumps({"seconds": 10, "date": "2026-01-01", "tests": took}))
+        self.write("tools/gate/test_files.py", self.text("tools/gate/test_files.py").replace("len(os.sched_getaffinity(0))", "1"))
+        lines, last, _ = self.ended(GOOD)
+        self.assertEqual(last, "57 passed, 0 failed")
+        self.assertEqual(re.findall(r"^test: tools: file \d of 3, test_(\w+).py", "\n".join(lines), re.M), ["long", "mean", "it"])
 
     def test_it_reports_at_times_what_is_proved(self):
         self.sources()

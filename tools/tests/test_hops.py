@@ -13,6 +13,7 @@ from afdx.files import Fault
 from afdx.reckon import hops, network_calculus
 from afdx.runs import second_opinion
 from afdx.runs.measured_hops import Measured
+from afdx.reckon.bounds_rows import BoundsRows
 from tests.test_bounds import MS, TO_END, TO_SWITCH, busy, last_bit, network, virtual_link, way
 from tests.test_report import Browser, UNFOLD, make, ns_of, number_of
 from tests.places import EXAMPLES
@@ -116,7 +117,7 @@ class Bounds(unittest.TestCase):
         self.assertEqual(found.latencies[1, "E2"], (by_a + 200_000, ""))
         self.assertEqual([found.of_kind("backlog", None, line) for line in ("E1>A", "A>E2", "E1>B")], [64, 64, 0])
         self.assertIsNone(found.of_kind("network_b", 2, "E2"))
-        text = found.text().splitlines()
+        text = BoundsRows(found).text().splitlines()
         rows = [dict(zip(text[0].split(","), line.split(","))) for line in text[1:]]
         row = next(row for row in rows if (row["vl"], row["where"]) == ("1", "E2"))
         said = [row[name] for name in ("bound_ns", "wait_ns", "network_ns", "network_a_ns", "network_b_ns", "skew_ns", "delay_ns")]
@@ -129,7 +130,7 @@ class Bounds(unittest.TestCase):
         found = network(vls, {("A", "E3"): 10})
         self.assertEqual([found.of_kind("delay", 1, line) for line in ("E1>A", "A>E3")], [last_bit(1000), None])
         self.assertIsNone(found.of_kind("network_a", 1, "E3"))
-        self.assertIn("1,A>E3,,,,,A>E3 may be given more than it can send,", found.text())
+        self.assertIn("1,A>E3,,,,,A>E3 may be given more than it can send,", BoundsRows(found).text())
 
     def test_frames_that_are_too_long(self):
         found = network([virtual_link(1, way("E1", "A", "E2"), size=100, smax=64, period_ns=MS)])

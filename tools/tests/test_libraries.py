@@ -6,32 +6,10 @@ import glob
 import os
 import re
 import unittest
-from typing import NamedTuple
 
+from gate.library_places import PLACES, USE, code_in, taken
 from tests.places import TOP
 
-
-class Place(NamedTuple):
-    """A library, what it is for, the crate that does this, and the names of the library that do it."""
-
-    library: str
-    purpose: str
-    crate: str
-    names: tuple[str, ...]
-
-
-PLACES = (
-    Place("toml", "descriptions are read", "network_rows", ("table_from_str", "Table")),
-    Place("clap", "command lines are read", "command_line", ("Command", "ArgMatches")),
-    Place("rand_pcg", "offers are drawn", "traffic", ("Lcg64Xsh32",)),
-    Place("csv", "tables are written", "trace_tables", ("Writer",)),
-    Place("arrayvec", "sends are kept", "reverse", ("ArrayVec",)),
-    Place("crossbeam_deque", "work is picked", "turns", ("Worker", "Stealer")),
-    Place("crossbeam_channel", "trace batches are handed on", "worker_pool", ("bounded", "Sender", "Receiver")),
-)
-
-NO_CODE = re.compile(r"//[^\n]*|/\*.*?\*/|\"(?:\\.|[^\"\\])*\"|'(?:\\.|[^'\\])'", re.DOTALL)
-USE = re.compile(r"^\s*(?:pub(?:\(\w+\))? )?use (\w+)((?:::\w+)*)(?:::\{([^}]*)\})?(?: as (\w+))?;", re.MULTILINE)
 FAULT = re.compile(r"((?:#\[[^\]]*\]\s*)*)(?:pub(?:\(\w+\))? )?enum (\w*Fault)\b")
 DERIVED = re.compile(r"#\[derive\(([^)]*)\)\]")
 
@@ -55,12 +33,6 @@ def libraries_of(texts, crate):
     return found[1].split() if found else []
 
 
-@functools.cache
-def code_in(text):
-    """A text without comments, and without the texts in it."""
-    return NO_CODE.sub("", text)
-
-
 def code_of(texts, crate):
     """The code of each file of a crate."""
     return [code_in(text) for name, text in texts.items() if name.startswith(f"crates/{crate}/src/")]
@@ -72,19 +44,6 @@ def enums_of(texts):
         if "enum " in text and "Fault" in text:
             for attributes, name in FAULT.findall(code_in(text)):
                 yield path, code_in(text), attributes, name
-
-
-def taken(code, library):
-    """For each name that a file takes from a library what it calls it."""
-    called = {}
-    for one, path, several, alias in USE.findall(code):
-        if one != library:
-            continue
-        names = several.split(",") if several else [f"{path.split('::')[-1]} as {alias}" if alias else path.split("::")[-1]]
-        for name in filter(None, map(str.strip, names)):
-            own, _, other = name.partition(" as ")
-            called[own] = other or own
-    return called
 
 
 @functools.cache
@@ -157,7 +116,7 @@ class Taken(unittest.TestCase):
         self.assertTrue([it for it in faults_of(texts) if it not in self.before and it.startswith(beginning)], beginning)
 
     def test_a_library_that_is_taken_out_is_reported(self):
-        for library, _, crate, names in PLACES:
+        for library, _, crate, _, names in PLACES:
             with self.subTest(library):
                 self.reports(changed(self.texts, "crates.txt", rf"^({crate}:.*) {library}\b", r"\1"), library)
                 folder = f"crates/{crate}/src/"

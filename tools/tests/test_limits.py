@@ -7,7 +7,7 @@ import xml.etree.ElementTree as xml
 
 from afdx import model
 from afdx.commands import bounds, explain, from_table, report
-from afdx.reckon import bounds_file, limits
+from afdx.reckon import bounds_file, limits, margins
 from tests.test_campaign import COCKPIT, Here, read
 
 TABLES = COCKPIT.replace(".toml", ".tables.csv")
@@ -60,6 +60,13 @@ class Files(Here):
                 path = os.path.join(self.folder, "limits.csv")
                 self.assertEqual(str(found.exception), f"{path}{' ' if said.startswith('line') else ': '}{said}")
 
+    def test_the_limits_of_another_variant(self):
+        """The comments of a description are limits of its variants, too, whatever stands around the name."""
+        for comment in ("# limit_us 500", "#limit_us 500", "# limit_us = 500", "# limit_ms: 0.5"):
+            text = read(COCKPIT).replace("id = 101\n", f"{comment} at DU_R\nid = 101\n", 1)
+            found = limits.limits_of(self.file("variant.toml", text + "# another one\n"), NET)
+            self.assertEqual({key: it.ns for key, it in found.items()}, {(101, "DU_R"): 500_000})
+
     def test_the_limits_of_an_interface_control_document(self):
         """A column of the table becomes a comment of the description, which is then a file of limits."""
         table = "id,source,destinations,bag_ms,smax,limit_us\n7,E1,E2 E3,8,64,500\n\na,b\nE1,S\nE2,S\nE3,S\n\nname,net\nS,A\n"
@@ -94,16 +101,16 @@ class Margins(Here):
         ):
             # 102 has room for a second.
             printed = self.file("limits.csv", f"102,DU_L,1000000000\n101,DU_R,{ns}\n")
-            head, wide = limits.MARGINS_HEAD + "\n", 10**9 - 1000
+            head, wide = margins.HEAD + "\n", 10**9 - 1000
             found = self.call(report, COCKPIT, TABLES, "--limits", printed, "-o", page)
             self.assertEqual((found[0], found[2]), (int(by_latency == "broken"), ""))
-            self.assertTrue(found[1].startswith(head + f"101,DU_R,{ns},{row.greatest},,{ns - row.greatest},{by_latency}\n102,DU_L,"))
+            self.assertTrue(found[1].startswith(head + f"101,DU_R,{ns},{row.greatest},,{ns - row.greatest},{by_latency},\n102,DU_L,"))
             for strict in ([], ["--strict"]):
                 status = int(by_bound == "broken" or bool(strict) and by_bound != "kept")
                 words = ["--limits", printed, "--bounds", path, "--junit", junit, *strict, "-o", page]
                 found = self.call(report, COCKPIT, TABLES, *words)
                 self.assertEqual((found[0], found[2]), (status, ""))
-                self.assertIn(f"101,DU_R,{ns},{row.greatest},{bound},{ns - bound},{by_bound}\n", found[1])
+                self.assertIn(f"101,DU_R,{ns},{row.greatest},{bound},{ns - bound},{by_bound},tool\n", found[1])
                 suite = xml.parse(junit).getroot()
                 self.assertEqual((suite.get("tests"), suite.get("failures")), ("2", str(status)))
                 first = suite[0]
@@ -111,7 +118,7 @@ class Margins(Here):
                 self.assertEqual([it.tag for it in first], ["failure"] if status else ["system-out"])
                 found = self.call(bounds, COCKPIT, "--limits", printed, *strict)
                 verdict = "kept" if ns >= bound else "below its bound"
-                text = head + f"101,DU_R,{ns},,{bound},{ns - bound},{verdict}\n102,DU_L,1000000000,,{other},{10**9 - other},kept\n"
+                text = head + f"101,DU_R,{ns},,{bound},{ns - bound},{verdict},tool\n102,DU_L,1000000000,,{other},{10**9 - other},kept,tool\n"
                 self.assertEqual(found, (int(bool(strict) and verdict != "kept"), text, ""))
 
     def test_what_is_not_known_is_not_green(self):
@@ -122,7 +129,7 @@ class Margins(Here):
         printed, junit = self.file("limits.csv", "101,DU_R,5\n"), os.path.join(self.folder, "limits.xml")
         words = ["--limits", printed, "--junit", junit, "-o", os.path.join(self.folder, "page.html")]
         found = self.call(report, net, tables, *words)
-        self.assertEqual(found, (0, limits.MARGINS_HEAD + "\n101,DU_R,5,,,,not known\n", ""))
+        self.assertEqual(found, (0, margins.HEAD + "\n101,DU_R,5,,,,not known,\n", ""))
         self.assertEqual([it.tag for it in xml.parse(junit).getroot()[0]], ["skipped"])
 
     def test_words(self):

@@ -168,6 +168,13 @@ ROWS = [
     ("report net.toml tables.csv --trace windows_trace.csv -o page.html", 2, "windows_trace.csv line 1: " + WINDOWS),
     ("pcap net.toml windows_trace.csv -o new.pcapng", 2, "windows_trace.csv line 1: " + WINDOWS),
     ("report net.toml EARLIER -o page.html", 2, "EARLIER/campaign.json: is no record of a campaign: it has no files. Run the campaign anew: an earlier version wrote this"),
+    ("report net.toml NO_SUM -o page.html", 2, "NO_SUM/campaign.json: is no record of a campaign: program is \"{{'name': 'afdxsim', 'proved': True}}\""),
+    ("benchmark /bin/true", 2, "/bin/true: cannot be run, or is no afdxsim: name the built program"),
+    ("bounds net.toml --program /bin/true", 2, "/bin/true: is no afdxsim"),
+    ("bounds net.toml --proved tables.csv", 2, "tables.csv line 1: begins with 'table,vl,where,cause,count,lea'.. of 54 characters in place of kind,of,where,network_ns,wait_ns,bound_ns: give what `afdxsim bounds NET` prints"),
+    ("bounds net.toml --limits same.toml", 2, "same.toml: has no limits"),
+    ("bounds net.toml --limits far.toml", 2, "far.toml line 31: 'ES9' is no destination of virtual link 1 in net.toml"),
+    ("long-form net.toml wide.csv", 2, "wide.csv line 2: count has 5,000 digits, and may have 100"),
     ("report net.toml WRONG -o page.html", 2, "WRONG/campaign.json: is no record of a campaign: program is \"{{'name': 1}}\""),
     (
         "table misspelt.csv -o new.toml", 1,
@@ -238,12 +245,14 @@ class Rows(unittest.TestCase):
         texts["empty_limits.csv"] = "# none\n"
         texts["huge.toml"] = f"until_ns = {huge}\nseed = 1\n"
         texts["deep.toml"] = "until_ns = " + "[" * 100_000
-        for name in ("DIR", "LINKED", "DOUBLE", "RUNS", "BAD", "DEEP", "LACKS", "EARLIER", "WRONG", "HAS_A_FOLDER", "HAS_A_FOLDER/merged.csv"):
+        for name in ("DIR", "LINKED", "DOUBLE", "RUNS", "BAD", "DEEP", "LACKS", "EARLIER", "WRONG", "NO_SUM", "HAS_A_FOLDER", "HAS_A_FOLDER/merged.csv"):
             os.mkdir(self.path(name))
         texts |= {"BAD/campaign.json": "", "DEEP/campaign.json": "[" * 100_000, "LACKS/campaign.json": "{}"}
         record = {"description": "", "program": "afdxsim 0.1.0", "until_ns": 1, "first_seed": 1, "seeds": 1, "offsets": False, "words": []}
         texts |= {"EARLIER/campaign.json": json.dumps(record), "WRONG/campaign.json": json.dumps(record | {"program": {"name": 1}, "files": {}})}
-        texts |= {f"{name}/merged.csv": "" for name in ("BAD", "DEEP", "LACKS", "EARLIER", "WRONG")}
+        texts |= {"NO_SUM/campaign.json": json.dumps(record | {"program": {"name": "afdxsim", "proved": True}, "files": {}})}
+        texts |= {f"{name}/merged.csv": "" for name in ("BAD", "DEEP", "LACKS", "EARLIER", "WRONG", "NO_SUM")}
+        texts |= {"wide.csv": texts["huge.csv"], "far.toml": net.replace("[[vl]]", "[[vl]]\n# limit_us 5 at ES9", 1)}
         texts |= {"windows.csv": texts["tables.csv"].replace("\n", "\r\n"), "windows_trace.csv": texts["trace.csv"].replace("\n", "\r\n")}
         # What would take minutes, where it began.
         texts["huge_run.toml"] = net.replace("until_ns = 2000000", "until_ns = 10000000000").replace("period_ns = 1000000000000", "period_ns = 1000")
@@ -284,9 +293,42 @@ class Rows(unittest.TestCase):
                 found = self.call(line)
                 # What large_network prints of its network goes before.
                 printed = found[2].splitlines()[lines_before(line) :]
+                # The last line of `table` is the receipt.
+                printed = printed[:-1] if line.startswith("table ") and status == 1 else printed
                 self.assertEqual((found[0], printed), (status, [name + said.format(**self.sums)]))
                 self.assertEqual(found[1], "")
                 self.assertEqual(tree_of(self.folder), before)
+
+
+class OfTheCommand(Rows):
+    """The one command: each row is its words, the status, and what it prints or says."""
+
+    test_rows = None
+    ROWS = [
+        ("page net.toml -o page.html --trace trace.csv", 2, "page: error: --trace is of tables that are there already, and the page makes its own: name TABLES behind NET"),
+        ("page net.toml -o page.html --made-by me", 2, "page: error: --made-by is of tables that are there already, and the page makes its own: name TABLES behind NET"),
+        ("page net.toml -o page.html --limits net.toml --by second-opinion", 2, "afdx: net.toml: has no limits\n"),
+        ("page net.toml -o page.html --by nobody", 2, "--by is proved, try or second-opinion, and not 'nobody'"),
+        ("check net.toml same.toml --by second-opinion", 2, "check reads one description, and 'same.toml' is a word more: afdx check NET"),
+        ("check --by second-opinion", 2, "check of which description? afdx check NET"),
+        ("page --version", 0, "afdxsim "), ("seq net.toml --version", 0, "afdxsim "), ("--version", 0, "afdxsim "),
+        ("outages --help", 0, "usage: afdx outages "),
+    ]
+
+    def test_words_of_the_command(self):
+        before = tree_of(self.folder)
+        for line, status, said in self.ROWS:
+            with self.subTest(line):
+                run = subprocess.run([sys.executable, "-m", "afdx", *line.split()], cwd=self.folder, capture_output=True, text=True)
+                self.assertEqual(run.returncode, status, run.stderr)
+                self.assertIn(said, run.stdout + run.stderr)
+                self.assertNotIn("Traceback", run.stderr)
+                self.assertEqual(tree_of(self.folder), before)
+
+    def test_outages_have_a_help_of_their_own(self):
+        said = subprocess.run([sys.executable, "-m", "afdx", "outages", "--help"], capture_output=True, text=True).stdout
+        self.assertNotIn("--set", said)
+        self.assertNotIn("--aim", said)
 
 
 class WhatStandsThere(Rows):

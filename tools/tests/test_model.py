@@ -1,10 +1,12 @@
 """Tests of tools/afdx/model, of what the tests of afdx report, afdx campaign and afdx explain do not try already."""
 import os
+import random
 import tempfile
 import unittest
 from fractions import Fraction
 
 from afdx import model
+from afdx.runs.plain_simulator import Simulation
 from tests.places import EXAMPLES
 
 N1 = os.path.join(EXAMPLES, "n1.toml")
@@ -67,11 +69,36 @@ class Networks(unittest.TestCase):
         words = model.words(42, 54)
         wanted = [0xA15C02B7, 0x7B47F409, 0xBA1D3330, 0x83D2F293, 0xBFA4784B, 0xCBED606E]
         self.assertEqual([next(words) for _ in wanted], wanted)
-        self.assertEqual(list(model.offers(1, 7, 100, 1000, 0, 2100)), [(0, 100), (1, 1100), (2, 2100)])
-        drawn = list(model.offers(42, 54, 0, 10**9, 10**6, 3 * 10**9))
+        found = model.offers(1, self.stream(7, 100, 1000, 0), 2, 2100)
+        self.assertEqual(list(found), [(0, 100, 64, 0), (1, 1100, 64, 1), (2, 2100, 64, 0)])
+        drawn = [(it.number, it.moment) for it in model.offers(42, self.stream(54, 0, 10**9, 10**6), 1, 3 * 10**9)]
         self.assertEqual(drawn, [(k, k * 10**9 + wanted[k] % (10**6 + 1)) for k in range(3)])
         net = model.Network(COCKPIT)
-        self.assertEqual(net.offers(net.vls[103])[:2], [500_000, 2_500_000])
+        self.assertEqual([it.moment for it in net.offers(net.vls[103])[:2]], [500_000, 2_500_000])
+
+    @staticmethod
+    def stream(number, offset, period, jitter, **more):
+        return model.stream_of("vl", 1, {"id": number, "size": 64, "offset_ns": offset, "period_ns": period, "jitter_ns": jitter} | more)
+
+    def test_offers_of_streams(self):
+        """Of a burst of two frames the last has its own size. A further stream comes behind it, by a sender of its own."""
+        with open(N1, encoding="utf-8") as file:
+            text = file.read().replace("size = 64", "size = 64\nframes = 2\nlast_size = 64") + "[[stream]]\nvl = 1\nsize = 65\noffset_ns = 7\n"
+        text += "period_ns = 1000000000000\njitter_ns = 0\n"
+        simulation = Simulation(model.Description("", text).tree)
+        found = sorted((time, to, sender, number, size, sub) for time, to, sender, number, _, (_, size, sub) in simulation.heap)
+        self.assertEqual(found, [(0, 0, 4097, 0, 64, 0), (0, 0, 4097, 1, 64, 0), (7, 0, 69632, 0, 65, 0)])
+        net = model.Network("", text)
+        self.assertEqual(net.offers(net.vls[1]), [(0, 0, 64, 0), (1, 0, 64, 0), (0, 7, 65, 0)])
+
+    def test_counts_of_offers(self):
+        """As many as are drawn, whatever a stream is."""
+        draw = random.Random(3)
+        for _ in range(300):
+            more = {"frames": draw.choice([1, 2, 5])} | draw.choice([{}, {"timing": "sporadic"}]) | draw.choice([{}, {"end_ns": draw.randint(0, 9000)}])
+            stream = self.stream(draw.randint(0, 9), draw.randint(0, 9000), draw.randint(1000, 3000), draw.randint(0, 4000), **more)
+            with self.subTest(stream):
+                self.assertEqual(model.count_of_offers(5, stream, 8000), len(list(model.offers(5, stream, 3, 8000))))
 
 
 class Files(unittest.TestCase):

@@ -18,6 +18,7 @@ from html.parser import HTMLParser
 
 from afdx import model
 from afdx.commands import report
+from afdx.files import toml_lines
 from afdx.files.page_text import span, two_places
 from afdx.model import traces
 from afdx.page import end_table
@@ -64,10 +65,9 @@ class Followed(Simulation):
         self.died.append((frame.vl, (frame.offered, frame.released), frame.net, self.line or self.names[place], cause))
         super().lose(time, place, frame, cause)
 
-    def note(self, time, place, vl, what, value):
-        if what == "delivered":
-            self.came[vl, self.names[place], time - value] += 1
-        super().note(time, place, vl, what, value)
+    def deliver(self, t, p, frame):
+        self.came[frame.vl, self.names[p], (frame.offered, frame.released)] += 1
+        super().deliver(t, p, frame)
 
     def ends(self, net):
         """For each virtual link and destination what was offered, is under way, is missing, by the frames alone; and
@@ -83,7 +83,7 @@ class Followed(Simulation):
                     lost = paths.get(side) if number == vl.id and cause not in ("queue_full", "duplicate") else None
                     if lost and (place in lost or place in model.lines_of_path(lost)):
                         dead[side].add(frame)
-                came = [self.came[vl.id, where, moment] > 0 for moment, _ in released]
+                came = [self.came[vl.id, where, frame] > 0 for frame in released]
                 last = max((i for i, did in enumerate(came) if did), default=-1)
                 missing = sum(
                     not did and (i < last or all(frame in found for found in dead.values()))
@@ -162,6 +162,20 @@ def drawn_network(draw):
                 f"{side.lower()} = {json.dumps(paths.get(side, []))}\n" for side in "AB")
         )
     return "\n".join(text) + "\n"
+
+
+def with_streams(text, draw):
+    """The same network with bursts, sporadic offers, ends, and further streams of virtual links."""
+    tree = toml_lines.read(text)
+    tree["stream"] = [
+        {"vl": row["id"], "size": draw.choice([64, 650]), "offset_ns": draw.choice([0, 40_000]), "period_ns": draw.choice([700_000, 3 * 10**6])}
+        | {"jitter_ns": draw.choice([0, 300_000])} for row in tree["vl"] for _ in range(draw.choice([0, 1]))
+    ]
+    for row in [*tree["vl"], *tree["stream"]]:
+        row["period_ns"] *= draw.choice([1, 1, 10])
+        row |= {"frames": draw.choice([1, 2, 5]), "last_size": draw.choice([64, 700, 710]), "timing": draw.choice(["periodic", "periodic", "sporadic"])}
+        row |= draw.choice([{}, {"end_ns": 10**6}, {"sub_vl": 0}, {"sub_vl": 1}])
+    return model.text_of_tree(tree)
 
 
 def way(side, source, destination):
@@ -335,6 +349,18 @@ def number_of(text):
     return int(text.replace(",", ""))
 
 
+def bytes_of_burst(stream):
+    """What a burst takes on a line, with the 20 bytes between frames."""
+    frames = stream.get("frames", 1)
+    return (frames - 1) * (stream["size"] + 20) + stream.get("last_size", stream["size"]) + 20
+
+
+def most_together(streams, part):
+    """The greatest sum of the parts of streams that are active at one moment: when some stream begins."""
+    active = lambda it, t: it["offset_ns"] <= t and t < it.get("end_ns", t + 1)
+    return max(sum(part(it) for it in streams if active(it, begin["offset_ns"])) for begin in streams)
+
+
 def loads_of(net):
     """The load of each line in percent, from the description alone."""
     loads = {}
@@ -344,9 +370,12 @@ def loads_of(net):
     speed = {line: link["mbit"] for link in net["link"] for line in ((link["a"], link["b"]), (link["b"], link["a"]))}
     for vl in net["vl"]:
         lines = {line for way in vl["a"] + vl["b"] for line in zip(way, way[1:])}
-        gap = max(vl["bag_ms"] * 10**6, vl["period_ns"])
+        # What the streams of a mode offer in the long run, or of that one frame in each BAG.
+        streams = [vl, *(it for it in net.get("stream", []) if it["vl"] == vl["id"])]
+        offered = most_together(streams, lambda it: Fraction(bytes_of_burst(it) * 8, it["period_ns"]))
+        in_a_bag = most_together(streams, lambda it: Fraction(it.get("frames", 1) * vl["bag_ms"] * 10**6, it["period_ns"]))
         for line in lines:
-            loads[line] += Fraction((vl["size"] + 20) * 8, gap) / Fraction(speed[line], 1000) * 100
+            loads[line] += offered / max(1, in_a_bag) / Fraction(speed[line], 1000) * 100
     return {">".join(line): load for line, load in loads.items()}
 
 
@@ -389,7 +418,7 @@ class InTheBrowser(unittest.TestCase):
         self.assertEqual(page.tiles["copies lost"][0].split()[0], f"{sum(lost.values()):,}")
         self.assertEqual(page.tiles["delivered"][0].split()[0], f"{sum(row[0] for row in latencies.values()):,}")
         value, unit = page.tiles["greatest latency"][0].split()
-        worst = Fraction(value.replace(",", "")) * {"ns": 1, "µs": 10**3, "ms": 10**6, "s": 10**9}[unit]
+        worst = Fraction(value.replace(",", "")) * {"µs": 10**3}[unit]
         self.assertEqual(worst, max(row[2] for row in latencies.values()))
         self.compare_loads(page, net)
         self.compare_ends(page, ends, latencies)
@@ -416,7 +445,11 @@ class InTheBrowser(unittest.TestCase):
             self.assertEqual(f"nothing came at {none:,}" in page.tiles["fewer than ten frames"][1], none > 0)
 
     def compare_latencies(self, page, net, latencies, losses):
-        vls = {vl["id"]: vl for vl in net["vl"]}
+        vls = {vl["id"]: dict(vl) for vl in net["vl"]}
+        for stream in net.get("stream", []):
+            # A page shows the greatest jitter of all streams of a virtual link.
+            of_vl = vls[stream["vl"]]
+            of_vl["jitter_ns"] = max(of_vl["jitter_ns"], stream["jitter_ns"])
         found = {(int(row[0]), row[1]): row for row in page.rows("latencies")}
         self.assertEqual(set(found), set(latencies))
         for key, (count, least, greatest, total) in latencies.items():
@@ -425,8 +458,8 @@ class InTheBrowser(unittest.TestCase):
             self.assertEqual(number_of(row[11]), losses.get((*key, "duplicate"), 0))
             if count:
                 mean = (Fraction(total, count) + Fraction(1, 2)).__floor__()
-                self.assertEqual([ns_of(text) for text in row[3:7]], [least, mean, greatest, greatest - least])
-            self.assertEqual([int(row[7]), ns_of(row[8]), ns_of(row[9])], [vl[key] for key in MARKS])
+                self.assertEqual([ns_of(row[at]) for at in (4, 5, 2, 6)], [least, mean, greatest, greatest - least])
+            self.assertEqual([ns_of(row[7]) // 10**6, ns_of(row[8]), ns_of(row[9])], [vl[key] for key in MARKS])
         order = [latencies[int(row[0]), row[1]][2] for row in page.rows("latencies")]
         self.assertEqual(order, sorted(order, reverse=True))
 
@@ -480,7 +513,7 @@ class InTheBrowser(unittest.TestCase):
                 self.assertTrue(unit or not is_number, table)
         for texts in page.labels.values():
             self.assertTrue(all(text.endswith(" %") for text in texts))
-        units = r"-?[\d,.]+ (%|ns|µs|ms|s|frames?)"
+        units = r"-?[\d,.]+ (%|µs|frames?)"
         for value in (page.tiles[name][0] for name in page.tiles if name not in ("outages", "fewer than ten frames")):
             self.assertRegex(value, f"^{units}$")
 
@@ -711,13 +744,16 @@ class InTheBrowser(unittest.TestCase):
         }
         self.made(path, tables, "--limits", limits, "--bounds", bounds, status=1)
         page = self.browser.open(self.page, UNFOLD + 'location.hash = "vl-101"; choose();')
-        # The least margin comes first, and tiles lead to their lines.
+        # The worst verdict comes first, then the least margin, and tiles lead to their lines: that of limits is the first.
         margins = [row["margin"] for row in page.columns("latencies")]
-        self.assertEqual(margins, ["–", "-99,830.241", "-0.001", "0.000"] + ["–"] * (len(found) - 4))
+        self.assertEqual(margins, ["-99,830.241", "–", "-0.001", "0.000"] + ["–"] * (len(found) - 4))
+        verdicts = [row["verdict"] for row in page.columns("latencies")]
+        self.assertEqual(verdicts, ["broken", "below its bound", "below its bound", "kept"] + [""] * (len(found) - 4))
+        self.assertEqual(next(iter(page.tiles)), "limits")
         for name, value, mark, where in (
             ("accounts may refuse", "1 of 2", "warn", "#worst"), ("may be lost on both", f"1 of {len(found)}", "warn", "#worst"),
             ("may be delivered twice", f"1 of {len(found)}", "warn", "#worst"), ("ports too small", "1 of 2", "warn", "#loads"),
-            ("limits kept", "3 of 4", "bad", "#latency"), ("busiest line", page.tiles["busiest line"][0], "", "#line-"),
+            ("limits", "1 broken", "bad", "#latency"), ("busiest line", page.tiles["busiest line"][0], "", "#line-"),
         ):
             self.assertEqual((page.tiles[name][0], page.tile_marks[name]), (value, mark))
             (tile,) = (it for tag, it in page.elements if it.get("data-name") == name)
@@ -734,8 +770,8 @@ class InTheBrowser(unittest.TestCase):
             self.assertEqual((marks["limit"], marks["margin"]), (mark, mark))
         drawn = Counter(found.get("class") for tag, found in page.elements if tag == "rect")
         self.assertEqual((drawn["limit"], drawn["bound"]), (len(given), len(greatest) - 1))
-        self.assertEqual(page.tiles["limits kept"], ["3 of 4", "1 broken, 2 below the bound"])
-        self.assertEqual(page.tile_marks["limits kept"], "bad")
+        self.assertEqual(page.tiles["limits"], ["1 broken", "2 below the bound, 1 of 4 kept"])
+        self.assertEqual(page.tile_marks["limits"], "bad")
         own = {row["destination"]: (row["limit"], row["margin"]) for row in page.columns("vl-ends")}
         self.assertEqual((own["FMC1"], own["DU_R"]), (("140.170", "0.000"), ("169.759", "-99,830.241")))
         waiting = {row["line"]: (row["may wait"], row["port holds"]) for row in page.columns("loads")}
@@ -756,7 +792,7 @@ class InTheBrowser(unittest.TestCase):
         page = self.browser.open(self.page, UNFOLD)
         margins = {(int(it["VL"]), it["destination"]): it["margin"] for it in page.columns("latencies")}
         self.assertEqual(margins, {other: "–" for other in margins} | {key: "0.005"})
-        self.assertEqual(page.tiles["limits kept"], ["1 of 1", "none is broken"])
+        self.assertEqual(page.tiles["limits"], ["all kept", "1 of 1 kept, by this run alone, without bounds"])
 
     def test_a_latency_above_its_bound(self):
         """One of the two is wrong: the page marks it red, and the status is 1."""
@@ -837,7 +873,7 @@ class InTheBrowser(unittest.TestCase):
             out.write(read(path) + 'sub = 3\npolicing = "frames"\n')
         self.made(net, tables)
         page = self.browser.open(self.page, "", "#vl-1")
-        self.assertEqual(self.fact(page, "policing"), "by frames, jitter 0 ns")
+        self.assertEqual(self.fact(page, "policing"), "by frames, jitter 0 µs")
         self.assertEqual(self.fact(page, "sub-virtual links"), "3")
 
     @staticmethod
@@ -998,7 +1034,7 @@ class WithoutABrowser(unittest.TestCase):
     def test_numbers_as_text(self):
         self.assertEqual(
             [span(ns) for ns in (0, 999, 1000, 123456789, 10**9, 10**12 - 1)],
-            ["0 ns", "999 ns", "1 µs", "123.456789 ms", "1 s", "999.999999999 s"],
+            ["0 µs", "0.999 µs", "1 µs", "123,456.789 µs", "1,000,000 µs", "999,999,999.999 µs"],
         )
         self.assertEqual(
             [two_places(Fraction(it)) for it in ("0.005", "0.0049", "128.54")], ["0.01", "0.00", "128.54"]
@@ -1014,7 +1050,7 @@ class WithoutABrowser(unittest.TestCase):
             for key, (offered, under_way, missing, lost) in followed.items():
                 end = found[key]
                 self.assertEqual(end.offered, offered)
-                again = sum(max(0, run.came[(*key, moment)] - 1) for moment, _ in run.released.get(key[0], []))
+                again = sum(max(0, run.came[(*key, frame)] - 1) for frame in run.released.get(key[0], []))
                 printed = [(end.missing, missing), (end.under_way, under_way), (end.again, again)]
                 printed += [(end.lost[side], count) for side, count in lost.items()]
                 for (least, most), count in printed:
@@ -1029,6 +1065,10 @@ class WithoutABrowser(unittest.TestCase):
     def test_ends_of_drawn_networks(self, draw):
         """Whatever goes wrong in a network."""
         self.hold_ends(drawn_network(draw), Counter())
+
+    @drawn.given(60)
+    def test_ends_of_drawn_networks_with_streams(self, draw):
+        self.hold_ends(with_streams(drawn_network(draw), draw), Counter())
 
     def test_little_is_open_with_a_trace(self):
         cases = Counter()

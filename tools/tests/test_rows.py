@@ -125,7 +125,7 @@ class Rows(Ends):
             self.says(self.ended(command + " net.toml", net), 3, "", f"afdxsim: description: {said}\n")
 
     def test_a_description_is_accepted_or_its_first_fault_is_printed(self):
-        for row in rows("descriptions"):
+        for row in rows("descriptions") + rows("stream_descriptions"):
             with self.subTest(row):
                 self.is_answered(*changed(row))
 
@@ -173,7 +173,7 @@ class Rows(Ends):
                 self.assertEqual((deaf.status, deaf.output), (0, found.output))
 
     def test_a_run_is_checked_by_its_tables_and_its_trace(self):
-        for row in blocks("tables"):
+        for row in blocks("tables") + blocks("stream_tables"):
             with self.subTest(row):
                 net, said = changed(row)
                 if said.startswith("ok"):

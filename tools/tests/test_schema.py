@@ -70,8 +70,8 @@ class ProgramTable:
 
     def usual(self, presence):
         """Which rows need the key, and what it is where it is absent."""
-        if presence in ("Required", "ForSwitches"):
-            return {"Required": "all", "ForSwitches": "switches"}[presence], None
+        if presence in ("Required", "ForSwitches", "MayBeAbsent"):
+            return {"Required": "all", "ForSwitches": "switches", "MayBeAbsent": "none"}[presence], None
         sort, value = re.fullmatch(r"(\w+)\((\w+)\)", presence).groups()
         return "none", self.number(value) if sort == "Optional" else self.words[value]
 

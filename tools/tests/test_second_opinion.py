@@ -15,6 +15,8 @@ from afdx.runs.measured_hops import Measured
 from afdx.runs.plain_simulator import Frame, Simulation
 from gate import threaded_runs
 from tests.places import EXAMPLES, tool_words
+from tests.row_files import blocks, lines_of
+from tests.row_files import changed as changed_by
 
 
 
@@ -116,6 +118,30 @@ class Rules(unittest.TestCase):
         for path in glob.glob(os.path.join(EXAMPLES, "*.toml")):
             with self.subTest(path):
                 self.assertEqual(called(path), (0, read(path.replace(".toml", ".tables.csv")), ""))
+
+
+class Rows(unittest.TestCase):
+    """Rows of whole runs, which the program is tried on too."""
+
+    def is_answered(self, text, said):
+        """The line of `check`, or the lines of the tables and, where they are there, of the trace."""
+        if said.startswith("ok"):
+            net = model.Network("net.toml", text)
+            offers = sum(model.count_of_offers(net.seed, it, net.until_ns) for vl in net.vls.values() for it in vl.streams)
+            self.assertEqual(f"ok: {len(net.process)} processes, {len(net.vls)} virtual links, {offers} offers", said)
+            return
+        simulation = Simulation(toml_lines.read(text))
+        simulation.run()
+        tables, is_traced, trace = said.replace(" ", "").partition("trace")
+        for is_there, found, wanted in ((True, simulation.tables(), tables), (is_traced, simulation.trace(), trace)):
+            if is_there:
+                self.assertEqual("".join(line + "\n" for line in list(found)[1:]), lines_of(wanted))
+
+    def test_rows_of_runs(self):
+        for name in ("tables", "stream_tables"):
+            for row in blocks(name):
+                with self.subTest(row):
+                    self.is_answered(*changed_by(row))
 
 
 class OnTheWay(unittest.TestCase):

@@ -7,6 +7,7 @@ import tomllib
 import unittest
 
 from afdx import model
+from afdx.files.page_text import us_text
 from afdx.commands import report
 from afdx.model import long_form
 from afdx.reckon import network_calculus, output_ports
@@ -79,16 +80,25 @@ class Sweeps(Here):
         printed = [round(float(found[i].replace(",", "")) * size[found[i + 1]]) for i in (1, 3)]
         self.assertEqual(printed, [effect, spread])
         self.assertGreater(effect, 0)
-        self.assertIn(f"virtual link 103 at FMC1: effect {effect} ns, seeds {spread} ns", out)
+        self.assertIn(f"virtual link 103 at FMC1: effect {us_text(effect)}, seeds {us_text(spread)}", out)
         self.assertEqual(page.count("<title>link.1.mbit=10:"), len(model.Network(COCKPIT).destinations))
         self.assertNotIn("http", page)
-        self.assertIn(" They are by stand-in 1, not proved, SHA-256 ", page)
+        self.assertIn(" They are by afdxsim stand-in 1, not proved, SHA-256 ", page)
 
     def test_one_seed_has_no_spread(self):
         status, out, _ = self.call(N1, "--set", "vl.1.size=64,70", "--set", "vl.1.smax=100", "--seeds", "1")
         self.assertEqual(status, 0)
-        self.assertIn("effect 960 ns, one seed", out)
+        self.assertIn("effect 0.96 us, one seed", out)
         self.assertIn("the seed 42 alone, so the spread of seeds is not known", read(os.path.join(self.output, "sweep.html")))
+
+    def test_a_key_of_a_stream(self):
+        """The further stream, of 64 bytes, waits a BAG behind the own one; of 100 bytes its last bit takes 5.76 us longer."""
+        net = self.file("net.toml", read(N1).replace("smax = 64", "smax = 100") + "[[stream]]\nvl = 1\nsize = 64\noffset_ns = 0\nperiod_ns = 1000000000000\njitter_ns = 0\n")
+        status, out, _ = self.call(net, "--set", "stream.1.size=64,100", "--seeds", "1")
+        self.assertEqual(status, 0)
+        self.assertEqual([row["greatest_ns"] for row in self.rows("sweep.csv")], ["1027720", "1033480"])
+        status, _, said = self.call(net, "--set", "stream.2.size=64", "--seeds", "1")
+        self.assertEqual((status, said), (2, f"afdx campaign: {net} line 44: --set stream.2.size: there is no such stream: there are 1\n"))
 
     def test_limits(self):
         limits = self.file("limits.csv", "1,ES2,28000\n")
@@ -141,7 +151,7 @@ class Words(Here):
         # The page of the campaign knows of its end.
         page = os.path.join(self.folder, "page.html")
         self.assertEqual(report.main([COCKPIT, self.output, "-o", page]), 0)
-        self.assertIn("in runs of 100 ms each", read(page))
+        self.assertIn("in runs of 100,000 µs each", read(page))
 
 
 class Aims(Here):
@@ -197,12 +207,12 @@ class Aims(Here):
         rows = self.rows()
         self.assertEqual({(row["vl"], row["where"], row["network"]) for row in rows}, {(vl, where, side) for vl, where in (("301", "DU_L"), ("301", "DU_R"), ("101", "FMC1")) for side in "AB"})
         worst = max((row for row in rows if row["where"] == "DU_L"), key=lambda row: int(row["aimed_ns"]))
-        wanted = f"limits: 3, tried: 3, broken: 1\nlimit broken: virtual link 301 at DU_L has 200000 ns, and took {worst['aimed_ns']} ns aimed at by network {worst['network']} with the seed 7\n"
+        wanted = f"limits: 3, tried: 3, broken: 1, below the bound: 0\nlimit broken: virtual link 301 at DU_L has 200 us, and took {us_text(int(worst['aimed_ns']))} aimed at by network {worst['network']} with the seed 7\n"
         self.assertTrue(out.endswith(wanted), out)
         # Of one virtual link its own limits are tried alone, and one process finds the same offsets.
         status, out, _ = self.call(COCKPIT, "--aim", "301", "--limits", limits, "--jobs", "1", *short)
         self.assertEqual(status, 1)
-        self.assertIn("limits: 3, tried: 2, broken: 1\n", out)
+        self.assertIn("limits: 3, tried: 2, broken: 1, below the bound: 0\n", out)
         self.assertTrue(out.endswith("limit not tried: virtual link 101 at FMC1\n"))
         self.assertEqual([row for row in self.rows() if row["where"] != "DU_C"], [row for row in rows if row["vl"] == "301"])
         kept = self.file("kept.csv", "301,DU_L,900000\n")
@@ -231,7 +241,7 @@ class Aims(Here):
         finally:
             output_ports.longest_wait = honest
         self.assertEqual(status, 1)
-        self.assertIn("above its bound, so one of the two is wrong: 1,ES2,A,42,27720,27720,27720,27720,", out)
+        self.assertIn("above a bound, so one of the two is wrong: 1,ES2,A,42,27720,27720,27720,27720,", out)
 
     def test_no_frame_arrives(self):
         path = self.file("net.toml", read(N1).replace("size = 64", "size = 65"))

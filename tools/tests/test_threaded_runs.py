@@ -12,7 +12,7 @@ from unittest import mock
 from afdx import model
 from afdx.commands import benchmark, large_network
 from afdx.files import toml_lines
-from afdx.model import judge
+from afdx.model import description_faults
 from afdx.runs.plain_simulator import Simulation
 from gate import stopped_threads, threaded_runs
 from tests.places import TOOLS
@@ -134,7 +134,7 @@ class ThreadedRuns(unittest.TestCase):
         are lost."""
         nets = [toml_lines.read(threaded_runs.Drawn(number).network) for number in range(100)]
         for number, net in enumerate(nets):
-            fault = judge.first_fault("net.toml", threaded_runs.Drawn(number).network)
+            fault = description_faults.first_fault("net.toml", threaded_runs.Drawn(number).network)
             self.assertIsNone(fault, number)
         vls = [vl for net in nets for vl in net["vl"]]
         self.assertEqual({vl.get("sub") for vl in vls}, {None, 1, 2, 3, 4})

@@ -100,15 +100,18 @@ class WhichFramesCame(unittest.TestCase):
         """With offers that may change places too. What none of the frames can be is reported."""
         for period, jitter in ((MS, 0), (MS, 500), (MS, 2 * MS)):
             for moments, deliveries, said in (
-                ([0, MS, 2 * MS], [0, 2 * MS], (2, 2)), ([0, MS, 2 * MS], [], (0, -1)), ([0, MS, 2 * MS], [0, 0, MS], (2, 1)),
-                ([0, MS], [0, 0] + [MS] * 300, (2, 1)), ([0, MS], [MS, 1], None), ([0, MS + 3], [MS + 2], None),
-                ([0, MS], [-1], None), ([0, MS], [0, 5 * MS], None), ([], [0], None), ([0, 2000 * MS * 100], [2000 * MS * 100], (1, 1)),
+                ([0, MS, 2 * MS], [0, 2 * MS], (2, 2, 2, 2)), ([0, MS, 2 * MS], [], (0, 0, -1, -1)), ([0, MS, 2 * MS], [0, 0, MS], (2, 2, 1, 1)),
+                ([0, MS], [0, 0] + [MS] * 300, (2, 2, 1, 1)), ([0, MS], [MS, 1], None), ([0, MS + 3], [MS + 2], None),
+                ([0, MS], [-1], None), ([0, MS], [0, 5 * MS], None), ([], [0], None), ([0, 2000 * MS * 100], [2000 * MS * 100], (1, 1, 1, 1)),
             ):
                 with self.subTest(period=period, jitter=jitter, moments=moments, deliveries=deliveries):
-                    self.assertEqual(self.came(period, jitter, *deliveries).among(moments), said)
-        # Two frames that were offered in one moment.
-        self.assertEqual(self.came(MS, 2 * MS, 5, 5).among([5, 5]), (2, 1))
-        self.assertEqual(self.came(MS, 2 * MS, 5).among([5, 5]), (1, 0))
+                    self.assertEqual(self.came(period, jitter, *deliveries).among([(moment, moment) for moment in moments], 7), said)
+        # Two frames that were offered in one moment. If one of them came 7 ns later, it is the first; the second is on its way no less.
+        for deliveries, said in (([5, 5], (2, 2, 1, 1)), ([5], (1, 1, 0, 0))):
+            self.assertEqual(self.came(MS, 2 * MS, *deliveries).among([(5, 5), (5, 6)], 7), said)
+        self.assertEqual(self.came(MS, 2 * MS, 5).among([(5, 4), (5, 5)], 7), (1, 1, 0, 1))
+        # If a frame may be delivered twice, both may be one.
+        self.assertEqual(self.came(MS, 2 * MS, 5, 5).among([(5, 4), (5, 5)], 7, True), (1, 2, 0, 1))
 
     def test_latencies_of_any_length(self):
         found = self.came(MS, 0)

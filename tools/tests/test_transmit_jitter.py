@@ -13,6 +13,7 @@ from afdx.reckon import description_warnings
 from afdx.reckon.transmit_jitter import TransmitJitter
 from afdx.runs import second_opinion
 from afdx.runs.measured_hops import Measured
+from afdx.reckon.bounds_rows import BoundsRows
 from tests.test_bounds import busy, network, virtual_link, way
 
 # How long a frame of 64 bytes takes of a line of 100 Mbit/s, in ns: 84 bytes of 80 ns.
@@ -74,7 +75,7 @@ class OnThePage(unittest.TestCase):
                 path = lambda name: os.path.join(folder, name)
                 run = Measured(found.net.description.tree)
                 run.run()
-                for name, text in (("net.toml", found.net.text), ("bounds.csv", found.text()), ("tables.csv", "".join(line + "\n" for line in run.tables()))):
+                for name, text in (("net.toml", found.net.text), ("bounds.csv", BoundsRows(found).text()), ("tables.csv", "".join(line + "\n" for line in run.tables()))):
                     with open(path(name), "w", encoding="utf-8") as out:
                         out.write(text)
                 words = [path("net.toml"), "--hops", path("hops.csv")]

@@ -1,0 +1,284 @@
+"""Tests of afdx judge: captures of afdx pcap give no finding, also with clocks that are wrong; planted faults are found."""
+import contextlib
+import functools
+import io
+import json
+import os
+import random
+import struct
+import tempfile
+import unittest
+import xml.etree.ElementTree as xml
+import zlib
+
+from afdx import model
+from afdx.commands import judge, pcap
+from afdx.files.captures import Capture
+from afdx.model.captured_frames import frame_of
+from afdx.reckon.clock_offsets import ClockOffsets, Offset
+from afdx.reckon.sequence_numbers import SequenceNumbers
+from afdx.runs import second_opinion
+from tests import capture_files
+from tests.places import EXAMPLES
+
+COCKPIT = os.path.join(EXAMPLES, "cockpit.toml")
+
+
+def called(main, *words):
+    """The status of a tool, and what it says on both streams."""
+    out, said = io.StringIO(), io.StringIO()
+    with contextlib.redirect_stdout(out), contextlib.redirect_stderr(said):
+        try:
+            status = main([str(word) for word in words])
+        except SystemExit as ended:
+            status = ended.code
+    return status, out.getvalue(), said.getvalue()
+
+
+class Here(unittest.TestCase):
+    def setUp(self):
+        folder = tempfile.TemporaryDirectory()
+        self.addCleanup(folder.cleanup)
+        self.folder = folder.name
+        self.capture = os.path.join(self.folder, "bench.pcapng")
+
+    @staticmethod
+    @functools.cache
+    def packets(name, each="line"):
+        """The packets of a run of an example: the name of the interface, the moment and the frame of each."""
+        with tempfile.TemporaryDirectory() as folder:
+            path = os.path.join(EXAMPLES, name + ".toml")
+            trace, output = (os.path.join(folder, it) for it in ("trace.csv", "net.pcapng"))
+            assert called(second_opinion.main, path, "--trace", trace)[0] == 0
+            assert called(pcap.main, path, trace, "-o", output, "--each", each)[0] == 0
+            capture = Capture(output)
+            return tuple((capture.interfaces[it.interface].name, it.moment, it.kept) for it in capture.packets())
+
+    def write(self, packets, resolution=9):
+        names = list(dict.fromkeys(name for name, _, _ in packets))
+        text = capture_files.section() + b"".join(capture_files.interface(name=name, resolution=resolution) for name in names)
+        unit = 10 ** (9 - resolution)
+        with open(self.capture, "wb") as out:
+            out.write(text + b"".join(capture_files.packet(names.index(name), moment // unit, frame) for name, moment, frame in packets))
+
+    def judged(self, packets, *words, net=COCKPIT, **changes):
+        """The status, the rows of a capture, and what is said."""
+        self.write(packets, **changes)
+        status, out, said = called(judge.main, net, self.capture, *words)
+        self.assertIn(status, (0, 1), said)
+        head, *lines = out.splitlines()
+        return status, [dict(zip(head.split(","), line.split(","))) for line in lines], said
+
+    def broken(self, *words, **changes):
+        status, rows, _ = self.judged(*words, **changes)
+        found = [(row["what"], int(row["vl"]), row["tap"]) for row in rows if row["verdict"] == "broken"]
+        self.assertEqual(status, 1 if found else 0)
+        return found
+
+
+class OfTheWriter(Here):
+    def test_a_capture_of_a_run_gives_no_finding(self):
+        for name in ("n1", "n2", "cockpit", "link_outage", "saturated_port"):
+            for each in ("receiver", "line"):
+                with self.subTest(name, each=each):
+                    packets = self.packets(name, each)
+                    self.assertEqual(self.broken(packets, net=os.path.join(EXAMPLES, name + ".toml")), [])
+
+    def test_nor_one_whose_clocks_are_wrong(self):
+        """Each tap's clock is off by up to 10 ms; also in us, and from a moment of today on."""
+        for each in ("receiver", "line"):
+            packets = self.packets("cockpit", each)
+            for seed in (1, 2):
+                draw = random.Random(seed)
+                off = {name: 10**18 + draw.randint(-(10**7), 10**7) for name in dict.fromkeys(name for name, _, _ in packets)}
+                moved = sorted(((name, moment + off[name], frame) for name, moment, frame in packets), key=lambda it: it[1])
+                with self.subTest(each, seed=seed):
+                    self.assertEqual(self.broken(moved), [])
+                    self.assertEqual(self.broken(moved, resolution=6), [])
+
+    def test_one_clock(self):
+        """Then skew and latency have verdicts, and all are kept."""
+        packets = self.packets("cockpit")
+        _, rows, said = self.judged(packets, "--one-clock")
+        found = {(row["what"], row["verdict"]) for row in rows}
+        self.assertLessEqual({("skew", "kept"), ("latency", "kept")}, found)
+        self.assertEqual({verdict for _, verdict in found}, {"kept"})
+        self.assertIn("this is the premise of the bounds", said)
+        _, rows, _ = self.judged(packets)
+        self.assertEqual({row["verdict"] for row in rows if row["what"] in ("skew", "latency")}, {"not known"})
+
+
+class Planted(Here):
+    def setUp(self):
+        super().setUp()
+        # Part of the run has some hundred frames of each virtual link.
+        self.all = self.packets("cockpit")[:2000]
+        self.net = model.Network(COCKPIT)
+
+    def chosen(self, draw):
+        """A packet that has others of its virtual link before and behind it at its tap, by its place, and the place of the next one."""
+        while True:
+            place = draw.randrange(len(self.all))
+            key = self.key(place)
+            places = [i for i in range(len(self.all)) if self.key(i) == key]
+            if 1 <= places.index(place) < len(places) - 1:
+                return place, places[places.index(place) + 1]
+
+    def key(self, place):
+        name, _, frame = self.all[place]
+        return name, frame[4:6], frame[11]
+
+    def planted(self, what, seed):
+        """The packets with a fault, and what is to be found: kinds, virtual link and tap."""
+        draw = random.Random(f"{what} {seed}")
+        place, after = self.chosen(draw)
+        name, moment, frame = self.all[place]
+        found, vl = list(self.all), int.from_bytes(frame[4:6], "big")
+        if what == "unknown":
+            found[place] = name, moment, frame[:4] + b"\xff\xf0" + frame[6:]
+            vl = 0xFFF0
+        elif what == "length":
+            found[place] = name, moment, frame[:-1] + bytes(self.net.vls[vl].smax + 1 - len(frame) - 4) + frame[-1:]
+        elif what == "wrong way":
+            side = frame_of(frame, len(frame)).net
+            of_side = lambda line: {self.net.nodes[end].net for end in line.split(">")} - {None} == {side}
+            others = sorted({it for it, _, _ in self.all if of_side(it)} - set(self.net.vls[vl].lines))
+            name = draw.choice(others)
+            found.insert(place, (name, moment, frame))
+        elif what == "wrong network":
+            found[place] = name, moment, frame[:11] + bytes([frame[11] ^ 0x60]) + frame[12:]
+        elif what == "repeated":
+            found.insert(place + 1, (name, moment + 1000, frame))
+        elif what == "lost":
+            del found[place]
+        elif what == "swapped":
+            other = self.all[after][2]
+            found[place], found[after] = (name, moment, other), (name, self.all[after][1], frame)
+        else:
+            assert what == "spacing"
+            # A frame more, whose number is the next one, so all behind it count on by one.
+            further = moment + draw.randint(1000, self.net.vls[vl].bag_ns * 9 // 10)
+            same = [i for i in range(place, len(found)) if self.key(i) == self.key(place)]
+            for i in same[1:]:
+                found[i] = found[i][0], found[i][1], found[i][2][:-1] + bytes([found[i][2][-1] % 255 + 1])
+            found.append((name, further, frame[:-1] + bytes([frame[-1] % 255 + 1])))
+            found.sort(key=lambda it: it[1])
+        return found, (what, vl, name)
+
+    def test_each_is_found(self):
+        for what in ("unknown", "length", "wrong way", "wrong network", "repeated", "lost", "swapped", "spacing"):
+            for seed in range(4):
+                packets, wanted = self.planted(what, seed)
+                with self.subTest(what, seed=seed):
+                    self.assertIn(wanted, self.broken(packets))
+
+    def test_a_frame_of_both_clocks(self):
+        """A frame that is late by 5 ms at the last line, and a copy that is: with one clock, and with taps that see both directions."""
+        place = next(i for i in range(len(self.all) // 2, len(self.all)) if self.all[i][0].endswith(">DU_L"))
+        name, moment, frame = self.all[place]
+        late = sorted([*self.all[:place], (name, moment + 5_000_000, frame), *self.all[place + 1 :]], key=lambda it: it[1])
+        found = {what for what, vl, tap in self.broken(late, "--one-clock") if name in tap.split(" ")}
+        self.assertLessEqual({"skew", "latency"}, found)
+
+
+class Rest(Here):
+    def test_vlan_tags_check_sequences_and_others(self):
+        """Frames with a tag, and with check sequences that nothing states, are those without; what is no AFDX is counted."""
+        packets = self.packets("n2", "line")
+        net = os.path.join(EXAMPLES, "n2.toml")
+        tagged = [(name, moment, frame[:12] + b"\x81\x00\x00\x07" + frame[12:]) for name, moment, frame in packets]
+        checked = [(name, moment, frame + struct.pack("<I", zlib.crc32(frame))) for name, moment, frame in packets]
+        others = [*packets, ("ES1>SWA", packets[-1][1], b"\xff" * 60)]
+        _, wanted, _ = self.judged(packets, net=net)
+        for changed in (tagged, checked):
+            self.assertEqual(self.judged(changed, net=net)[1], wanted)
+        self.assertIn(", 1 packets that are no AFDX", self.judged(others, net=net)[2])
+
+    def test_taps_by_name(self):
+        packets = [("eth0", moment, frame) for name, moment, frame in self.packets("n1", "line") if name == "SW1>ES2"]
+        net = os.path.join(EXAMPLES, "n1.toml")
+        for words in (["--tap", "eth0=SW1>ES2"], ["--tap", "SW1>ES2"], ["--tap", "eth0=ES2"]):
+            status, rows, _ = self.judged(packets, *words, net=net)
+            self.assertEqual((status, [(row["what"], row["verdict"]) for row in rows]), (0, [("length", "kept"), ("sequence", "kept")]))
+        self.assertEqual(self.broken(packets, "--tap", "eth0=ES2>SW1", net=net), [("wrong way", 1, "eth0")])
+        for words, said in (
+            ([], 'no interface of it (eth0) has the name of a line or an end system'),
+            (["--tap", "eth1=ES2"], "has no interface eth1, which --tap names: it has eth0"),
+            (["--tap", "eth0=SW1"], "SW1 is a switch, and a tap is a link of it and a direction: ES1>SW1"),
+            (["--tap", "eth0=SW1>ES3"], "'SW1>ES3' is no line and no end system of it"),
+        ):
+            status, out, found = called(judge.main, net, self.capture, *words)
+            self.assertEqual((status, out, found.count("\n")), (2, "", 1))
+            self.assertIn(said, found)
+
+    def test_two_taps_of_one_line_and_a_clock_that_runs_back(self):
+        """Each is judged, and a line names them."""
+        packets = self.packets("cockpit")
+        name = packets[0][0]
+        both = [*packets, *[("eth9", moment, frame) for it, moment, frame in packets if it == name]]
+        status, rows, said = self.judged(both, "--tap", f"eth9={name}")
+        self.assertEqual((status, {row["verdict"] for row in rows if row["tap"] == "eth9"}), (0, {"kept"}))
+        self.assertIn(f"{name} and eth9 tap {name}: each is judged by itself", said)
+        half = [i for i, it in enumerate(packets) if it[0] == name][20]
+        back = [(it, 10**9 + moment - 10**8 * (it == name and i >= half), frame) for i, (it, moment, frame) in enumerate(packets)]
+        status, rows, said = self.judged(back, "--one-clock")
+        between = {row["verdict"] for row in rows if row["what"] in ("skew", "latency") and name in row["tap"].split(" ")}
+        self.assertEqual((status, between), (0, {"not known"}))
+        self.assertRegex(said, rf"the clock of {name} runs back once, by at most [0-9]+ ns, first at packet [0-9]+")
+
+    def test_a_cut_file(self):
+        self.write(self.packets("n2", "receiver"))
+        with open(self.capture, "rb") as file:
+            text = file.read()
+        with open(self.capture, "wb") as out:
+            out.write(text[:-9])
+        status, out, said = called(judge.main, os.path.join(EXAMPLES, "n2.toml"), self.capture)
+        self.assertEqual((status, out.count("\nlength,")), (0, 39))
+        self.assertIn(", within a block; the 39 packets before it are whole\n", said)
+
+    def test_json_and_junit(self):
+        packets = list(self.packets("cockpit"))
+        del packets[len(packets) // 2]
+        self.write(packets)
+        report = os.path.join(self.folder, "judged.xml")
+        status, out, _ = called(judge.main, COCKPIT, self.capture, "--json", "--junit", report)
+        rows, suite = json.loads(out), xml.parse(report).getroot()
+        self.assertEqual((status, int(suite.get("tests")), int(suite.get("failures"))), (1, len(rows), 1))
+        (row,) = [row for row in rows if row["verdict"] == "broken"]
+        self.assertEqual((row["kind"], row["measure"], row["value"]), ("capture", "lost_frames", 1))
+        self.assertIn("broken: 1 of", suite.find(".//failure").get("message"))
+
+
+class Parts(unittest.TestCase):
+    def test_sequence_numbers(self):
+        for numbers, counts in (
+            ([0, 1, 2], {}), ([254, 255, 1, 2], {}), ([0, 1, 0, 1], {"reset": 1}), ([5, 6, 6, 7], {"repeated": 1}), ([5, 8, 9], {"lost": 2}),
+            ([5, 7, 6, 8], {"lost": 0, "swapped": 1}), ([254, 1, 255, 2], {"lost": 0, "swapped": 1}), ([5, 6, 7, 6, 8], {"repeated": 1}),
+            ([100, 101, 50, 51, 52], {"repeated": 0, "reset": 1}), ([255, 2], {"lost": 1}), ([0, 0, 1], {"repeated": 1}),
+        ):
+            found = SequenceNumbers()
+            for packet, number in enumerate(numbers):
+                found.take(number, packet, 2)
+            self.assertEqual(found.counts, counts, numbers)
+        # After a pause of 200 BAGs as many may be lost.
+        found = SequenceNumbers()
+        found.take(1, 1, 0)
+        found.take(201, 2, 202)
+        self.assertEqual(found.counts, {"lost": 199})
+
+    def test_offsets_of_clocks(self):
+        """By the way over a third clock too; both ways they are known."""
+        clocks = ClockOffsets()
+        clocks.limit("a", "b", 10)
+        clocks.limit("b", "c", 5)
+        clocks.limit("c", "a", -12)
+        clocks.settle()
+        self.assertEqual((clocks.of("a", "c"), clocks.of("b", "a")), (Offset(12, 15), Offset(-10, -7)))
+        self.assertTrue(clocks.of("a", "c").is_known())
+        self.assertEqual((clocks.of("a", "a"), clocks.of("a", "d")), (Offset(0, 0), Offset(None, None)))
+        self.assertTrue(Offset(20, 10).moves(5))
+        self.assertEqual(ClockOffsets(True).of("a", "d"), Offset(0, 0))
+
+
+if __name__ == "__main__":
+    unittest.main()
