@@ -9,7 +9,7 @@ use std::snapshot::Snapshot;
 use vlink::Time;
 
 /// The length of the journal when a group last collected or posted, and the GVT that its last `collect` saw.
-#[derive(Clone, Copy, Debug, PartialEq, Eq)]
+#[derive(Clone, Copy, PartialEq, Eq)]
 pub struct Mark {
     /// The number of steps of the journal after the group's last `collect` or, if it had a block, `post`; 0 before any.
     pub steps: u64,

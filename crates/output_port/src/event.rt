@@ -18,7 +18,7 @@ pub enum PortEvent {
 }
 
 /// The answer of a port.
-#[derive(Clone, Copy, Debug)]
+#[derive(Clone, Copy)]
 pub enum PortAnswer {
     /// This frame starts: the port is busy with it until the next Free.
     Started(Frame),

@@ -1,6 +1,6 @@
 //! What a process does alone.
 /// A step that a process does alone.
-#[derive(Clone, Copy, Debug, PartialEq, Eq)]
+#[derive(Clone, Copy, PartialEq, Eq)]
 pub enum Move {
     /// The front letter of its tray arrived.
     Arrived,

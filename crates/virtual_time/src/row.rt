@@ -1,6 +1,6 @@
 //! Rows: what events note.
 /// A note, with the message and the process that it comes from.
-#[derive(Clone, Copy, Debug, PartialEq, Eq)]
+#[derive(Clone, Copy, PartialEq, Eq)]
 pub struct Row<M, N> {
     pub message: M,
     pub place: u16,

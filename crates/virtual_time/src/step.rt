@@ -1,6 +1,6 @@
 //! The steps of a parallel run.
 /// One step of a parallel run. Numbers identify processes; a number that no process has names none.
-#[derive(Clone, Copy, Debug, PartialEq, Eq)]
+#[derive(Clone, Copy, PartialEq, Eq)]
 pub enum Step {
     /// The letter number `place`, from 0, of the process's mail goes to the back of its tray.
     Take { process: u32, place: u32 },

@@ -5,11 +5,11 @@ use crate::time::Time;
 use std::marker::Model;
 
 /// The number of a virtual link, 0 to 65,535.
-#[derive(Clone, Copy, Debug, Default, PartialEq, Eq, PartialOrd, Ord)]
+#[derive(Clone, Copy, Default, PartialEq, Eq, PartialOrd, Ord)]
 pub struct VlId(pub u16);
 
 /// One of the two redundant networks.
-#[derive(Clone, Copy, Debug, Default, PartialEq, Eq, PartialOrd, Ord)]
+#[derive(Clone, Copy, Default, PartialEq, Eq, PartialOrd, Ord)]
 pub enum Net {
     #[default]
     A,
@@ -19,7 +19,7 @@ pub enum Net {
 /// The size of a frame in bytes, from destination address to check sequence: 64 to 1518.
 ///
 /// Clauses see it as its number of bytes.
-#[derive(Clone, Copy, Debug, PartialEq, Eq, PartialOrd, Ord)]
+#[derive(Clone, Copy, PartialEq, Eq, PartialOrd, Ord)]
 pub struct FrameSize {
     bytes: u16,
 }
@@ -75,7 +75,7 @@ impl Default for FrameSize {
 ///
 /// The fields lie in an order that leaves no gaps between them: a frame takes 24 bytes. `FrameKey` has the order in which they are
 /// compared.
-#[derive(Clone, Copy, Debug, Default)]
+#[derive(Clone, Copy, Default)]
 pub struct Frame {
     /// The virtual link that it belongs to.
     pub vl: VlId,

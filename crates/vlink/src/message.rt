@@ -6,7 +6,7 @@ use crate::frame::{Frame, FrameSize, VlId};
 use crate::time::Time;
 
 /// The contents of a message. The order of the variants is part of the order of messages.
-#[derive(Clone, Copy, Debug, PartialEq, Eq, PartialOrd, Ord)]
+#[derive(Clone, Copy, PartialEq, Eq, PartialOrd, Ord)]
 pub enum Body {
     /// An application offers a frame of this size to a sub-virtual link, at the source of the virtual link.
     Offer { vl: VlId, size: FrameSize, sub: u8 },
@@ -34,7 +34,7 @@ impl Default for Body {
 ///
 /// Messages are ordered by time, receiver, sender, number and body, in this order (Jefferson's order by receive time; how ties are broken
 /// is this project's choice).
-#[derive(Clone, Copy, Debug, Default, PartialEq, Eq, PartialOrd, Ord)]
+#[derive(Clone, Copy, Default, PartialEq, Eq, PartialOrd, Ord)]
 pub struct Message {
     pub time: Time,
     pub receiver: u16,

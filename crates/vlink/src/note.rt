@@ -19,7 +19,7 @@ pub enum Cause {
 }
 
 /// What finally became of a frame.
-#[derive(Clone, Copy, Debug, PartialEq, Eq)]
+#[derive(Clone, Copy, PartialEq, Eq)]
 pub enum Note {
     Delivered {
         vl: VlId,

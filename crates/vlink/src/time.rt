@@ -19,7 +19,7 @@ pub fn moment_limits_law()
 /// A moment in simulated nanoseconds, from 0 to `GREATEST_NS`.
 ///
 /// Clauses see it as its number of nanoseconds.
-#[derive(Clone, Copy, Debug, PartialEq, Eq, PartialOrd, Ord)]
+#[derive(Clone, Copy, PartialEq, Eq, PartialOrd, Ord)]
 pub struct Time {
     ns: u64,
 }

@@ -2,7 +2,6 @@
 use crate::tests::playing::Played;
 use crate::tests::words::{byte_at, size_at, tell, tell_number};
 use output_port::{Port, PortAnswer, PortEvent, Priority};
-use std::fmt::Write;
 use vlink::{Frame, busy_ns};
 
 impl Played for Port {
@@ -29,14 +28,18 @@ impl Played for Port {
 
     // A frame that starts is written with how long the port is busy with it, in ns, at 80 ns a byte.
     fn tell_answer(answer: &PortAnswer, told: &mut String) {
-        if let PortAnswer::Started(frame) = *answer {
-            tell(told, "Started ");
-            tell_number(told, u64::from(frame.number));
-            tell(told, " for ");
-            tell_number(told, busy_ns(frame.size, 80));
-            tell(told, " ");
-        } else {
-            let _ = write!(told, "{answer:?} ");
+        match *answer {
+            PortAnswer::Started(frame) => {
+                tell(told, "Started ");
+                tell_number(told, u64::from(frame.number));
+                tell(told, " for ");
+                tell_number(told, busy_ns(frame.size, 80));
+                tell(told, " ");
+            },
+            PortAnswer::Kept => tell(told, "Kept "),
+            PortAnswer::Dropped => tell(told, "Dropped "),
+            PortAnswer::Idle => tell(told, "Idle "),
+            PortAnswer::Nothing => tell(told, "Nothing "),
         }
     }
 

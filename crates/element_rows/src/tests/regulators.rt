@@ -2,7 +2,6 @@
 use crate::tests::playing::Played;
 use crate::tests::words::{byte_at, moment_at, tell, tell_number};
 use bag_regulator::{BagRegulator, RegAnswer, RegEvent, RegOut};
-use std::fmt::Write;
 use vlink::Frame;
 
 impl Played for BagRegulator {
@@ -27,15 +26,18 @@ impl Played for BagRegulator {
 
     // A frame released is written by its number and the moments of its offer and its release.
     fn tell_answer(answer: &RegOut, told: &mut String) {
-        if let RegAnswer::Released(frame) = answer.answer {
-            tell(told, "Released ");
-            tell_number(told, u64::from(frame.number));
-            tell(told, ":");
-            tell_number(told, frame.offered.ns());
-            tell(told, ":");
-            tell_number(told, frame.released.ns());
-        } else {
-            let _ = write!(told, "{:?}", answer.answer);
+        match answer.answer {
+            RegAnswer::Released(frame) => {
+                tell(told, "Released ");
+                tell_number(told, u64::from(frame.number));
+                tell(told, ":");
+                tell_number(told, frame.offered.ns());
+                tell(told, ":");
+                tell_number(told, frame.released.ns());
+            },
+            RegAnswer::Kept => tell(told, "Kept"),
+            RegAnswer::Dropped => tell(told, "Dropped"),
+            RegAnswer::Nothing => tell(told, "Nothing"),
         }
         if let Some(ns) = answer.release_at {
             tell(told, ", release@");
