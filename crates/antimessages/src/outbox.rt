@@ -9,7 +9,6 @@ use std::marker::Model;
 use vlink::{Letter, Message, Sign};
 
 /// The letters of one process that wait to be posted, in the order in which they were made.
-#[derive(Drop)]
 pub struct Outbox {
     pub(crate) letters: Vec<Letter>,
 }
@@ -21,6 +20,12 @@ impl Model for Outbox {
     ghost Value = { Store };
 
     ghost view = { λ b. record { letters = b.letters.items; room = vec_capacity b.letters - vec_len b.letters } };
+}
+
+impl Drop for Outbox {
+    fn drop(self) {
+        let Self { letters: _ } = self;
+    }
 }
 
 impl Outbox {

@@ -35,7 +35,6 @@ pub enum Change {
 ///
 /// Clauses see letters with these counts, in the order of their messages and without opposite pairs. They use only their signed counts. A
 /// message whose count is 3 has three entries, and one whose count is -2 has two: so no number limits a count.
-#[derive(Drop)]
 pub struct Tally {
     signs: BTreeMap<Occurrence, Sign>,
 }
@@ -51,6 +50,12 @@ impl Model for Tally {
     ghost view = { λ t. letters_of t.signs.entries };
 
     ghost invariant = { λ t. AreTallied t.signs.entries };
+}
+
+impl Drop for Tally {
+    fn drop(self) {
+        let Self { signs: _ } = self;
+    }
 }
 
 impl Tally {

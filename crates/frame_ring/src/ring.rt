@@ -14,7 +14,6 @@ use vlink::Frame;
 ///
 /// Clauses see it as the list of its frames, the front first, and its room, which is the number of frames that it may hold. Only `new`
 /// takes memory.
-#[derive(Drop)]
 pub struct FrameRing {
     frames: VecDeque<Frame>,
     room: u32,
@@ -30,6 +29,16 @@ impl Model for FrameRing {
     ghost view = { λ r. record { frames = r.frames.items; room = r.room } };
 
     ghost invariant = { λ r. IsRing r.frames.items r.room (deque_capacity r.frames) r.bytes };
+}
+
+impl Drop for FrameRing {
+    fn drop(self) {
+        let Self {
+            frames: _,
+            room: _,
+            bytes: _,
+        } = self;
+    }
 }
 
 impl FrameRing {

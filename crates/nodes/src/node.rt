@@ -27,7 +27,6 @@ pub struct NodeRecord {
 /// A node of a network, or one direction of a link, as a process that handles messages.
 ///
 /// Clauses see its number, the end of the run and the number of its next message, and the state of its equipment.
-#[derive(Drop)]
 pub struct Node {
     sender: Sender,
     equipment: Equipment,
@@ -42,6 +41,15 @@ impl Model for Node {
     ghost view = { λ n. record { sender = n.sender; equipment = n.equipment } };
 
     ghost invariant = { λ n. IsPlacedEquipment n.equipment };
+}
+
+impl Drop for Node {
+    fn drop(self) {
+        let Self {
+            sender: _,
+            equipment: _,
+        } = self;
+    }
 }
 
 impl Node {
