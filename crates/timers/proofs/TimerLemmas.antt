@@ -49,14 +49,14 @@ module _ {M S K N G : Type 0} (f : Simulation M S K N) (L : Laws f) (p : ℕ) (i
   on_time-push s g (x ∷ ms) m h k = (h.0, on_time-push (f.rules.after s x) (w.after s g x) ms m h.1 k)
 
   -- the note after these events
-  abbrev now : List M → G
+  abbrev pub now : List M → G
   now ms = noted f.rules w (f.opening p) w.opening (events_at f.rules.order p ms)
 
   -- what holds after each event
-  record Holds (t : OneThread M S N) : Type 0 where
-    on_time : AreOnTime f p mine w (f.opening p) w.opening (events_at f.rules.order p t.handled)
-    fitting : fits (t.states p) (now t.handled) ≡ true
-    is_set : IsSet f p mine w t.waiting (w.moment (now t.handled))
+  pub record Holds (t : OneThread M S N) : Type 0 where
+    pub on_time : AreOnTime f p mine w (f.opening p) w.opening (events_at f.rules.order p t.handled)
+    pub fitting : fits (t.states p) (now t.handled) ≡ true
+    pub is_set : IsSet f p mine w t.waiting (w.moment (now t.handled))
 
   none_some : (u : ℕ) → None ≡ Some u → ⊥
   none_some u h = cc
@@ -91,7 +91,7 @@ module _ {M S K N G : Type 0} (f : Simulation M S K N) (L : Laws f) (p : ℕ) (i
     the_one : (x : M) → filter mine t.waiting ≡ x ∷ [] → mine m ≡ true → m ≡ x
     the_one x e k = elim (in-cons f.rules.order L.order m x [] (subst (IsIn f.rules.order m) e (inside-mine k))) [ inl same ↦ same | inr none ↦ absurd (omega arith) ]
 
-    on_time_now : IsOnTime f p mine w m g
+    pub on_time_now : IsOnTime f p mine w m g
     on_time_now = go H.is_set
       where
         go : IsSet f p mine w t.waiting (w.moment g) → IsOnTime f p mine w m g
@@ -103,7 +103,7 @@ module _ {M S K N G : Type 0} (f : Simulation M S K N) (L : Laws f) (p : ℕ) (i
         go (PastEnd u a after b) = record { at_moment = λ k. absurd (not-none b k); not_later = rw a (let i = R.in_time m l.inside in omega arith) }
 
     -- an event of another process
-    other : (f.rules.order.receiver m ≡ p → ⊥) → Holds next
+    pub other : (f.rules.order.receiver m ≡ p → ⊥) → Holds next
     other n =
         let e : events_at f.rules.order p (t.handled ++ m ∷ []) ≡ events_at f.rules.order p t.handled = events-push_other f L p t.handled m n in
         let not_mine : mine m ≡ false = elim (cases_Bool (mine m)) [ inl k ↦ absurd (n (T.to_itself m k)) | inr k ↦ k ] in
@@ -137,7 +137,7 @@ module _ {M S K N G : Type 0} (f : Simulation M S K N) (L : Laws f) (p : ℕ) (i
         let on = T.goes_on (t.states p) g m u (is_reached p) H.fitting r k a in
         PastEnd u on.0 after (split p ∙ (ap (λ z. filter mine (without f.rules.order m t.waiting) ++ z) on.1 ∙ (append-nil _ ∙ (stay f.rules.order L.order mine m t.waiting k ∙ b))))
 
-    own : f.rules.order.receiver m ≡ p → Holds next
+    pub own : f.rules.order.receiver m ≡ p → Holds next
     own r =
         let e : events_at f.rules.order p (t.handled ++ m ∷ []) ≡ events_at f.rules.order p t.handled ++ m ∷ [] = events-push f L p t.handled m r in
         let stepped : now next.handled ≡ w.after (t.states p) g m = ap (noted f.rules w (f.opening p) w.opening) e ∙ (noted-push f.rules w (f.opening p) w.opening (events_at f.rules.order p t.handled) m ∙ ap (λ s. w.after s g m) (sym (R.states_are p))) in
@@ -148,7 +148,7 @@ module _ {M S K N G : Type 0} (f : Simulation M S K N) (L : Laws f) (p : ℕ) (i
           is_set = subst (λ z. IsSet f p mine w next.waiting (w.moment z)) (sym stepped) (subst (λ q. IsSet f p mine w (without f.rules.order m t.waiting ++ f.rules.sends (t.states q) m) (w.moment (w.after (t.states p) g m))) (sym r) (set-next (mine m) r refl H.is_set));
         }
 
-  holds : (n : ℕ) → Holds (one f n)
+  pub holds : (n : ℕ) → Holds (one f n)
   unfolding one
   holds zero = record { on_time = tt; fitting = T.opens; is_set = Off T.off T.not_offered }
   holds (suc n) = go (least f.rules.order (one f n).waiting) refl (right f L n) (holds n)
