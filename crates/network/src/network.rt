@@ -23,7 +23,6 @@ use vlink::{Time, VlId, process_number};
 /// A network: end systems, switches, the links between them, virtual links with their paths, and streams of offers to them.
 ///
 /// Clauses see it as its plan. Its virtual links ascend by number.
-#[derive(Drop)]
 pub struct Network {
     until: Time,
     seed: u64,
@@ -42,6 +41,18 @@ impl Model for Network {
     ghost view = { λ n. plan_with n.until n.seed n.nodes.items n.numbered };
 
     ghost invariant = { λ n. let plan = plan_with n.until n.seed n.nodes.items n.numbered in IsAccepted plan × AreTables plan n.tables };
+}
+
+impl Drop for Network {
+    fn drop(self) {
+        let Self {
+            until: _,
+            seed: _,
+            nodes: _,
+            numbered: _,
+            tables: _,
+        } = self;
+    }
 }
 
 impl Network {

@@ -11,7 +11,6 @@ use vlink::VlId;
 /// A virtual link with its paths on the networks A and B. A path is a list of nodes.
 ///
 /// Clauses see it as its plan.
-#[derive(Drop)]
 pub struct Routed {
     link: VirtualLink,
     a: Vec<Vec<usize>>,
@@ -25,6 +24,16 @@ impl Model for Routed {
     ghost Value = { VlPlan };
 
     ghost view = { λ vl. record { link = vl.link; a = lists_of vl.a; b = lists_of vl.b } };
+}
+
+impl Drop for Routed {
+    fn drop(self) {
+        let Self {
+            link: _,
+            a: _,
+            b: _,
+        } = self;
+    }
 }
 
 impl Routed {
@@ -83,10 +92,20 @@ pub struct VlStream {
 }
 
 /// The contents of the rows beside their nodes.
-#[derive(Drop)]
 pub struct Numbered {
     pub links: Vec<Link>,
     pub outages: Vec<Outage>,
     pub vls: Vec<Routed>,
     pub streams: Vec<VlStream>,
+}
+
+impl Drop for Numbered {
+    fn drop(self) {
+        let Self {
+            links: _,
+            outages: _,
+            vls: _,
+            streams: _,
+        } = self;
+    }
 }

@@ -3,7 +3,6 @@
 use crate::wiring::{LinePlan, Outage, Way};
 
 /// The tables of a network, which answer questions by number.
-#[derive(Drop)]
 pub struct Tables {
     pub lines: Vec<LinePlan>,
     pub line_names: Vec<String>,
@@ -17,9 +16,30 @@ pub struct Tables {
     pub places: Vec<Option<usize>>,
 }
 
+impl Drop for Tables {
+    fn drop(self) {
+        let Self {
+            lines: _,
+            line_names: _,
+            outages: _,
+            meetings: _,
+            destinations: _,
+            places: _,
+        } = self;
+    }
+}
+
 /// For each node the ports by which virtual links leave it, and those by which they enter it.
-#[derive(Drop)]
 pub struct Meetings {
     pub departures: Vec<Vec<Way>>,
     pub arrivals: Vec<Vec<Way>>,
+}
+
+impl Drop for Meetings {
+    fn drop(self) {
+        let Self {
+            departures: _,
+            arrivals: _,
+        } = self;
+    }
 }

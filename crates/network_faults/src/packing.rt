@@ -85,7 +85,7 @@ fn pack_paths(
 {
     packed.push(paths.len())?;
     for k in 0..paths.len() {
-        pack_path(packed, names, &paths.path(k), place)?;
+        pack_path(packed, names, paths.path(k), place)?;
     }
     Ok(())
 }

@@ -1,14 +1,14 @@
 -- The items of an array, read one by one.
-use Rattle.std.proofs.Common.{◌≡◌, ℕ, suc, ◌<◌, get_or, inl, inr, Bool, true, false, ◌&&◌, cond, List, [], ◌∷◌, length, map, All, Option, Some, None, option_map, option_and_then, is_some, unwrap_or, refl, ap, sym, subst, ◌∙◌}
+use Rattle.std.proofs.Common.{◌≡◌, ℕ, suc, ◌<◌, get_or, inl, inr, Bool, true, false, ◌&&◌, cond, List, [], ◌∷◌, length, map, All, Option, Some, None, option_map, option_and_then, is_some, refl, ap, sym, subst, ◌∙◌}
 use Rattle.std.proofs.lemmas.Bool.{cases_Bool, false≢true}
 use Rattle.std.proofs.lemmas.List.Folds.{list_all_at}
 use Rattle.std.proofs.lemmas.List.{length-map, get_or-map}
 use Rattle.std.proofs.lemmas.List.Elements.{All-from_recursion}
 use Rattle.std.specs.List.{list_all, AllByRecursion, AllZip}
-use Rattle.toml.specs.Data.{Data, as_array, as_str}
+use Rattle.toml.specs.Data.{Data, array}
 use Rattle.toml.specs.View.{view, items_view}
 use Rattle.toml.specs.declared.value.Value.{Value}
-use Rattle.network_rows.specs.Values.{passes, all_as, as_list, text_of, path_of, list_of}
+use Rattle.network_rows.specs.Values.{passes, all_as, as_list, list_of}
 
 and_false : (b : Bool) → false ≡ (b && false)
 and_false true = refl
@@ -59,37 +59,30 @@ module _ {X : Type 0} where
     passes-all_as test [] = refl
     passes-all_as test (v ∷ vs) = passes-both test (read (view v)) (all_as read (items_view vs)) ∙ ap (λ b. passes test (read (view v)) && b) (passes-all_as test vs)
 
-module _ {X : Type 0} (read : Data → Option X) (none : X) where
-  made_both : (o : Option X) (rest : Option (List X)) (xs : List X) (b : Bool) → (is_some o && b) ≡ true → (b ≡ true → rest ≡ Some xs) → both o rest ≡ Some (unwrap_or o none ∷ xs)
-  unfolding both
-  made_both None rest xs b e h = cc
-  made_both (Some x) rest xs b e h = ap (option_map (λ xs. x ∷ xs)) (h e)
-
-  -- what they all are, if each is such a thing
-  pub all_as-each : (vs : List Value) → list_all (λ v. is_some (read (view v))) vs ≡ true → all_as read (items_view vs) ≡ Some (map (λ v. unwrap_or (read (view v)) none) vs)
-  unfolding both
-  all_as-each [] e = refl
-  all_as-each (v ∷ vs) e = made_both (read (view v)) (all_as read (items_view vs)) _ (list_all (λ v. is_some (read (view v))) vs) e (all_as-each vs)
-
--- the items as a list again
-pub list_of-items_view : (vs : List Value) → list_of (items_view vs) ≡ map view vs
-list_of-items_view [] = refl
-list_of-items_view (v ∷ vs) = ap (λ ds. view v ∷ ds) (list_of-items_view vs)
-
 -- a test that each passes is passed at each place
-pub passes_at : {X : Type 0} (test : X → Bool) (xs : List X) (i : ℕ) (d : X) → i < length xs → list_all test xs ≡ true → test (get_or xs i d) ≡ true
+passes_at : {X : Type 0} (test : X → Bool) (xs : List X) (i : ℕ) (d : X) → i < length xs → list_all test xs ≡ true → test (get_or xs i d) ≡ true
 passes_at test xs i d lt all = elim (cases_Bool (test (get_or xs i d))) [
   | inl passed ↦ passed
   | inr failed ↦ absurd (false≢true (sym (list_all_at test xs i d lt failed) ∙ all))
 ]
 
--- the path that a value is, name by name
-pub path_of-names : (v : Value) (names : List Value) → Some (items_view names) ≡ as_array (view v) → is_some (as_list as_str (view v)) ≡ true
-    → path_of (view v) ≡ map (λ n. text_of (view n)) names
-path_of-names v names is all =
-    let some : is_some (all_as as_str (items_view names)) ≡ true = rw (← is) at all in
-    let each : list_all (λ n. is_some (as_str (view n))) names ≡ true = sym (is_some-all_as as_str names) ∙ some in
-    rw (← is, all_as-each as_str [] names each) refl
+module _ {X : Type 0} (read : Data → Option X) where
+  -- each of the values is such a thing, if all are
+  pub All-some : (vs : List Value) → is_some (as_list read (array (items_view vs))) ≡ true → All (λ v. is_some (read (view v)) ≡ true) vs
+  All-some vs some = λ k v lt. passes_at (λ v. is_some (read (view v))) vs k v lt (sym (is_some-all_as read vs) ∙ some)
+
+  -- what they all are, where it is known what each of them is
+  pub all_as-zip : (vs : List Value) (xs : List X) → AllZip (λ v x. read (view v) ≡ Some x) vs xs → all_as read (items_view vs) ≡ Some xs
+  unfolding both
+  all_as-zip [] [] each = refl
+  all_as-zip [] (x ∷ xs) each = absurd each
+  all_as-zip (v ∷ vs) [] each = absurd each
+  all_as-zip (v ∷ vs) (x ∷ xs) each = rw (each.0, all_as-zip vs xs each.1) refl
+
+-- the items as a list again
+pub list_of-items_view : (vs : List Value) → list_of (items_view vs) ≡ map view vs
+list_of-items_view [] = refl
+list_of-items_view (v ∷ vs) = ap (λ ds. view v ∷ ds) (list_of-items_view vs)
 
 -- what holds of the values, seen as data, holds of the items
 pub AllZip-list_of : {R : Type 0} (Q : Data → R → Type 0) (vs : List Value) (rows : List R) → AllZip (λ v row. Q (view v) row) vs rows → AllZip Q (list_of (items_view vs)) rows

@@ -1,5 +1,5 @@
 -- The values at the keys of a table, and the plain values that data can be.
-use Rattle.std.specs.Prelude.{ℕ, pos, Bool, false, List, [], ◌∷◌, Option, Some, None, option_and_then, option_map, unwrap_or, bytes_eq}
+use Rattle.std.specs.Prelude.{ℕ, pos, Bool, false, List, [], ◌∷◌, Option, Some, None, option_and_then, option_map, bytes_eq}
 use Rattle.std.specs.Option.{option_map_or}
 use Rattle.toml.specs.Data.{Data, integer, Items, no_items, item, Members, as_str, as_array, get_member}
 use Rattle.network_rows.specs.declared.key.Key.{Key}
@@ -31,13 +31,6 @@ as_list read d = option_and_then (all_as read) (as_array d)
 -- a list of paths, which are lists of texts
 abbrev pub as_paths : Data → Option (List (List (List ℕ)))
 as_paths = as_list (as_list as_str)
-
--- how the vectors of a row's paths are seen, whose values are texts and paths; of other data these would be the empty one
-abbrev pub text_of : Data → List ℕ
-text_of d = unwrap_or (as_str d) []
-
-abbrev pub path_of : Data → List (List ℕ)
-path_of d = unwrap_or (as_list as_str d) []
 
 -- the items in their order
 abbrev pub list_of : Items → List Data

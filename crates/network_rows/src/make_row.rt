@@ -1,4 +1,5 @@
 //! Makes the rows of each section from tables without a fault. Numbers and words are read; names and paths are moved out of the table.
+ghost use Rattle.std.specs.Prelude.{IfOk};
 ghost use Rattle.toml.specs.View.{table_view};
 ghost use Rattle.network_rows.specs.declared.key.Section.TheVariants as section;
 ghost use Rattle.network_rows.specs.declared.key.Section.TheVariants.{Node, Link, Outage, Vl};
@@ -16,6 +17,7 @@ use crate::value::has_word;
 use row_types::{
     NodeKind, NodeRow, Policing, Priority, Rate, Stream, StreamRow, Timing, VirtualLink,
 };
+use std::alloc::{AllocError, Global};
 use toml::Table;
 use vlink::{FrameSize, Net, VlId};
 
@@ -64,17 +66,21 @@ pub fn outage_of(row: Table) -> OutageRow
 }
 
 /// Makes the virtual link of a row.
-pub fn vl_of(row: Table) -> VlRow
+pub fn vl_of(alloc: Global, row: Table) -> Result<VlRow, AllocError>
     requires { IsSoundTable Vl (table_view row) }
-    ensures { MeansVl (table_view row) result }
+    ensures { IfOk result (MeansVl (table_view row)) }
 {
     let mut row = row;
-    VlRow {
-        link: virtual_link(&row),
-        has_unknown_key: has_unknown_key(Section::Vl, &row),
-        a: paths_of(take_value(&mut row, Key::A)),
-        b: paths_of(take_value(&mut row, Key::B)),
-    }
+    let link = virtual_link(&row);
+    let has_unknown_key = has_unknown_key(Section::Vl, &row);
+    let a = paths_of(alloc, take_value(&mut row, Key::A))?;
+    let b = paths_of(alloc, take_value(&mut row, Key::B))?;
+    Ok(VlRow {
+        link,
+        a,
+        b,
+        has_unknown_key,
+    })
 }
 
 // Reads what a row states about the frames of its virtual link.

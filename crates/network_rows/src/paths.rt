@@ -1,30 +1,38 @@
-//! The paths of a virtual link as the description gives them. No name in them is copied.
-ghost use Rattle.std.specs.Prelude.{◌≡◌, ◌<◌, true, Some, is_some, [], length, slice_index_or};
+//! The paths of a virtual link as the description gives them. They own their names, so whoever reads them needs no reader of TOML.
+ghost use Rattle.std.specs.Prelude.{◌≡◌, ◌<◌, true, All, IfOk, Some, is_some, [], length, slice_index_or};
+ghost use Rattle.std.specs.List.{AllZip};
+ghost use Rattle.toml.specs.Data.{as_str};
 ghost use Rattle.toml.specs.View.{view};
-ghost use Rattle.network_rows.specs.Values.{as_paths};
+ghost use Rattle.network_rows.specs.Values.{as_list, as_paths};
 
+use crate::read_value::name_of_value;
+use row_types::Name;
+use std::alloc::{AllocError, Global};
 use std::marker::Model;
 use toml::Value;
 
 /// A path: the names of the nodes that it goes through, the source first.
 ///
 /// Clauses see it as their list, each name as its bytes.
-#[derive(Drop)]
-pub struct Path<'a> {
-    names: &'a [Value],
+pub struct Path {
+    names: Vec<Name>,
 }
 
-impl<'a> Model for Path<'a> {
-    ghost use Rattle.std.specs.Prelude.{ℕ, List, map};
-    ghost use Rattle.network_rows.specs.Values.{text_of};
-    ghost use Rattle.toml.specs.View.{view as data_of};
+impl Model for Path {
+    ghost use Rattle.std.specs.Prelude.{ℕ, List};
 
     ghost Value = { List (List ℕ) };
 
-    ghost view = { λ path. map (λ v. text_of (data_of v)) path.names.now };
+    ghost view = { λ path. path.names.items };
 }
 
-impl<'a> Path<'a> {
+impl Drop for Path {
+    fn drop(self) {
+        let Self { names: _ } = self;
+    }
+}
+
+impl Path {
     /// Returns the number of names.
     pub fn len(&self) -> usize
         ensures { result ≡ length self.now }
@@ -33,11 +41,11 @@ impl<'a> Path<'a> {
     }
 
     /// Returns the name at a place, or the empty text behind the last name.
-    pub fn name(&self, place: usize) -> &'a str
+    pub fn name(&self, place: usize) -> &str
         ensures { result.now ≡ slice_index_or self.now place [] }
     {
         match self.names.get(place) {
-            Some(name) => name.as_str().unwrap_or(""),
+            Some(name) => name.as_str(),
             None => "",
         }
     }
@@ -46,33 +54,34 @@ impl<'a> Path<'a> {
 /// The paths of a virtual link on one network.
 ///
 /// Clauses see them as their list.
-#[derive(Drop)]
 pub struct Paths {
-    paths: Vec<Value>,
+    paths: Vec<Path>,
 }
 
 impl Model for Paths {
-    ghost use Rattle.std.specs.Prelude.{◌≡◌, ℕ, true, List, map, is_some};
-    ghost use Rattle.std.specs.List.{list_all};
-    ghost use Rattle.toml.specs.Data.{as_str};
-    ghost use Rattle.toml.specs.View.{view as data_of};
-    ghost use Rattle.network_rows.specs.Values.{as_list, path_of};
+    ghost use Rattle.std.specs.Prelude.{ℕ, List};
 
     ghost Value = { List (List (List ℕ)) };
 
-    ghost view = { λ paths. map (λ v. path_of (data_of v)) paths.paths.items };
+    ghost view = { λ paths. paths.paths.items };
+}
 
-    ghost invariant = { λ paths. list_all (λ v. is_some (as_list as_str (data_of v))) paths.paths.items ≡ true };
+impl Drop for Paths {
+    fn drop(self) {
+        let Self { paths: _ } = self;
+    }
 }
 
 impl Paths {
-    /// Makes the paths of a value, which is a list of paths.
-    pub(crate) fn from_value(value: Value) -> Self
+    /// Makes the paths of a value, which is a list of paths. The texts are moved, and not copied.
+    pub(crate) fn from_value(alloc: Global, value: Value) -> Result<Self, AllocError>
         requires { is_some (as_paths (view value)) ≡ true }
-        ensures { as_paths (view value) ≡ Some result }
+        ensures { IfOk result (λ paths. as_paths (view value) ≡ Some paths) }
     {
         match value {
-            Value::Array(paths) => Paths { paths },
+            Value::Array(values) => Ok(Paths {
+                paths: paths_of_values(alloc, values)?,
+            }),
             _ => unreachable!(),
         }
     }
@@ -85,15 +94,50 @@ impl Paths {
     }
 
     /// Returns the path at a place.
-    pub fn path(&self, place: usize) -> Path<'_>
+    pub fn path(&self, place: usize) -> &Path
         requires { place < length self.now }
-        ensures { result ≡ slice_index_or self.now place [] }
+        ensures { result.now ≡ slice_index_or self.now place [] }
     {
-        match self.paths[place].as_array() {
-            Some(names) => Path {
-                names: names.as_slice(),
-            },
-            None => Path { names: &[] },
-        }
+        &self.paths[place]
     }
+}
+
+// Makes the paths of these values.
+#[tactic(auto, using(std::proofs::lemmas::Grind::common_steps, std::proofs::lemmas::Slice::Zip::all_zipped_more))]
+fn paths_of_values(alloc: Global, values: Vec<Value>) -> Result<Vec<Path>, AllocError>
+    requires { All (λ v. is_some (as_list as_str (view v)) ≡ true) values.items }
+    ensures { IfOk result (λ paths. AllZip (λ v path. as_list as_str (view v) ≡ Some path) values.items paths.items) }
+{
+    let mut paths = Vec::with_capacity(alloc, values.len())?;
+    for value in values {
+        let path = path_of_value(alloc, value)?;
+        paths.push(path)?;
+    }
+    Ok(paths)
+}
+
+// Makes the path of a value, which is a list of texts.
+fn path_of_value(alloc: Global, value: Value) -> Result<Path, AllocError>
+    requires { is_some (as_list as_str (view value)) ≡ true }
+    ensures { IfOk result (λ path. as_list as_str (view value) ≡ Some path) }
+{
+    match value {
+        Value::Array(values) => Ok(Path {
+            names: names_of_values(alloc, values)?,
+        }),
+        _ => unreachable!(),
+    }
+}
+
+// Makes the names of these values.
+#[tactic(auto, using(std::proofs::lemmas::Grind::common_steps, std::proofs::lemmas::Slice::Zip::all_zipped_more))]
+fn names_of_values(alloc: Global, values: Vec<Value>) -> Result<Vec<Name>, AllocError>
+    requires { All (λ v. is_some (as_str (view v)) ≡ true) values.items }
+    ensures { IfOk result (λ names. AllZip (λ v name. as_str (view v) ≡ Some name) values.items names.items) }
+{
+    let mut names = Vec::with_capacity(alloc, values.len())?;
+    for value in values {
+        names.push(name_of_value(value))?;
+    }
+    Ok(names)
 }

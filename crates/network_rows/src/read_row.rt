@@ -77,18 +77,19 @@ fn rows_of_values<R: ReadRow>(alloc: Global, values: Vec<Value>) -> Result<Seque
 {
     let mut rows = Vec::with_capacity(alloc, values.len())?;
     for value in values {
-        rows.push(row_of_value(value))?;
+        let row = row_of_value(alloc, value)?;
+        rows.push(row)?;
     }
     Ok(Sequence::from_vec(rows))
 }
 
 // Makes the row of a value.
-fn row_of_value<R: ReadRow>(value: Value) -> R
+fn row_of_value<R: ReadRow>(alloc: Global, value: Value) -> Result<R, AllocError>
     requires { IsSoundRow R.section (view value) }
-    ensures { MeansRow R.means (view value) result }
+    ensures { IfOk result (MeansRow R.means (view value)) }
 {
     match value {
-        Value::Table(row) => R::read(row),
+        Value::Table(row) => R::read(alloc, row),
         _ => unreachable!(),
     }
 }
@@ -100,10 +101,10 @@ trait ReadRow: Sized + Drop {
     /// The table represents the row.
     ghost means: { Members → Self → Type 0 };
 
-    /// Makes the row of a table without a fault. Takes no memory.
-    fn read(row: Table) -> Self
+    /// Makes the row of a table without a fault.
+    fn read(alloc: Global, row: Table) -> Result<Self, AllocError>
         requires { IsSoundTable section (table_view row) }
-        ensures { means (table_view row) result };
+        ensures { IfOk result (means (table_view row)) };
 }
 
 impl ReadRow for NodeRow {
@@ -111,8 +112,8 @@ impl ReadRow for NodeRow {
 
     ghost means = { MeansNode };
 
-    fn read(row: Table) -> Self {
-        node_of(row)
+    fn read(_alloc: Global, row: Table) -> Result<Self, AllocError> {
+        Ok(node_of(row))
     }
 }
 
@@ -121,8 +122,8 @@ impl ReadRow for LinkRow {
 
     ghost means = { MeansLink };
 
-    fn read(row: Table) -> Self {
-        link_of(row)
+    fn read(_alloc: Global, row: Table) -> Result<Self, AllocError> {
+        Ok(link_of(row))
     }
 }
 
@@ -131,8 +132,8 @@ impl ReadRow for OutageRow {
 
     ghost means = { MeansOutage };
 
-    fn read(row: Table) -> Self {
-        outage_of(row)
+    fn read(_alloc: Global, row: Table) -> Result<Self, AllocError> {
+        Ok(outage_of(row))
     }
 }
 
@@ -141,8 +142,8 @@ impl ReadRow for VlRow {
 
     ghost means = { MeansVl };
 
-    fn read(row: Table) -> Self {
-        vl_of(row)
+    fn read(alloc: Global, row: Table) -> Result<Self, AllocError> {
+        vl_of(alloc, row)
     }
 }
 
@@ -151,7 +152,7 @@ impl ReadRow for StreamRow {
 
     ghost means = { MeansStreamRow };
 
-    fn read(row: Table) -> Self {
-        stream_of(row)
+    fn read(_alloc: Global, row: Table) -> Result<Self, AllocError> {
+        Ok(stream_of(row))
     }
 }

@@ -1,5 +1,5 @@
 //! Reads the values at the keys of a table without a fault, and makes values of rows of them.
-ghost use Rattle.std.specs.Prelude.{◌≡◌, true, false, Some, IfSome, is_some, option_map, option_and_then};
+ghost use Rattle.std.specs.Prelude.{◌≡◌, true, false, Some, IfOk, IfSome, is_some, option_map, option_and_then};
 ghost use Rattle.toml.specs.Data.{as_str};
 ghost use Rattle.toml.specs.View.{view, table_view};
 ghost use Rattle.network_rows.specs.declared.rule.Presence.TheVariants.{MayBeAbsent, Optional};
@@ -14,6 +14,7 @@ use crate::paths::Paths;
 use crate::rule::{Presence, Rule};
 use crate::value::number_in;
 use row_types::Name;
+use std::alloc::{AllocError, Global};
 use toml::{Table, Value};
 use vlink::FrameSize;
 
@@ -82,8 +83,8 @@ pub fn name_of(value: Option<Value>) -> Name
     }
 }
 
-// Makes the name of a text.
-fn name_of_value(value: Value) -> Name
+/// Makes the name of a text.
+pub fn name_of_value(value: Value) -> Name
     requires { is_some (as_str (view value)) ≡ true }
     ensures { as_str (view value) ≡ Some result }
 {
@@ -94,12 +95,12 @@ fn name_of_value(value: Value) -> Name
 }
 
 /// Makes the paths of a value, which is a list of paths.
-pub fn paths_of(value: Option<Value>) -> Paths
+pub fn paths_of(alloc: Global, value: Option<Value>) -> Result<Paths, AllocError>
     requires { is_some (option_and_then as_paths (option_map view value)) ≡ true }
-    ensures { option_and_then as_paths (option_map view value) ≡ Some result }
+    ensures { IfOk result (λ paths. option_and_then as_paths (option_map view value) ≡ Some paths) }
 {
     match value {
-        Some(value) => Paths::from_value(value),
+        Some(value) => Paths::from_value(alloc, value),
         None => unreachable!(),
     }
 }

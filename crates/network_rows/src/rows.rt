@@ -5,7 +5,6 @@ use row_types::{Name, NodeRow, Rate, StreamRow, VirtualLink};
 use vlink::Time;
 
 /// A row of the section `link`.
-#[derive(Drop)]
 pub struct LinkRow {
     pub a: Name,
     pub b: Name,
@@ -15,8 +14,19 @@ pub struct LinkRow {
     pub has_unknown_key: bool,
 }
 
+impl Drop for LinkRow {
+    fn drop(self) {
+        let Self {
+            a: _,
+            b: _,
+            mbit: _,
+            propagation_ns: _,
+            has_unknown_key: _,
+        } = self;
+    }
+}
+
 /// A row of the section `outage`: from `from_ns` on, and until before `to_ns`, the line from one node to the other loses frames.
-#[derive(Drop)]
 pub struct OutageRow {
     pub from: Name,
     pub to: Name,
@@ -26,8 +36,19 @@ pub struct OutageRow {
     pub has_unknown_key: bool,
 }
 
+impl Drop for OutageRow {
+    fn drop(self) {
+        let Self {
+            from: _,
+            to: _,
+            from_ns: _,
+            to_ns: _,
+            has_unknown_key: _,
+        } = self;
+    }
+}
+
 /// A row of the section `vl`.
-#[derive(Drop)]
 pub struct VlRow {
     /// The parameters of its frames.
     pub link: VirtualLink,
@@ -37,6 +58,17 @@ pub struct VlRow {
     pub b: Paths,
     /// Whether the row has a key that a row of this section may not have.
     pub has_unknown_key: bool,
+}
+
+impl Drop for VlRow {
+    fn drop(self) {
+        let Self {
+            link: _,
+            a: _,
+            b: _,
+            has_unknown_key: _,
+        } = self;
+    }
 }
 
 /// The contents of a description, row by row.

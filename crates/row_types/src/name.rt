@@ -6,7 +6,6 @@ use std::marker::Model;
 /// A text that a description gives as the name of a node.
 ///
 /// Clauses see it as its bytes.
-#[derive(Drop)]
 pub struct Name {
     text: String,
 }
@@ -17,6 +16,12 @@ impl Model for Name {
     ghost Value = { List ℕ };
 
     ghost view = { λ name. string_bytes name.text };
+}
+
+impl Drop for Name {
+    fn drop(self) {
+        let Self { text: _ } = self;
+    }
 }
 
 impl Name {

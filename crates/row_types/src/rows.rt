@@ -64,7 +64,6 @@ pub struct Stream {
 }
 
 /// A row of the section `node`.
-#[derive(Drop)]
 pub struct NodeRow {
     pub name: Name,
     pub kind: NodeKind,
@@ -72,6 +71,17 @@ pub struct NodeRow {
     pub port_bytes: u32,
     /// Whether the row has a key that a row of this section may not have.
     pub has_unknown_key: bool,
+}
+
+impl Drop for NodeRow {
+    fn drop(self) {
+        let Self {
+            name: _,
+            kind: _,
+            port_bytes: _,
+            has_unknown_key: _,
+        } = self;
+    }
 }
 
 /// The parameters of a virtual link. `netdesc` passes them on unchanged, so a key of a virtual link is one field, one line of the table and

@@ -16,7 +16,7 @@ paths_of-requires-2 c =
 pub returns : goal.returns
 returns c =
     let row = table_view c.args.row in
-    let first : ArePathsAt keys.paths_a row c.paths_of.result = is_at as_paths keys.paths_a row c.paths_of.result (assumption c.requires) (rw c.take_value.ensures.value at c.paths_of.ensures) in
-    let second : ArePathsAt keys.paths_b row c.paths_of-2.result =
-    is_at as_paths keys.paths_b row c.paths_of-2.result (assumption c.requires) (rw (c.take_value-2.ensures.value, c.take_value.ensures.others key.B refl) at c.paths_of-2.ensures) in
+    let first : ArePathsAt keys.paths_a row c.in_ok-a.a = is_at as_paths keys.paths_a row c.in_ok-a.a (assumption c.requires) (rw c.take_value.ensures.value at c.in_ok-a.ensures) in
+    let second : ArePathsAt keys.paths_b row c.in_ok-b.b =
+    is_at as_paths keys.paths_b row c.in_ok-b.b (assumption c.requires) (rw (c.take_value-2.ensures.value, c.take_value.ensures.others key.B refl) at c.in_ok-b.ensures) in
     first_of (search rules, grind (arith, common_steps))

@@ -20,4 +20,4 @@ pub loop-value-preserved : goal.loop-value-preserved
 loop-value-preserved g c =
     let means = MeansRow g.R.ReadRow.means in
     subst (AllZip (λ v row. means (view v) row) (c.loop-value.yielded ++ c.in-Some.value ∷ [])) (sym c.in_ok-push.ensures.items)
-    (all_zipped_more (λ v row. means (view v) row) c.loop-value.yielded c.loop-value.rows.items c.in-Some.value c.row_of_value.result c.loop-value.invariant c.row_of_value.ensures)
+    (all_zipped_more (λ v row. means (view v) row) c.loop-value.yielded c.loop-value.rows.items c.in-Some.value c.in_ok-row.row c.loop-value.invariant c.in_ok-row.ensures)
