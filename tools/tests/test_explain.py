@@ -80,7 +80,8 @@ def lines_of_keys(text):
 def limits_of(key):
     """Values at the limits of a key, just below and just above."""
     if key.choices:
-        numbers = [value + d for value in key.choices for d in (-1, 0, 1)] if type(key.choices[0]) is int else []
+        # A program of before knows no 1000 Mbit/s.
+        numbers = [value + d for value in key.choices if value != 1000 for d in (-1, 0, 1)] if type(key.choices[0]) is int else []
         return list(map(str, numbers)) or ['""', f'"{key.choices[0].upper()}"', f'"{key.choices[1]}"']
     if key.value_type == "integer":
         return [str(value + d) for value in (key.least, key.greatest) for d in (-1, 0, 1)]
@@ -336,7 +337,7 @@ class Explained(unittest.TestCase):
             ('[["ADC", "SWA", "DU"]]', '["ADC", "SWA", "DU"]', 3, f'24: {vl}, a is a list, ["ADC", "SWA", "DU"], and must be a list of paths, each a list of 3 to 32 names, as [["ES1", "SW1", "ES2"]]; or []: a pair of brackets more'),
             ("[[vl]]", "[vl]", 3, "12: vl: this section is a table, and must be a list of tables: it is written [[vl]], with two brackets"),
             ("bag_ms = 8", "bag_ms = 10", 4, f"14: {vl}, bag_ms is 10, and must be 1, 2, 4, 8, 16, 32, 64 or 128. The next below 10 is 8"),
-            ("mbit = 100", "mbit = 1000", 4, "9: link ADC-SWA (link row 1), mbit is 1000, and must be 10 or 100"),
+            ("mbit = 100", "mbit = 10_000", 4, "9: link ADC-SWA (link row 1), mbit is 10000, and must be 10, 100 or 1000"),
             ('"high"', '"High"', 4, f'16: {vl}, priority is "High", and must be "high" or "low"; high?'),
             ('name = "DU"', 'name = "D U"', 4, """5: end system D U (node row 2), name is "D U", and must be a text of 1 to 32 letters, digits, _ and -: it has ' '"""),
             ("depth = 4", "depth = 4\nsub = 5", 4, f"20: {vl}, sub is 5, and must be a whole number from 1 to 4"),

@@ -138,7 +138,7 @@ class Rows(unittest.TestCase):
                 self.assertEqual("".join(line + "\n" for line in list(found)[1:]), lines_of(wanted))
 
     def test_rows_of_runs(self):
-        for name in ("tables", "stream_tables"):
+        for name in ("tables", "stream_tables", "gigabit_tables"):
             for row in blocks(name):
                 with self.subTest(row):
                     self.is_answered(*changed_by(row))

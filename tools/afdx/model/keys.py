@@ -9,6 +9,7 @@ GREATEST_SEED = 2**63 - 1
 LATEST_NS = 10**15
 SECOND_NS = 10**9
 LEAST_FRAME, GREATEST_FRAME = 64, 1518
+SPEEDS_MBIT = (10, 100, 1000)
 BAGS_MS = (1, 2, 4, 8, 16, 32, 64, 128)
 MOST_PROCESSES, MOST_PORTS, MOST_OUTAGES, MOST_DESTINATIONS = 4096, 24, 1024, 64
 MOST_NODES_OF_A_PATH = 32
@@ -95,7 +96,7 @@ KEYS = {
     "link": [
         name_key("a", "One of the two nodes that the link joins, in both directions."),
         name_key("b", "The other node."),
-        choice_key("mbit", (10, 100), "Speed in Mbit/s."),
+        choice_key("mbit", SPEEDS_MBIT, "Speed in Mbit/s."),
         number_key("propagation_ns", 1, SECOND_NS, "Propagation time in ns: 5 for each metre of cable."),
     ],
     "outage": [

@@ -10,7 +10,7 @@ from afdx.files import toml_lines
 from afdx.model import drawn_offers, offered_rates
 from afdx.model.description import Description
 from afdx.model.drawn_offers import Offer, Stream
-from afdx.model.keys import KEYS, Key
+from afdx.model.keys import KEYS, SPEEDS_MBIT, Key
 from afdx.model.network_parts import NETWORKS, Destinations, Link, Node, Outage, Places, VirtualLink
 
 # How many bytes of a line's time a frame takes beyond its own: preamble, start delimiter and the gap between frames.
@@ -98,8 +98,8 @@ class Network:
         nets = {self.nodes[end].net for end in (a, b)} - {None}
         if a == b or len(nets) != 1:
             self.refuse("link", i, "b", "joins two nodes that no link can join")
-        if row["mbit"] not in (10, 100):
-            self.refuse("link", i, "mbit", "is neither 10 nor 100")
+        if row["mbit"] not in SPEEDS_MBIT:
+            self.refuse("link", i, "mbit", "is none of 10, 100 and 1000")
         if a + ">" + b in self.mbit:
             self.refuse("link", i, "b", f"has a link of {a} and {b} once more")
         self.links.append(Link(a, b, row["mbit"], row["propagation_ns"]))
