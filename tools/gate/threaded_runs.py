@@ -106,7 +106,7 @@ def network_of(draw: random.Random, is_large: bool) -> toml_lines.Table:
 def bend(tree: toml_lines.Table, draw: random.Random) -> None:
     """Changes a description, so that frames wait, are late and are lost."""
     for link in tree["link"]:
-        link["mbit"] = draw.choice([10, 100, 100, 100])
+        link["mbit"] = draw.choice([10, 100, 100, 1000])
     for node in tree["node"]:
         node["port_bytes"] = draw.choice([GREATEST_FRAME, 4096, 65536])
     for vl in tree["vl"]:

@@ -80,8 +80,7 @@ def lines_of_keys(text):
 def limits_of(key):
     """Values at the limits of a key, just below and just above."""
     if key.choices:
-        # A program of before knows no 1000 Mbit/s.
-        numbers = [value + d for value in key.choices if value != 1000 for d in (-1, 0, 1)] if type(key.choices[0]) is int else []
+        numbers = [value + d for value in key.choices for d in (-1, 0, 1)] if type(key.choices[0]) is int else []
         return list(map(str, numbers)) or ['""', f'"{key.choices[0].upper()}"', f'"{key.choices[1]}"']
     if key.value_type == "integer":
         return [str(value + d) for value in (key.least, key.greatest) for d in (-1, 0, 1)]

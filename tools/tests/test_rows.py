@@ -173,7 +173,7 @@ class Rows(Ends):
                 self.assertEqual((deaf.status, deaf.output), (0, found.output))
 
     def test_a_run_is_checked_by_its_tables_and_its_trace(self):
-        for row in blocks("tables") + blocks("stream_tables"):
+        for row in blocks("tables") + blocks("stream_tables") + blocks("gigabit_tables"):
             with self.subTest(row):
                 net, said = changed(row)
                 if said.startswith("ok"):

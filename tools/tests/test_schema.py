@@ -59,10 +59,8 @@ class ProgramTable:
         """The type of the values, the least and the greatest, and the choices."""
         if value_type == "OneOf":
             return "integer", None, None, self.bags
-        if value_type == "EitherInteger":
-            # A program of before knows no 1000 Mbit/s.
-            found = tuple(map(self.number, words))
-            return "integer", None, None, (10, 100, 1000) if found == (10, 100) else found
+        if value_type == "OneOfThree":
+            return "integer", None, None, tuple(map(self.number, words))
         if value_type == "EitherWord":
             return "text", None, None, tuple(self.words[word.split("::")[-1]] for word in words)
         if value_type == "Reference":

@@ -9,7 +9,7 @@ use Rattle.network_rows.specs.declared.table.TheConstants.{SECOND_NS}
 use Rattle.network_rows.specs.declared.rows.LinkRow.{LinkRow}
 use Rattle.row_types.specs.declared.rows.NodeKind.TheVariants.{EndSystem}
 use Rattle.row_types.specs.declared.rows.Rate.{Rate}
-use Rattle.row_types.specs.declared.rows.Rate.TheVariants.{Mbit10, Mbit100}
+use Rattle.row_types.specs.declared.rows.Rate.TheVariants.{Mbit10, Mbit100, Mbit1000}
 use Rattle.network_rows.specs.Within.{IsLinkWithin}
 use Rattle.network.specs.Words.{greatest_ports, each, each_after, names_of, Plan, NodePlan, link_plan, byte_ns_of, plan_of, is_end_system, is_switch_of, port_at, directions, lines_of, unknown_names, double_names, not_links, not_trees, too_many, too_many_at_node, touches, IsAccepted}
 use Rattle.network.specs.declared.wiring.Link.{Link}
@@ -38,6 +38,7 @@ pub record IsLineWithin (line : LinePlan) : Type 0 where
 byte-bounds : (rate : Rate) → (1 ≤ byte_ns_of rate) × (byte_ns_of rate ≤ 800)
 byte-bounds Mbit10 = (omega arith, omega arith)
 byte-bounds Mbit100 = (omega arith, omega arith)
+byte-bounds Mbit1000 = (omega arith, omega arith)
 
 links-timely : (names : List (List ℕ)) (rows : List LinkRow) → AllByRecursion IsLinkWithin rows → AllByRecursion IsLinkTimely (map (link_plan names) rows)
 links-timely names [] within = tt

@@ -3,7 +3,7 @@
 use Rattle.std.specs.Prelude.{ℕ, List, map}
 use Rattle.row_types.specs.declared.rows.NodeKind.{NodeKind}
 use Rattle.row_types.specs.declared.rows.Rate.{Rate}
-use Rattle.row_types.specs.declared.rows.Rate.TheVariants.{Mbit10, Mbit100}
+use Rattle.row_types.specs.declared.rows.Rate.TheVariants.{Mbit10, Mbit100, Mbit1000}
 use Rattle.row_types.specs.declared.rows.NodeRow.{NodeRow}
 use Rattle.network_rows.specs.declared.rows.LinkRow.{LinkRow}
 use Rattle.network_rows.specs.declared.rows.OutageRow.{OutageRow}
@@ -41,6 +41,7 @@ pub record Plan : Type 0 where
 abbrev pub byte_ns_of : Rate → ℕ
 byte_ns_of Mbit10 = 800
 byte_ns_of Mbit100 = 80
+byte_ns_of Mbit1000 = 8
 
 -- the paths, with numbers in place of names
 abbrev pub path_numbers : List (List ℕ) → List (List ℕ) → List ℕ

@@ -65,6 +65,7 @@ fn byte_ns(rate: Rate) -> u16
     match rate {
         Rate::Mbit10 => 800,
         Rate::Mbit100 => 80,
+        Rate::Mbit1000 => 8,
     }
 }
 

@@ -1,5 +1,5 @@
 -- A text means the rows of one description alone.
-use Rattle.std.proofs.Common.{◌≡◌, ℕ, true, false, List, [], ◌∷◌, Option, Some, None, refl, ap, sym, ◌∙◌, subst, inl, inr, bytes_eq}
+use Rattle.std.proofs.Common.{◌≡◌, ℕ, true, false, List, [], ◌∷◌, Option, Some, None, refl, ap, sym, ◌∙◌, subst, inl, inr, bytes_eq, arith}
 use Rattle.std.proofs.lemmas.Bool.{false≢true}
 use Rattle.std.specs.List.{AllZip}
 use Rattle.toml.specs.Data.{Data, Members, as_str}
@@ -11,7 +11,7 @@ use Rattle.network_rows.specs.declared.rule.Rule.{Rule}
 use Rattle.row_types.specs.declared.rows.NodeKind.{NodeKind}
 use Rattle.row_types.specs.declared.rows.NodeKind.TheVariants.{EndSystem, Switch}
 use Rattle.row_types.specs.declared.rows.Rate.{Rate}
-use Rattle.row_types.specs.declared.rows.Rate.TheVariants.{Mbit10, Mbit100}
+use Rattle.row_types.specs.declared.rows.Rate.TheVariants.{Mbit10, Mbit100, Mbit1000}
 use Rattle.row_types.specs.declared.rows.Priority.{Priority}
 use Rattle.row_types.specs.declared.rows.Priority.TheVariants.{High, Low}
 use Rattle.row_types.specs.declared.rows.Policing.{Policing}
@@ -104,9 +104,14 @@ one_timing_at table p q (inr a) (inr b) = periodic_by_default p table a ∙ sym 
 
 one_rate : (r s : Rate) → mbit_of r ≡ mbit_of s → r ≡ s
 one_rate Mbit10 Mbit10 e = refl
-one_rate Mbit10 Mbit100 e = cc
-one_rate Mbit100 Mbit10 e = cc
+one_rate Mbit10 Mbit100 e = absurd (let same : 10 ≡ 100 = e in omega (arith, same))
+one_rate Mbit10 Mbit1000 e = absurd (let same : 10 ≡ 1000 = e in omega (arith, same))
+one_rate Mbit100 Mbit10 e = absurd (let same : 100 ≡ 10 = e in omega (arith, same))
 one_rate Mbit100 Mbit100 e = refl
+one_rate Mbit100 Mbit1000 e = absurd (let same : 100 ≡ 1000 = e in omega (arith, same))
+one_rate Mbit1000 Mbit10 e = absurd (let same : 1000 ≡ 10 = e in omega (arith, same))
+one_rate Mbit1000 Mbit100 e = absurd (let same : 1000 ≡ 100 = e in omega (arith, same))
+one_rate Mbit1000 Mbit1000 e = refl
 
 switch_is_no_end_system : word_text word.Es ≡ word_text word.Switch → ⊥
 switch_is_no_end_system e = apart _ _ refl refl e

@@ -4,7 +4,7 @@ use Rattle.std.proofs.lemmas.Bool.{false≢true}
 use Rattle.toml.specs.Data.{Data, Members}
 use Rattle.network_rows.specs.declared.fault.KeyFault.TheVariants as sort
 use Rattle.network_rows.specs.declared.rule.ValueType.{ValueType}
-use Rattle.network_rows.specs.declared.rule.ValueType.TheVariants.{Integer, IntegerAbove, OneOf, EitherInteger, EitherWord, NodeName, Reference, Paths}
+use Rattle.network_rows.specs.declared.rule.ValueType.TheVariants.{Integer, IntegerAbove, OneOf, OneOfThree, EitherWord, NodeName, Reference, Paths}
 use Rattle.network_rows.specs.declared.rule.Rule.{Rule}
 use Rattle.network_rows.specs.Values.{value_at, passes, as_number}
 use Rattle.network_rows.specs.ValueTypes.{has_type, allows, is_above, keeps_limit}
@@ -69,8 +69,8 @@ number_within (IntegerAbove key least greatest) row d of e =
     let n = passing (λ n. allows (IntegerAbove key least greatest) n && is_above (option_and_then as_number (value_at key row)) n) (as_number d) e in
     record { number = n.found; is = n.is; allowed = (both_true (allows (IntegerAbove key least greatest) n.found) _ n.passed).0 }
 number_within (OneOf numbers) row d of e = let n = passing (allows (OneOf numbers)) (as_number d) e in record { number = n.found; is = n.is; allowed = n.passed }
-number_within (EitherInteger first second) row d of e =
-    let n = passing (allows (EitherInteger first second)) (as_number d) e in record { number = n.found; is = n.is; allowed = n.passed }
+number_within (OneOfThree first second third) row d of e =
+    let n = passing (allows (OneOfThree first second third)) (as_number d) e in record { number = n.found; is = n.is; allowed = n.passed }
 number_within (EitherWord first second) row d of e = absurd of
 number_within (NodeName least greatest) row d of e = absurd of
 number_within Reference row d of e = absurd of

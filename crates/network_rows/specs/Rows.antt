@@ -15,7 +15,7 @@ use Rattle.network_rows.specs.declared.rule.Rule.{Rule}
 use Rattle.row_types.specs.declared.rows.NodeKind.{NodeKind}
 use Rattle.row_types.specs.declared.rows.NodeKind.TheVariants.{EndSystem, Switch}
 use Rattle.row_types.specs.declared.rows.Rate.{Rate}
-use Rattle.row_types.specs.declared.rows.Rate.TheVariants.{Mbit10, Mbit100}
+use Rattle.row_types.specs.declared.rows.Rate.TheVariants.{Mbit10, Mbit100, Mbit1000}
 use Rattle.row_types.specs.declared.rows.Priority.{Priority}
 use Rattle.row_types.specs.declared.rows.Priority.TheVariants.{High, Low}
 use Rattle.row_types.specs.declared.rows.Policing.{Policing}
@@ -118,6 +118,7 @@ word_of_timing Sporadic = word.Sporadic
 abbrev pub mbit_of : Rate → ℕ
 mbit_of Mbit10 = 10
 mbit_of Mbit100 = 100
+mbit_of Mbit1000 = 1000
 
 abbrev pub MeansKind : Members → NodeKind → Type 0
 MeansKind table EndSystem = IsWordAt keys.kind table word.Es

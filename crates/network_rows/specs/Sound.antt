@@ -4,7 +4,7 @@ use Rattle.std.specs.List.{AllByRecursion}
 use Rattle.toml.specs.Data.{Data, Items, Members, as_array, as_table}
 use Rattle.network_rows.specs.declared.key.Section.{Section}
 use Rattle.network_rows.specs.declared.rule.ValueType.{ValueType}
-use Rattle.network_rows.specs.declared.rule.ValueType.TheVariants.{Integer, IntegerAbove, OneOf, EitherInteger, EitherWord, NodeName, Reference, Paths}
+use Rattle.network_rows.specs.declared.rule.ValueType.TheVariants.{Integer, IntegerAbove, OneOf, OneOfThree, EitherWord, NodeName, Reference, Paths}
 use Rattle.network_rows.specs.declared.rule.Presence.{Presence}
 use Rattle.network_rows.specs.declared.rule.Presence.TheVariants.{Required, ForSwitches, Optional, OptionalWord, MayBeAbsent}
 use Rattle.network_rows.specs.declared.rule.Rule.{Rule}
@@ -39,7 +39,7 @@ abbrev pub IsOfNumbers : ValueType → Type 0
 IsOfNumbers (Integer least greatest) = ⊤
 IsOfNumbers (IntegerAbove key least greatest) = ⊤
 IsOfNumbers (OneOf numbers) = ⊤
-IsOfNumbers (EitherInteger first second) = ⊤
+IsOfNumbers (OneOfThree first second third) = ⊤
 IsOfNumbers (EitherWord first second) = ⊥
 IsOfNumbers (NodeName least greatest) = ⊥
 IsOfNumbers Reference = ⊥

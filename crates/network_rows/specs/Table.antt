@@ -8,7 +8,7 @@ use Rattle.network_rows.specs.declared.key.Key.{Key}
 use Rattle.network_rows.specs.declared.key.Key.TheVariants as key
 use Rattle.network_rows.specs.declared.key.Word.TheVariants as word
 use Rattle.network_rows.specs.declared.rule.ValueType.{ValueType}
-use Rattle.network_rows.specs.declared.rule.ValueType.TheVariants.{Integer, IntegerAbove, OneOf, EitherInteger, EitherWord, NodeName, Reference, Paths}
+use Rattle.network_rows.specs.declared.rule.ValueType.TheVariants.{Integer, IntegerAbove, OneOf, OneOfThree, EitherWord, NodeName, Reference, Paths}
 use Rattle.network_rows.specs.declared.rule.Presence.{Presence}
 use Rattle.network_rows.specs.declared.rule.Presence.TheVariants.{Required, ForSwitches, Optional, OptionalWord, MayBeAbsent}
 use Rattle.network_rows.specs.declared.rule.Rule.{Rule}
@@ -50,7 +50,7 @@ abbrev pub link_b : Rule
 link_b = asks key.B Required Reference
 
 abbrev pub mbit : Rule
-mbit = asks key.Mbit Required (EitherInteger 10 100)
+mbit = asks key.Mbit Required (OneOfThree 10 100 1000)
 
 abbrev pub propagation_ns : Rule
 propagation_ns = asks key.PropagationNs Required (Integer 1 1000000000)

@@ -4,7 +4,7 @@ use Rattle.std.specs.List.{list_any, list_all}
 use Rattle.std.specs.Char.{is_ascii_alphanumeric}
 use Rattle.toml.specs.Data.{Data, Members, as_str, as_integer}
 use Rattle.network_rows.specs.declared.rule.ValueType.{ValueType}
-use Rattle.network_rows.specs.declared.rule.ValueType.TheVariants.{Integer, IntegerAbove, OneOf, EitherInteger, EitherWord, NodeName, Reference, Paths}
+use Rattle.network_rows.specs.declared.rule.ValueType.TheVariants.{Integer, IntegerAbove, OneOf, OneOfThree, EitherWord, NodeName, Reference, Paths}
 use Rattle.network_rows.specs.Keys.{word_text}
 use Rattle.network_rows.specs.Values.{value_at, passes, as_number, as_paths}
 
@@ -13,7 +13,7 @@ abbrev pub has_type : ValueType → Data → Bool
 has_type (Integer least greatest) d = is_some (as_integer d)
 has_type (IntegerAbove key least greatest) d = is_some (as_integer d)
 has_type (OneOf numbers) d = is_some (as_integer d)
-has_type (EitherInteger first second) d = is_some (as_integer d)
+has_type (OneOfThree first second third) d = is_some (as_integer d)
 has_type (EitherWord first second) d = is_some (as_str d)
 has_type (NodeName least greatest) d = is_some (as_str d)
 has_type Reference d = is_some (as_str d)
@@ -28,7 +28,7 @@ abbrev pub allows : ValueType → ℕ → Bool
 allows (Integer least greatest) n = is_within least greatest n
 allows (IntegerAbove key least greatest) n = is_within least greatest n
 allows (OneOf numbers) n = list_any (λ m. m == n) numbers
-allows (EitherInteger first second) n = (n == first) || (n == second)
+allows (OneOfThree first second third) n = (n == first) || (n == second) || (n == third)
 allows _ n = true
 
 -- an ASCII letter, a digit, `_` or `-`
@@ -60,7 +60,7 @@ keeps_limit (Integer least greatest) row d = passes (allows (Integer least great
 keeps_limit (IntegerAbove key least greatest) row d =
     passes (λ n. allows (IntegerAbove key least greatest) n && is_above (option_and_then as_number (value_at key row)) n) (as_number d)
 keeps_limit (OneOf numbers) row d = passes (allows (OneOf numbers)) (as_number d)
-keeps_limit (EitherInteger first second) row d = passes (allows (EitherInteger first second)) (as_number d)
+keeps_limit (OneOfThree first second third) row d = passes (allows (OneOfThree first second third)) (as_number d)
 keeps_limit (EitherWord first second) row d = passes (allows_text (EitherWord first second)) (as_str d)
 keeps_limit (NodeName least greatest) row d = passes (allows_text (NodeName least greatest)) (as_str d)
 keeps_limit Reference row d = true

@@ -171,10 +171,10 @@ fn rate(row: &Table) -> Rate
     requires { IsSoundAt mbit (table_view row.now) }
     ensures { IsNumberAt mbit (table_view row.now) (mbit_of result) }
 {
-    if number_at(table::MBIT, row) == 100 {
-        Rate::Mbit100
-    } else {
-        Rate::Mbit10
+    match number_at(table::MBIT, row) {
+        10 => Rate::Mbit10,
+        100 => Rate::Mbit100,
+        _ => Rate::Mbit1000,
     }
 }
 

@@ -21,10 +21,10 @@ pub enum Presence {
 pub enum ValueType {
     /// An integer from the first number to the second.
     Integer(u64, u64),
-    /// An integer from the first number to the second, greater than the one at another key of its row.
-    IntegerAbove(Key, u64, u64),
     /// An integer from the first number to the second, and greater than the integer at another key of its row.
-    EitherInteger(u64, u64),
+    IntegerAbove(Key, u64, u64),
+    /// An integer that is one of three.
+    OneOfThree(u64, u64, u64),
     /// An integer that is one of eight.
     OneOf([u64; 8]),
     /// A text that is one of two words.

@@ -7,7 +7,7 @@ use crate::key::{Key, Section};
 use crate::rule::Presence::{ForSwitches, MayBeAbsent, Optional, OptionalWord, Required};
 use crate::rule::Rule;
 use crate::rule::ValueType::{
-    EitherInteger, EitherWord, Integer, IntegerAbove, NodeName, OneOf, Paths, Reference,
+    EitherWord, Integer, IntegerAbove, NodeName, OneOf, OneOfThree, Paths, Reference,
 };
 use vlink::{FrameSize, LATEST_NS};
 
@@ -59,7 +59,7 @@ pub const LINK_A: Rule = rule!(A, Required, Reference);
 
 pub const LINK_B: Rule = rule!(B, Required, Reference);
 
-pub const MBIT: Rule = rule!(Mbit, Required, EitherInteger(10, 100));
+pub const MBIT: Rule = rule!(Mbit, Required, OneOfThree(10, 100, 1000));
 
 pub const PROPAGATION_NS: Rule = rule!(PropagationNs, Required, Integer(1, SECOND_NS));
 

@@ -19,7 +19,7 @@ impl ValueType {
             ValueType::Integer(..)
             | ValueType::IntegerAbove(..)
             | ValueType::OneOf(_)
-            | ValueType::EitherInteger(..) => value.is_integer(),
+            | ValueType::OneOfThree(..) => value.is_integer(),
             ValueType::EitherWord(..) | ValueType::NodeName(..) | ValueType::Reference =>
                 value.is_str(),
             ValueType::Paths(..) => are_paths(value),
@@ -35,7 +35,7 @@ impl ValueType {
                 is_within(least, greatest, n)
             }
             ValueType::OneOf(numbers) => numbers.contains(&n),
-            ValueType::EitherInteger(first, second) => n == first || n == second,
+            ValueType::OneOfThree(first, second, third) => n == first || n == second || n == third,
             _ => true,
         }
     }
@@ -56,7 +56,7 @@ impl ValueType {
         ensures { result ≡ keeps_limit self (table_view row.now) (view value.now) }
     {
         match self {
-            ValueType::Integer(..) | ValueType::OneOf(_) | ValueType::EitherInteger(..) =>
+            ValueType::Integer(..) | ValueType::OneOf(_) | ValueType::OneOfThree(..) =>
                 match number_of(value) {
                     Some(n) => self.allows(n),
                     None => false,

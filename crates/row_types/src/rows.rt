@@ -15,6 +15,7 @@ pub enum NodeKind {
 pub enum Rate {
     Mbit10,
     Mbit100,
+    Mbit1000,
 }
 
 /// The priority of the frames of a virtual link. It selects one of the two lists of an output port.
