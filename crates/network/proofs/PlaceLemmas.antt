@@ -1,5 +1,5 @@
 -- The first place that passes a test.
-use Rattle.std.proofs.Common.{◌≡◌, ℕ, zero, suc, ◌+◌, ◌<◌, Bool, true, false, cond, ◌||◌, ◌&&◌, is_none, List, [], ◌∷◌, ◌++◌, length, take, get_or, Option, Some, None, is_some, unwrap_or, ◌≤◌, inl, inr, refl, ap, sym, ◌∙◌, arith, add-one, option_map}
+use Rattle.std.proofs.Common.{◌≡◌, ℕ, zero, suc, ◌+◌, ◌<◌, Bool, true, false, cond, ◌||◌, ◌&&◌, is_none, List, [], ◌∷◌, ◌++◌, length, take, get_or, Option, Some, None, is_some, unwrap_or, ◌≤◌, inl, inr, refl, ap, sym, ◌∙◌, arith, add-one, option_map, take_all, le_refl}
 use Rattle.std.specs.List.{list_any}
 use Rattle.std.proofs.lemmas.Bool.{cases_Bool, false≢true}
 use Rattle.network.specs.Words.{place_by}
@@ -61,6 +61,15 @@ place_by-early test (x ∷ xs) (suc i) h = go (test x) refl h (place_by-early te
     go : (b : Bool) → test x ≡ b → (b || list_any test (take i xs)) ≡ true → (list_any test (take i xs) ≡ true → (j : ℕ) × (place_by test xs ≡ Some j) × (j < i)) → (j : ℕ) × (place_by test (x ∷ xs) ≡ Some j) × (j < suc i)
     go true e k later = (0, rw e refl, omega arith)
     go false e k later = let found = later k in let lt : found.0 < i = found.2 in (found.0 + 1, rw (e, found.1) refl, omega arith)
+
+-- a place is one of the list
+pub placed : {X : Type 0} (test : X → Bool) (xs : List X) (k : ℕ) → place_by test xs ≡ Some k → k < length xs
+placed test xs k e =
+    let there : list_any test xs ≡ true = sym (is_some-place_by test xs) ∙ ap is_some e in
+    let all : take (length xs) xs ≡ xs = take_all (length xs) xs (le_refl (length xs)) in
+    let found = place_by-early test xs (length xs) (ap (list_any test) all ∙ there) in
+    let same : found.0 ≡ k = cc in
+    grind arith
 
 -- the one at i passes, and none before it
 pub place_by-at : {X : Type 0} (test : X → Bool) (xs : List X) (i : ℕ) (d : X) → i < length xs → test (get_or xs i d) ≡ true → list_any test (take i xs) ≡ false → place_by test xs ≡ Some i

@@ -1,20 +1,9 @@
 -- The virtual links that leave a node, one after another.
-use Rattle.std.proofs.Common.{◌≡◌, ◌<◌, ℕ, Bool, true, List, [], ◌∷◌, length, take, Option, Some, None, refl, sym, ap, ◌∙◌, is_some, slice_get, option_map, take_all, le_refl, eq-eqb, if◌then◌else◌, arith}
-use Rattle.std.specs.List.{list_any}
+use Rattle.std.proofs.Common.{◌≡◌, ℕ, Bool, [], ◌∷◌, Option, Some, None, refl, ap, ◌∙◌, slice_get, option_map, eq-eqb, if◌then◌else◌}
 use Rattle.network.specs.declared.wiring.Way.{Way}
-use Rattle.network.specs.Words.{Plan, VlPlan, place_by, place_of_vl}
-use Rattle.network.proofs.PlaceLemmas.{is_some-place_by, place_by-early}
+use Rattle.network.specs.Words.{Plan, VlPlan, place_of_vl}
 use Rattle.row_types.specs.declared.rows.VirtualLink.{VirtualLink}
 use Rattle.network_bounds.specs.Passing.{input_of, passing_at, passing_of}
-
--- a place is one of the list
-pub placed : {X : Type 0} (test : X → Bool) (xs : List X) (k : ℕ) → place_by test xs ≡ Some k → k < length xs
-placed test xs k e =
-    let there : list_any test xs ≡ true = sym (is_some-place_by test xs) ∙ ap is_some e in
-    let all : take (length xs) xs ≡ xs = take_all (length xs) xs (le_refl (length xs)) in
-    let found = place_by-early test xs (length xs) (ap (list_any test) all ∙ there) in
-    let same : found.0 ≡ k = cc in
-    grind arith
 
 -- the virtual link of a way, found by its number
 pub met : (plan : Plan) (n place : ℕ) (way : Way) (link : VirtualLink) → place_of_vl plan.vls way.vl.0 ≡ Some place →

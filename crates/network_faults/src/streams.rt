@@ -92,6 +92,10 @@ pub fn number_streams(alloc: Global, made: &mut Vec<VlStream>, rows: &Rows) -> R
     requires none { made.old.items ≡ [] }
     ensures { Gives (λ _. made.new.items) result (each (unknown_at_stream rows.now.vls) rows.now.streams) (map stream_plan rows.now.streams) }
 {
+    let streams = rows.streams.as_slice();
+    if streams.is_empty() {
+        return Ok(());
+    }
     let ids = Ids::new(alloc, rows.vls.as_slice())?;
-    check_each(&Streams { ids: &ids }, made, rows.streams.as_slice())
+    check_each(&Streams { ids: &ids }, made, streams)
 }

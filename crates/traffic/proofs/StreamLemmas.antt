@@ -1,15 +1,13 @@
 -- The streams of a network, one place after another.
-use Rattle.std.proofs.Common.{◌≡◌, ℕ, zero, suc, ◌+◌, ◌-◌, ◌<◌, ◌≤◌, Bool, true, List, [], ◌∷◌, ◌++◌, length, map, take, take_all, get_or, Option, Some, None, refl, ap, sym, ◌∙◌, arith, append-nil, append_assoc, is_some, slice_get, option_and_then, option_map, option_to_list, flat_map, le_refl}
-use Rattle.std.specs.List.{list_any}
+use Rattle.std.proofs.Common.{◌≡◌, ℕ, zero, suc, ◌+◌, ◌-◌, ◌<◌, ◌≤◌, List, [], ◌∷◌, ◌++◌, length, map, take, take_all, get_or, Option, Some, None, refl, ap, sym, ◌∙◌, arith, append-nil, append_assoc, slice_get, option_and_then, option_map, option_to_list, flat_map, le_refl}
 use Rattle.std.proofs.lemmas.List.{take_more}
 use Rattle.std.proofs.lemmas.Grind.{flat_map-append}
 use Rattle.std.proofs.lemmas.Option.{slice_get_read, slice_get_within, get_or_from_slice_get}
 use Rattle.row_types.specs.declared.rows.Stream.{Stream}
 use Rattle.row_types.specs.declared.rows.VirtualLink.{VirtualLink}
 use Rattle.network.specs.declared.plan.VlStream.{VlStream}
-use Rattle.network.specs.Words.{Plan, VlPlan, each, place_by, place_of_vl, source_of}
+use Rattle.network.specs.Words.{Plan, VlPlan, each, place_of_vl, source_of}
 use Rattle.network.proofs.EachLemmas.{each-more}
-use Rattle.network.proofs.PlaceLemmas.{is_some-place_by, place_by-early}
 use Rattle.traffic.specs.declared.stream.OfferedStream.{OfferedStream}
 use Rattle.traffic.specs.Offers.{FIRST_ROW, of_vl, own_of, own_streams, row_streams, stream_of, streams_of}
 use Rattle.traffic.specs.Places.{place_count, streams_before}
@@ -124,12 +122,3 @@ row-some plan j i vl number row link source place at placed = go (slice_get plan
 -- the row that is read
 pub read-row : (rows streams : List VlStream) (i : ℕ) (row : VlStream) → rows ≡ streams → i < length streams → row ≡ get_or rows i row → slice_get streams i ≡ Some row
 read-row rows streams i row same lt read = ap (λ rs. slice_get rs i) (sym same) ∙ slice_get_read rows (length rows) i row refl (omega (arith, ap length same, lt)) read
-
--- a place is one of the list
-pub placed : {X : Type 0} (test : X → Bool) (xs : List X) (k : ℕ) → place_by test xs ≡ Some k → k < length xs
-placed test xs k e =
-    let there : list_any test xs ≡ true = sym (is_some-place_by test xs) ∙ ap is_some e in
-    let all : take (length xs) xs ≡ xs = take_all (length xs) xs (le_refl (length xs)) in
-    let found = place_by-early test xs (length xs) (ap (list_any test) all ∙ there) in
-    let same : found.0 ≡ k = cc in
-    grind arith

@@ -1,5 +1,6 @@
 use Rattle.std.proofs.Common.{◌==◌, ◌++◌, ◌∷◌, [], sym, ◌∙◌, ap}
-use Rattle.network_bounds.proofs.PassingLemmas.{met-at, placed}
+use Rattle.network.proofs.PlaceLemmas.{placed}
+use Rattle.network_bounds.proofs.PassingLemmas.{met-at}
 use Rattle.network_bounds.proofs.passing.push_passing.Goals as goal
 
 pub virtual_link-requires : goal.virtual_link-requires

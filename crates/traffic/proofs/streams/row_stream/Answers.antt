@@ -1,6 +1,7 @@
 use Rattle.std.proofs.Common.{◌==◌, refl, sym, ◌∙◌}
 use Rattle.network.specs.Words.{VlPlan}
-use Rattle.traffic.proofs.StreamLemmas.{placed, read-row, row-none, row-some}
+use Rattle.network.proofs.PlaceLemmas.{placed}
+use Rattle.traffic.proofs.StreamLemmas.{read-row, row-none, row-some}
 use Rattle.traffic.proofs.streams.row_stream.Goals as goal
 
 pub virtual_link-link-requires : goal.virtual_link-link-requires
