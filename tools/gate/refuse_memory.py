@@ -3,8 +3,8 @@
 
     python3 -m gate.refuse_memory
 
-It runs the commands `check`, `seq`, `replay` and `run` of the proved program on examples/n1.toml, and `check` and `seq` on
-texts with a fault, once for each request for memory. That request is refused, until a run makes fewer requests. Each run must
+It runs the commands `check`, `seq`, `replay` and `run` of the proved program on examples/n1.toml, also with a further stream, and
+`check` and `seq` on texts with a fault, once for each request for memory. That request is refused, until a run makes fewer requests. Each run must
 end as if none were refused, with the same status and the same texts, or with status 5 and the line `afdxsim: out of memory`;
 `run` also with status 4 and `afdxsim: cannot start a worker`. Standard output is then empty or whole, and a file is missing or
 has a beginning of its text. With two workers the same request comes at another place each time, and the journal differs each
@@ -115,6 +115,11 @@ class Command(NamedTuple):
 # Descriptions with a fault, by the names of their files.
 FAULTY = {"syntax.toml": "until_ns =", "missing.toml": "until_ns = 1", "unknown.toml": "until_ns = 1\nseed = 0\nx = 0"}
 
+# The stream of a row of its own, behind those of n1.toml: of its virtual link, and of one that is not there.
+STREAM = "\n[[stream]]\nvl = {}\nsize = 64\noffset_ns = 400000\nperiod_ns = 1000000000000\njitter_ns = 0\n"
+STREAMS = {"streams.toml": STREAM.format(1), "no_vl.toml": STREAM.format(2)}
+TABLES_OF_STREAMS = TABLES.replace(",1,27720,27720,27720", ",2,27720,627720,655440")
+
 COMMANDS = (
     Command("check n1.toml", "ok: 7 processes, 1 virtual links, 1 offers\n", "", {}, (NO_MEMORY,)),
     Command("seq n1.toml", TABLES, "", {}, (NO_MEMORY,)),
@@ -148,6 +153,10 @@ COMMANDS = (
     Command("check syntax.toml", "", "afdxsim: description: 1 Syntax\n", {}, (NO_MEMORY,), 3),
     Command("seq missing.toml", "", "afdxsim: description: 2 Missing at top seed\n", {}, (NO_MEMORY,), 3),
     Command("seq unknown.toml", "", "afdxsim: description: 5 UnknownName at top\n", {}, (NO_MEMORY,), 3),
+    Command("check streams.toml", "ok: 7 processes, 1 virtual links, 2 offers\n", "", {}, (NO_MEMORY,)),
+    Command("seq streams.toml", TABLES_OF_STREAMS, "", {}, (NO_MEMORY,)),
+    Command("run streams.toml --workers 2", TABLES_OF_STREAMS, "", {}, (NO_MEMORY, NO_WORKER)),
+    Command("check no_vl.toml", "", "afdxsim: description: 5 UnknownName at stream 1 vl\n", {}, (NO_MEMORY,), 3),
 )
 
 
@@ -344,7 +353,9 @@ def reported(name: str, refused: int, ways: str, faults: list[str]) -> bool:
 def prepare(folder: str) -> str:
     """Puts the network and the steps into a folder, and the library; its path."""
     shutil.copy(os.path.join(TOP, "examples", "n1.toml"), folder)
-    for name, text in {"steps.txt": STEPS, **FAULTY}.items():
+    with open(os.path.join(folder, "n1.toml"), encoding="utf-8") as file:
+        n1 = file.read()
+    for name, text in {"steps.txt": STEPS, **FAULTY, **{name: n1 + more for name, more in STREAMS.items()}}.items():
         with open(os.path.join(folder, name), "w", newline="") as out:
             out.write(text)
     return library_in(folder)

@@ -169,6 +169,12 @@ backlog,,SW1>ES2,1,0,0,0
         found = self.measured(changed(*more))
         self.assertEqual(found[:2], ["wait,1,ES1,2,0,600000,600000", "network,1,ES2,2,27720,27720,55440"])
 
+    def test_a_message_counts_as_whole(self):
+        """Three frames at once leave a BAG apart; the last one is late by two. With room for one that waits, the third one is lost."""
+        for depth, lines in ((16, ["message,1,ES2,1,2027720,2027720,2027720"]), (1, [])):
+            found = self.measured(changed(("until_ns = 2000000", "until_ns = 3000000"), ("depth = 16", f"depth = {depth}\nframes = 3")))
+            self.assertEqual([line for line in found if line.startswith("message")], lines)
+
     def test_frames_that_wait_for_each_other(self):
         """Twenty of 64 bytes are offered at once: the last one waits for nineteen."""
         found = self.measured(read(os.path.join(EXAMPLES, "n2.toml")))

@@ -8,7 +8,7 @@ from afdx.files import Fault
 from afdx.model import Network, Tables, VirtualLink
 
 HOPS_HEAD = "kind,vl,where,count,least,greatest,sum"
-KINDS = ["wait", "network", "network_a", "network_b", "skew", "delay", "jitter", "backlog"]
+KINDS = ["wait", "message", "network", "network_a", "network_b", "skew", "delay", "jitter", "backlog"]
 
 
 class Measured(NamedTuple):

@@ -1,7 +1,9 @@
 """What happens on the way of frames in a run of the plain simulator: afdx second-opinion --hops writes it."""
+from collections import Counter
 from collections.abc import Iterator, Mapping
 from typing import Any
 
+from afdx import model
 from afdx.reckon.hops import HOPS_HEAD, KINDS
 from afdx.runs.plain_simulator import Frame, Simulation
 
@@ -33,6 +35,11 @@ class Measured(Simulation):
         self.first: dict[tuple[int, tuple[int, ...]], int] = {}
         self.arrived: dict[tuple[int, int], tuple[int, int]] = {}
         super().__init__(net)
+        # How many frames of a virtual link with bursts are offered at a moment, and how many of them came to a destination.
+        streams = model.streams_of(net.get("vl", []), net.get("stream", []))
+        bursts = {vl for vl, ones in streams.items() if any(it.frames > 1 for it in ones)}
+        self.offered = Counter((fields[0], time) for time, _, _, _, _, fields in self.heap if fields[0] in bursts)
+        self.come: Counter[tuple[int, int, int]] = Counter()
 
     def measure(self, kind: str, vl: int | None, place: int, value: int) -> None:
         tally = self.found.get((kind, vl, place))
@@ -85,6 +92,15 @@ class Measured(Simulation):
     def deliver(self, t: int, p: int, frame: Frame) -> None:
         super().deliver(t, p, frame)
         self.measure("network", frame.vl, p, t - frame.released)
+        if (frame.vl, frame.offered) in self.offered:
+            self.message(t, p, frame)
+
+    def message(self, t: int, p: int, frame: Frame) -> None:
+        """A frame of a message is delivered; the message is whole with as many frames as were offered at its moment."""
+        key = p, frame.vl, frame.offered
+        self.come[key] += 1
+        if self.come[key] == self.offered[frame.vl, frame.offered]:
+            self.measure("message", frame.vl, p, t - frame.offered)
 
     def hops(self) -> Iterator[str]:
         """The lines of what was measured."""

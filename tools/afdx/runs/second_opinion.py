@@ -28,6 +28,8 @@ examples:
 
 what --hops measures, each with its count, least, greatest and sum (times in ns):
   wait       of a virtual link at its source: from the offer of a frame to its release by the regulator
+  message    of a virtual link with bursts at a destination: from the offer of a message to its last frame. Frames that are
+             offered at one moment are one message; it counts if all of them came
   network    at a destination: from the release to the delivery, which is the latency less the wait
   network_a, network_b  from the release to the arrival of a copy by this network, delivered or not
   skew       at a destination: from the arrival of the first copy to that of the second
