@@ -1,8 +1,7 @@
 //! The traffic on the lines of a network, and the load of its nodes.
 use network::{Network, Way};
-use row_types::{NodeKind, VirtualLink};
+use row_types::{NodeKind, Stream};
 use std::alloc::{AllocError, Global};
-use vlink::VlId;
 
 /// How many frames a line carries in a second, from one node to another.
 #[derive(Clone, Copy)]
@@ -12,9 +11,39 @@ pub(crate) struct Flow {
     pub(crate) frames: u64,
 }
 
-/// Returns the traffic of each line, by its number.
-pub(crate) fn flows_of(alloc: Global, network: &Network) -> Result<Vec<Flow>, AllocError> {
-    let frames = frames_by_node(alloc, network)?;
+/// Returns how many frames of each virtual link are sent in a second, by its place: at least one, as many as its streams offer, and at most
+/// one in each BAG.
+pub(crate) fn rates_of(alloc: Global, network: &Network) -> Result<Vec<u64>, AllocError> {
+    let mut rates = vec![in alloc; 0u64; network.vl_count()]?;
+    for vl in 0..network.vl_count() {
+        add(&mut rates, vl, offered_by(&network.virtual_link(vl).own));
+    }
+    for row in network.streams() {
+        if let Some(vl) = network.place_of(row.vl) {
+            add(&mut rates, vl, offered_by(&row.stream));
+        }
+    }
+    for vl in 0..network.vl_count() {
+        let gap_ns = u64::from(network.virtual_link(vl).bag_ms) * 1_000_000;
+        if let Some(rate) = rates.get_mut(vl) {
+            *rate = (*rate).min(1_000_000_000 / gap_ns.max(1)) + 1;
+        }
+    }
+    Ok(rates)
+}
+
+/// Returns how many frames a stream offers in a second.
+fn offered_by(stream: &Stream) -> u64 {
+    u64::from(stream.frames) * 1_000_000_000 / stream.period_ns.max(1)
+}
+
+/// Returns the traffic of each line, by its number, if the virtual links have these rates.
+pub(crate) fn flows_of(
+    alloc: Global,
+    network: &Network,
+    rates: &[u64],
+) -> Result<Vec<Flow>, AllocError> {
+    let frames = frames_by_node(alloc, network, rates)?;
     let mut flows = Vec::with_capacity(alloc, network.line_count())?;
     for number in 0..network.line_count() {
         let line = network.line(number);
@@ -28,16 +57,21 @@ pub(crate) fn flows_of(alloc: Global, network: &Network) -> Result<Vec<Flow>, Al
     Ok(flows)
 }
 
-/// Returns how many events each node has in a second, at least one. The events of a line count for the node to which it leads.
+/// Returns how many events each node has in a second, at least one, if the virtual links have these rates. The events of a line count for the
+/// node to which it leads.
 pub(crate) fn loads_of(
     alloc: Global,
     network: &Network,
+    rates: &[u64],
     flows: &[Flow],
 ) -> Result<Vec<u64>, AllocError> {
     let mut loads = vec![in alloc; 1u64; network.node_count()]?;
     for vl in 0..network.vl_count() {
-        let rate = rate_of(network.virtual_link(vl));
-        add(&mut loads, usize::from(network.source(vl)), rate);
+        add(
+            &mut loads,
+            usize::from(network.source(vl)),
+            sum_at(rates, vl),
+        );
     }
     for flow in flows {
         add(&mut loads, flow.from, sent_by(network, *flow));
@@ -68,23 +102,34 @@ fn sent_by(network: &Network, flow: Flow) -> u64 {
 }
 
 /// Returns how many frames each port of each node sends in a second.
-fn frames_by_node(alloc: Global, network: &Network) -> Result<Vec<Vec<u64>>, AllocError> {
+fn frames_by_node(
+    alloc: Global,
+    network: &Network,
+    rates: &[u64],
+) -> Result<Vec<Vec<u64>>, AllocError> {
     let mut frames = Vec::with_capacity(alloc, network.node_count())?;
     for node in 0..network.node_count() {
-        frames.push(frames_by_port(alloc, network, network.departures(node))?)?;
+        frames.push(frames_by_port(alloc, network, rates, network.departures(node))?)?;
     }
     Ok(frames)
 }
 
 /// Returns how many frames each port of a node sends in a second. `ways` are the ways that leave the node.
-fn frames_by_port(alloc: Global, network: &Network, ways: &[Way]) -> Result<Vec<u64>, AllocError> {
+fn frames_by_port(
+    alloc: Global,
+    network: &Network,
+    rates: &[u64],
+    ways: &[Way],
+) -> Result<Vec<u64>, AllocError> {
     let mut ports = 0;
     for way in ways {
         ports = (usize::from(way.port) + 1).max(ports);
     }
     let mut frames = vec![in alloc; 0u64; ports]?;
     for way in ways {
-        add(&mut frames, usize::from(way.port), rate_on(network, way.vl));
+        if let Some(vl) = network.place_of(way.vl) {
+            add(&mut frames, usize::from(way.port), sum_at(rates, vl));
+        }
     }
     Ok(frames)
 }
@@ -95,20 +140,6 @@ fn frames_at(frames: &[Vec<u64>], node: usize, port: usize) -> u64 {
         Some(ports) => sum_at(ports, port),
         None => 0,
     }
-}
-
-/// Returns how many frames of the virtual link with this number are sent in a second.
-fn rate_on(network: &Network, id: VlId) -> u64 {
-    match network.place_of(id) {
-        Some(vl) if vl < network.vl_count() => rate_of(network.virtual_link(vl)),
-        _ => 0,
-    }
-}
-
-/// Returns how many frames of the virtual link are sent in a second, at least one: one in each period, and at most one in each BAG.
-fn rate_of(link: VirtualLink) -> u64 {
-    let gap_ns = u64::from(link.bag_ms) * 1_000_000;
-    1 + 1_000_000_000 / link.own.period_ns.max(gap_ns).max(1)
 }
 
 /// Adds `more` at a place.

@@ -5,7 +5,7 @@ ghost use Rattle.group_choice.specs.Groups.{HaveProcesses, group_count, run_grou
 
 use crate::clusters::Clusters;
 use crate::dealing::deal;
-use crate::flows::{add, flows_of, least, loads_of, sum_at};
+use crate::flows::{add, flows_of, least, loads_of, rates_of, sum_at};
 use crate::joining::join_all;
 use crate::matrix::Matrix;
 use crate::moving::Owners;
@@ -153,10 +153,12 @@ fn group_at(owners: &[usize], node: usize) -> usize {
 fn owners_in(alloc: Global, network: &Network, groups: usize) -> Result<Owners, AllocError>
     requires { 1 ≤ groups }
 {
-    let lines = flows_of(alloc, network)?;
-    let loads = loads_of(alloc, network, &lines)?;
+    let rates = rates_of(alloc, network)?;
+    let lines = flows_of(alloc, network, &rates)?;
+    let loads = loads_of(alloc, network, &rates, &lines)?;
     let flows = NodeFlows::new(alloc, &lines, network.node_count())?;
     drop(lines);
+    drop(rates);
     owners_of(alloc, network, &flows, &loads, groups)
 }
 
