@@ -62,6 +62,11 @@ class OfPcapng(Here):
         self.assertEqual(found, [("interface 1", 5000, ONE, 60), ("eth0", 6, OTHER, 61)] * 2)
         self.assertEqual(([it.name for it in capture.interfaces], capture.cut), (["eth0", "interface 1"] * 2, None))
 
+    def test_interfaces_of_one_name(self):
+        """Those of a section are several, as where files of two hosts were merged."""
+        text = files.section() + files.interface(name="eth0") * 3 + files.section() + files.interface(name="eth0")
+        self.assertEqual([it.name for it in self.read(text)[0].interfaces], ["eth0", "eth0 2", "eth0 3", "eth0"])
+
     def test_resolutions_and_offsets(self):
         """Powers of ten and of two, with an offset in seconds; a time is rounded down to ns."""
         for resolution, units, offset, ns, least in (

@@ -226,6 +226,58 @@ class Rest(Here):
         self.assertEqual((status, between), (0, {"not known"}))
         self.assertRegex(said, rf"the clock of {name} runs back once, by at most [0-9]+ ns, first at packet [0-9]+")
 
+    def test_clocks_that_run_back_are_no_verdict_of_spacing(self):
+        """By less than the time between two packets of the tap, so that those of other taps alone show it; and too often."""
+        packets = [(name, 10**9 + moment, frame) for name, moment, frame in self.packets("cockpit")]
+        for name, step in (("ADC2>SWA2", 3_000_000), ("FWC>SWB2", 3_000_000)):
+            half = [i for i, it in enumerate(packets) if it[0] == name][5]
+            back = [(it, moment - step * (it == name and i >= half), frame) for i, (it, moment, frame) in enumerate(packets)]
+            status, rows, said = self.judged(back)
+            self.assertEqual((status, [row for row in rows if row["verdict"] == "broken"]), (0, []), name)
+            self.assertRegex(said, f"the times of the capture run back by [0-9]+ ns at packet {half + 1}, .*: 1 frame too close over such a step")
+        draw = random.Random(1)
+        jumps = [(it, moment + draw.randint(-3_000_000, 3_000_000) * (it == "SWA2>SWA1"), frame) for it, moment, frame in packets]
+        _, rows, said = self.judged(jumps)
+        (why,) = {row["why"] for row in rows if row["what"] == "spacing" and row["verdict"] == "not known"}
+        self.assertEqual(why, "the clock of SWA2>SWA1 runs back too often and too far")
+        self.assertRegex(said, r"the clock of SWA2>SWA1 runs back [0-9]+ times, .*: a frame that is too close by up to [0-9]+ ns is not judged")
+        self.assertNotIn("broken", {row["verdict"] for row in rows})
+
+    def test_frames_that_the_capture_swapped(self):
+        """By their times they are in order, so no network swapped them."""
+        packets = list(self.packets("cockpit"))
+        one, other = [i for i, it in enumerate(packets) if it[0] == "DU_C>SWA1"][7:9]
+        packets[one], packets[other] = packets[other], packets[one]
+        self.assertEqual(self.broken(packets), [])
+
+    def test_clocks_that_drift(self):
+        """No constant offset fits, and one of each second does: by 50 ppm. A frame that is late by 5 ms is found as well."""
+        packets = self.packets("cockpit", "receiver")
+        drift = lambda found: sorted(((name, moment + moment // 20_000 * (name == "DU_L"), frame) for name, moment, frame in found), key=lambda it: it[1])
+        _, rows, _ = self.judged(drift(packets))
+        whys = {row["why"].partition(",")[2] for row in rows if row["what"] == "latency" and "DU_L" in row["tap"].split(" ") and row["verdict"] == "kept"}
+        self.assertLessEqual(whys, {" in windows of a second"})
+        self.assertNotIn("broken", {row["verdict"] for row in rows})
+
+    def test_sections_and_interfaces_that_follow_one_another(self):
+        packets = self.packets("n2", "line")
+        names = list(dict.fromkeys(name for name, _, _ in packets))
+        net = os.path.join(EXAMPLES, "n2.toml")
+        apart = sorted(packets, key=lambda it: names.index(it[0]))
+        _, rows, said = self.judged([(name, moment + 10**11 * names.index(name), frame) for name, moment, frame in apart], net=net)
+        self.assertNotIn("latency", {row["what"] for row in rows})
+        self.assertIn("their packets follow one another in", said)
+        self.assertIn("mergecap without -a merges by time", said)
+        # Twice the same packets: numbers begin anew, and the second section begins before the first one ended.
+        self.write(packets)
+        with open(self.capture, "rb") as file:
+            text = file.read()
+        with open(self.capture, "ab") as out:
+            out.write(text)
+        status, out, said = called(judge.main, net, self.capture)
+        self.assertEqual((status, out.count(",broken,")), (0, 1), "the head alone")
+        self.assertRegex(said, "the sections of .* overlap in time, first at packet [0-9]+")
+
     def test_a_cut_file(self):
         self.write(self.packets("n2", "receiver"))
         with open(self.capture, "rb") as file:

@@ -46,7 +46,8 @@ packet is the number of the packet that shows it, as Wireshark has it.
 
 clocks: each interface has its own, unless --one-clock says that all have one. A frame takes at least what the model allows,
 so frames that pass two taps limit how far one clock is ahead of the other. Skew and latency between two clocks have a verdict
-only if frames pass both in both directions, and `why` states the offset; it is taken to be constant.
+only if frames pass both in both directions, and `why` states the offset. Where no constant one fits, each second has its own.
+A clock that runs back is no verdict of spacing: one line names the tap and the packet, and judging begins anew behind it.
 
 status: 0; 1 if something is broken; 2 if a word is wrong, a file cannot be read or written, the description is not accepted,
 CAPTURE is no capture, or no interface of it is a tap of NET. One line on error output then states what to do. Of a capture that

@@ -7,6 +7,7 @@
 
 The formats are those of draft-ietf-opsawg-pcap and draft-ietf-opsawg-pcapng.
 """
+import itertools
 import os
 import struct
 from collections.abc import Iterator
@@ -182,7 +183,8 @@ class Capture:
     def block(self, order: str, kind: int, body: bytes, first: int) -> Packet | None:
         """The packet of a block, None where it has none. `first` is the index of the first interface of its section."""
         if kind == INTERFACE:
-            self.interfaces.append(interface_of(order, body, len(self.interfaces) - first))
+            found = interface_of(order, body, len(self.interfaces) - first)
+            self.interfaces.append(found._replace(name=self.unlike(found.name, first)))
         elif kind == PACKET:
             number, high, low, kept, length = struct.unpack_from(order + "IIIII", body)
             return self.timed(first + number, high << 32 | low, body[20:], kept, length)
@@ -194,6 +196,12 @@ class Capture:
             most = self.at(first).most_bytes or length
             return self.packet(first, None, body[4 : 4 + min(most, length)], length)
         return None
+
+    def unlike(self, name: str, first: int) -> str:
+        """A name, with a number behind it where others of the section have it, as where files of two hosts were merged."""
+        names = {it.name for it in self.interfaces[first:]}
+        others = (f"{name} {number}" for number in itertools.count(2))
+        return next(it for it in itertools.chain([name], others) if it not in names)
 
     def at(self, interface: int) -> Interface:
         if interface >= len(self.interfaces):

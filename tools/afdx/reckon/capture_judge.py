@@ -5,8 +5,11 @@ from afdx.files import Fault
 from afdx.files.captures import Capture, Interface, Packet
 from afdx.model import Network, VirtualLink, lines_of_path
 from afdx.model.captured_frames import NO_NETWORK, CapturedFrame
-from afdx.reckon.captured_links import CapturedLink, Copies, Pair, Way
+from afdx.reckon.captured_links import CapturedLink
+from afdx.reckon.captured_pairs import Copies, Pair, Way
 from afdx.reckon.clock_offsets import ClockOffsets
+from afdx.reckon.clock_steps import ClockSteps
+from afdx.reckon.clock_windows import ClockWindows
 from afdx.reckon.tap_limits import TapLimits
 from afdx.reckon.tap_places import Place, place_of
 from afdx.reckon.taps import Stray, Tap
@@ -30,6 +33,7 @@ class CaptureJudge:
         self.links: list[CapturedLink] = []
         self.by_vl: dict[int, list[CapturedLink]] = {}
         self.pairs: list[Pair] = []
+        self.steps, self.windows = ClockSteps(), ClockWindows(self.taps)
         # The lines of each virtual link by network, and the virtual links of each line.
         self.lines: dict[tuple[int, str], set[str]] = {}
         self.users: dict[str, list[int]] = {}
@@ -68,6 +72,7 @@ class CaptureJudge:
             self.take(self.by_interface[packet.interface], packet)
         for interface in self.capture.interfaces[len(self.by_interface) :]:
             self.tap_of(interface)
+        self.windows.end()
         self.judge_names()
 
     def take(self, tap: Tap, packet: Packet) -> None:
@@ -75,6 +80,9 @@ class CaptureJudge:
             tap.others += 1
             return
         tap.clock(packet)
+        if packet.moment is not None:
+            self.steps.take(packet.number, packet.moment)
+            self.windows.pass_on(tap, packet.moment)
         frame = tap.frame(packet)
         if frame is None or tap.place is None:
             return
@@ -85,7 +93,7 @@ class CaptureJudge:
             tap.of_no_network += found.what is None
             found.take(packet.number, frame)
         else:
-            found.take(packet.number, frame, packet.moment, tap.steps_back)
+            found.take(packet.number, frame, packet.moment, tap.steps_back, tap.sections)
 
     def belongs(self, tap: Tap, place: Place, frame: CapturedFrame) -> CapturedLink | Stray:
         """What frames of a virtual link and a network are at a tap."""
@@ -106,7 +114,8 @@ class CaptureJudge:
 
     def link(self, tap: Tap, vl: VirtualLink, net: str, line: str) -> CapturedLink:
         spacing = self.limits.spacing(vl, line)
-        link = CapturedLink(vl, net, tap.name, line, None if spacing is None else spacing + tap.resolution_ns)
+        link = CapturedLink(vl, net, tap.name, line, None if spacing is None else spacing + tap.resolution_ns, self.steps)
+        link.steps_back, link.sections = tap.steps_back, tap.sections
         if not tap.is_second:
             for other in self.by_vl.setdefault(vl.id, []):
                 self.pair(link, other)
@@ -123,31 +132,30 @@ class CaptureJudge:
     def pair(self, new: CapturedLink, other: CapturedLink) -> None:
         """Compares two taps of a virtual link, where one is behind the other, or where both copies come to a destination."""
         pair: Pair
+        touched = None if self.has_one_clock or new.tap == other.tap else self.windows.touched
         if new.net != other.net:
             where = new.line.split(">")[1]
             if where not in new.vl.destinations or where != other.line.split(">")[1]:
                 return
             one, two = (new, other) if new.net == "A" else (other, new)
-            pair = Copies(one, two, where)
-            limit: int | None = self.most_skew(pair)
+            pair = Copies(one, two, where, self.most_skew(one, two), touched)
         else:
             for one, two in ((new, other), (other, new)):
                 if one.line in self.limits.way_to(new.vl, two.line)[:-1]:
-                    way = pair = Way(one, two, self.limits.transit(new.vl, one.line, two.line))
-                    limit = None if way.transit.most is None else way.transit.most + self.slack(one, two)
+                    transit = self.limits.transit(new.vl, one.line, two.line)
+                    most = None if transit.most is None else transit.most + self.slack(one, two)
+                    pair = Way(one, two, transit, most, touched)
                     break
             else:
                 return
-        if self.has_one_clock or new.tap == other.tap:
-            pair.limit = limit
         if other.newest:
             pair.take(other, *other.newest)
         self.pairs.append(pair)
 
-    def most_skew(self, pair: Pair) -> int:
+    def most_skew(self, one: CapturedLink, other: CapturedLink) -> int:
         """The longest time between two copies that SkewMax allows, as two taps see it: they may stand at either end of a cable."""
-        cables = max(self.net.propagation_ns[it.line] for it in (pair.one, pair.other))
-        return pair.one.vl.skew_ns + cables + self.slack(pair.one, pair.other)
+        cables = max(self.net.propagation_ns[it.line] for it in (one, other))
+        return one.vl.skew_ns + cables + self.slack(one, other)
 
     def offsets(self) -> ClockOffsets:
         """What the frames that pass two taps show of their clocks."""

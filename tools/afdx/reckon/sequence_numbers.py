@@ -36,8 +36,9 @@ class SequenceNumbers:
         self.counts[what] = self.counts.get(what, 0) + count
         self.first.setdefault(what, packet)
 
-    def take(self, number: int, packet: int, most: int) -> None:
-        """Takes a number, with that of its packet, and how many frames at most can have passed since the one before."""
+    def take(self, number: int, packet: int, most: int, is_earlier: bool = False) -> None:
+        """Takes a number, with that of its packet, and how many frames at most can have passed since the one before. `is_earlier`: by
+        its time the frame was before that one, so the capture swapped the two, and not the network."""
         last = self.last
         if last is None:
             self.last = number
@@ -47,9 +48,9 @@ class SequenceNumbers:
             self.note(RESET, packet)
             self.go_on(0)
         else:
-            self.step(steps_from(last, number), last, number, packet, most)
+            self.step(steps_from(last, number), last, number, packet, most, is_earlier)
 
-    def step(self, steps: int, last: int, number: int, packet: int, most: int) -> None:
+    def step(self, steps: int, last: int, number: int, packet: int, most: int, is_earlier: bool) -> None:
         if steps == 1:
             if self.missing:
                 self.missing.discard(number)
@@ -59,7 +60,8 @@ class SequenceNumbers:
         elif number in self.missing:
             self.missing.discard(number)
             self.counts[LOST] -= 1
-            self.note(SWAPPED, packet)
+            if not is_earlier:
+                self.note(SWAPPED, packet)
         elif steps <= MOST_AHEAD or steps <= most:
             self.note(LOST, packet, steps - 1)
             ahead = {number_after(last, step) for step in range(1, steps)}
@@ -74,6 +76,7 @@ class SequenceNumbers:
             self.note(REPEATED, packet)
             self.behind = number
 
-    def go_on(self, number: int) -> None:
+    def go_on(self, number: int | None) -> None:
+        """Goes on from a number, or from the next one that comes."""
         self.last, self.behind = number, None
         self.missing.clear()

@@ -4,6 +4,7 @@ import zlib
 from afdx.files.captures import Interface, Packet
 from afdx.model.captured_frames import CHECK_BYTES, CapturedFrame, frame_of
 from afdx.reckon.captured_links import CapturedLink
+from afdx.reckon.clock_steps import MOST_STEPS
 from afdx.reckon.tap_places import Place
 
 
@@ -30,14 +31,23 @@ class Tap:
         self.resolution_ns = 0
         # What became of its packets: frames of AFDX, others, those of no network, and those without a time.
         self.frames = self.others = self.of_no_network = self.without_time = 0
+        self.first_packet = self.last_packet = 0
         # How many bytes of a check sequence its packets end with; None as long as it is not known.
         self.check_bytes: int | None = None
         self.of: dict[tuple[int, str], CapturedLink | Stray] = {}
         self.latest: int | None = None
         self.steps_back = self.furthest_back = self.first_back = 0
+        # How many sections of the capture have it, and at which packet one begins earlier than the one before it ended.
+        self.sections = self.overlaps_at = 0
+        self.is_new = False
+        # Since when there is a window, and how often the clock had run back when it began (`clock_windows`).
+        self.window: int | None = None
+        self.steps_before = 0
 
     def opens(self, interface: Interface) -> None:
-        """Takes over what an interface of this name states."""
+        """Takes over what an interface of this name states, which is that of another section."""
+        self.sections += 1
+        self.is_new = True
         self.resolution_ns = max(self.resolution_ns, interface.resolution_ns())
         self.check_bytes = interface.check_bytes
 
@@ -55,12 +65,21 @@ class Tap:
         return found
 
     def clock(self, packet: Packet) -> None:
-        """Takes the time of a packet."""
+        """Takes the number and the time of a packet."""
+        self.first_packet = self.first_packet or packet.number
+        self.last_packet = packet.number
         if packet.moment is None:
             self.without_time += 1
             return
         if self.latest is not None and packet.moment < self.latest:
-            self.steps_back += 1
-            self.furthest_back = max(self.furthest_back, self.latest - packet.moment)
-            self.first_back = self.first_back or packet.number
-        self.latest = packet.moment
+            if self.is_new:
+                self.overlaps_at = self.overlaps_at or packet.number
+            else:
+                self.steps_back += 1
+                self.furthest_back = max(self.furthest_back, self.latest - packet.moment)
+                self.first_back = self.first_back or packet.number
+        self.latest, self.is_new = packet.moment, False
+
+    def is_excused(self, excess: int) -> bool:
+        """Whether its clock runs back so often and so far that a frame which seems too early by so many ns need not be so."""
+        return self.steps_back > MOST_STEPS and excess <= 3 * self.furthest_back
