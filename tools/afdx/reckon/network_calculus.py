@@ -186,6 +186,8 @@ class Bounds:
         """The bound of what afdx second-opinion --hops measures, in ns or bytes; None where there is none."""
         if kind == "wait":
             return self.links[vl].wait
+        if kind == "message":
+            return self.latencies[vl, where][0]
         if kind == "network":
             return self.latencies[vl, where][0] and self.latencies[vl, where][0] - self.links[vl].wait
         if kind in ("network_a", "network_b"):
