@@ -4,6 +4,7 @@
 #![tactic(auto)]
 
 mod addition;
+mod apart;
 mod collecting;
 mod fits;
 mod group;
@@ -18,6 +19,7 @@ mod reading;
 mod run_of;
 mod sealed;
 mod splitting;
+mod standing;
 mod steps;
 mod working;
 

@@ -1,0 +1,4 @@
+pub mod Turning
+pub mod Rounds
+pub mod Places
+pub mod Swapping
