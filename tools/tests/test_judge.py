@@ -1,10 +1,12 @@
 """Tests of afdx judge: captures of afdx pcap give no finding, also with clocks that are wrong; planted faults are found."""
 import contextlib
+import csv
 import functools
 import io
 import json
 import os
 import random
+import re
 import struct
 import tempfile
 import unittest
@@ -20,6 +22,7 @@ from afdx.reckon.sequence_numbers import SequenceNumbers
 from afdx.runs import second_opinion
 from tests import capture_files
 from tests.places import EXAMPLES
+from tests.test_report import Browser
 
 COCKPIT = os.path.join(EXAMPLES, "cockpit.toml")
 
@@ -299,6 +302,30 @@ class Rest(Here):
         (row,) = [row for row in rows if row["verdict"] == "broken"]
         self.assertEqual((row["kind"], row["measure"], row["value"]), ("capture", "lost_frames", 1))
         self.assertIn("broken: 1 of", suite.find(".//failure").get("message"))
+
+
+class OfThePage(Here):
+    def test_marks_and_tables(self):
+        """A frame that is lost is marked on its line and nowhere else; the page of its virtual link has the rows of the CSV."""
+        packets = list(self.packets("cockpit"))
+        lost = next(i for i in range(len(packets) // 2, len(packets)) if packets[i][0] == "SWA2>DU_R")
+        vl = int.from_bytes(packets.pop(lost)[2][4:6], "big")
+        self.write(packets)
+        page, table = (os.path.join(self.folder, name) for name in ("judged.html", "judged.csv"))
+        status, out, _ = called(judge.main, COCKPIT, self.capture, "--one-clock", "-o", page, "-o", table)
+        self.assertEqual((status, out), (1, ""))
+        with open(page, encoding="utf-8") as file, open(table, encoding="utf-8") as lines:
+            text, rows = file.read(), list(csv.DictReader(lines))
+        self.assertEqual(re.findall(r'data-verdict="broken"><title>(.*?)</title>', text), [f"SWA2&gt;DU_R: broken: virtual links {vl}"])
+        self.assertEqual(text.count('data-verdict="kept"'), len({row["where"] for row in rows if row["what"] == "length"}) - 1)
+        found = Browser(self.folder).open(page, "", f"#vl-{vl}")
+        own = [row for row in rows if row["vl"] == str(vl)]
+        shown = lambda row: [row["what"], row["vl"], row["network"], row["tap"], row["where"]]
+        self.assertEqual([it[:5] for it in found.rows("vl-judged")], [shown(row) for row in own])
+        self.assertEqual(([it[:5] for it in found.rows("judged")][0], found.tiles["broken"]), (shown(own[0]), ["1 verdict", "1 lost"]))
+        # A page that is all that is asked for has no JSON beside it.
+        status, _, said = called(judge.main, COCKPIT, self.capture, "--json", "-o", page)
+        self.assertEqual((status, said.splitlines()[-1]), (2, "afdx judge: error: --json is of the rows, and -o names a page alone"))
 
 
 class Parts(unittest.TestCase):

@@ -28,6 +28,9 @@ FILES = {
     "limits.csv": "1,ES2,50000\n",
     "bounds.csv": "",
     "broken.xlsx": "PK\x03\x04",
+    # A section and an interface, eth0, without packets.
+    "bench.pcapng": "\n\r\r\n\x1c\0\0\0M<+\x1a\1\0\0\0" + "\0" * 8 + "\x1c\0\0\0"
+    + "\1\0\0\0\x20\0\0\0\1\0\0\0\0\0\0\0\2\0\4\0eth0\0\0\0\0\x20\0\0\0",
     "DIR/merged.csv": "1,ES2,50000\n",
 }
 
@@ -133,6 +136,19 @@ ROWS = [
     ("pcap net.toml tables.csv -o net.pcapng", 2, "tables.csv line 1: the columns are not those of a trace: time_ns,where,vl,what,value"),
     ("pcap net.toml trace.csv -o /dev/full", 2, "/dev/full: cannot be written: No space left on device"),
     ("pcap net.toml none.csv -o net.pcapng", 2, "none.csv: cannot be read: No such file or directory"),
+    ("judge net.toml none.pcap", 2, "none.pcap: cannot be read: No such file or directory"),
+    ("judge net.toml DIR", 2, "DIR: cannot be read: Is a directory"),
+    ("judge net.toml trace.csv", 2, "trace.csv: is no capture: it begins with 74 69 6d 65, and a pcap or pcapng file does not; Wireshark writes one by File, Save As"),
+    ("judge net.toml bench.pcapng -o net.toml", 2, "net.toml: " + READ.format("net.toml")),
+    ("judge net.toml bench.pcapng -o bench.pcapng", 2, "bench.pcapng: " + READ.format("bench.pcapng")),
+    ("judge net.toml bench.pcapng -o new.html --junit new.html", 2, "new.html: " + TWICE.format("new.html")),
+    ("judge net.toml bench.pcapng --tap eth0=SW1", 2, "net.toml: SW1 is a switch, and a tap is a link of it and a direction: ES1>SW1, ES2>SW1, .."),
+    ("judge net.toml bench.pcapng --tap eth1=ES1>SW1", 2, "bench.pcapng: has no interface eth1, which --tap names: it has eth0"),
+    (
+        "judge net.toml bench.pcapng", 2,
+        "bench.pcapng: no interface of it (eth0) has the name of a line or an end system of net.toml: name the link and the direction of each, as --tap eth0=\"SW1>ES2\"",
+    ),
+    ("judge net.toml bench.pcapng --tap eth0=ES1 --bounds tables.csv", 2, "tables.csv line 1: the columns are not those of bounds: bound_ns is not among them"),
     ("second-opinion net.toml --hops link.toml", 2, "link.toml: " + READ.format("net.toml")),
     ("second-opinion net.toml --trace new.csv --hops ./new.csv", 2, "./new.csv: would be written over new.csv, which is written too; nothing is written"),
     ("long-form net.toml tables.csv -o hard.toml", 2, "hard.toml: " + READ.format("net.toml")),

@@ -12,9 +12,13 @@ import sys
 from afdx import files, model
 from afdx.files.captures import Capture
 from afdx.model import description_faults, long_form
+from afdx.page.capture_page import CapturePage
 from afdx.reckon import bounds_file, capture_notes, capture_rows, capture_verdicts, network_calculus, tap_places
 from afdx.reckon.capture_judge import CaptureJudge
 from afdx.reckon.tap_limits import Bounds, TapLimits
+
+# How the name of a page ends.
+PAGE = ".html"
 
 EXAMPLES = """
 examples:
@@ -26,6 +30,8 @@ examples:
         eth0 sees all links of the end system DU_L, in both directions
   afdx bounds net.toml -o bounds.csv && afdx judge net.toml bench.pcapng --bounds bounds.csv
         by bounds that are there already, or of the program; else it computes those of afdx bounds
+  afdx judge net.toml bench.pcapng -o judged.csv -o judged.html
+        the page, too: the verdicts, and the network with a mark on each tapped line; open it in any browser
 
 what it judges (`what`), of each virtual link and network (A, B) at each tap:
   unknown        NET has no such virtual link
@@ -67,8 +73,20 @@ def words_of(arguments: list[str] | None) -> argparse.Namespace:
     add("--bounds", metavar="FILE", help="the worst-case bounds that afdx bounds printed for NET")
     add("--json", action="store_true", help="prints JSON in long form in place of CSV (docs/TOOLS.md, section 7)")
     add("--junit", metavar="FILE", help="writes the verdicts as JUnit's XML")
-    add("-o", "--output", metavar="FILE", type=files.output_name, help="the file to write (default: standard output)")
-    return parser.parse_args(arguments)
+    says = "the file to write (default: standard output); a page for a browser if its name ends in .html. May be given for both"
+    add("-o", "--output", action="append", metavar="FILE", type=files.output_name, help=says)
+    words = parser.parse_args(arguments)
+    words.output = words.output or [None]
+    words.pages = [path for path in words.output if path and path.endswith(PAGE)]
+    words.tables = [path for path in words.output if path not in words.pages]
+    if words.json and not words.tables:
+        parser.error("--json is of the rows, and -o names a page alone")
+    return words
+
+
+def bounds_made_by(bounds: Bounds) -> str | None:
+    """Who made bounds, where their file states it."""
+    return bounds.made_by if isinstance(bounds, bounds_file.Bounds) else None
 
 
 @files.tool("afdx judge")
@@ -77,17 +95,19 @@ def main(arguments: list[str] | None = None) -> int:
     net = model.Network(words.net, description=description_faults.accepted(words.net))
     given = tap_places.given(net, words.tap)
     capture = Capture(words.capture)
-    files.ready(list(filter(None, [words.output, words.junit])), prints=not words.output)
+    prints = None in words.tables
+    files.ready([path for path in [*words.output, words.junit] if path], prints)
     bounds: Bounds = bounds_file.Bounds(words.bounds, net) if words.bounds else network_calculus.Bounds(net)
     judge = CaptureJudge(net, TapLimits(net, bounds), capture, given, words.one_clock)
     judge.read()
     rows = capture_verdicts.rows_of(judge)
     text = long_form.text_of(capture_rows.long_rows(rows)) if words.json else capture_rows.text_of(rows)
-    texts = {words.output: text} if words.output else {}
+    texts = {path: text for path in words.tables if path}
+    texts |= {path: CapturePage(judge, rows, bounds_made_by(bounds)).text() for path in words.pages}
     if words.junit:
         texts[words.junit] = capture_rows.junit_text(rows, os.path.basename(words.net))
-    files.write_all(texts, prints=not words.output)
-    if not words.output:
+    files.write_all(texts, prints)
+    if prints:
         files.write_out(text)
     for note in capture_notes.notes(judge, rows):
         files.report("afdx judge", note)

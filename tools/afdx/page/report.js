@@ -352,13 +352,29 @@ const delayCells = (vl, line) => delayColumns.map(([key]) => {
   return `<span class="${TONES[data.delays.delay_tone[i] ?? 0]}">${ns === null ? "–" : us(ns)}</span>`;
 });
 
+// What a capture shows: the verdicts on a virtual link, on a line, or on both.
+const judged = data.judged;
+const verdictsOn = (vl, line) => judged.vl.map((_, i) => i)
+  .filter(i => (!vl || judged.vl[i] === vl.id) && (line === undefined || judged.lines[i].includes(line)));
+const verdict = i => `<span class="${TONES[judged.tone[i]]}">${judged.verdict[i]}</span>`;
+const judgedPart = (id, found) => table(id, [["what"], ["VL", "number"], ["network"], ["tap"], ["where"], ["judged", "frames"],
+  ["break it", "frames"], ["worst", ""], ["allowed", ""], ["verdict"], ["packet", "number"], ["why"]],
+found.map(i => [judged.what[i], toVl(judged.vl[i]), judged.net[i], esc(judged.tap[i]), esc(judged.where[i]), whole(judged.frames[i]),
+  whole(judged.broken[i]), judged.shown[i] ?? "–", judged.most[i] ?? "–", verdict(i), judged.packet[i] ?? "–",
+  `<div class="wrap">${esc(judged.why[i])}</div>`]));
+// The worst verdict on a virtual link at a line; nothing where no tap is.
+const worstOn = (vl, line) => {
+  const [first, ...rest] = verdictsOn(vl, line);
+  return first === undefined ? "" : verdict(rest.reduce((a, b) => judged.rank[b] > judged.rank[a] ? b : a, first));
+};
+
 const hopRows = vl => ["A", "B"].flatMap(side => hops(vl.paths[side]).map(([line, hop]) => {
   const [, there] = data.nodes[line];
   const lost = [lostAt(vl, lines.name[line], side), lostAt(vl, there, side)].filter(Boolean).join("; ");
   const out = lines.outages[line].map(([from, to]) => ` (out ${span(from)} to ${span(to)})`).join("");
   return [side, hop, `<span style="padding-left:${hop - 1}em">${toLine(lines.name[line])}</span>`,
     bar(line) + percent(lines.load[line]), share(vl, line).toFixed(2), whole(usersOf[line].length),
-    ...delayCells(vl, line), (lost || "–") + out];
+    ...delayCells(vl, line), (judged ? worstOn(vl, line) : lost || "–") + out];
 }));
 
 const strips = vl => `<div class="strips">${["A", "B"].filter(side => vl.paths[side].length).map(side => {
@@ -403,12 +419,15 @@ const vlPart = vl => {
   const percentiles = data.percents.map(it => `<span><b class="k p${it}"></b> ${it}th percentile</span>`).join("");
   const facts = factsOf(vl).map(([name, value]) => `<div><dt>${name}</dt><dd>${value}</dd></div>`).join("");
   const streams = (vl.streams ?? []).map(it => `<li>${wordsOfStream(it)}</li>`).join("");
-  return `<h3>At each destination</h3>${table("vl-ends", columns, rows)}
+  const first = judged ? `<h3>What was judged</h3>${judgedPart("vl-judged", verdictsOn(vl))}`
+    : `<h3>At each destination</h3>${table("vl-ends", columns, rows)}`;
+  const copies = judged ? "" : `<h3>Copies lost</h3>${lost.length ? table("vl-lost", [["place"], ["network"], ["cause"], ["lost", "frames"],
+      ["on the way to"]], lost) : "<p><b>No copy was lost.</b></p>"}`;
+  return `${first}
     <h3>Hop by hop</h3>${table("vl-hops", [["network"], ["hop", "number"], ["line"], ["load", "%"], ["of this", "%"],
       ["virtual links", "number"], ...delayColumns.map(([key, unit]) => [key === "delay" ? "delay" : "bound of it", unit]),
-      ["lost on it or at its end"]], hopRows(vl))}
-    <h3>Copies lost</h3>${lost.length ? table("vl-lost", [["place"], ["network"], ["cause"], ["lost", "frames"],
-      ["on the way to"]], lost) : "<p><b>No copy was lost.</b></p>"}
+      [judged ? "verdict" : "lost on it or at its end"]], hopRows(vl))}
+    ${copies}
     ${drawn ? `<h3>Latencies</h3><div class="legend">${percentiles}</div><div class="figures">${drawn}</div>` : ""}
     <h3>What it is</h3><dl class="facts">${facts}</dl>${streams ? `<h3>What is offered to it</h3><ul id="vl-streams">${streams}</ul>` : ""}`;
 };
@@ -418,7 +437,8 @@ const linePart = line => {
   const rows = users.map(vl => [toVl(vl.id), share(vl, line).toFixed(2), us(vl.bag_ns), sizesOf(vl),
     lostAt(vl, lines.name[line]) || "–", esc(vl.source),
     `<div class="wrap">${esc((endsOf.get(vl.id) ?? []).map(i => ends.where[i]).join(", "))}</div>`]);
-  return `<h3>Virtual links that use it</h3>` + table("line-vls", [["VL", "number"], ["takes", "%"], ["BAG", "µs"],
+  const first = judged ? `<h3>What was judged on it</h3>${judgedPart("line-judged", verdictsOn(null, line))}` : "";
+  return first + `<h3>Virtual links that use it</h3>` + table("line-vls", [["VL", "number"], ["takes", "%"], ["BAG", "µs"],
     ["size", "bytes"], ["lost on the line"], ["source"], ["destinations"]], rows);
 };
 
