@@ -11,6 +11,7 @@ pub mod RowLemmas
 pub mod LatencyLemmas
 pub mod RegulatorSteps
 pub mod ReleaseTimer
+pub mod HeldFrames
 pub mod WaitLemmas
 pub mod HeldLemmas
 pub mod RoomLemmas

@@ -13,17 +13,13 @@ use Rattle.bag_regulator.specs.RoundRobin.{round_robin}
 use Rattle.bag_regulator.proofs.RoundRobinLemmas.{next-none, with_frames-other}
 use Rattle.bag_regulator.specs.declared.event.RegEvent.{RegEvent}
 use Rattle.bag_regulator.specs.declared.event.RegEvent.TheVariants.{Offer, Release}
-use Rattle.bag_regulator.specs.declared.event.RegAnswer.{RegAnswer}
-use Rattle.bag_regulator.specs.declared.event.RegAnswer.TheVariants as answer
 use Rattle.output_port.specs.Port.{PortState}
-use Rattle.output_port.specs.declared.event.Priority.{Priority}
 use Rattle.output_port.specs.declared.event.PortEvent.{PortEvent}
 use Rattle.output_port.specs.declared.event.PortEvent.TheVariants.{Put, Free}
 use Rattle.reverse.specs.Rules.{rules_of}
 use Rattle.reverse.specs.Setting.{Setting, simulation_of}
 use Rattle.virtual_time.specs.Law.{Laws, Simulation, events, one}
 use Rattle.timers.specs.Timer.{AreOnTime, IsOnTime}
-use Rattle.port_bounds.specs.Frames.{PutFrame, link_of}
 use Rattle.port_bounds.specs.Sublists.{Every}
 use Rattle.element_bounds.specs.PortTrace.{trace_of}
 use Rattle.element_bounds.proofs.TraceLemmas.{AllPuts, OfAsked, trace-puts}
@@ -34,7 +30,8 @@ use Rattle.port_turns.specs.Nodes.{IsOfNodes, is_offer_of}
 use Rattle.port_turns.specs.PortEvents.{asks}
 use Rattle.port_turns.specs.PortRuns.{AreOwnFrames, asked_at, input_of, port_events}
 use Rattle.port_turns.proofs.Rising.{AreTo, events-to}
-use Rattle.frame_ages.proofs.RegulatorSteps.{IsReleaseOf, IsRight, OfReleased, Stepped, ask-next, frames_at, right-stays, step, with-same}
+use Rattle.frame_ages.proofs.HeldFrames.{HeldBy, IsHeld, held-none, held-one, put-weaker}
+use Rattle.frame_ages.proofs.RegulatorSteps.{IsRight, Stepped, ask-next, frames_at, right-stays, step, with-same}
 use Rattle.frame_ages.proofs.RegulatorSteps.Stepped.{Drops, Keeps, Passes, Pops, Rests}
 use Rattle.port_turns.proofs.RegulatorTurns.{IsSaid, LikeReleased, OfPutBy, Turned, is_release, node-turn, releases}
 use Rattle.port_turns.proofs.RegulatorTurns.Turned.{Does, Quiet}
@@ -90,31 +87,8 @@ module _ (x : Setting NodeState) (N : IsOfNodes x) (p q v room sub bag : ℕ) (i
   abbrev Reckoned : Regulator → ℕ → Type 0
   Reckoned g e = (l : ℕ) → g.last ≡ Some l → IsReckoned l g e
 
-  -- a frame of the virtual link is not held longer
-  abbrev pub IsHeld : Priority → PutFrame → Type 0
-  IsHeld r put = link_of put ≡ v → put.frame.released ≤ put.frame.offered + wait
-
-  abbrev HeldBy : Option PortEvent → Type 0
-  HeldBy o = OfPutBy v (λ frame. frame.released ≤ frame.offered + wait) o
-
-  put-weaker : (P Q : Frame → Type 0) → ((frame : Frame) → P frame → Q frame) → (o : Option PortEvent) → OfPutBy v P o → OfPutBy v Q o
-  put-weaker P Q h None k = tt
-  put-weaker P Q h (Some Free) k = tt
-  put-weaker P Q h (Some (Put frame r)) k = λ e. h frame (k e)
-
-  none-released : (a : RegAnswer) (frame : Frame) → OfReleased (λ f. ⊥) a → LikeReleased v a frame → ⊥
-  none-released (answer.Released f) frame h k = h
-  none-released _ frame h k = k
-
-  held-none : (a : RegAnswer) (o : Option PortEvent) → OfReleased (λ f. ⊥) a → OfPutBy v (LikeReleased v a) o → HeldBy o
-  held-none a o h k = put-weaker (LikeReleased v a) (λ frame. frame.released ≤ frame.offered + wait) (λ frame l. absurd (none-released a frame h l)) o k
-
-  one-released : (was : Frame) (t : ℕ) (a : RegAnswer) (frame : Frame) → t ≤ was.offered + wait → OfReleased (IsReleaseOf was t) a → LikeReleased v a frame → frame.released ≤ frame.offered + wait
-  one-released was t (answer.Released f) frame l h k = let a = h.0 in let b = h.1 in let c = k.0 in let d = k.1 in omega arith
-  one-released was t _ frame l h k = absurd k
-
-  held-one : (was : Frame) (t : ℕ) (a : RegAnswer) (o : Option PortEvent) → t ≤ was.offered + wait → OfReleased (IsReleaseOf was t) a → OfPutBy v (LikeReleased v a) o → HeldBy o
-  held-one was t a o l h k = put-weaker (LikeReleased v a) (λ frame. frame.released ≤ frame.offered + wait) (λ frame c. one-released was t a frame l h c) o k
+  abbrev HeldNow : Option PortEvent → Type 0
+  HeldNow = HeldBy v wait
 
   abbrev IsTimely : NodeState → Message → Type 0
   IsTimely s m = IsOnTime f p (is_due x N p v room sub bag inside opens quiet) (alarm x N p v room sub bag inside opens quiet) m (ask_in v room sub bag s.equipment)
@@ -124,7 +98,7 @@ module _ (x : Setting NodeState) (N : IsOfNodes x) (p q v room sub bag : ℕ) (i
 
   -- what one message makes of it
   record Goes (s : NodeState) (m : Message) (ms : List Message) : Type 0 where
-    held : HeldBy (asks q m s.equipment)
+    held : HeldNow (asks q m s.equipment)
     next : HasRegulator v room sub bag (after s m).equipment
     e : ℕ
     offered : AreOffered v period jitter before onward e ms
@@ -245,7 +219,7 @@ module _ (x : Setting NodeState) (N : IsOfNodes x) (p q v room sub bag : ℕ) (i
           OfPutBy v (LikeReleased v (regulator.out r.regulator a).answer) (asks q m s.equipment) → Goes s m ms
       by a said now put = by-step (step room sub bag r.regulator r.right a)
         where
-          done : (later : ℕ) → HeldBy (asks q m s.equipment) → AreOffered v period jitter before onward later ms → (g : Regulator) → (outcome r.regulator a).state ≡ g → Reckoned g later → Goes s m ms
+          done : (later : ℕ) → HeldNow (asks q m s.equipment) → AreOffered v period jitter before onward later ms → (g : Regulator) → (outcome r.regulator a).state ≡ g → Reckoned g later → Goes s m ms
           done later is_held offers g state then = record {
             held = is_held;
             next = record { regulator = regulator.after r.regulator a; is = now; right = right-stays room sub bag r.regulator r.right a; own = own };
@@ -257,30 +231,30 @@ module _ (x : Setting NodeState) (N : IsOfNodes x) (p q v room sub bag : ℕ) (i
           by-step : Stepped room sub bag r.regulator a (outcome r.regulator a) → Goes s m ms
           by-step (Drops t k frame is state ask none) =
               let o = offered.0 (offer a t k frame said is).0 in
-              done (o.0 + period) (held-none _ (asks q m s.equipment) none put) o.4 r.regulator state (dropped r.regulator r.right e reckoned o.0 o.1)
+              done (o.0 + period) (held-none v wait _ (asks q m s.equipment) none put) o.4 r.regulator state (dropped r.regulator r.right e reckoned o.0 o.1)
           by-step (Passes t k frame is empty inside' state ask released) =
               let w = offer a t k frame said is in
               let o = offered.0 w.0 in
               let at = w.1 in
               let since = w.2 in
-              done (o.0 + period) (held-one frame t _ (asks q m s.equipment) (omega arith) released put) o.4 (let_go r.regulator t k r.regulator.lists) state
+              done (o.0 + period) (held-one v wait frame t _ (asks q m s.equipment) (omega arith) released put) o.4 (let_go r.regulator t k r.regulator.lists) state
               (passed r.regulator r.right e reckoned t k o.0 empty (let l = o.2 in omega arith) (let l = o.3 in omega arith))
           by-step (Keeps t k frame is inside' few state ask last none) =
               let w = offer a t k frame said is in
               let o = offered.0 w.0 in
               let since = w.2 in
-              done (o.0 + period) (held-none _ (asks q m s.equipment) none put) o.4 (record r.regulator { lists = with_frames r.regulator.lists k (frames_at r.regulator k ++ frame ∷ []) }) state
+              done (o.0 + period) (held-none v wait _ (asks q m s.equipment) none put) o.4 (record r.regulator { lists = with_frames r.regulator.lists k (frames_at r.regulator k ++ frame ∷ []) }) state
               (kept r.regulator r.right e reckoned k frame o.0 inside' few o.1 (let l = o.2 in omega arith))
           by-step (Rests t is why state ask none) = let w = release a t said is in absurd (early v room sub bag r.regulator t m.time r.right w.1 why (due w.0))
           by-step (Pops t is j first rest next inside' are state asks' released) =
               let w = release a t said is in
               let k = popped r.regulator r.right e reckoned t j first rest next inside' are (due w.0 ∙ ap Some (sym w.1)) in
-              done (onward e t) (held-one first t _ (asks q m s.equipment) k.in_time released put) (subst (λ z. AreOffered v period jitter before onward (onward e z) ms) (sym w.1) (offered.1 w.0))
+              done (onward e t) (held-one v wait first t _ (asks q m s.equipment) k.in_time released put) (subst (λ z. AreOffered v period jitter before onward (onward e z) ms) (sym w.1) (offered.1 w.0))
               (let_go r.regulator t j (with_frames r.regulator.lists j rest)) state k.reckoned_then
 
       go : Turned v s.sender.number m.time m.body r.regulator (regulator_in (after s m).equipment (record { 0 = v })) (releases v (handled s.sender.number m s.equipment).reply.wishes) (asks q m s.equipment) → Goes s m ms
       go (Quiet now none rel off put) = record {
-        held = put-weaker (λ f. ⊥) (λ frame. frame.released ≤ frame.offered + wait) (λ frame k. absurd k) (asks q m s.equipment) put;
+        held = put-weaker v wait (λ f. ⊥) (λ frame. frame.released ≤ frame.offered + wait) (λ frame k. absurd k) (asks q m s.equipment) put;
         next = record { regulator = r.regulator; is = now; right = r.right; own = own };
         e = e;
         offered = offered.2 off rel;
@@ -290,21 +264,21 @@ module _ (x : Setting NodeState) (N : IsOfNodes x) (p q v room sub bag : ℕ) (i
 
   module _ (byte_ns : ℕ) where
     run : (s : NodeState) (ms : List Message) (e : ℕ) (r : HasRegulator v room sub bag s.equipment) → AreTo p ms → AreTimely s ms → AreOffered v period jitter before onward e ms → Reckoned r.regulator e →
-        Every (λ ev. OfAsked IsHeld byte_ns ev.at ev.line ev.event) (port_events q s ms)
+        Every (λ ev. OfAsked (IsHeld v wait) byte_ns ev.at ev.line ev.event) (port_events q s ms)
     run s [] e r to timely offered reckoned = tt
     run s (m ∷ ms) e r to timely offered reckoned =
         let g = goes s m ms e r to.0 timely.0 offered reckoned in
         put (asks q m s.equipment) g.held (run (after s m) ms g.e g.next to.1 timely.1 g.offered g.reckoned)
       where
-        put : (o : Option PortEvent) → HeldBy o → Every (λ ev. OfAsked IsHeld byte_ns ev.at ev.line ev.event) (port_events q (after s m) ms) →
-            Every (λ ev. OfAsked IsHeld byte_ns ev.at ev.line ev.event) (asked_at m.time (input_of m.body s.equipment) o ++ port_events q (after s m) ms)
+        put : (o : Option PortEvent) → HeldNow o → Every (λ ev. OfAsked (IsHeld v wait) byte_ns ev.at ev.line ev.event) (port_events q (after s m) ms) →
+            Every (λ ev. OfAsked (IsHeld v wait) byte_ns ev.at ev.line ev.event) (asked_at m.time (input_of m.body s.equipment) o ++ port_events q (after s m) ms)
         put None h rest = rest
         put (Some Free) h rest = (tt, rest)
         put (Some (Put frame c)) h rest = (h, rest)
 
-    pub held : Laws f → (e n : ℕ) → Reckoned opens.regulator e → AreOffered v period jitter before onward e (events f n p) → (port : PortState) → AllPuts IsHeld byte_ns (trace_of byte_ns port (port_events q (x.opening p) (events f n p)))
+    pub held : Laws f → (e n : ℕ) → Reckoned opens.regulator e → AreOffered v period jitter before onward e (events f n p) → (port : PortState) → AllPuts (IsHeld v wait) byte_ns (trace_of byte_ns port (port_events q (x.opening p) (events f n p)))
     held L e n reckoned offered port =
-        trace-puts IsHeld byte_ns port (port_events q (x.opening p) (events f n p))
+        trace-puts (IsHeld v wait) byte_ns port (port_events q (x.opening p) (events f n p))
         (run (x.opening p) (events f n p) e opens (events-to p (one f n).handled)
         (subst (λ g. AreOnTime f p (is_due x N p v room sub bag inside opens quiet) (alarm x N p v room sub bag inside opens quiet) (x.opening p) g (events f n p)) (sym quiet) (releases-on-time x N p v room sub bag inside opens quiet L n)) offered reckoned)
 
