@@ -607,7 +607,7 @@ class Proved(unittest.TestCase):
         for bound, verdict, wanted in (("27720", "below its bound", 1), ("27000", "kept", 0)):
             lines = [self.LINES[0], f"bound,1,ES2,{bound},0,{bound}", *self.LINES[2:]]
             status, text, _ = self.call(lines, "--limits", limits, "--strict")
-            self.assertEqual((status, text.splitlines()[1].split(",")[-2:]), (wanted, [verdict, "program"]))
+            self.assertEqual((status, text.splitlines()[1].split(",")[-4:-2]), (wanted, [verdict, "program"]))
 
     def test_a_page_marks_what_the_program_has_not(self):
         both, page = os.path.join(self.folder, "bounds.csv"), os.path.join(self.folder, "page.html")

@@ -7,7 +7,7 @@ import xml.etree.ElementTree as xml
 
 from afdx import model
 from afdx.commands import bounds, explain, from_table, report
-from afdx.reckon import bounds_file, limits, margins
+from afdx.reckon import bounds_reader, limits, margins
 from tests.test_campaign import COCKPIT, Here, read
 
 TABLES = COCKPIT.replace(".toml", ".tables.csv")
@@ -90,8 +90,8 @@ class Margins(Here):
         path, page, junit = (os.path.join(self.folder, name) for name in ("bounds.csv", "page.html", "limits.xml"))
         self.assertEqual(self.call(bounds, COCKPIT, "-o", path), (0, "", ""))
         row = model.Tables(TABLES, NET).latencies[101, "DU_R"]
-        bound = bounds_file.Bounds(path, NET).bound(101, "DU_R")
-        other = bounds_file.Bounds(path, NET).bound(102, "DU_L")
+        bound = bounds_reader.read(path, NET).bound(101, "DU_R")
+        other = bounds_reader.read(path, NET).bound(102, "DU_L")
         self.assertLess(row.greatest, bound)
         for ns, by_latency, by_bound in (
             (row.greatest - 1, "broken", "broken"),
@@ -104,13 +104,13 @@ class Margins(Here):
             head, wide = margins.HEAD + "\n", 10**9 - 1000
             found = self.call(report, COCKPIT, TABLES, "--limits", printed, "-o", page)
             self.assertEqual((found[0], found[2]), (int(by_latency == "broken"), ""))
-            self.assertTrue(found[1].startswith(head + f"101,DU_R,{ns},{row.greatest},,{ns - row.greatest},{by_latency},\n102,DU_L,"))
+            self.assertTrue(found[1].startswith(head + f"101,DU_R,{ns},{row.greatest},,{ns - row.greatest},{by_latency},,,\n102,DU_L,"))
             for strict in ([], ["--strict"]):
                 status = int(by_bound == "broken" or bool(strict) and by_bound != "kept")
                 words = ["--limits", printed, "--bounds", path, "--junit", junit, *strict, "-o", page]
                 found = self.call(report, COCKPIT, TABLES, *words)
                 self.assertEqual((found[0], found[2]), (status, ""))
-                self.assertIn(f"101,DU_R,{ns},{row.greatest},{bound},{ns - bound},{by_bound},tool\n", found[1])
+                self.assertIn(f"101,DU_R,{ns},{row.greatest},{bound},{ns - bound},{by_bound},tool,,\n", found[1])
                 suite = xml.parse(junit).getroot()
                 self.assertEqual((suite.get("tests"), suite.get("failures")), ("2", str(status)))
                 first = suite[0]
@@ -118,8 +118,28 @@ class Margins(Here):
                 self.assertEqual([it.tag for it in first], ["failure"] if status else ["system-out"])
                 found = self.call(bounds, COCKPIT, "--limits", printed, *strict)
                 verdict = "kept" if ns >= bound else "below its bound"
-                text = head + f"101,DU_R,{ns},,{bound},{ns - bound},{verdict},tool\n102,DU_L,1000000000,,{other},{10**9 - other},kept,tool\n"
+                text = head + f"101,DU_R,{ns},,{bound},{ns - bound},{verdict},tool,,\n102,DU_L,1000000000,,{other},{10**9 - other},kept,tool,,\n"
                 self.assertEqual(found, (int(bool(strict) and verdict != "kept"), text, ""))
+
+    def test_the_latency_of_end_systems(self):
+        """As columns, as comments for the file, and behind the head of a virtual link: it counts beside what the run and the bound have."""
+        row = model.Tables(TABLES, NET).latencies[101, "DU_R"]
+        most = row.greatest + 250_000
+        of_link = read(COCKPIT).replace("id = 101\n", "# limit_ns {} at DU_R\n# tx_latency_us 100\n# rx_latency_us 150 at DU_R\n# rx_latency_us 1 at FWC\nid = 101\n", 1)
+        for name, text in (
+            ("limits.csv", "vl,destination,limit_ns,tx_latency_us,rx_latency_ns\n101,DU_R,{},100,150000\n"),
+            ("limits.csv", "# tx_latency_us 100\n# rx_latency_us 150\n101,DU_R,{}\n"), ("variant.toml", of_link),
+        ):
+            for ns, verdict in ((most, "kept"), (most - 1, "broken")):
+                with self.subTest(name, ns=ns):
+                    printed, page = self.file(name, text.format(ns)), os.path.join(self.folder, "page.html")
+                    status, said, _ = self.call(report, COCKPIT, TABLES, "--limits", printed, "-o", page)
+                    wanted = f"101,DU_R,{ns},{row.greatest},,{ns - most},{verdict},,100000,150000\n"
+                    self.assertEqual((status, said), (int(verdict == "broken"), margins.HEAD + "\n" + wanted))
+                    self.assertIn("Margins count the latency that the limits state of end systems", read(page))
+                    self.assertIn(f'"greatest_ends":[', read(page))
+        self.call(report, COCKPIT, TABLES, "--limits", self.file("limits.csv", "101,DU_R,5\n"), "-o", page)
+        self.assertIn("without the latency of end systems (up to 150 µs each way by the standard)", read(page))
 
     def test_what_is_not_known_is_not_green(self):
         """Where nothing was delivered, a limit is neither kept nor broken."""
@@ -129,7 +149,7 @@ class Margins(Here):
         printed, junit = self.file("limits.csv", "101,DU_R,5\n"), os.path.join(self.folder, "limits.xml")
         words = ["--limits", printed, "--junit", junit, "-o", os.path.join(self.folder, "page.html")]
         found = self.call(report, net, tables, *words)
-        self.assertEqual(found, (0, margins.HEAD + "\n101,DU_R,5,,,,not known,\n", ""))
+        self.assertEqual(found, (0, margins.HEAD + "\n101,DU_R,5,,,,not known,,,\n", ""))
         self.assertEqual([it.tag for it in xml.parse(junit).getroot()[0]], ["skipped"])
 
     def test_words(self):

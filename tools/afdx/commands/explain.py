@@ -13,7 +13,7 @@ from collections.abc import Sized
 
 from afdx import files, model
 from afdx.model import Fault, description_faults
-from afdx.reckon import bounds_file, description_warnings
+from afdx.reckon import bounds_reader, description_warnings
 
 EXAMPLES = """
 examples:
@@ -83,7 +83,7 @@ def explain(path: str, bounds: str | None = None, prints_all: bool = False) -> t
         net = model.Network(path, text, description)
         warnings = description_warnings.Warnings(net).findings
         if bounds:
-            warnings += description_warnings.WorstCase(net, bounds_file.Bounds(bounds, net)).findings
+            warnings += description_warnings.WorstCase(net, bounds_reader.read(bounds, net)).findings
         lines, count = printed_of(path, warnings, prints_all)
         lines.append(f"{path}: accepted{count}")
     return "".join(line + "\n" for line in lines), 1 if found else 0

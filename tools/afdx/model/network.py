@@ -156,13 +156,18 @@ class Network:
 
     def loads(self) -> tuple[dict[str, Fraction], Counter[str]]:
         """For each line its load in percent, and how many virtual links go over it."""
-        load = {line: Fraction(0) for line in self.mbit}
         users: Counter[str] = Counter()
+        # For each line the sum of its rates by their denominators: few fractions are then added up.
+        sent: dict[str, Counter[int]] = {line: Counter() for line in self.mbit}
         for vl in self.vls.values():
-            bits_by_us = offered_rates.bytes_by_ns(vl, BYTES_BETWEEN_FRAMES) * 8000
+            rate = offered_rates.bytes_by_ns(vl, BYTES_BETWEEN_FRAMES)
             for line in vl.lines:
-                load[line] += bits_by_us * 100 / self.mbit[line]
-                users[line] += 1
+                sent[line][rate.denominator] += rate.numerator
+            users.update(vl.lines)
+        load = {}
+        for line, found in sent.items():
+            bytes_by_ns = sum((Fraction(bytes_, time) for time, bytes_ in found.items()), Fraction(0))
+            load[line] = bytes_by_ns * 8000 * 100 / self.mbit[line]
         return load, users
 
     def offers(self, vl: VirtualLink, seed: int | None = None) -> list[Offer]:

@@ -1,15 +1,16 @@
 """What the page has of each virtual link at each destination, column by column."""
 from array import array
-from collections import Counter, defaultdict
-from collections.abc import Iterator, Sequence
+from collections import Counter
+from collections.abc import Sequence
 from typing import Any
 
 from afdx.files.page_text import mean_ns, one_or_range, round_up
 from afdx.model import Latency, Network, Stream, VirtualLink
-from afdx.model.traces import Came
+from afdx.model.traces import Came, Trace
 from afdx.page import limit_columns
 from afdx.page.columns import BAD, WARN
 from afdx.page.given import Given
+from afdx.page.numbers import column
 from afdx.reckon.frames import End, Way, ways_of
 from afdx.runs.campaign_record import PERCENTS
 
@@ -35,28 +36,6 @@ def histogram(rising: Sequence[int]) -> Sequence[int]:
     for value in rising:
         counts[(value - least) * BARS // (rising[-1] - least + 1)] += 1
     return counts
-
-
-class Numbers(Sequence):
-    """Whole numbers, or None, in eight bytes each."""
-
-    NONE = -(2**63)
-
-    def __init__(self) -> None:
-        self.kept = array("q")
-
-    def takes(self, value: object) -> bool:
-        return value is None or type(value) is int and self.NONE < value < -self.NONE
-
-    def append(self, value: int | None) -> None:
-        self.kept.append(self.NONE if value is None else value)
-
-    def __getitem__(self, place: Any) -> Any:
-        found = self.kept[place]
-        return None if found == self.NONE else found
-
-    def __len__(self) -> int:
-        return len(self.kept)
 
 
 class Messages:
@@ -85,58 +64,59 @@ class EndTable:
     """What the page shows of each virtual link at each destination, column by column."""
 
     def __init__(self, given: Given) -> None:
-        self.given = given
-        # Without a row each column is empty.
-        self.columns: defaultdict[str, Any] = defaultdict(Numbers)
-        worst = sorted(given.tables.latencies.values(), key=lambda row: -row.greatest)[:MOST_HISTOGRAMS]
-        self.drawn = {(row.vl, row.where) for row in worst}
-        has_bursts = any(it.frames > 1 for vl in given.net.vls.values() for it in vl.streams)
-        self.messages = Messages(given.net) if given.trace and has_bursts else None
-        for key, row in given.tables.latencies.items():
-            for name, value in self.of(key, row):
-                self.add(name, value)
-        if given.margins:
-            self.columns["verdict_order"] = limit_columns.order_of(given)
-
-    def add(self, name: str, value: Any) -> None:
-        column = self.columns.setdefault(name, Numbers())
-        if type(column) is Numbers and not column.takes(value):
-            column = self.columns[name] = list(column)
-        column.append(value)
-
-    def of(self, key: tuple[int, str], row: Latency) -> Iterator[tuple[str, Any]]:
-        given, vl = self.given, self.given.net.vls[row.vl]
-        is_there = row.count > 0
-        copies = given.tables.losses.get((*key, "duplicate"))
-        yield from (("vl", row.vl), ("where", row.where), ("count", row.count))
-        if given.names.vls:
-            yield "named", given.names.name(row.vl)
-        yield "copies", copies.count if copies else 0
-        yield from (("least", row.least if is_there else None), ("mean", mean_ns(row) if is_there else None))
-        yield "greatest", row.greatest if is_there else None
-        yield "spread", row.greatest - row.least if is_there else None
-        yield from (("bag", vl.bag_ns), ("jitter", max(it.jitter_ns for it in vl.streams)), ("policing", vl.policing_ns))
-        needed = self.needed_ns(vl, row)
-        yield from (("few", WARN if row.count < FEW else 0), ("needed", needed))
-        if given.tables.merged:
-            yield "seed", row.seed
+        self.given, self.rows = given, list(given.tables.latencies.values())
+        self.columns: dict[str, Any] = self.of_tables()
         if given.ends:
-            yield from self.of_end(given.ends.of[key])
+            self.columns |= of_ends(list(given.ends.of.values()))
         if given.margins:
-            yield from limit_columns.of_limit(given.margins.get(key))
+            self.columns |= limit_columns.of_limits(given)
         if given.bounds:
-            yield from limit_columns.of_bounds(given, given.bounds, key, vl, row)
-        if self.messages and given.trace:
-            yield from zip(("messages", "whole"), self.messages.of(vl, given.trace.came.get(key)))
+            self.columns |= limit_columns.of_bounds(given, given.bounds)
         if given.trace:
-            rising = given.trace.rising(key)
-            for percent in PERCENTS:
-                yield f"p{percent}", percentile(rising, percent) if rising else None
-            yield "histogram", histogram(rising) if key in self.drawn else None
+            self.columns |= self.of_trace(given.trace)
+            self.columns |= self.of_messages(given.trace)
         elif given.percentiles:
-            found = given.percentiles[key]
-            for i, percent in enumerate(PERCENTS):
-                yield f"p{percent}", found[i] if found else None
+            found = list(given.percentiles.values())
+            self.columns |= {f"p{percent}": column(it[i] if it else None for it in found) for i, percent in enumerate(PERCENTS)}
+
+    def of_tables(self) -> dict[str, Any]:
+        rows, vls, losses = self.rows, self.given.net.vls, self.given.tables.losses
+        copies = (losses.get((row.vl, row.where, "duplicate")) for row in rows)
+        found: dict[str, Any] = {"vl": array("l", [row.vl for row in rows]), "where": [row.where for row in rows]}
+        if self.given.names.vls:
+            found["named"] = [self.given.names.name(row.vl) for row in rows]
+        found |= {"count": column(row.count for row in rows), "copies": column(it.count if it else 0 for it in copies)}
+        found |= {"least": column(row.least if row.count else None for row in rows)}
+        found |= {"mean": column(mean_ns(row) if row.count else None for row in rows)}
+        found |= {"greatest": column(row.greatest if row.count else None for row in rows)}
+        found |= {"spread": column(row.greatest - row.least if row.count else None for row in rows)}
+        of_links = [vls[row.vl] for row in rows]
+        found |= {"bag": column(vl.bag_ns for vl in of_links), "jitter": column(max(it.jitter_ns for it in vl.streams) for vl in of_links)}
+        found |= {"policing": column(vl.policing_ns for vl in of_links)}
+        found |= {"few": array("b", [WARN if row.count < FEW else 0 for row in rows])}
+        found |= {"needed": column(self.needed_ns(vl, row) for vl, row in zip(of_links, rows))}
+        return found | ({"seed": column(row.seed for row in rows)} if self.given.tables.merged else {})
+
+    def of_trace(self, trace: Trace) -> dict[str, Any]:
+        """Percentiles, and histograms of the worst."""
+        worst = sorted(self.rows, key=lambda row: -row.greatest)[:MOST_HISTOGRAMS]
+        drawn = {(row.vl, row.where) for row in worst}
+        found: dict[str, list[Any]] = {f"p{percent}": [] for percent in PERCENTS} | {"histogram": []}
+        for row in self.rows:
+            key = row.vl, row.where
+            rising = trace.rising(key)
+            for percent in PERCENTS:
+                found[f"p{percent}"].append(percentile(rising, percent) if rising else None)
+            found["histogram"].append(histogram(rising) if key in drawn else None)
+        return found
+
+    def of_messages(self, trace: Trace) -> dict[str, Any]:
+        """How many messages are offered and how many of them came whole, where there are bursts."""
+        if not any(it.frames > 1 for vl in self.given.net.vls.values() for it in vl.streams):
+            return {}
+        messages, vls = Messages(self.given.net), self.given.net.vls
+        found = [messages.of(vls[row.vl], trace.came.get((row.vl, row.where))) for row in self.rows]
+        return {"messages": column(offered for offered, _ in found), "whole": column(whole for _, whole in found)}
 
     def needed_ns(self, vl: VirtualLink, row: Latency) -> int | None:
         """How long a run must be for ten frames, where this one is too short for them."""
@@ -154,11 +134,13 @@ class EndTable:
         late = stream.jitter_ns * (bursts + 1 if stream.is_sporadic else 1)
         return stream.offset_ns + late + max(bursts * stream.period_ns, (FEW - 1) * vl.bag_ns)
 
-    @staticmethod
-    def of_end(end: End) -> Iterator[tuple[str, Any]]:
-        yield from (("offered", end.offered), ("again", one_or_range(end.again)))
-        yield from (("under_way", one_or_range(end.under_way)), ("missing", one_or_range(end.missing)))
-        yield "missing_tone", BAD if end.missing.least else WARN if end.missing.most else 0
-        yield "why", end.why
-        for side in "AB":
-            yield "lost" + side, one_or_range(end.lost[side]) if side in end.lost else None
+
+def of_ends(ends: list[End]) -> dict[str, Any]:
+    """What became of the frames."""
+    found: dict[str, Any] = {"offered": column(end.offered for end in ends), "again": column(one_or_range(end.again) for end in ends)}
+    found |= {"under_way": column(one_or_range(end.under_way) for end in ends), "missing": column(one_or_range(end.missing) for end in ends)}
+    found["missing_tone"] = array("b", [BAD if end.missing.least else WARN if end.missing.most else 0 for end in ends])
+    found["why"] = [end.why for end in ends]
+    for side in "AB":
+        found["lost" + side] = column(one_or_range(end.lost[side]) if side in end.lost else None for end in ends)
+    return found

@@ -10,7 +10,7 @@ from afdx.files.page_text import counted
 from afdx.model import Network, Tables
 from afdx.model.document_names import DocumentNames
 from afdx.model.traces import Trace
-from afdx.reckon import bounds_file, frames, hops, limits, margins, transmit_jitter
+from afdx.reckon import bounds_file, bounds_reader, bounds_table, frames, hops, limits, margins, transmit_jitter
 from afdx.reckon.frames import Ends
 from afdx.runs import campaign_record
 
@@ -108,21 +108,35 @@ def ends_of(words: argparse.Namespace, tables: Tables, found: campaign_record.Re
     return Ends(tables, runs.seeds, runs.draws_offsets, trace) if runs else None
 
 
+def way_of(net: Network, tables: Tables, measured: hops.Hops | None, bounds: bounds_file.Bounds | None) -> hops.OnTheWay | None:
+    """What was measured on the way, and its bounds, if there are any of both."""
+    if bounds is None:
+        return hops.OnTheWay(net, measured, None, tables.latencies) if measured else None
+    found = bounds
+
+    def whole(kind: str) -> Sequence[int] | None:
+        if kind in bounds_table.OF_DESTINATIONS:
+            return found.table.in_order_of(kind, tables.latencies)
+        return found.table.column(kind) if kind in found.table.places else None
+
+    return hops.OnTheWay(net, measured, bounds.of_kind, tables.latencies, whole)
+
+
 def given_by(words: argparse.Namespace) -> Given:
     net = Network(words.net)
     tables, found = tables_of(words.tables, net)
     if tables.merged and words.trace:
         raise files.Fault(words.trace, None, f"is the trace of one run, and {tables.path} has the tables of several")
     trace = Trace(words.trace, tables) if words.trace else None
-    bounds = bounds_file.Bounds(words.bounds, net) if words.bounds else None
+    bounds = bounds_reader.read(words.bounds, net) if words.bounds else None
     held = margins.margins_of(limits.limits_of(words.limits, net), net, tables.latencies, bounds) if words.limits else []
     measured = hops.Hops(words.hops, tables) if words.hops else None
-    way = hops.OnTheWay(net, measured, bounds.of_kind if bounds else None, tables.latencies) if measured or bounds else None
+    way = way_of(net, tables, measured, bounds)
     other = None
     if words.against:
         before, record_before = tables_of(words.against, Network(words.against_net) if words.against_net else net)
         ends_before = ends_of(words, before, record_before) if before.merged == tables.merged else None
-        other = Other(before, ends_before, bounds_file.Bounds(words.against_bounds, before.net) if words.against_bounds else None)
+        other = Other(before, ends_before, bounds_reader.read(words.against_bounds, before.net) if words.against_bounds else None)
     made_of = [net.path, tables.path, words.trace, words.limits, words.bounds, words.hops]
     made_of += [words.against, words.against_net, words.against_bounds]
     made_by = words.made_by or (f"{found.program.in_words()}, as their campaign says" if found else None)

@@ -145,7 +145,7 @@ class Page:
         found = [panels.network(self), panels.end_to_end(self)]
         # Verdicts come first.
         found.insert(0 if given.margins else 2, latency_panel.latency(self))
-        found += [worst_case_panels.worst_case(self, given.bounds, given.way)] if given.bounds and given.way else []
+        found += [worst_case_panels.worst_case(self, given.bounds)] if given.bounds else []
         found += [worst_case_panels.on_the_way(self, given.way)] if given.way else []
         found += [worst_case_panels.transmit_jitter(self)]
         found += [comparison_panels.against(self, given.other)] if given.other else []

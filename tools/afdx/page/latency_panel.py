@@ -4,6 +4,7 @@ from afdx.page.columns import (
     BAD, COPIES_COLUMN, DELIVERED_COLUMN, Column, count_column, seed_column, time_column,
 )
 from afdx.page.panels import OfPage, legend, of_virtual_link, panel
+from afdx.reckon import end_systems
 from afdx.reckon.bounds_file import Bounds
 
 # What stands behind a bound of the tool in a column of the program's.
@@ -18,6 +19,8 @@ def latency(page: OfPage) -> str:
         "From the offer of the application until the frame is whole at the destination, with the wait in the "
         "regulator. Each step of the axis is ten times the one before."
     )
+    if given.margins:
+        words += f" {of_end_systems(page)}"
     pieces = [by_whom(given.bounds)] if given.bounds else []
     pieces.append(marks_of_ranges(bool(given.margins), given.bounds is not None))
     # Where there are limits, the worst verdict comes first.
@@ -38,6 +41,7 @@ def columns_of(page: OfPage) -> list[Column]:
         hint = "the limit less " + ("the bound" if bounds else "the greatest")
         columns.append(time_column("margin", "margin", hint, "limit_tone")._replace(order="margin_order"))
         columns.append(time_column("limit", "limit", "", "limit_tone"))
+        columns += with_ends(page)
         hint = "broken by a latency; below its bound, or without one; kept; or not known, as nothing was delivered"
         columns.append(Column("verdict", "text", "verdict", "", hint, "limit_tone", "verdict_order"))
     columns += [Column("greatest", "range", "range"), time_column("least", "least"), time_column("mean", "mean")]
@@ -49,13 +53,31 @@ def columns_of(page: OfPage) -> list[Column]:
     return columns + ([seed_column("the seed whose run gave the greatest latency")] if page.tables.merged else [])
 
 
+def of_end_systems(page: OfPage) -> str:
+    """Whether limits count the latency of end systems."""
+    stated = sum(it.limit.ends.is_stated() for it in page.given.margins.values())
+    if not stated:
+        return f"Limits are compared {end_systems.NOT_STATED}."
+    of = "" if stated == len(page.given.margins) else f" of {stated:,} of {len(page.given.margins):,} limits"
+    return f"Margins count the latency{of} that the limits state of end systems (tx_latency and rx_latency)."
+
+
+def with_ends(page: OfPage) -> list[Column]:
+    """What is measured and its bound, with the latency of end systems."""
+    if "greatest_ends" not in page.ends:
+        return []
+    hint = "with the latency of the sending and the receiving end system, as the limits state it"
+    found = [time_column("greatest_ends", "greatest and end systems", hint, "limit_tone")]
+    return found + ([time_column("bound_ends", "bound and end systems", hint)] if page.given.bounds else [])
+
+
 def bound_columns(page: OfPage, bounds: Bounds) -> list[Column]:
     """The bound that decides."""
     if page.given.by_contract:
         hint = "holds whatever other end systems send, as long as no frame is longer than the smax of its virtual link"
         return [Column("bound", "us", "bound", OF_CONTRACT, hint, "bound_tone")]
     if not bounds.is_by_both():
-        return [time_column("bound", "bound", HINT_OF_TOOL, "bound_tone")._replace(unit=OF_TOOL if bounds.states_by() else "µs")]
+        return [time_column("bound", "bound", HINT_OF_TOOL, "bound_tone")._replace(unit=OF_TOOL if bounds.states_by else "µs")]
     hint = f"the bound that the program prints, with the sizes that are sent; {MARK} by afdx bounds where the program has none"
     return [Column("bound", "us", "bound", OF_PROGRAM, hint, "bound_tone", mark="bound_mark")]
 
@@ -82,7 +104,7 @@ def by_whom(bounds: Bounds) -> str:
         made = f" ({esc(bounds.made_by)})" if bounds.made_by else ""
         return f'<p class="by">Bounds are by <b>afdx bounds</b>{made}, outside the proofs: no program printed any here.</p>'
     by_program, _, by_tool = (bounds.made_by or "").rpartition(" and ")
-    lacks = sum(bounds.bound_by(*key) == "tool" for key in bounds.net.destinations)
+    lacks = bounds.by_tool_alone()
     mark = f" It has none for {counted(lacks, 'destination')}, where that of afdx bounds stands with the mark {MARK}." if lacks else ""
     return (
         f'<p class="by"><b>bound</b> is printed by <b>afdxsim bounds</b> ({esc(by_program)}): margins and verdicts go by it.{mark} '

@@ -106,7 +106,7 @@ def end_to_end(page: OfPage) -> str:
         hint = f"on the way by network {side}, or refused at the destination"
         columns.append(count_column("lost" + side, "lost on " + side, hint, unit="copies", look=wide))
     columns.append(COPIES_COLUMN)
-    if any(page.ends["messages"]):
+    if any(page.ends.get("messages", ())):
         columns.append(count_column("messages", "messages", "moments at which frames were offered, of a virtual link with bursts", unit="offered"))
         columns.append(count_column("whole", "whole", "messages of which as many frames came as were offered at that moment", unit="messages"))
     if any(page.ends["needed"]):

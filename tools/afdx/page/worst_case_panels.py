@@ -3,23 +3,22 @@ from collections.abc import Callable
 
 from afdx.page.columns import DESTINATION_COLUMN, VL_COLUMN, Column, count_column, time_column
 from afdx.page.panels import OfPage, panel
-from afdx.reckon.bounds_file import Bounds
+from afdx.reckon.bounds_file import TWICE, Bounds
 from afdx.reckon.hops import OnTheWay
 
 
-def worst_case(page: OfPage, bounds: Bounds, way: OnTheWay) -> str:
+def worst_case(page: OfPage, bounds: Bounds) -> str:
     """What the bounds show of the worst case beside latencies."""
-    refusing, of_each = set(bounds.refusing()), way.switches()
-    # They are rows of the jitters at switches.
-    only = [i for i, key in enumerate(zip(of_each["vl"], of_each["where"])) if key in refusing]
+    # Accounts are rows of the jitters at switches, in the same order.
+    refusing = only = [i for i, found in enumerate(bounds.table.column("refuses")) if found > 0]
     columns = [VL_COLUMN, Column("where", "text", "switch")]
     columns.append(time_column("jitter_bound", "jitter there", "by how much frames may come closer than a BAG; – where it has no bound"))
     columns.append(time_column("allowed", "policing jitter", "policing_jitter_ns: how much of it the account allows"))
     pieces = [f"<h3>Accounts that may refuse a frame ({len(refusing):,} of {len(bounds.accounts):,})</h3>"]
     if refusing:
         pieces.append(page.grid("accounts", columns, "jitter_bound", "jitters", only, what="accounts"))
-    troubled = {key for key, bound in bounds.of.items() if not bound.sure or bound.may_be_twice}
-    only = [i for i, key in enumerate(zip(page.ends["vl"], page.ends["where"])) if key in troubled]
+    flags = bounds.table.in_order_of("flags", page.tables.latencies)
+    only = [i for i, found in enumerate(flags) if not found % TWICE or found & TWICE]
     pieces.append(f"<h3>Destinations where a frame may be lost, or delivered twice ({len(only):,} of {len(bounds.of):,})</h3>")
     if only:
         sure = "the networks by which each frame comes, also in the worst case"

@@ -95,8 +95,12 @@ class BoundsRows:
         columns = self.columns()
         behind = f",{model.checksum(self.found.net.text)},{self.made_by()}\n"
         lines = [",".join(columns) + "\n"]
+        place, blank = {name: i for i, name in enumerate(columns)}, [""] * (len(columns) - 2)
         for row in self.rows():
-            lines.append(",".join([str(row.get(column, "")) for column in columns[:-2]]) + behind)
+            cells = blank.copy()
+            for name, value in row.items():
+                cells[place[name]] = str(value)
+            lines.append(",".join(cells) + behind)
             if len(lines) == AT_ONCE:
                 yield "".join(lines)
                 lines = []

@@ -1,5 +1,6 @@
 """What afdx second-opinion --hops has measured on the way, as a file of a run, and beside it what afdx bounds reckons."""
 import functools
+import itertools
 from collections.abc import Callable, Collection, Iterable, Iterator, Sequence
 from typing import Any, NamedTuple
 
@@ -113,13 +114,26 @@ class Column:
         return self.make()
 
 
+def unmeasured(kind: str, bounds: Sequence[int]) -> Columns:
+    """The columns of a kind of which nothing was measured, by its bounds, of which those below 0 are none."""
+    count = len(bounds)
+    return {
+        kind: Column(lambda: itertools.repeat(None, count)),
+        kind + "_bound": Column(lambda: (None if it < 0 else it for it in bounds)),
+        kind + "_tone": Column(lambda: itertools.repeat(0, count)),
+    }
+
+
 class OnTheWay:
     """What was measured on the way beside its bound, each of which may be absent, column by column: of destinations,
     of hops, of switches and of ports. `bound` answers that of a kind, a virtual link and a place, or None; `ends` has the virtual
-    links with their destinations in order."""
+    links with their destinations in order. `whole` has all bounds of a kind in the order of its places, those below 0 for none."""
 
-    def __init__(self, net: Network, hops: Hops | None, bound: Ask | None, ends: Collection[tuple[int, str]]) -> None:
-        self.ends = ends
+    def __init__(
+        self, net: Network, hops: Hops | None, bound: Ask | None, ends: Collection[tuple[int, str]],
+        whole: Callable[[str], Sequence[int] | None] = lambda _: None,
+    ) -> None:
+        self.ends, self.whole = ends, whole
         self.net, self.is_measured, self.is_bounded = net, hops is not None, bound is not None
         self.measured: Ask = hops.greatest if hops else lambda *_: None
         self.bound: Ask = bound or (lambda *_: None)
@@ -129,6 +143,10 @@ class OnTheWay:
         measured, its bound and its mark."""
         found: Columns = {name: Column(lambda i=i: (place[i] for place in places())) for i, name in enumerate(names) if name}
         for kind in kinds:
+            own = None if self.is_measured else self.whole(kind)
+            if own is not None:
+                found |= unmeasured(kind, own)
+                continue
             measured, bound = (functools.partial(ask, kind) for ask in (self.measured, self.bound))
             found[kind] = Column(lambda ask=measured: (ask(*place) for place in places()))
             found[kind + "_bound"] = Column(lambda ask=bound: (ask(*place) for place in places()))

@@ -1,6 +1,6 @@
 """Limits of latencies, as a file of its own has them or the comments of a description."""
 import csv
-import io
+import itertools
 import re
 from fractions import Fraction
 from typing import Any, NamedTuple
@@ -9,19 +9,28 @@ from afdx import model
 from afdx.files import Fault, cut, sheets
 from afdx.model import Network, VirtualLink, headings
 from afdx.model.document_names import DocumentNames
+from afdx.reckon import end_systems
 
 
 class Limit(NamedTuple):
-    """The greatest latency in ns that a destination of a virtual link may have, and the line that says so."""
+    """The greatest latency in ns that a destination of a virtual link may have, and the line that says so; and the latency of end
+    systems that counts besides, if it is stated."""
 
     vl: int
     where: str
     ns: int
     line: int
+    ends: end_systems.Latency = end_systems.Latency()
+
+    def most_ns(self) -> int:
+        """What is left of it for the network and the regulator."""
+        return self.ns - self.ends.together()
 
 
 # The names of the columns where none stand above.
 LIMIT_COLUMNS = ["vl", "destination", "limit_ns"]
+# How many lines of comments are looked at behind the head of a virtual link.
+MOST_COMMENTS = 1000
 # How a description that afdx table made has the limits of a table.
 COMMENT = re.compile(r"# *limit_(ns|us|ms|s) *[ =:] *([0-9_.]+)(?: at (.+))?")
 
@@ -38,7 +47,7 @@ def limits_of(path: str, net: Network) -> dict[tuple[int, str], Limit]:
         found.read_table()
     if not found.of:
         raise Fault(path, None, "has no limits")
-    return found.of
+    return {key: it._replace(ends=it.ends.or_else(found.usual)) for key, it in found.of.items()}
 
 
 class Limits:
@@ -48,6 +57,8 @@ class Limits:
         self.path, self.net = path, net
         self.of: dict[tuple[int, str], Limit] = {}
         self.names = DocumentNames(net)
+        # The latency of end systems that holds for all limits which state no other.
+        self.usual = end_systems.Latency()
         # Whether numbers may have a comma in place of the point.
         self.has_commas = False
 
@@ -59,6 +70,8 @@ class Limits:
             for line, cells in sheets.numbered(rows):
                 cells = [cell.strip() for cell in cells]
                 if not any(cells) or cells[0].startswith("#"):
+                    text = rows.dialect.delimiter.join(cells)
+                    self.usual = end_systems.of_comments([(line, text)], self.time).or_else(self.usual)
                     continue
                 if columns is None:
                     columns = self.columns(line, cells)
@@ -95,21 +108,22 @@ class Limits:
         if not text and wanted > 3:
             return
         number = model.whole_number(self.path, line, "the virtual link", cells.get("vl", ""))
-        ns = self.ns(line, column, text)
+        ns, ends = self.time(line, "the limit", column.removeprefix("limit_"), text), end_systems.of_cells(line, cells, self.time)
         whole = self.names.node_of(cells.get("destination", ""))
         for where in [whole] if whole else sheets.names_of(cells.get("destination", "")) or [""]:
-            self.add(line, number, self.names.node_of(where) or where, ns)
+            self.add(line, number, self.names.node_of(where) or where, ns, ends)
 
-    def ns(self, line: int, column: str, text: str) -> int:
-        if column == "limit_ns":
-            return model.whole_number(self.path, line, "the limit", text.replace("_", ""))
+    def time(self, line: int, name: str, unit: str, text: str) -> int:
+        """A time of a line, in ns."""
+        if unit == "ns":
+            return model.whole_number(self.path, line, name, text.replace("_", ""))
         if self.has_commas:
             text = text.replace(",", ".")
-        if not re.fullmatch(r"[0-9_]{1,30}(\.[0-9_]{1,30})?", text):
-            raise Fault(self.path, line, f"the limit is {cut(text)}, and no number")
-        ns = Fraction(text.replace("_", "")) * headings.NS[column.removeprefix("limit_")]
+        if not re.fullmatch(r"[0-9_]{1,30}(\.[0-9_]{1,30})?", text) or not re.search("[0-9]", text):
+            raise Fault(self.path, line, f"{name} is {cut(text)}, and no number")
+        ns = Fraction(text.replace("_", "")) * headings.NS[unit]
         if ns.denominator != 1:
-            raise Fault(self.path, line, f"the limit is {text}, which is no whole number of ns")
+            raise Fault(self.path, line, f"{name} is {text}, which is no whole number of ns")
         return int(ns)
 
     def read_comments(self, of: Network) -> None:
@@ -119,21 +133,20 @@ class Limits:
         heads: dict[int, VirtualLink] = {}
         for row, vl in rows.items():
             heads[of.description.line("vl", row)] = vl
+        self.usual = end_systems.of_comments(end_systems.head_of(lines), self.time)
         for head, vl in heads.items():
-            for i, text in enumerate(lines[head:], head + 1):
-                if not text.startswith("#"):
-                    break
+            behind = [*enumerate(itertools.takewhile(lambda text: text.startswith("#"), lines[head : head + MOST_COMMENTS]), head + 1)]
+            for i, text in behind:
                 found = COMMENT.fullmatch(text.rstrip())
-                if found:
-                    wanted = sheets.names_of(found[3]) if found[3] else vl.destinations
-                    for where in wanted:
-                        self.add(i, vl.id, where, self.ns(i, "limit_" + found[1], found[2]))
+                for where in (sheets.names_of(found[3]) if found[3] else vl.destinations) if found else ():
+                    ends = end_systems.of_comments(behind, self.time, where)
+                    self.add(i, vl.id, where, self.time(i, "the limit", found[1], found[2]) if found else 0, ends)
 
-    def add(self, line: int, number: int, where: str, ns: int) -> None:
+    def add(self, line: int, number: int, where: str, ns: int, ends: end_systems.Latency) -> None:
         key = number, where
         if key not in self.net.destinations:
             text = f"{cut(where)} is no destination of virtual link {number} in {self.net.path}"
             raise Fault(self.path, line, text)
         if key in self.of:
             raise Fault(self.path, line, f"says again what line {self.of[key].line} says")
-        self.of[key] = Limit(*key, ns, line)
+        self.of[key] = Limit(*key, ns, line, ends)

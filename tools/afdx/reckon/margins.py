@@ -10,7 +10,7 @@ from afdx.model import Latency, Network
 from afdx.model.document_names import OF_VL, DocumentNames
 from afdx.reckon.limits import Limit
 
-HEAD = "vl,destination,limit_ns,greatest_ns,bound_ns,margin_ns,verdict,bound_by"
+HEAD = "vl,destination,limit_ns,greatest_ns,bound_ns,margin_ns,verdict,bound_by,tx_latency_ns,rx_latency_ns"
 BROKEN, BELOW, KEPT, UNKNOWN = "broken", "below its bound", "kept", "not known"
 # The order in which verdicts are shown: the worst first, and last those of which nothing is known, whose rows are empty.
 ORDER = (BROKEN, BELOW, KEPT, UNKNOWN)
@@ -45,15 +45,17 @@ class Margin(NamedTuple):
     bound_by: str
 
     def ns(self) -> int | None:
-        """The limit less the worst that is known; None where nothing is, or a bound is given as none."""
+        """The limit less the worst that is known, with the latency of end systems if that is stated; None where nothing is known, or a
+        bound is given as none."""
         known = [it for it in (self.greatest, self.bound) if it is not None]
-        return None if not known or self.has_bound and self.bound is None else self.limit.ns - max(known)
+        return None if not known or self.has_bound and self.bound is None else self.limit.most_ns() - max(known)
 
     def verdict(self) -> str:
-        if self.greatest is not None and self.greatest > self.limit.ns:
+        most = self.limit.most_ns()
+        if self.greatest is not None and self.greatest > most:
             return BROKEN
         if self.has_bound:
-            return BELOW if self.bound is None or self.bound > self.limit.ns else KEPT
+            return BELOW if self.bound is None or self.bound > most else KEPT
         return UNKNOWN if self.greatest is None else KEPT
 
     def rank(self) -> tuple[int, bool, int, int, str]:
@@ -66,14 +68,21 @@ class Margin(NamedTuple):
         parts += [f"greatest latency {us_text(self.greatest)}"] if self.greatest is not None else []
         by = f" ({IN_WORDS[self.bound_by]})" if self.bound_by else ""
         parts += [f"bound {'none' if self.bound is None else us_text(self.bound)}{by}"] if self.has_bound else []
+        ends = self.limit.ends
+        parts += [f"end systems {us_text(ends.together())} besides"] if ends.is_stated() else []
         return f"{self.verdict()}: {', '.join(parts)}"
+
+    def with_ends(self, ns: int | None) -> int | None:
+        """A latency or a bound with the latency of end systems, if that is stated."""
+        return None if ns is None or not self.limit.ends.is_stated() else ns + self.limit.ends.together()
 
     def line(self, names: Sequence[str] = ()) -> str:
         show = lambda number: "" if number is None else number
         bound = ("none" if self.bound is None else self.bound) if self.has_bound else ""
         numbers = self.limit.ns, show(self.greatest), bound, show(self.ns())
         out = io.StringIO()
-        csv.writer(out, lineterminator="\n").writerow([self.limit.vl, self.limit.where, *numbers, self.verdict(), self.bound_by, *names])
+        row = [self.limit.vl, self.limit.where, *numbers, self.verdict(), self.bound_by, *map(show, self.limit.ends), *names]
+        csv.writer(out, lineterminator="\n").writerow(row)
         return out.getvalue()
 
 

@@ -46,6 +46,8 @@ class Bounds:
     def __init__(self, net: Network) -> None:
         self.net = net
         self.ports: dict[str, Port] = {}
+        # The hops of the virtual link that was asked for last, by the nodes that they leave.
+        self.last_left: tuple[int | None, dict[str, Hop]] = (None, {})
         self.links = {vl.id: Link(vl) for vl in net.vls.values()}
         for link in self.links.values():
             self.add(link)
@@ -115,11 +117,9 @@ class Bounds:
 
     def leaves(self, vl: int, switch: str) -> Hop | None:
         """A hop by which a virtual link leaves a switch; None where it does not."""
-        found = None
-        for hop in self.links[vl].hops.values():
-            if hop.port.node.name == switch:
-                found = hop
-        return found
+        if self.last_left[0] != vl:
+            self.last_left = vl, {hop.port.node.name: hop for hop in self.links[vl].hops.values()}
+        return self.last_left[1].get(switch)
 
     def settle(self) -> None:
         """Looks at each port until no spread changes. It begins with none, and each look makes delays and spreads longer

@@ -342,7 +342,7 @@ class AimedRuns:
         worst: dict[Key, tuple[int, Line]] = {}
         for it in self.lines:
             key, latency = it[:2], max(it.plain_ns, it.aimed_ns)
-            if key in self.limits and latency > self.limits[key].ns and latency > worst.get(key, (0, None))[0]:
+            if key in self.limits and latency > self.limits[key].most_ns() and latency > worst.get(key, (0, None))[0]:
                 worst[key] = latency, it
         return [(self.limits[key], *worst[key]) for key in sorted(worst, key=lambda it: self.limits[it].line)]
 

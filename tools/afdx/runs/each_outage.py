@@ -197,7 +197,7 @@ class EachOutage:
             if more_lost(change).most or now[2] > before[2]:
                 course.changes.append(change)
         for key, limit in self.limits.items():
-            if course.together(key, first)[2] > limit.ns >= first.together(key, first)[2]:
+            if course.together(key, first)[2] > limit.most_ns() >= first.together(key, first)[2]:
                 course.broken.append(limit)
         course.came = []
 

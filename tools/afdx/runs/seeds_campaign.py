@@ -35,7 +35,7 @@ class Campaign:
             seed = self.seeds[self.done]
             self.merged.add(seed, result)
             for key, greatest in zip(self.merged.latencies, result.greatest) if self.limits else ():
-                if key in self.limits and greatest > self.limits[key].ns:
+                if key in self.limits and greatest > self.limits[key].most_ns():
                     self.broken[key] = self.broken.get(key, 0) + 1
             self.done += 1
             return seed
