@@ -9,6 +9,7 @@ import collections
 import contextlib
 import glob
 import io
+import json
 import os
 import random
 import re
@@ -531,6 +532,39 @@ class Explained(unittest.TestCase):
         self.assertEqual((run.returncode, run.stderr), (0, ""))
         for word in ("warnings", "examples:", "status:"):
             self.assertIn(word, run.stdout)
+
+
+class ForOtherPrograms(unittest.TestCase):
+    """Several files a call, standard input, and JSON."""
+
+    def call(self, *words, given=""):
+        run = subprocess.run([*tool_words("explain"), *words], input=given, capture_output=True, text=True)
+        return run.returncode, run.stdout, run.stderr
+
+    def test_several_files_and_standard_input(self):
+        one, two = (os.path.join(EXAMPLES, name) for name in ("n1.toml", "n3.toml"))
+        with open(one, encoding="utf-8") as file:
+            text = file.read()
+        status, said, errors = self.call(one, "-", two, given=text.replace("bag_ms = 1", "bag_ms = 3"))
+        self.assertEqual((status, errors), (1, ""))
+        self.assertEqual(said.splitlines()[0], f"{one}: accepted")
+        self.assertRegex(said.splitlines()[1], r"^-:32: virtual link 1 \(vl row 1\), bag_ms is 3, and must be .* \[afdxsim: description: ")
+        self.assertIn(f"{two}: accepted", said)
+        self.assertEqual(self.call("-", given=text), (0, "-: accepted\n", ""))
+
+    def test_json(self):
+        """Each fault and each warning is an object; nothing wrong is an empty list."""
+        one = os.path.join(EXAMPLES, "n1.toml")
+        with open(one, encoding="utf-8") as file:
+            text = file.read()
+        self.assertEqual(self.call("--json", one), (0, "[]\n", ""))
+        status, said, errors = self.call("--json", one, "-", given=text.replace("bag_ms = 1", "bag_ms = 3"))
+        (found,) = json.loads(said)
+        self.assertEqual((status, errors, found["file"], found["line"], found["level"]), (1, "", "-", 32, "fault"))
+        self.assertIn("must be 1, 2, 4", found["text"])
+        _, said, _ = self.call("--json", "-", given=text.replace("until_ns = 2000000", "until_ns = 1"))
+        self.assertEqual({(it["level"], it["file"]) for it in json.loads(said)}, {("warning", "-")})
+        self.assertTrue(all(it["kind"] for it in json.loads(said)))
 
 
 if __name__ == "__main__":

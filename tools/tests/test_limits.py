@@ -111,7 +111,10 @@ class Margins(Here):
                 found = self.call(report, COCKPIT, TABLES, *words)
                 self.assertEqual((found[0], found[2]), (status, ""))
                 self.assertIn(f"101,DU_R,{ns},{row.greatest},{bound},{ns - bound},{by_bound},tool,,\n", found[1])
-                suite = xml.parse(junit).getroot()
+                root = xml.parse(junit).getroot()
+                self.assertEqual((root.tag, root.get("tests"), len(root)), ("testsuites", "2", 1))
+                suite = root[0]
+                self.assertRegex(suite.get("time"), r"^\d+\.\d{3}$")
                 self.assertEqual((suite.get("tests"), suite.get("failures")), ("2", str(status)))
                 first = suite[0]
                 self.assertEqual((first.get("classname"), first.get("name")), ("virtual link 101", "DU_R"))
@@ -132,12 +135,12 @@ class Margins(Here):
         ):
             for ns, verdict in ((most, "kept"), (most - 1, "broken")):
                 with self.subTest(name, ns=ns):
-                    printed, page = self.file(name, text.format(ns)), os.path.join(self.folder, "page.html")
+                    printed, page = self.file(name, text.replace("{}", str(ns))), os.path.join(self.folder, "page.html")
                     status, said, _ = self.call(report, COCKPIT, TABLES, "--limits", printed, "-o", page)
                     wanted = f"101,DU_R,{ns},{row.greatest},,{ns - most},{verdict},,100000,150000\n"
                     self.assertEqual((status, said), (int(verdict == "broken"), margins.HEAD + "\n" + wanted))
                     self.assertIn("Margins count the latency that the limits state of end systems", read(page))
-                    self.assertIn(f'"greatest_ends":[', read(page))
+                    self.assertIn('"greatest_ends":[', read(page))
         self.call(report, COCKPIT, TABLES, "--limits", self.file("limits.csv", "101,DU_R,5\n"), "-o", page)
         self.assertIn("without the latency of end systems (up to 150 µs each way by the standard)", read(page))
 
@@ -150,7 +153,7 @@ class Margins(Here):
         words = ["--limits", printed, "--junit", junit, "-o", os.path.join(self.folder, "page.html")]
         found = self.call(report, net, tables, *words)
         self.assertEqual(found, (0, margins.HEAD + "\n101,DU_R,5,,,,not known,,,\n", ""))
-        self.assertEqual([it.tag for it in xml.parse(junit).getroot()[0]], ["skipped"])
+        self.assertEqual([it.tag for it in xml.parse(junit).getroot()[0][0]], ["skipped"])
 
     def test_words(self):
         for tool, words in (

@@ -19,6 +19,7 @@ BAG.
 import argparse
 import os
 import sys
+import time
 
 from afdx import files, model
 from afdx.model import description_faults, long_form
@@ -145,7 +146,7 @@ def write_fitted(net: model.Network, path: str) -> int:
 
 @files.tool("afdx bounds")
 def main(arguments: list[str] | None = None) -> int:
-    words = words_of(arguments)
+    begin, words = time.monotonic(), words_of(arguments)
     net = accepted(words.net)
     files.ready(list(filter(None, [words.output, words.junit, words.fit])), prints=not words.output or bool(words.limits))
     if words.fit:
@@ -163,7 +164,8 @@ def main(arguments: list[str] | None = None) -> int:
         return 0
     names = DocumentNames(net)
     if words.junit:
-        files.write_whole(words.junit, junit.text_of(held, words.strict, os.path.basename(words.net), names))
+        seconds = time.monotonic() - begin
+        files.write_whole(words.junit, junit.text_of(held, words.strict, os.path.basename(words.net), names, seconds))
     files.write_out(margins.text_of(held, names))
     return 1 if margins.has_failed(held, words.strict) else 0
 

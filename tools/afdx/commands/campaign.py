@@ -12,8 +12,10 @@ from afdx.commands.campaign_words import words_of
 from afdx.files import Fault, program
 from afdx.files.page_text import us_text
 from afdx.model import GREATEST_SEED, description_faults, long_form
-from afdx.reckon import margins, network_calculus, output_sizes
+from afdx.model.document_names import DocumentNames
+from afdx.reckon import junit, margins, network_calculus, output_sizes
 from afdx.reckon.limits import limits_of
+from afdx.reckon.margins import margins_of
 from afdx.runs import aim, campaign_record, cluster, each_outage, program_bounds, side_by_side, sweep, unproved_runs
 from afdx.runs.campaign_folder import Folder
 from afdx.runs.campaign_network import CampaignNetwork, ChangedNetwork
@@ -42,6 +44,7 @@ def prepare(words: argparse.Namespace) -> tuple[CampaignNetwork, Limits, range]:
     if first + words.seeds - 1 > GREATEST_SEED:
         line = net.description.line("top", None, "seed")
         raise Fault(words.net, line, f"the seeds from {first} on would pass {GREATEST_SEED}")
+    files.ready([words.junit] if words.junit else [])
     words.folder = Folder(words.output, words.replace)
     return net, limits, range(first, first + words.seeds)
 
@@ -124,6 +127,7 @@ def over_seeds(words: argparse.Namespace, net: CampaignNetwork, limits: Limits, 
         path = write_results(words, campaign)
         write_json(words, "merged.json", campaign.merged.long_rows)
         write_record(words, net, seeds[: campaign.done])
+        write_junit(words, net, margins_of(limits, net, campaign.merged.rows_of(limits)), begin)
     campaign.report(path, time.monotonic() - begin)
     return campaign.status or (1 if campaign.broken else 0)
 
@@ -193,6 +197,7 @@ def over_aims(words: argparse.Namespace, net: CampaignNetwork, limits: Limits, s
     table = words.folder.write("aim.csv", found.table(words.maker))
     write_json(words, "aim.json", found.long_rows)
     write_record(words, net, seeds)
+    write_junit(words, net, found.margins(), begin)
     files.say(f"{table}: {found.done} runs, in {time.monotonic() - begin:.1f} s")
     for text in found.in_words():
         files.say(text)
@@ -224,6 +229,13 @@ def write_json(words: argparse.Namespace, name: str, rows: Callable[[], Iterable
     """Writes a table in long form too, where that is asked for."""
     if words.json:
         words.folder.write(name, long_form.text_of(rows()))
+
+
+def write_junit(words: argparse.Namespace, net: CampaignNetwork, held: list[margins.Margin], begin: float) -> None:
+    """Writes the verdicts for a build server, where that is asked for."""
+    if words.junit:
+        text = junit.text_of(held, False, os.path.basename(words.net), DocumentNames(net), time.monotonic() - begin)
+        files.write_whole(words.junit, text)
 
 
 def over_outages(words: argparse.Namespace, net: CampaignNetwork, limits: Limits, seeds: range) -> int:

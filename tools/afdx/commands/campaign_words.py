@@ -42,7 +42,7 @@ examples:
   afdx report net.toml campaign -o report.html
         the page of them
   afdx campaign net.toml --seeds 1000 --jobs 4 --offsets --limits limits.csv -o campaign
-        a thousand runs, four at a time, with drawn offsets, each compared with limits.csv
+        a thousand runs, four at a time, with drawn offsets, each compared with limits.csv; --junit FILE for a build server
   afdx campaign net.toml --seeds 1 --first 42 --offsets --keep -o worst
         the run of the seed 42 once more, and its description worst/seed-42.toml, for afdxsim and afdx report, which show
         what happened in it
@@ -106,7 +106,7 @@ status: 0; 1 if an outage alone breaks a limit, or a run failed; 2 if a word is 
 130 and 143 if it was interrupted: what was made before is kept
 """
 # The words of a campaign that outages have not.
-NOT_OF_OUTAGES = ("--set", "--aim", "--histograms", "--json")
+NOT_OF_OUTAGES = ("--set", "--aim", "--histograms", "--json", "--junit")
 
 
 def help_of_outages() -> str:
@@ -168,6 +168,7 @@ def add_words(parser: argparse.ArgumentParser) -> None:
     add("--jobs", type=whole(1, 1024), default=jobs, metavar="N", help=f"runs side by side, and as many processes that read them (default here: {jobs})")
     add("--offsets", action="store_true", help="draw the offset of each virtual link within its period, for each run")
     add("--limits", metavar="FILE", help="limits of latencies, lines VL,NAME,NS")
+    add("--junit", metavar="FILE", help="writes what became of each limit as JUnit's XML")
     add("--histograms", action="store_true", help="count latencies in bins of less than 0.1 percent: DIR/histograms.csv, percentiles in DIR/greatest.csv")
     address, says = cluster.address, "the workers of the Dask cluster with this scheduler make the runs: tcp://HOST:PORT"
     add("--dask", type=address, metavar="ADDRESS", help=says)
@@ -189,6 +190,10 @@ def judge_words(parser: argparse.ArgumentParser, words: argparse.Namespace) -> N
         parser.error(f"{' and '.join(named)} are two kinds of campaigns")
     if words.histograms and named:
         parser.error(f"--histograms counts the latencies of runs over seeds, and not with {named[0]}")
+    if words.junit and not words.limits:
+        parser.error("--junit reports on limits, and none are given: --limits FILE")
+    if words.junit and (words.set or words.each_outage is not None):
+        parser.error("--junit is for campaigns over seeds and for --aim, whose runs are of one description")
     if words.dask and words.by:
         parser.error("--dask has the program run on other machines, and not what --by names")
     if words.aim and words.offsets:

@@ -7,9 +7,11 @@ The first fault is the one that `afdxsim` reports; the line of `afdxsim` follows
 accepted, warnings name what is allowed and probably a mistake.
 """
 import argparse
+import json
 import sys
 from collections import Counter
-from collections.abc import Sized
+from collections.abc import Iterator, Sized
+from typing import NamedTuple
 
 from afdx import files, model
 from afdx.model import Fault, description_faults
@@ -21,6 +23,9 @@ examples:
         the faults of net.toml, or its warnings
   afdx bounds net.toml -o bounds.csv && afdx explain net.toml --bounds bounds.csv
         further warnings, of what may go wrong in the worst case
+  afdx explain --json *.toml > findings.json
+        for a build server: each fault and each warning as an object with file, line, level (fault or warning), who and
+        text, a warning with its kind, and a fault with the answer of `afdxsim`
 
 what it prints, in this order:
   faults    by the number that `afdxsim` gives them, then by section, row and key; docs/FORMATS.md, section 4, has them.
@@ -41,7 +46,7 @@ what it prints, in this order:
 
 Of more than ten warnings of one kind it prints the first three, and how many more there are; --all prints each.
 
-status: 0 if the description is accepted, with or without warnings; 1 if it has a fault; 2 if a word is wrong or the
+status: 0 if each description is accepted, with or without warnings; 1 if one has a fault; 2 if a word is wrong or the
 file cannot be read.
 """
 
@@ -64,29 +69,53 @@ def printed_of(path: str, warnings: list[description_faults.Finding], prints_all
     return lines, f", {counted(warnings, 'warning')}{more}" if warnings else ""
 
 
-def explain(path: str, bounds: str | None = None, prints_all: bool = False) -> tuple[str, int]:
-    """The faults or warnings of a file, as text, and the status. `bounds` names a file of bounds; `prints_all`: each warning."""
+class Explained(NamedTuple):
+    """What a description has: its faults, whether all of it was judged, and if it has no fault the warnings."""
+
+    path: str
+    faults: list[description_faults.Finding]
+    is_whole: bool
+    warnings: list[description_faults.Finding]
+
+    def lines(self, prints_all: bool) -> list[str]:
+        lines = [description_faults.line_of(self.path, finding) for finding in self.faults]
+        if self.faults:
+            lines[0] += f" [afdxsim: description: {description_faults.answer(self.faults[0])}]"
+            behind = "" if self.is_whole else f"; what is behind line {self.faults[-1].line} was not judged"
+            return [*lines, f"{self.path}: {counted(self.faults, 'fault')}, the first is what afdxsim answers{behind}"]
+        lines, count = printed_of(self.path, self.warnings, prints_all)
+        return [*lines, f"{self.path}: accepted{count}"]
+
+    def objects(self) -> Iterator[dict[str, object]]:
+        """Each fault and each warning for another program."""
+        for level, ones in (("fault", self.faults), ("warning", self.warnings)):
+            for it in ones:
+                found = {"file": self.path, "line": it.line, "level": level, "who": it.who, "text": it.text}
+                yield found | ({"kind": it.kind} if it.kind else {"answer": description_faults.answer(it)})
+
+
+def explained(path: str, bounds: str | None = None) -> Explained:
+    """What a file has. `bounds` names a file of bounds."""
     try:
         text = model.text_of(path)
     except Fault as fault:
         if fault.line is None:
             raise
-        found, description = [description_faults.Finding(1, None, fault.line, "", "the file is not UTF-8")], None
-    else:
-        found, description = description_faults.findings_of(path, text)
-    lines = [description_faults.line_of(path, finding) for finding in found]
+        return Explained(path, [description_faults.Finding(1, None, fault.line, "", "the file is not UTF-8")], False, [])
+    found, description = description_faults.findings_of(path, text)
     if found:
-        lines[0] += f" [afdxsim: description: {description_faults.answer(found[0])}]"
-        behind = "" if description else f"; what is behind line {found[-1].line} was not judged"
-        lines.append(f"{path}: {counted(found, 'fault')}, the first is what afdxsim answers{behind}")
-    else:
-        net = model.Network(path, text, description)
-        warnings = description_warnings.Warnings(net).findings
-        if bounds:
-            warnings += description_warnings.WorstCase(net, bounds_reader.read(bounds, net)).findings
-        lines, count = printed_of(path, warnings, prints_all)
-        lines.append(f"{path}: accepted{count}")
-    return "".join(line + "\n" for line in lines), 1 if found else 0
+        return Explained(path, found, description is not None, [])
+    net = model.Network(path, text, description)
+    warnings = description_warnings.Warnings(net).findings
+    if bounds:
+        warnings += description_warnings.WorstCase(net, bounds_reader.read(bounds, net)).findings
+    return Explained(path, [], True, warnings)
+
+
+def explain(path: str, bounds: str | None = None, prints_all: bool = False) -> tuple[str, int]:
+    """The faults or warnings of a file, as text, and the status. `bounds` names a file of bounds; `prints_all`: each warning."""
+    found = explained(path, bounds)
+    return "".join(line + "\n" for line in found.lines(prints_all)), 1 if found.faults else 0
 
 
 def counted(found: Sized, word: str) -> str:
@@ -98,14 +127,21 @@ def main(arguments: list[str] | None = None) -> int:
     parser = argparse.ArgumentParser(
         prog="afdx explain", description=__doc__, epilog=EXAMPLES, formatter_class=argparse.RawDescriptionHelpFormatter
     )
-    parser.add_argument("net", metavar="NET", help="the description (TOML)")
+    parser.add_argument("nets", metavar="NET", nargs="+", help="the descriptions (TOML); - for standard input")
     parser.add_argument("--bounds", metavar="FILE", help="warns of the worst case too: the bounds that afdx bounds printed for NET")
     says = f"prints each warning; else of more than {MOST_OF_A_KIND} of one kind the first {PRINTED_OF_A_KIND}, and how many more there are"
     parser.add_argument("--all", action="store_true", help=says)
+    parser.add_argument("--json", action="store_true", help="prints JSON: a list of all faults and warnings, one a line")
     words = parser.parse_args(arguments)
-    printed, status = explain(words.net, words.bounds, words.all)
-    files.write_out(printed)
-    return status
+    if words.bounds and len(words.nets) > 1:
+        parser.error("--bounds are of one description, and several are given")
+    found = [explained(path, words.bounds) for path in words.nets]
+    if words.json:
+        objects = [json.dumps(it, ensure_ascii=False) for one in found for it in one.objects()]
+        files.write_out("[\n" + ",\n".join(objects) + "\n]\n" if objects else "[]\n")
+    else:
+        files.write_out("".join(line + "\n" for one in found for line in one.lines(words.all)))
+    return 1 if any(one.faults for one in found) else 0
 
 
 if __name__ == "__main__":

@@ -8,12 +8,13 @@ numbers, and finds frames that should not be there. Between taps it judges skew 
 import argparse
 import os
 import sys
+import time
 
 from afdx import files, model
 from afdx.files.captures import Capture
 from afdx.model import description_faults, long_form
 from afdx.page.capture_page import CapturePage
-from afdx.reckon import bounds_file, capture_notes, capture_rows, capture_verdicts, network_calculus, tap_places
+from afdx.reckon import bounds_reader, capture_notes, capture_rows, capture_verdicts, network_calculus, tap_places
 from afdx.reckon.capture_judge import CaptureJudge
 from afdx.reckon.tap_limits import Bounds, TapLimits
 
@@ -91,13 +92,13 @@ def bounds_made_by(bounds: Bounds) -> str | None:
 
 @files.tool("afdx judge")
 def main(arguments: list[str] | None = None) -> int:
-    words = words_of(arguments)
+    begin, words = time.monotonic(), words_of(arguments)
     net = model.Network(words.net, description=description_faults.accepted(words.net))
     given = tap_places.given(net, words.tap)
     capture = Capture(words.capture)
     prints = None in words.tables
     files.ready([path for path in [*words.output, words.junit] if path], prints)
-    bounds: Bounds = bounds_file.Bounds(words.bounds, net) if words.bounds else network_calculus.Bounds(net)
+    bounds: Bounds = bounds_reader.read(words.bounds, net) if words.bounds else network_calculus.Bounds(net)
     judge = CaptureJudge(net, TapLimits(net, bounds), capture, given, words.one_clock)
     judge.read()
     rows = capture_verdicts.rows_of(judge)
@@ -105,7 +106,7 @@ def main(arguments: list[str] | None = None) -> int:
     texts = {path: text for path in words.tables if path}
     texts |= {path: CapturePage(judge, rows, bounds_made_by(bounds)).text() for path in words.pages}
     if words.junit:
-        texts[words.junit] = capture_rows.junit_text(rows, os.path.basename(words.net))
+        texts[words.junit] = capture_rows.junit_text(rows, os.path.basename(words.net), time.monotonic() - begin)
     files.write_all(texts, prints)
     if prints:
         files.write_out(text)

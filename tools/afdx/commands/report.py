@@ -15,6 +15,7 @@ has the histograms of the worst 20,000.
 import argparse
 import os
 import sys
+import time
 
 from afdx import files, model
 from afdx.page.given import Given, given_by
@@ -130,7 +131,7 @@ def report_above(given: Given) -> bool:
 
 @files.tool("afdx report")
 def main(arguments: list[str] | None = None) -> int:
-    words = words_of(arguments)
+    begin, words = time.monotonic(), words_of(arguments)
     outputs: list[str] = list(filter(None, [words.output, words.junit]))
     files.ready(outputs, prints=bool(words.limits))
     given = given_by(words)
@@ -138,7 +139,8 @@ def main(arguments: list[str] | None = None) -> int:
     files.judge(outputs, prints=bool(words.limits))
     files.write_pieces(words.output, (piece.encode("utf-8", "backslashreplace") for piece in Page(given).pieces()))
     if words.junit:
-        files.write_whole(words.junit, junit.text_of(held, words.strict, os.path.basename(words.net), given.names))
+        seconds = time.monotonic() - begin
+        files.write_whole(words.junit, junit.text_of(held, words.strict, os.path.basename(words.net), given.names, seconds))
     if words.limits:
         files.write_out(margins.text_of(held, given.names))
     is_above = report_above(given)

@@ -21,7 +21,7 @@ from afdx.files import book_edits, csv_edits, program, workbook
 from afdx.files.program import NoProgram
 from afdx.model import Network
 from afdx.page.given import ends_of, tables_of
-from afdx.reckon import bounds_file, limits, margins, network_calculus, row_results
+from afdx.reckon import bounds_reader, limits, margins, network_calculus, row_results
 from afdx.reckon.bounds_rows import BoundsRows
 from afdx.reckon.proved_bounds import ProvedBounds
 from afdx.runs import by_rt, program_bounds
@@ -101,7 +101,7 @@ def bounds_of(words: argparse.Namespace, net: Network, path: str | None) -> tupl
     if first == model.BOUNDS_HEAD:
         rows = BoundsRows(network_calculus.Bounds(net), ProvedBounds(words.bounds, net))
         return rows, rows.made_by()
-    found = bounds_file.Bounds(words.bounds, net)
+    found = bounds_reader.read(words.bounds, net)
     return found, found.made_by or ""
 
 

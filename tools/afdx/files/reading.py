@@ -1,17 +1,32 @@
 """Reads files of text: whole, or line by line."""
+import contextlib
 import os
+import sys
 from collections.abc import Iterator
+from typing import IO
 
 from afdx.files import watch
 from afdx.files.faults import Fault, printable
 from afdx.files.identities import KNOWN
 
 
+@contextlib.contextmanager
+def opened(path: str) -> Iterator[IO[bytes]]:
+    """A file to read, or standard input by the name -."""
+    if path != "-":
+        with open(path, "rb") as file:
+            yield file
+    elif sys.stdin is None:
+        raise Fault(path, None, "is standard input, which is closed")
+    else:
+        yield sys.stdin.buffer
+
+
 def bytes_of(path: str) -> bytes:
     """The bytes of a file."""
     watch.stage(f"reads {printable(path)}")
     try:
-        with open(path, "rb") as file:
+        with opened(path) as file:
             KNOWN.note(KNOWN.read, path, os.fstat(file.fileno()))
             return file.read()
     except OSError as fault:
@@ -31,7 +46,7 @@ def lines_of(path: str) -> Iterator[str]:
     """The lines of a file with their line feeds, one by one: no more of it is in memory."""
     number = 0
     try:
-        with open(path, "rb") as file:
+        with opened(path) as file:
             KNOWN.note(KNOWN.read, path, os.fstat(file.fileno()))
             for line in file:
                 number += 1

@@ -66,14 +66,14 @@ def long_rows(rows: Iterable[Row]) -> Iterator[tuple[Any, ...]]:
         yield "capture", row.vl, row.where, f"{row.what} {unit}".replace(" ", "_"), row.broken if row.value is None else row.value, more
 
 
-def junit_text(rows: Iterable[Row], name: str) -> str:
-    """A case for each row."""
+def junit_text(rows: Iterable[Row], name: str, seconds: float) -> str:
+    """A case for each row, and how long all of them took."""
     cases = []
     for row in rows:
         at = f"{row.what} at {row.tap}" if row.tap == row.where else f"{row.what} at {row.tap}, {row.where}"
         case = junit.Case(f"virtual link {row.vl}", f"{at}, network {row.net}", row.in_words(), row.verdict == BROKEN, row.verdict == UNKNOWN)
         cases.append(case)
-    return junit.suite_of(cases, name)
+    return junit.suite_of(cases, name, seconds)
 
 
 def has_failed(rows: Iterable[Row]) -> bool:

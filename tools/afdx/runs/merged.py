@@ -1,6 +1,6 @@
 """The tables of the runs of a campaign together, and what of them is over the seeds. Counts and sums are added and leasts and
 greatests taken, exactly."""
-from collections.abc import Iterator
+from collections.abc import Iterable, Iterator
 from fractions import Fraction
 from math import floor
 from typing import Any
@@ -91,6 +91,11 @@ class Merged:
             if of not in self.losses:
                 self.losses[of] = MergedLoss()
             self.losses[of].add(seed, count)
+
+    def rows_of(self, keys: Iterable[tuple[int, str]]) -> dict[tuple[int, str], model.Latency]:
+        """The merged latencies of some destinations, as tables have them."""
+        rows = ((key, self.latencies[key]) for key in keys)
+        return {key: model.Latency(*key, row.count, row.least or 0, row.greatest, row.total, row.seed, 0) for key, row in rows}
 
     def greatest_text(self, has_counts: bool) -> str:
         """Of the greatest latencies of the runs the least, the mean and the greatest; and the percentiles of all frames,
