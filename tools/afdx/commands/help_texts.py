@@ -42,8 +42,8 @@ class OfTool(NamedTuple):
 
 
 OF_TOOLS = {
-    "explain": OfTool("afdx.commands.explain", None, "NET", "print all faults of a description with their lines, or its warnings"),
-    "bounds": OfTool("afdx.commands.bounds", None, "NET [-o FILE]", "compute worst-case bounds of latencies and ports, as CSV"),
+    "explain": OfTool("afdx.commands.explain", None, "NET..", "print all faults of descriptions with their lines, or their warnings"),
+    "bounds": OfTool("afdx.commands.bounds", None, "NET [-o FILE]", "print worst-case bounds: those of the program, and those of a tool"),
     "table": OfTool("afdx.commands.from_table", None, "TABLE.. -o NET", "make a description from the tables of an interface document"),
     "results": OfTool("afdx.commands.results", None, "BOOK NET -o OUT", "write the results of a network into its interface document"),
     "campaign": OfTool("afdx.commands.campaign", None, "NET --seeds N -o DIR", "run many seeds, and merge their tables"),
@@ -98,7 +98,8 @@ One command for all work on a network: each line is a command, and `afdx COMMAND
 error output names once which program runs. It is
 {which}
   with --by second-opinion the plain simulator in Python, for all but run and replay{only};
-  with --program PATH the program that you name
+  with --program PATH the program that you name.
+The variable AFDX_BY has what --by says, if no word does
 
 {of_run}
 
@@ -138,7 +139,7 @@ def options_of(name: str) -> list[str]:
         words = program.command(name, "--help")
         said = subprocess.run(words, capture_output=True, text=True, stdin=subprocess.DEVNULL).stdout
         found = set(re.findall(r"(?<![\w-])--[a-z][a-z-]*[a-z]", said))
-        return sorted(found | {"--by"} if name in RUN_IT else found)
+        return sorted(found | {"--by"} if name in (*RUN_IT, "bounds") else found)
     more = {"page": ["--by", "--limits", "--no-bounds", "--output", "--program"], "build": ["--jobs"], "package": ["--output"]}
     return [*more.get(name, []), "--help"]
 
