@@ -51,7 +51,7 @@ class TapLimits:
 
     def may_refuse(self, vl: VirtualLink, switch: str) -> bool:
         if isinstance(self.bounds, bounds_file.Bounds):
-            return bool(self.bounds.number("refuses", vl.id, switch))
+            return bool(self.bounds.table.number("refuses", vl.id, switch))
         return self.bounds.may_refuse(vl.id, switch)
 
     # ---- the ways ----
