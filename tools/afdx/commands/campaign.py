@@ -8,15 +8,17 @@ from collections.abc import Callable, Iterable
 from typing import Any, NoReturn
 
 from afdx import files, model
+from afdx.commands import campaign_merge
 from afdx.commands.campaign_words import words_of
 from afdx.files import Fault, program
 from afdx.files.page_text import us_text
 from afdx.model import GREATEST_SEED, description_faults, long_form
 from afdx.model.document_names import DocumentNames
+from afdx.page import late_panel
 from afdx.reckon import junit, margins, network_calculus, output_sizes
 from afdx.reckon.limits import limits_of
 from afdx.reckon.margins import margins_of
-from afdx.runs import aim, campaign_record, cluster, each_outage, program_bounds, side_by_side, sweep, unproved_runs
+from afdx.runs import aim, campaign_record, cluster, each_outage, program_bounds, side_by_side, sweep, unproved_runs, worst_frames
 from afdx.runs.campaign_folder import Folder
 from afdx.runs.campaign_network import CampaignNetwork, ChangedNetwork
 from afdx.runs.campaign_progress import Progress
@@ -46,7 +48,8 @@ def prepare(words: argparse.Namespace) -> tuple[CampaignNetwork, Limits, range]:
         raise Fault(words.net, line, f"the seeds from {first} on would pass {GREATEST_SEED}")
     files.ready([words.junit] if words.junit else [])
     words.folder = Folder(words.output, words.replace)
-    return net, limits, range(first, first + words.seeds)
+    seeds = range(first, first + words.seeds)
+    return net, limits, words.part.seeds(seeds) if words.part else seeds
 
 
 def foresee(net: CampaignNetwork, is_traced: bool) -> None:
@@ -85,7 +88,9 @@ def write_results(words: argparse.Namespace, campaign: Campaign) -> str:
     path = words.folder.write(campaign_record.MERGED, merged.text())
     words.folder.write(campaign_record.GREATEST, merged.greatest_text(has_counts))
     if has_counts:
-        words.folder.write("histograms.csv", merged.histograms())
+        words.folder.write(campaign_record.HISTOGRAMS, merged.histograms())
+    if words.part:
+        words.folder.write(campaign_record.MOST_LOST, merged.most_lost())
     return path
 
 
@@ -106,6 +111,7 @@ def write_record(words: argparse.Namespace, net: CampaignNetwork, seeds: range) 
     if not words.by and who_made(words).sha256 != words.maker.sha256:
         raise Fault(words.program, None, f"was replaced while the runs were made, so {campaign_record.NAME} is not written. Run the campaign anew")
     own = ["--seeds", str(words.seeds)]
+    own += ["--part", words.part.text()] if words.part else []
     own += ["--each-outage", str(words.each_outage)] if words.each_outage is not None else []
     own += ["--until", str(words.until)] if words.until is not None else []
     own += [word for it in words.set or () for word in ("--set", it.text)] + [word for vl in words.aim or () for word in ("--aim", str(vl))]
@@ -130,6 +136,18 @@ def over_seeds(words: argparse.Namespace, net: CampaignNetwork, limits: Limits, 
         write_junit(words, net, margins_of(limits, net, campaign.merged.rows_of(limits)), begin)
     campaign.report(path, time.monotonic() - begin)
     return campaign.status or (1 if campaign.broken else 0)
+
+
+def over_parts(words: argparse.Namespace) -> int:
+    """Merges the parts of a campaign, and answers the status."""
+    begin = time.monotonic()
+    campaign, record = campaign_merge.merged_of(words)
+    path = write_results(words, campaign)
+    write_json(words, "merged.json", campaign.merged.long_rows)
+    campaign_merge.write_record(words.folder, record)
+    write_junit(words, campaign.net, margins_of(campaign.limits, campaign.net, campaign.merged.rows_of(campaign.limits)), begin)
+    campaign.report(path, time.monotonic() - begin)
+    return 1 if campaign.broken else 0
 
 
 def over_settings(words: argparse.Namespace, net: CampaignNetwork, limits: Limits, seeds: range) -> int:
@@ -196,6 +214,10 @@ def over_aims(words: argparse.Namespace, net: CampaignNetwork, limits: Limits, s
         return found.status
     table = words.folder.write("aim.csv", found.table(words.maker))
     write_json(words, "aim.json", found.long_rows)
+    if found.tried():
+        ways = found.ways_of_worst()
+        words.folder.write("late.csv", worst_frames.csv_text(ways.found))
+        words.folder.write("late.html", late_panel.alone(ways, words.net, DocumentNames(net), words.maker.in_words()))
     write_record(words, net, seeds)
     write_junit(words, net, found.margins(), begin)
     files.say(f"{table}: {found.done} runs, in {time.monotonic() - begin:.1f} s")
@@ -275,6 +297,8 @@ def keeper(words: argparse.Namespace) -> Keep:
 @files.tool("afdx campaign")
 def main(arguments: list[str] | None = None) -> int:
     words = words_of(arguments)
+    if words.merge:
+        return over_parts(words)
     if words.dask and not cluster.is_here():
         return by_another(sys.argv[1:] if arguments is None else arguments)
     over = over_settings if words.set else over_aims if words.aim else over_seeds if words.each_outage is None else over_outages

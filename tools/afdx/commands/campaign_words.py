@@ -4,7 +4,7 @@ import os
 
 from afdx import model
 from afdx.model import GREATEST_SEED, PROGRAM, whole
-from afdx.runs import cluster, each_outage, sweep
+from afdx.runs import campaign_parts, cluster, each_outage, sweep
 
 SAYS = """Runs a network with many seeds, several runs side by side, and merges the tables of all runs into one.
 
@@ -31,6 +31,10 @@ With --each-outage each link and each switch is out in turn, for the whole run o
 page DIR/outages.html show what is then lost end to end, and what becomes late, beside the same runs without it.
 
 With --dask the workers of a Dask cluster make the runs, on several machines. The results have the same bytes.
+
+With --part 3/16 this call makes the third of sixteen parts of the runs, so that any scheduler makes them, on any machines.
+--merge DIR.. puts the folders of all parts together. The results have the bytes of one campaign over all seeds. Parts of
+another description, program, end or rule of offsets are refused, and so is a part that is there twice or missing.
 
 With a file of limits, each run is compared with them, and the status is 1 if a run breaks one.
 """
@@ -62,6 +66,8 @@ examples:
   afdx campaign net.toml --seeds 1000 --dask tcp://10.0.0.1:8786 -o campaign
         on several machines: the scheduler on one of them, a worker on each, with four runs side by side. Each machine
         needs python3-distributed, and afdxsim on its PATH, at the path in AFDXSIM, or where this machine has it
+  afdx campaign net.toml --seeds 1000 --part 3/16 -o part-3; afdx campaign net.toml --merge part-* -o campaign
+        the third of sixteen parts, as a job of a scheduler; and all of them together, once they are there
 
 limits.csv, a line for each destination that has a limit: number of the virtual link, name of the destination, and the
 greatest latency in ns that it may have. Lines that are empty or begin with # are ignored.
@@ -106,7 +112,9 @@ status: 0; 1 if an outage alone breaks a limit, or a run failed; 2 if a word is 
 130 and 143 if it was interrupted: what was made before is kept
 """
 # The words of a campaign that outages have not.
-NOT_OF_OUTAGES = ("--set", "--aim", "--histograms", "--json", "--junit")
+NOT_OF_OUTAGES = ("--set", "--aim", "--histograms", "--json", "--junit", "--part", "--merge")
+# The words of a campaign that say which runs are made and how: parts that are merged have theirs already.
+NOT_OF_MERGES = ("seeds", "first", "until", "offsets", "histograms", "keep", "by", "dask", "jobs", "program", "part")
 
 
 def help_of_outages() -> str:
@@ -128,7 +136,12 @@ def words_of(arguments: list[str] | None = None) -> argparse.Namespace:
     add_words(parser)
     words = parser.parse_args(arguments)
     judge_words(parser, words)
+    words.seeds, words.jobs, words.program = words.seeds or 1, words.jobs or processors(), words.program or PROGRAM
     return words
+
+
+def processors() -> int:
+    return len(os.sched_getaffinity(0)) if hasattr(os, "sched_getaffinity") else os.cpu_count() or 1
 
 
 def add_kinds(parser: argparse.ArgumentParser) -> None:
@@ -153,6 +166,8 @@ def add_kinds(parser: argparse.ArgumentParser) -> None:
         help="runs each seed (default: 1 seed) with offsets that let other frames meet those of this virtual link at each port; "
         "`all`: of each destination that has a limit, or without --limits of all virtual links",
     )
+    add("--part", type=campaign_parts.part, metavar="I/N", help="makes the runs of one part of the seeds: 3/16 is the third of sixteen")
+    add("--merge", metavar="DIR", nargs="+", help="makes no runs, and puts the folders of all parts together")
 
 
 def add_words(parser: argparse.ArgumentParser) -> None:
@@ -164,8 +179,8 @@ def add_words(parser: argparse.ArgumentParser) -> None:
         help="the first seed, in place of that of NET",
     )
     add("--json", action="store_true", help="writes the tables of DIR in long form too: DIR/merged.json, sweep.json, ..")
-    jobs = len(os.sched_getaffinity(0)) if hasattr(os, "sched_getaffinity") else os.cpu_count() or 1
-    add("--jobs", type=whole(1, 1024), default=jobs, metavar="N", help=f"runs side by side, and as many processes that read them (default here: {jobs})")
+    jobs = processors()
+    add("--jobs", type=whole(1, 1024), metavar="N", help=f"runs side by side, and as many processes that read them (default here: {jobs})")
     add("--offsets", action="store_true", help="draw the offset of each virtual link within its period, for each run")
     add("--limits", metavar="FILE", help="limits of latencies, lines VL,NAME,NS")
     add("--junit", metavar="FILE", help="writes what became of each limit as JUnit's XML")
@@ -173,7 +188,7 @@ def add_words(parser: argparse.ArgumentParser) -> None:
     address, says = cluster.address, "the workers of the Dask cluster with this scheduler make the runs: tcp://HOST:PORT"
     add("--dask", type=address, metavar="ADDRESS", help=says)
     add("--keep", action="store_true", help="keep the description and the tables of each run in DIR too")
-    add("--program", default=PROGRAM, metavar="PATH", help="the program (default: crates/afdxsim/out/afdxsim)")
+    add("--program", metavar="PATH", help="the program (default: crates/afdxsim/out/afdxsim)")
     says = "who makes the runs in place of the program: try, these sources without a proof, built once by the kit's `rt try`; or "
     add("--by", choices=("try", "second-opinion"), metavar="WHAT", help=says + "second-opinion, afdx second-opinion, without the kit")
     add("-o", "--output", metavar="DIR", required=True, help="the folder for what comes of it; it is made if need be")
@@ -184,7 +199,8 @@ def judge_words(parser: argparse.ArgumentParser, words: argparse.Namespace) -> N
     """Refuses words that do not go together."""
     kinds = {"--each-outage": words.each_outage is not None, "--set": bool(words.set), "--aim": bool(words.aim)}
     named = [name for name, is_named in kinds.items() if is_named]
-    if words.seeds is None and not named:
+    judge_parts(parser, words, named)
+    if words.seeds is None and not named and not words.merge:
         parser.error("how many seeds? --seeds N")
     if len(named) > 1:
         parser.error(f"{' and '.join(named)} are two kinds of campaigns")
@@ -200,4 +216,15 @@ def judge_words(parser: argparse.ArgumentParser, words: argparse.Namespace) -> N
         parser.error("--aim has offsets of its own, and no --offsets")
     if "all" in (words.aim or ()) and len(words.aim) > 1:
         parser.error("--aim all has each virtual link already")
-    words.seeds = words.seeds or 1
+
+
+def judge_parts(parser: argparse.ArgumentParser, words: argparse.Namespace, kinds: list[str]) -> None:
+    """Refuses words that do not go with parts: `kinds` are the kinds of campaigns that are named."""
+    if words.part and kinds:
+        parser.error(f"--part is of runs over seeds, and not with {kinds[0]}")
+    if words.part and words.seeds is not None and words.part.of > words.seeds:
+        parser.error(f"--part {words.part.text()}: {words.seeds} seeds have no {words.part.of} parts")
+    if words.merge:
+        given = [f"--{name}" for name in NOT_OF_MERGES if getattr(words, name) not in (None, False)]
+        for name in kinds + given:
+            parser.error(f"--merge makes no runs, and takes no {name}: the parts have theirs")

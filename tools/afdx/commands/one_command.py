@@ -47,7 +47,9 @@ def by_tool(name: str, words: list[str]) -> int:
     end = words.index("--") if "--" in words else len(words)
     has_option = any(word.startswith(tool.option or "-") for word in words[:end])
     words = words if has_option or not tool.option else [*words[:end], tool.option, *words[end:]]
-    if name in help_texts.RUN_IT and not asks:
+    # Parts that are merged have been run already.
+    merges = name == "campaign" and any(word.split("=")[0] == "--merge" for word in words[:end])
+    if name in help_texts.RUN_IT and not asks and not merges:
         words, status = with_program(words)
         if status:
             return status

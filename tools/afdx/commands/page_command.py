@@ -82,7 +82,7 @@ def page(arguments: list[str]) -> int:
     path: str
     for path in filter(None, (words.net, words.tables)):
         files.reads(path)
-    outputs: list[str | None] = [words.output, taken_out(more, "--junit")[1]]
+    outputs: list[str | None] = [words.output, taken_out(more, "--junit")[1], taken_out(more, "--late")[1]]
     files.ready(list(filter(None, outputs)))
     if status := explained(words.net):
         return status

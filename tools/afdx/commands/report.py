@@ -21,6 +21,7 @@ from afdx import files, model
 from afdx.page.given import Given, given_by
 from afdx.page.html_page import Page
 from afdx.reckon import junit, margins
+from afdx.runs import worst_frames
 
 EXAMPLES = """
 examples:
@@ -87,6 +88,7 @@ def words_of(arguments: list[str] | None = None) -> argparse.Namespace:
     add("--bounds", metavar="FILE", help="the worst-case bounds that afdx bounds printed for NET")
     add("--strict", action="store_true", help="the status is 1 also where a limit is below its bound, or has none")
     add("--junit", metavar="FILE", help="writes what became of each limit as JUnit's XML")
+    add("--late", metavar="FILE", help="writes as CSV why the worst frames of broken and nearest limits are late, hop by hop")
     add("--hops", metavar="FILE", help="what afdx second-opinion --hops has measured in the same run")
     add("--against", metavar="FILE", help="the tables of another run, to compare this one with: before and after")
     add("--against-net", metavar="NET", help="the description of the other run (default: NET)")
@@ -108,6 +110,8 @@ def words_of(arguments: list[str] | None = None) -> argparse.Namespace:
         parser.error("--first and --offsets describe the runs of a campaign, and --seeds their number")
     if words.junit and not words.limits:
         parser.error("--junit reports on limits, and none are given: --limits FILE")
+    if words.late and not words.limits:
+        parser.error("--late is of the worst frames of limits, and none are given: --limits FILE")
     if words.strict and not (words.limits and words.bounds):
         parser.error("--strict holds limits against bounds: it needs --limits FILE and --bounds FILE")
     return words
@@ -132,7 +136,7 @@ def report_above(given: Given) -> bool:
 @files.tool("afdx report")
 def main(arguments: list[str] | None = None) -> int:
     begin, words = time.monotonic(), words_of(arguments)
-    outputs: list[str] = list(filter(None, [words.output, words.junit]))
+    outputs: list[str] = list(filter(None, [words.output, words.junit, words.late]))
     files.ready(outputs, prints=bool(words.limits))
     given = given_by(words)
     held = list(given.margins.values())
@@ -141,6 +145,8 @@ def main(arguments: list[str] | None = None) -> int:
     if words.junit:
         seconds = time.monotonic() - begin
         files.write_whole(words.junit, junit.text_of(held, words.strict, os.path.basename(words.net), given.names, seconds))
+    if words.late:
+        files.write_whole(words.late, worst_frames.csv_text(given.ways.found if given.ways else []))
     if words.limits:
         files.write_out(margins.text_of(held, given.names))
     is_above = report_above(given)

@@ -12,7 +12,7 @@ from afdx.model.document_names import DocumentNames
 from afdx.model.traces import Trace
 from afdx.reckon import bounds_file, bounds_reader, bounds_table, frames, hops, limits, margins, transmit_jitter
 from afdx.reckon.frames import Ends
-from afdx.runs import campaign_record
+from afdx.runs import campaign_record, worst_frames
 
 
 class Other(NamedTuple):
@@ -46,6 +46,8 @@ class Given(NamedTuple):
     # Whether limits are compared with the bounds that hold whatever other end systems send.
     by_contract: bool
     names: DocumentNames
+    # The ways of the worst frames of limits, if there are limits and the runs are known.
+    ways: worst_frames.Ways | None
 
 
 class Runs(NamedTuple):
@@ -146,4 +148,17 @@ def given_by(words: argparse.Namespace) -> Given:
     ends, made_of = ends_of(words, tables, found, trace), list(filter(None, made_of))
     of_delay = lambda found: found and (lambda vl, line: found("delay", vl, line))
     transmit = transmit_jitter.TransmitJitter(net, of_delay(measured and measured.greatest), of_delay(bounds and bounds.of_kind))
-    return Given(net, tables, trace, percentiles, ends, by_place, bounds, other, way, transmit, made_of, made_by, words.date, margins.by_contract(net, bounds), DocumentNames(net))
+    is_by_contract, ways = margins.by_contract(net, bounds), ways_of(words, tables, found, held)
+    return Given(
+        net, tables, trace, percentiles, ends, by_place, bounds, other, way, transmit, made_of, made_by, words.date, is_by_contract,
+        DocumentNames(net), ways,
+    )
+
+
+def ways_of(
+    words: argparse.Namespace, tables: Tables, found: campaign_record.Record | None, held: list[margins.Margin]
+) -> worst_frames.Ways | None:
+    """The ways of the worst frames, if there are limits and the runs are known. Where the words want a file of them, they take as long
+    as they take."""
+    runs = runs_of(words, tables, found) if held else None
+    return worst_frames.of_tables(tables, held, len(runs.seeds), runs.draws_offsets, bool(words.late)) if runs else None

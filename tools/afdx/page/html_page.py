@@ -9,11 +9,12 @@ from afdx import files, model
 from afdx.files import program
 from afdx.files.page_text import counted, esc, hundredths, span
 from afdx.model import offered_rates
-from afdx.page import comparison_panels, json_text, latency_panel, loss_panels, panels, worst_case_panels
+from afdx.page import comparison_panels, json_text, late_panel, latency_panel, loss_panels, panels, worst_case_panels
 from afdx.page.columns import WARN, AnyRows, Column, Rows
 from afdx.page.drawing import heat
 from afdx.page.end_table import BARS, ENOUGH_FOR_BARS, EndTable
 from afdx.page.given import Given
+from afdx.page.page_files import part_of_page
 from afdx.page.tiles import tiles
 from afdx.reckon import bounds_file
 from afdx.runs.campaign_record import PERCENTS
@@ -24,11 +25,6 @@ MOST_PLAIN = 20_000
 # What the page shows of a virtual link itself, and of its own stream.
 FACTS = ["id", "source", "bag_ns", "smax", "priority", "policing", "policing_ns", "skew_ns", "depth", "sub"]
 OF_STREAM = ["size", "period_ns", "offset_ns", "jitter_ns"]
-
-
-def part_of_page(name: str) -> str:
-    """The text of a file of the page: its style or its script."""
-    return files.text_of(os.path.join(os.path.dirname(os.path.abspath(__file__)), name))
 
 
 def without(columns: Mapping[str, Sequence[Any]], *names: str) -> dict[str, Sequence[Any]]:
@@ -145,6 +141,7 @@ class Page:
         found = [panels.network(self), panels.end_to_end(self)]
         # Verdicts come first.
         found.insert(0 if given.margins else 2, latency_panel.latency(self))
+        found.insert(1, late_panel.late(given.ways, given.names) if given.ways else "")
         found += [worst_case_panels.worst_case(self, given.bounds)] if given.bounds else []
         found += [worst_case_panels.on_the_way(self, given.way)] if given.way else []
         found += [worst_case_panels.transmit_jitter(self)]

@@ -8,6 +8,7 @@ frame later is kept. Other offsets may make it later still: what is found is rea
 """
 import contextlib
 import random
+import tomllib
 from collections.abc import Callable, Iterable, Iterator, Mapping, Sequence
 from itertools import repeat
 from typing import Any, NamedTuple
@@ -19,7 +20,8 @@ from afdx.files.program import Maker
 from afdx.reckon import margins, network_calculus, output_ports
 from afdx.reckon.bounds_rows import BoundsRows
 from afdx.reckon.limits import Limit
-from afdx.runs import program_bounds, reading_processes, run_results, side_by_side
+from afdx.reckon.margins import Margin
+from afdx.runs import program_bounds, reading_processes, run_results, side_by_side, worst_frames
 from afdx.runs.campaign_network import CampaignNetwork
 from afdx.runs.plain_simulator import Frame, Simulation
 from afdx.runs.side_by_side import Keep, Run, Runs, Shown
@@ -359,6 +361,25 @@ class AimedRuns:
             worst[it[:2]] = max(it.plain_ns, it.aimed_ns, worst.get(it[:2], 0))
         latencies = {key: model.Latency(*key, 1, ns, ns, ns, None, 0) for key, ns in worst.items()}
         return margins.margins_of(self.tried(), self.net, latencies, self.deciding)
+
+    def ways_of_worst(self) -> worst_frames.Ways:
+        """The ways of the worst frames of limits that are broken or nearest, each in the run that found it."""
+        worst: dict[Key, Line] = {}
+        for it in self.lines:
+            if it[:2] not in worst or max(it.plain_ns, it.aimed_ns) > max(worst[it[:2]].plain_ns, worst[it[:2]].aimed_ns):
+                worst[it[:2]] = it
+        held = worst_frames.chosen(self.margins())
+        found = [way for it in held for way in self.way_of_worst(it, worst[it.limit.vl, it.limit.where])]
+        return worst_frames.Ways(found, 0, len(held) - len(found))
+
+    def way_of_worst(self, margin: Margin, line: Line) -> list[worst_frames.Worst]:
+        """The way of the worst frame of a limit, in the run of a line of the table."""
+        if line.aimed_ns < line.plain_ns:
+            text, run = self.net.with_seed(line.seed, False), worst_frames.AS_DESCRIBED
+        else:
+            aim = next(aim for aim, _ in self.courses if (aim.vl.id, aim.where, aim.side) == line[:3])
+            text, run = self.net.with_offsets(line.seed, aim.offsets(line.seed)), f"{worst_frames.AIMED} by network {line.network}"
+        return worst_frames.in_run(tomllib.loads(text), [margin], line.seed, run)
 
     def table(self, maker: Maker) -> str:
         """The table; its last column names the program."""

@@ -14,7 +14,7 @@ from afdx.files import Fault
 
 # The names of the files that a campaign writes.
 WRITTEN = re.compile(
-    r"campaign\.json|(merged|greatest|histograms|outages|sweep|aim)\.(csv|json)|(outages|sweep)\.html"
+    r"campaign\.json|(merged|greatest|histograms|most_lost|outages|sweep|aim)\.(csv|json)|late\.csv|(outages|sweep|late)\.html"
     r"|((outage|set|aimed)-\d+-)?seed-\d+\.(toml|tables\.csv)"
 )
 # The fault names this many files of an earlier campaign at most.

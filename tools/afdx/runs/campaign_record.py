@@ -12,6 +12,10 @@ from afdx.model import Latency, Tables, lines_of, whole_number
 NAME = "campaign.json"
 MERGED = "merged.csv"
 GREATEST = "greatest.csv"
+HISTOGRAMS = "histograms.csv"
+# Of a part of a campaign: the most of each loss in one run.
+MOST_LOST = "most_lost.csv"
+MOST_LOST_HEAD = "vl,where,cause,most,seed"
 GREATEST_HEAD = "vl,where,runs,least_greatest_ns,mean_greatest_ns,greatest_ns,sum_greatest_ns,seed"
 # The percentiles of the frames of all runs, where each latency was counted.
 PERCENTS = [50, 95, 99]

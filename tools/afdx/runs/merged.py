@@ -9,8 +9,10 @@ from afdx import model
 from afdx.model import CAUSES, TABLES_HEAD, long_form
 from afdx.reckon import latency_counts
 from afdx.runs import run_results
-from afdx.runs.campaign_record import COUNTED_HEAD, GREATEST_HEAD, PERCENTS
+from afdx.runs.campaign_record import COUNTED_HEAD, GREATEST_HEAD, MOST_LOST_HEAD, PERCENTS
 from afdx.runs.side_by_side import Worst
+
+HISTOGRAMS_HEAD = "vl,where,from_ns,to_ns,count"
 
 
 class OverSeeds:
@@ -23,8 +25,12 @@ class OverSeeds:
         self.runs, self.least, self.total, self.counts = 0, 0, 0, latency_counts.Counts()
 
     def add(self, greatest: int) -> None:
-        self.least = greatest if self.runs == 0 else min(self.least, greatest)
-        self.runs, self.total = self.runs + 1, self.total + greatest
+        self.add_part(1, greatest, greatest)
+
+    def add_part(self, runs: int, least: int, total: int) -> None:
+        """Adds several runs: the least and the sum of their greatest latencies."""
+        self.least = least if self.runs == 0 else min(self.least, least)
+        self.runs, self.total = self.runs + runs, self.total + total
 
     def mean(self) -> int:
         """The mean of the greatest latencies, to the nearest ns."""
@@ -59,9 +65,13 @@ class MergedLoss:
         self.seed: int | None = None
 
     def add(self, seed: int, count: int) -> None:
+        self.add_part(seed, count, count)
+
+    def add_part(self, seed: int, count: int, most: int) -> None:
+        """Adds several later runs: how many frames were lost, the most in one of them, and the first seed with as many."""
         self.count += count
-        if count > self.most:
-            self.most, self.seed = count, seed
+        if most > self.most:
+            self.most, self.seed = most, seed
 
 
 class Merged:
@@ -75,11 +85,15 @@ class Merged:
         # For each virtual link, place and cause.
         self.losses: dict[tuple[int, str, str], MergedLoss] = {}
 
+    def begin(self) -> None:
+        """Makes room for each destination."""
+        for key in run_results.keys_of(self.net):
+            self.latencies[key], self.over_seeds[key] = MergedLatency(), OverSeeds()
+
     def add(self, seed: int, result: run_results.RunResult) -> None:
         """Adds what the run of a later seed says."""
         if not self.latencies:
-            for key in run_results.keys_of(self.net):
-                self.latencies[key], self.over_seeds[key] = MergedLatency(), OverSeeds()
+            self.begin()
         rows = zip(self.latencies.values(), self.over_seeds.values(), result.count, result.least, result.greatest, result.total)
         for mine, over, count, least, greatest, total in rows:
             if count:
@@ -114,7 +128,7 @@ class Merged:
 
     def histograms(self) -> Iterator[str]:
         """How many frames there were in each bin, from one latency to another; as texts, of which no two need be in memory."""
-        yield "vl,where,from_ns,to_ns,count\n"
+        yield HISTOGRAMS_HEAD + "\n"
         for vl, where in self.latencies:
             lines = []
             for number, count in self.over_seeds[vl, where].counts.items():
@@ -124,15 +138,26 @@ class Merged:
 
     def text(self) -> str:
         """The tables in the order in which the program prints tables, with the seed as the last column."""
-        process = self.net.process
         lines = [TABLES_HEAD + ",seed"]
         for vl, where in self.latencies:
             row = self.latencies[vl, where]
             seed = "" if row.seed is None else row.seed
             lines.append(f"latency,{vl},{where},,{row.count},{row.least},{row.greatest},{row.total},{seed}")
-        for vl, where, cause in sorted(self.losses, key=lambda it: (it[0], process[it[1]], CAUSES.index(it[2]))):
+        for vl, where, cause in self.losses_in_order():
             loss = self.losses[vl, where, cause]
             lines.append(f"dropped,{vl},{where},{cause},{loss.count},,,,{loss.seed}")
+        return "\n".join(lines) + "\n"
+
+    def losses_in_order(self) -> list[tuple[int, str, str]]:
+        """The keys of the losses in the order in which the program prints them."""
+        process = self.net.process
+        return sorted(self.losses, key=lambda it: (it[0], process[it[1]], CAUSES.index(it[2])))
+
+    def most_lost(self) -> str:
+        """The most of each loss in one run, with the first seed that lost as many: what the merge of parts needs besides the tables."""
+        lines = [MOST_LOST_HEAD]
+        for key in self.losses_in_order():
+            lines.append(f"{key[0]},{key[1]},{key[2]},{self.losses[key].most},{self.losses[key].seed}")
         return "\n".join(lines) + "\n"
 
     def long_rows(self) -> Iterator[tuple[Any, ...]]:

@@ -22,7 +22,7 @@ class Campaign:
         self.net, self.limits, self.seeds, self.draws_offsets = net, limits, seeds, draws_offsets
         self.merged, self.done, self.status = Merged(net), 0, 0
         self.failure: str | None = None
-        # For each limit that is broken: in how many runs.
+        # For each limit that is broken: in how many runs, or 0 where that is not known.
         self.broken: dict[tuple[int, str], int] = {}
 
     def runs(self) -> Iterator[Run]:
@@ -78,7 +78,8 @@ class Campaign:
             files.say(f"limits: {len(self.limits):,}, broken: {len(self.broken):,}")
         for key in sorted(self.broken, key=lambda it: self.limits[it].line):
             limit, row = self.limits[key], self.merged.latencies[key]
+            many = f"; broken by {self.broken[key]} of {runs}" if self.broken[key] else ""
             files.say(
                 f"limit broken: virtual link {limit.vl} at {limit.where} has {us_text(limit.ns)}, and took {us_text(row.greatest)} with "
-                f"the seed {row.seed}; broken by {self.broken[key]} of {runs}"
+                f"the seed {row.seed}{many}"
             )
