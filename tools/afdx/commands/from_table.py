@@ -12,13 +12,14 @@ leaves it out.
 --back makes the tables of a description, with the limits, ports and remarks of its comments.
 """
 import argparse
+import json
 import sys
 
 from afdx import files
 from afdx.document.lines import commented
 from afdx.document.places import PASSED, Said, Skip, said_of
 from afdx.document.tables import COLUMN_SAID
-from afdx.document.text import made
+from afdx.document.text import Made, made
 from afdx.model import headings, to_tables
 
 EXAMPLES = """
@@ -33,6 +34,8 @@ examples:
         with three headings that the tool does not know, of which the last is ignored. net.toml keeps them in comments
   afdx table icd.xlsx --skip History --skip 'VLs!A40:A52' --receipt rows.csv -o net.toml
         leaves out a sheet and some rows, and writes what became of the rows of each sheet
+  afdx table icd.xlsx -o net.toml --json > findings.json
+        for a build server: each fault, each note and the receipt as an object with file, sheet, line, level and text
   afdx table --back net.toml -o tables.csv
         the tables of a description
 
@@ -98,10 +101,13 @@ def words_of(arguments: list[str] | None) -> argparse.Namespace:
         "--skip", type=skip_word, action="append", default=[], metavar="SHEET[!A20:A35]",
         help="leaves out a sheet, or rows of it; a file of CSV is a sheet of its name",
     )
+    parser.add_argument("--json", action="store_true", help="prints faults, notes and the receipt as JSON on standard output, one a line (with -o)")
     parser.add_argument("--receipt", metavar="FILE", help="writes what became of the rows of each sheet (CSV)")
     words = parser.parse_args(arguments)
-    if words.back and (words.column or words.skip or words.receipt):
-        parser.error("--column, --skip and --receipt are about tables that are read; --back makes those of the description")
+    if words.back and (words.column or words.skip or words.receipt or words.json):
+        parser.error("--column, --skip, --receipt and --json are about tables that are read; --back makes those of the description")
+    if words.json and not words.output:
+        parser.error("--json prints on standard output, so the description needs a name: -o FILE")
     names = [said[:2] for said in words.column]
     twice = next((said for said in words.column if names.count(said[:2]) > 1), None)
     if twice:
@@ -120,17 +126,31 @@ def main(arguments: list[str] | None = None) -> int:
         written(words.output, to_tables.Back(words.tables[0], commented, COLUMN_SAID).text(), {})
         return 0
     found = made(words.tables, words.column, words.skip)
-    for note in found.notes:
+    if words.json:
+        files.write_out(json_text(found))
+    for note in found.notes if not words.json else ():
         files.report("afdx table", f"note: {note}")
-    for fault in found.faults:
+    for fault in found.faults if not words.json else ():
         files.report("afdx table", fault)
     receipt = {words.receipt: found.receipt.csv()} if words.receipt else {}
     if found.faults:
         files.write_all(receipt)
     else:
         written(words.output, found.text, receipt)
-    files.report("afdx table", found.receipt.text())
+    if not words.json:
+        files.report("afdx table", found.receipt.text())
     return 1 if found.faults else 0
+
+
+def json_text(found: Made) -> str:
+    """Faults, notes and the receipt for another program: an object a line."""
+    objects: list[dict[str, object]] = []
+    for level, ones in (("fault", found.faults), ("note", found.notes)):
+        for it in ones:
+            path, _, sheet = it.path.removesuffix(",").partition(", sheet ")
+            objects.append({"file": path, "sheet": sheet or None, "line": it.line, "level": level, "text": it.text})
+    objects.append({"file": None, "sheet": None, "line": None, "level": "receipt", "text": found.receipt.text()})
+    return "[\n" + ",\n".join(json.dumps(it, ensure_ascii=False) for it in objects) + "\n]\n"
 
 
 def written(output: str | None, text: str, more: dict[str, str]) -> None:

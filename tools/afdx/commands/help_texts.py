@@ -22,7 +22,7 @@ class OfProgram(NamedTuple):
 
 
 OF_PROGRAM = {
-    "check": OfProgram(1, "NET", "check a description, and count its contents"),
+    "check": OfProgram(1, "NET.. [--json]", "check descriptions, and count their contents"),
     "seq": OfProgram(1, "NET [--trace FILE] [--progress]", "simulate the network on one thread; prints tables as CSV"),
     "run": OfProgram(
         1, "NET [--workers N] [--groups N] [--turn N] [--window NS] [--journal FILE] [--trace FILE] [--progress]",

@@ -3,12 +3,11 @@ import os
 import subprocess
 import sys
 
-from afdx import files, model
-from afdx.commands import help_texts
+from afdx import files
+from afdx.commands import check_command, help_texts
 from afdx.commands.chosen_program import Mistake, asks_for_help, chosen, ended, foresee, taken_out, write
 from afdx.files import program
 from afdx.files.program import NoProgram
-from afdx.model import description_faults
 from afdx.runs import by_rt
 from afdx.runs.by_rt import report
 
@@ -40,6 +39,10 @@ def by_program(name: str, words: list[str]) -> int:
     if asks_for_help(words):
         return help_of_program(name, words, path)
     it = chosen(by, path)
+    if name == "check" and is_for_several(words):
+        check_command.names_of(words)
+        report(it.says)
+        return check_command.check_all(words, check_command.judge_of(it))
     if it.how in ("proved", "given"):
         assert it.path is not None
         report(it.says)
@@ -75,27 +78,19 @@ def by_program(name: str, words: list[str]) -> int:
 def check_by_opinion(words: list[str], read: list[int]) -> int:
     """Judges a description as `afdxsim check` does, by afdx explain, and answers the status."""
     if len(read) < 1:
-        raise Mistake(f"check of which description? afdx check {help_texts.OF_PROGRAM['check'].usage}")
+        raise Mistake(f"check of which description? {check_command.USAGE}")
     if rest := [word for i, word in enumerate(words) if i not in read and word != "--"]:
-        raise Mistake(f"check reads one description, and {rest[0]!r} is a word more: afdx check {help_texts.OF_PROGRAM['check'].usage}")
-    path = words[read[0]]
-    try:
-        text = files.text_of(path)
-    except files.Fault as fault:
-        print("afdxsim: description: 1 Syntax" if fault.line else f"afdxsim: cannot read {files.printable(path)}", file=sys.stderr)
-        return 3 if fault.line else 4
-    found, description = description_faults.findings_of(path, text)
-    if found:
-        print(f"afdxsim: description: {description_faults.answer(found[0])}", file=sys.stderr)
-        return 3
-    files.say(said_if_accepted(model.Network(path, text, description)))
-    return 0
+        raise Mistake(f"check has no option {rest[0]}: {check_command.USAGE}")
+    answer = check_command.by_opinion(words[read[0]])
+    print(answer.text(), file=sys.stderr if answer.status else sys.stdout)
+    return answer.status
 
 
-def said_if_accepted(net: model.Network) -> str:
-    """What the program prints of a description that it accepts."""
-    offers = sum(model.count_of_offers(net.seed, it, net.until_ns) for vl in net.vls.values() for it in vl.streams)
-    return f"ok: {len(net.process)} processes, {len(net.vls)} virtual links, {offers} offers"
+def is_for_several(words: list[str]) -> bool:
+    """Whether the words of `check` name several descriptions, standard input, or JSON, which the program does not know."""
+    end = words.index("--") if "--" in words else len(words)
+    names = [word for word in words[:end] if word == check_command.INPUT or not word.startswith("-")] + words[end + 1 :]
+    return "--json" in words[:end] or len(names) > 1 or check_command.INPUT in names
 
 
 def help_of_program(name: str, words: list[str], path: str | None) -> int:

@@ -4,7 +4,7 @@ import re
 from typing import NamedTuple
 
 from afdx import files, model
-from afdx.commands.program_commands import said_if_accepted
+from afdx.commands.check_command import said_if_accepted
 from afdx.facade import bounds, run
 from afdx.facade import by as who
 from afdx.facade.by import Path

@@ -67,7 +67,7 @@ class EndTable:
         self.given, self.rows = given, list(given.tables.latencies.values())
         self.columns: dict[str, Any] = self.of_tables()
         if given.ends:
-            self.columns |= of_ends(list(given.ends.of.values()))
+            self.columns |= of_ends([given.ends.of[row.vl, row.where] for row in self.rows])
         if given.margins:
             self.columns |= limit_columns.of_limits(given)
         if given.bounds:
@@ -76,7 +76,7 @@ class EndTable:
             self.columns |= self.of_trace(given.trace)
             self.columns |= self.of_messages(given.trace)
         elif given.percentiles:
-            found = list(given.percentiles.values())
+            found = [given.percentiles[row.vl, row.where] for row in self.rows]
             self.columns |= {f"p{percent}": column(it[i] if it else None for it in found) for i, percent in enumerate(PERCENTS)}
 
     def of_tables(self) -> dict[str, Any]:

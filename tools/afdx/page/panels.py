@@ -118,14 +118,14 @@ def end_to_end(page: OfPage) -> str:
         "What the application offered, and what became of it at each destination. A frame is missing where no copy "
         "of it came and none can come any more; copies that were lost while the other one came are counted apart."
     )
-    return panel("ends", "End to end", words, page.grid("end-to-end", columns, "missing", only=by_trouble(page.given.ends)))
+    return panel("ends", "End to end", words, page.grid("end-to-end", columns, "missing", only=by_trouble(page.given.ends, page.tables)))
 
 
-def by_trouble(ends: Ends) -> list[int]:
-    """The destinations, those first that lack most: frames, copies, or enough frames to show anything; and those last to which
-    nothing was sent."""
+def by_trouble(ends: Ends, tables: Tables) -> list[int]:
+    """The destinations by their places in the tables. Those come first that lack most: frames, copies, or enough frames to show anything;
+    and those last to which nothing was sent."""
     found = []
-    for i, end in enumerate(ends.of.values()):
+    for i, end in enumerate(ends.of[key] for key in tables.latencies):
         lost = sum(count.least for count in end.lost.values())
         found.append((-end.missing.least, -lost, not end.offered, min(FEW, end.delivered), i))
     return [i for *_, i in sorted(found)]
