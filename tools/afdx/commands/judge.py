@@ -14,7 +14,7 @@ from afdx import files, model
 from afdx.files.captures import Capture
 from afdx.model import description_faults, long_form
 from afdx.page.capture_page import CapturePage
-from afdx.reckon import bounds_reader, capture_notes, capture_rows, capture_verdicts, network_calculus, tap_places
+from afdx.reckon import bounds_file, bounds_reader, capture_notes, capture_rows, capture_verdicts, network_calculus, tap_places
 from afdx.reckon.capture_judge import CaptureJudge
 from afdx.reckon.tap_limits import Bounds, TapLimits
 
