@@ -26,6 +26,8 @@ if TYPE_CHECKING:
         VirtualLink, read,
     )
 
+__version__: str
+
 __all__ = [
     "Bound", "Bounds", "Checked", "Fault", "Latency", "Link", "Loss", "Network", "Node", "NoProgram", "NotThere", "Outage", "Remark", "Row",
     "Rows", "Run", "Stream", "VirtualLink", "read",
@@ -34,7 +36,9 @@ __all__ = [
 if not TYPE_CHECKING:
 
     def __getattr__(name: str) -> Any:
-        """A name of the facade, which is imported when the first one is asked for."""
+        """A name of the facade, which is imported when the first one is asked for; and the number of the version."""
+        if name == "__version__":
+            return importlib.import_module("afdx.files.program").version()
         if name in __all__:
             return getattr(importlib.import_module("afdx.facade"), name)
         raise AttributeError(f"module 'afdx' has no attribute {name!r}")

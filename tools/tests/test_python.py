@@ -88,6 +88,9 @@ REFUSED = [
     (lambda net: net.node["E3"], afdx.NotThere, "there is no node 'E3' in n.toml"),
     (lambda net: net.seq(by=OPINION).latency(7, "E1"), afdx.NotThere, "virtual link 7 has no destination E1"),
     (lambda net: net.seq(by=OPINION).lost(7, cause="gone"), ValueError, "'gone' is no cause of loss: queue_full, "),
+    (lambda net: net.seq(by=OPINION).latency("7"), afdx.NotThere, "there is no virtual link '7': they go by numbers"),
+    (lambda net: net.vl["7"], afdx.NotThere, "there is no vl '7' in n.toml: they go by numbers, as vl[7]"),
+    (lambda net: setattr(net.vl[7], "source", "E2"), AttributeError, "source is no key of a virtual link"),
     (lambda net: net.bounds(by=OPINION).waiting_bytes("E2>S"), afdx.NotThere, "no virtual link passes a line E2>S"),
     (lambda net: net.seq(by="other"), ValueError, "by is proved, try or second-opinion, and not 'other'"),
     (lambda net: net.seq(by=OPINION, program="p"), ValueError, "by and program name a program each: give one of them"),
@@ -163,6 +166,22 @@ class Changes(unittest.TestCase):
         net.vl[7].sub = 2
         self.assertTrue(net.text.endswith('  b = []\npolicing = "frames"\nsub = 2'), net.text[-60:])
         self.assertEqual(net.explain()[0].number, 0)
+
+    def test_what_they_are_called(self):
+        net = small()
+        rows = [net.vl, net.vl[7], net.node["S"], net.link[2], net.outage[1], net.stream]
+        self.assertEqual([repr(it) for it in rows], [
+            "<1 virtual link of n.toml>", "<virtual link 7 in n.toml line 11>", "<node S in n.toml line 7>", "<link S-E2 in n.toml line 9>",
+            "<outage E1>S in n.toml line 24>", "<0 streams of n.toml>",
+        ])
+        self.assertEqual((net.vl[7], len({net.vl[7], net.vl[7]}), net.vl[7] == net.link[1]), (net.vl[7], 1, False))
+        self.assertEqual((net.vl[7].source, net.vl[7].destinations, afdx.__version__), ("E1", ["E2"], program.version()))
+        run, bounds = net.seq(by=OPINION), net.bounds(by=OPINION)
+        self.assertEqual((run.latency(7), bounds.latency(7)), (run.latency(7, "E2"), bounds.latency(7, "E2")))
+        self.assertRegex(repr(run), r"^<run of n.toml: 1 latency, [0-9]+ frames and copies lost>$")
+        self.assertRegex(repr(bounds), r"^<bounds by afdx bounds .*: [01] of 1 latency>$")
+        with self.assertRaisesRegex(afdx.NotThere, "virtual link 101 has 5 destinations, and one is to be named: FMC1, DU_L"):
+            afdx.read(COCKPIT).bounds(by=OPINION).latency(101)
 
     def test_a_name_that_changes(self):
         net = small()

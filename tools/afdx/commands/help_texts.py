@@ -62,6 +62,8 @@ OF_TOOLS = {
     "bounded-runs": OfTool("afdx.commands.bounded_runs", None, "[--networks N] ..", "compare drawn runs of drawn networks with their bounds"),
     "benchmark": OfTool("afdx.commands.benchmark", None, "PROGRAM ..", "measure the speed of a program"),
 }
+# What developers of the simulator need: the help lists it behind all else.
+OF_DEVELOPERS = ("large-network", "make-journal", "bounded-runs", "benchmark", "build")
 # The tools that have the program run.
 RUN_IT = ("campaign", "outages")
 OWN = {
@@ -114,6 +116,9 @@ examples:
         the tabulator completes words
 
 status: that of the program or the tool; 2 if a word is wrong, or if there is no program
+
+for developers of the simulator:
+{of_developers}
 """
 
 
@@ -126,9 +131,11 @@ def commands(is_clone: bool = program.is_clone()) -> dict[str, Command]:
 
 
 def help_text(is_clone: bool = program.is_clone()) -> str:
-    lines = [f"  {name:<16}{it.says}" for name, it in commands(is_clone).items()]
+    lines = {name: f"  {name:<16}{it.says}" for name, it in commands(is_clone).items()}
+    of_developers = "\n".join(line for name, line in lines.items() if name in OF_DEVELOPERS)
+    of_users = "\n".join(line for name, line in lines.items() if name not in OF_DEVELOPERS)
     which, only = (IN_A_CLONE, "; with --by proved and --by try just that one") if is_clone else (IN_A_PACKAGE, "")
-    return HELP.format(commands="\n".join(lines), which=which, only=only, of_run=OF_RUN)
+    return HELP.format(commands=of_users, which=which, only=only, of_run=OF_RUN, of_developers=of_developers)
 
 
 def options_of(name: str) -> list[str]:

@@ -2,7 +2,8 @@
 from typing import Any, NamedTuple
 
 from afdx import model
-from afdx.facade.tabled import NotThere, Tabled
+from afdx.facade.tabled import NotThere, Tabled, only_end
+from afdx.files.page_text import counted
 from afdx.files.program import Program
 from afdx.reckon.bounds_rows import LAST, BoundsRows
 from afdx.reckon.network_calculus import Bounds as ToolBounds
@@ -41,12 +42,10 @@ class Bounds(Tabled):
     def by(self) -> str:
         return self._found.made_by()
 
-    def latency(self, vl: int, where: str) -> Bound:
-        """The worst case of a virtual link at a destination."""
-        if (vl, where) not in self._ends:
-            raise NotThere(f"virtual link {vl} has no destination {where}")
-        row = self._ends[vl, where]
-        return Bound(vl, where, row["bound_ns"], row["wait_ns"], row["network_ns"], row["bound_by"], row["why"] or "")
+    def latency(self, vl: int, where: str | None = None) -> Bound:
+        """The worst case of a virtual link at a destination, which is named if it has several."""
+        row = self._ends[only_end(vl, where, self._ends)]
+        return Bound(vl, row["where"], row["bound_ns"], row["wait_ns"], row["network_ns"], row["bound_by"], row["why"] or "")
 
     def waiting_bytes(self, line: str) -> int | None:
         """The most bytes that may wait at the output port before a line, as "SWA1>DU_L"; None where there is no bound."""
@@ -57,6 +56,10 @@ class Bounds(Tabled):
     def warnings(self) -> list[dict[str, Any]]:
         """The rows that warn of the worst case: an account that may refuse a frame, a port that is too small, and others (`warning`)."""
         return [row for row in self._rows if row["warning"]]
+
+    def __repr__(self) -> str:
+        known = sum(row["bound_ns"] is not None for row in self._ends.values())
+        return f"<bounds by {self.by}: {known:,} of {counted(len(self._ends), 'latency', 'latencies')}>"
 
     def columns(self) -> list[str]:
         return [name for name in self._found.columns() if name not in LAST]

@@ -4,6 +4,7 @@ from typing import Any, Generic, TypeVar
 
 from afdx.facade.changed_text import KEYS_BY_NAME, ChangedText
 from afdx.facade.tabled import NotThere, Tabled
+from afdx.files.page_text import counted
 from afdx.model import Place
 from afdx.model.findings import A_ROW, meant
 
@@ -61,8 +62,19 @@ class Row:
     def __dir__(self) -> list[str]:
         return [*super().__dir__(), *self.keys()]
 
+    def __eq__(self, other: object) -> bool:
+        """Whether both are the same row of the same description."""
+        return isinstance(other, Row) and (self._text, self._section, self._row) == (other._text, other._section, other._row)
+
+    def __hash__(self) -> int:
+        return hash((id(self._text), self._section, self._row))
+
+    def _names(self) -> str:
+        """What the row is called, with a blank before it."""
+        return ""
+
     def __repr__(self) -> str:
-        return f"<{A_ROW[self._section].removeprefix('a ').removeprefix('an ')} in {self._text.path} line {self.line}>"
+        return f"<{A_ROW[self._section].removeprefix('a ').removeprefix('an ')}{self._names()} in {self._text.path} line {self.line}>"
 
 
 class Node(Row):
@@ -75,6 +87,9 @@ class Node(Row):
     net: str | None
     latency_ns: int | None
 
+    def _names(self) -> str:
+        return f" {self.name}"
+
 
 class Link(Row):
     """A link of two nodes, which is a line in each direction."""
@@ -85,6 +100,9 @@ class Link(Row):
     mbit: int
     propagation_ns: int
 
+    def _names(self) -> str:
+        return f" {self.a}-{self.b}"
+
 
 class Outage(Row):
     """An outage of a line. The nodes are `row["from"]` and `row["to"]`."""
@@ -93,6 +111,9 @@ class Outage(Row):
     to: str
     from_ns: int
     to_ns: int
+
+    def _names(self) -> str:
+        return f" {self['from']}>{self.to}"
 
 
 class Offered(Row):
@@ -126,12 +147,28 @@ class VirtualLink(Offered):
     a: Paths
     b: Paths
 
+    @property
+    def source(self) -> str | None:
+        """The end system that sends it; None without paths."""
+        return next((path[0] for path in [*self.a, *self.b] if path), None)
+
+    @property
+    def destinations(self) -> list[str]:
+        """The end systems that receive it, by network A or B."""
+        return list(dict.fromkeys(path[-1] for path in [*self.a, *self.b] if path))
+
+    def _names(self) -> str:
+        return f" {self.id}"
+
 
 class Stream(Offered):
     """A further stream of the virtual link `vl`."""
 
     __slots__ = ()
     vl: int
+
+    def _names(self) -> str:
+        return f" of virtual link {self.vl}"
 
 
 K = TypeVar("K", int, str)
@@ -149,6 +186,8 @@ class Rows(Mapping[K, R], Tabled, Generic[K, R]):
         places = self._text.places[self._section]
         if who not in places:
             near = meant(str(who), places) if self._section == "node" else ""
+            if isinstance(who, str) and self._section != "node":
+                near = ": they go by numbers" + (f", as {self._section}[{who}]" if who.isdecimal() else "")
             raise NotThere(f"there is no {self._section} {who!r} in {self._text.path}{near}")
         return self._type(self._text, self._section, places[who])
 
@@ -157,6 +196,10 @@ class Rows(Mapping[K, R], Tabled, Generic[K, R]):
 
     def __len__(self) -> int:
         return len(self._text.places[self._section])
+
+    def __repr__(self) -> str:
+        one = A_ROW[self._section].removeprefix("a ").removeprefix("an ")
+        return f"<{counted(len(self), one)} of {self._text.path}>"
 
     def columns(self) -> list[str]:
         return list(KEYS_BY_NAME[self._section])

@@ -3,7 +3,8 @@ from typing import Any
 
 from afdx import model
 from afdx.facade import by as who
-from afdx.facade.tabled import NotThere, Tabled
+from afdx.facade.tabled import NotThere, Tabled, only_end
+from afdx.files.page_text import counted
 from afdx.files.program import Program
 from afdx.model import TABLES_HEAD, Latency, Loss
 from afdx.runs.plain_simulator import Simulation
@@ -19,8 +20,8 @@ class Run(Tabled):
 
     @property
     def latencies(self) -> list[Latency]:
-        """The latencies of each virtual link at each destination, in ns: `vl`, `where`, `count`, `least`, `greatest`, `total`. The
-        mean is total / count; where nothing came all numbers are 0."""
+        """The latencies of each virtual link at each destination, in ns: `vl`, `where`, `count`, `least`, `greatest`, `total` and
+        `mean`, which is total / count; where nothing came all numbers are 0."""
         return list(self._tables.latencies.values())
 
     @property
@@ -29,11 +30,9 @@ class Run(Tabled):
         of a frame that came by both networks (docs/FORMATS.md, section 5)."""
         return list(self._tables.losses.values())
 
-    def latency(self, vl: int, where: str) -> Latency:
-        """The latencies of a virtual link at a destination."""
-        if (vl, where) not in self._tables.latencies:
-            raise NotThere(f"virtual link {vl} has no destination {where}")
-        return self._tables.latencies[vl, where]
+    def latency(self, vl: int, where: str | None = None) -> Latency:
+        """The latencies of a virtual link at a destination, which is named if it has several."""
+        return self._tables.latencies[only_end(vl, where, self._tables.latencies)]
 
     def lost(self, vl: int, where: str | None = None, cause: str | None = None) -> int:
         """How many frames and copies of a virtual link were lost, at one place and for one cause, or at all of them; duplicates
@@ -44,6 +43,10 @@ class Run(Tabled):
             raise ValueError(f"{cause!r} is no cause of loss: {', '.join(model.CAUSES)}")
         counts = lambda it: it.cause == cause if cause else it.cause != "duplicate"
         return sum(it.count for it in self.losses if it.vl == vl and where in (None, it.where) and counts(it))
+
+    def __repr__(self) -> str:
+        lost = sum(it.count for it in self.losses if it.cause != "duplicate")
+        return f"<run of {self._tables.net.path}: {counted(len(self.latencies), 'latency', 'latencies')}, {counted(lost, 'frame or copy', 'frames and copies')} lost>"
 
     def columns(self) -> list[str]:
         return TABLES_HEAD.split(",")

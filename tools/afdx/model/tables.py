@@ -27,6 +27,11 @@ class Latency(NamedTuple):
     seed: int | None
     line: int
 
+    @property
+    def mean(self) -> float:
+        """The mean, total / count; 0 where nothing came."""
+        return self.total / self.count if self.count else 0.0
+
 
 class Loss(NamedTuple):
     """The frames of a virtual link that were lost at a place for a cause: how many. `seed` is that of the run with the most in
