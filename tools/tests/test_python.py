@@ -171,7 +171,7 @@ class Changes(unittest.TestCase):
         net = small()
         rows = [net.vl, net.vl[7], net.node["S"], net.link[2], net.outage[1], net.stream]
         self.assertEqual([repr(it) for it in rows], [
-            "<1 virtual link of n.toml>", "<virtual link 7 in n.toml line 11>", "<node S in n.toml line 7>", "<link S-E2 in n.toml line 9>",
+            "<1 virtual link of n.toml>", "<virtual link 7 in n.toml line 10>", "<node S in n.toml line 7>", "<link S-E2 in n.toml line 9>",
             "<outage E1>S in n.toml line 24>", "<0 streams of n.toml>",
         ])
         self.assertEqual((net.vl[7], len({net.vl[7], net.vl[7]}), net.vl[7] == net.link[1]), (net.vl[7], 1, False))
