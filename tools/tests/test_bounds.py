@@ -510,10 +510,13 @@ class OfProgram(unittest.TestCase):
     """The bounds that the program prints."""
 
     def shares(self, text):
-        """What each of these bounds is by that of the tool, which takes the network where a frame takes longer, too."""
+        """What each of these bounds is by that of the tool, which takes the network where a frame takes longer, too. Of a virtual link with
+        several streams the program counts a whole list, and the tool less."""
         net = model.Network("net.toml", text)
         found, proved, shares = network_calculus.Bounds(net), bounded_runs.bounds_by(model.PROGRAM, net), []
         for key in net.destinations:
+            if len(net.vls[key[0]].streams) > 1:
+                continue
             ways = [way.longest for way in found.by_network.get(key, {}).values()]
             if ways and None not in ways and proved.bound(*key) is not None:
                 shares.append(proved.bound(*key) / (max(ways) + found.links[key[0]].wait))

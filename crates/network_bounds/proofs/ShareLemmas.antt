@@ -35,28 +35,28 @@ max-three a b f = omega arith
 
 -- one that comes
 pub with-one : (port : PortPlan) (by_gap : Bool) (j : ℕ) (high : Bool) (share : Share) (p : Passing) (rest : List Passing) → comes port.is_end j high p ≡ true →
-    AreTogether port by_gap j high share (p ∷ rest) → AreTogether port by_gap j high (with_link share port.is_end by_gap port.byte_ns p.link) rest
+    AreTogether port by_gap j high share (p ∷ rest) → AreTogether port by_gap j high (with_link share port.is_end by_gap port.byte_ns p) rest
 with-one port by_gap j high share p rest is all =
     let test = comes port.is_end j high in
     let flow = flow_of port.is_end by_gap port.byte_ns in
     let cost = cost_of port.byte_ns in
     let loose = is_loose port.is_end in
-    let flows : flows_by test flow (p ∷ rest) ≡ flow p.link ∷ flows_by test flow rest =
-    ap (λ (b : Bool). if b then flow p.link ∷ flows_by test flow rest else flows_by test flow rest) is in
-    let costs : greatest_by test cost (p ∷ rest) ≡ max (cost p.link) (greatest_by test cost rest) =
-    ap (λ (b : Bool). if b then max (cost p.link) (greatest_by test cost rest) else greatest_by test cost rest) is in
-    let any : any_by test loose (p ∷ rest) ≡ (loose p.link || any_by test loose rest) =
-    ap (λ (b : Bool). if b then loose p.link || any_by test loose rest else any_by test loose rest) is in
+    let flows : flows_by test flow (p ∷ rest) ≡ flow p ∷ flows_by test flow rest =
+    ap (λ (b : Bool). if b then flow p ∷ flows_by test flow rest else flows_by test flow rest) is in
+    let costs : greatest_by test cost (p ∷ rest) ≡ max (cost p) (greatest_by test cost rest) =
+    ap (λ (b : Bool). if b then max (cost p) (greatest_by test cost rest) else greatest_by test cost rest) is in
+    let any : any_by test loose (p ∷ rest) ≡ (loose p || any_by test loose rest) =
+    ap (λ (b : Bool). if b then loose p || any_by test loose rest else any_by test loose rest) is in
     record {
       no_bound = all.no_bound;
       no_burst = all.no_burst;
       no_rate = all.no_rate;
-      held_burst = cap-twice (share.burst + (flow p.link).burst);
-      held_rate = cap-twice (share.rate + (flow p.link).rate);
-      burst = cap-three share.burst (flow p.link).burst (flows_burst (flows_by test flow rest)) ∙ ap (λ fs. capped (share.burst + flows_burst fs)) (sym flows) ∙ all.burst;
-      rate = cap-three share.rate (flow p.link).rate (flows_rate (flows_by test flow rest)) ∙ ap (λ fs. capped (share.rate + flows_rate fs)) (sym flows) ∙ all.rate;
-      greatest = max-three share.greatest (cost p.link) (greatest_by test cost rest) ∙ ap (λ n. max share.greatest n) (sym costs) ∙ all.greatest;
-      loose = or-assoc share.is_loose (loose p.link) (any_by test loose rest) ∙ ap (λ b. share.is_loose || b) (sym any) ∙ all.loose;
+      held_burst = cap-twice (share.burst + (flow p).burst);
+      held_rate = cap-twice (share.rate + (flow p).rate);
+      burst = cap-three share.burst (flow p).burst (flows_burst (flows_by test flow rest)) ∙ ap (λ fs. capped (share.burst + flows_burst fs)) (sym flows) ∙ all.burst;
+      rate = cap-three share.rate (flow p).rate (flows_rate (flows_by test flow rest)) ∙ ap (λ fs. capped (share.rate + flows_rate fs)) (sym flows) ∙ all.rate;
+      greatest = max-three share.greatest (cost p) (greatest_by test cost rest) ∙ ap (λ n. max share.greatest n) (sym costs) ∙ all.greatest;
+      loose = or-assoc share.is_loose (loose p) (any_by test loose rest) ∙ ap (λ b. share.is_loose || b) (sym any) ∙ all.loose;
     }
 
 -- one that does not
@@ -68,11 +68,11 @@ without-one port by_gap j high share p rest is all =
     let cost = cost_of port.byte_ns in
     let loose = is_loose port.is_end in
     let flows : flows_by test flow (p ∷ rest) ≡ flows_by test flow rest =
-    ap (λ (b : Bool). if b then flow p.link ∷ flows_by test flow rest else flows_by test flow rest) is in
+    ap (λ (b : Bool). if b then flow p ∷ flows_by test flow rest else flows_by test flow rest) is in
     let costs : greatest_by test cost (p ∷ rest) ≡ greatest_by test cost rest =
-    ap (λ (b : Bool). if b then max (cost p.link) (greatest_by test cost rest) else greatest_by test cost rest) is in
+    ap (λ (b : Bool). if b then max (cost p) (greatest_by test cost rest) else greatest_by test cost rest) is in
     let any : any_by test loose (p ∷ rest) ≡ any_by test loose rest =
-    ap (λ (b : Bool). if b then loose p.link || any_by test loose rest else any_by test loose rest) is in
+    ap (λ (b : Bool). if b then loose p || any_by test loose rest else any_by test loose rest) is in
     record {
       no_bound = all.no_bound;
       no_burst = all.no_burst;

@@ -7,6 +7,7 @@ use Rattle.row_types.specs.declared.rows.Policing.TheVariants.{Bytes, Frames}
 use Rattle.row_types.specs.declared.rows.Priority.{Priority}
 use Rattle.row_types.specs.declared.rows.Priority.TheVariants.{High, Low}
 use Rattle.port_bounds.specs.Mixtures.{Flow}
+use Rattle.network_bounds.specs.declared.passing.Passing.{Passing}
 use Rattle.network_bounds.specs.Numbers.{SCALE}
 
 -- how many BAGs of the virtual link 128 ms have
@@ -20,9 +21,9 @@ bag_of link = link.bag_ms * 1000000
 abbrev pub slack_of : Bool → VirtualLink → ℕ
 slack_of is_end link = if is_end then 0 else link.policing_jitter_ns
 
--- how long a frame keeps the line busy, in ns
-abbrev pub cost_of : ℕ → VirtualLink → ℕ
-cost_of byte_ns link = busy_for link.own.size byte_ns
+-- how long its greatest frame keeps the line busy, in ns
+abbrev pub cost_of : ℕ → Passing → ℕ
+cost_of byte_ns p = busy_for p.sizes.greatest byte_ns
 
 -- the least time between two of its frames; 0 where several may come at once
 abbrev pub gap_of : Bool → VirtualLink → ℕ
@@ -33,19 +34,19 @@ gap_of is_end link = bag_of link - slack_of is_end link
 abbrev pub counts_gaps : Bool → Bool → VirtualLink → Bool
 counts_gaps is_end by_gap link = by_gap && nat_lt 0 (gap_of is_end link)
 
-abbrev pub bag_rate : ℕ → VirtualLink → ℕ
-bag_rate byte_ns link = parts_of link * cost_of byte_ns link
+abbrev pub bag_rate : ℕ → Passing → ℕ
+bag_rate byte_ns p = parts_of p.link * cost_of byte_ns p
 
-abbrev pub rate_of : Bool → Bool → ℕ → VirtualLink → ℕ
-rate_of is_end by_gap byte_ns link = if counts_gaps is_end by_gap link then SCALE * cost_of byte_ns link / gap_of is_end link + 1 else bag_rate byte_ns link
+abbrev pub rate_of : Bool → Bool → ℕ → Passing → ℕ
+rate_of is_end by_gap byte_ns p = if counts_gaps is_end by_gap p.link then SCALE * cost_of byte_ns p / gap_of is_end p.link + 1 else bag_rate byte_ns p
 
-abbrev pub burst_of : Bool → Bool → ℕ → VirtualLink → ℕ
-burst_of is_end by_gap byte_ns link =
-    if counts_gaps is_end by_gap link then SCALE * cost_of byte_ns link else bag_rate byte_ns link * (bag_of link + slack_of is_end link)
+abbrev pub burst_of : Bool → Bool → ℕ → Passing → ℕ
+burst_of is_end by_gap byte_ns p =
+    if counts_gaps is_end by_gap p.link then SCALE * cost_of byte_ns p else bag_rate byte_ns p * (bag_of p.link + slack_of is_end p.link)
 
-abbrev pub flow_of : Bool → Bool → ℕ → VirtualLink → Flow
-flow_of is_end by_gap byte_ns link =
-    record { link = link.id.0; burst = burst_of is_end by_gap byte_ns link; rate = rate_of is_end by_gap byte_ns link }
+abbrev pub flow_of : Bool → Bool → ℕ → Passing → Flow
+flow_of is_end by_gap byte_ns p =
+    record { link = p.link.id.0; burst = burst_of is_end by_gap byte_ns p; rate = rate_of is_end by_gap byte_ns p }
 
 abbrev pub is_high : Priority → Bool
 is_high High = true
@@ -59,6 +60,6 @@ abbrev pub counts_bytes : Policing → Bool
 counts_bytes Bytes = true
 counts_bytes Frames = false
 
--- an account that counts bytes lets more frames pass than its BAGs say, where they are shorter than Smax
-abbrev pub is_loose : Bool → VirtualLink → Bool
-is_loose is_end link = if is_end then false else counts_bytes link.policing && nat_lt link.own.size link.smax
+-- an account that counts bytes lets more frames pass than its BAGs say, where some are shorter than Smax
+abbrev pub is_loose : Bool → Passing → Bool
+is_loose is_end p = if is_end then false else counts_bytes p.link.policing && nat_lt p.sizes.least p.link.smax

@@ -1,11 +1,11 @@
 -- How long a frame takes from a port to the end of its last bit, and how much waits there, or why that has no bound.
 use Rattle.std.specs.Prelude.{◌≡◌, ℕ, ◌+◌, ◌-◌, ◌*◌, ◌/◌, ◌^◌, ◌&&◌, ◌||◌, Bool, true, false, if◌then◌else◌, nat_le, nat_lt, List, [], ◌∷◌, ⊤, Result, Ok, Err}
-use Rattle.vlink.specs.Wire.{last_bit_after}
+use Rattle.vlink.specs.Wire.{busy_for, last_bit_after}
 use Rattle.network.specs.declared.wiring.LinePlan.{LinePlan}
 use Rattle.network.specs.Words.{Plan}
 use Rattle.row_types.specs.declared.rows.VirtualLink.{VirtualLink}
 use Rattle.network_bounds.specs.declared.reason.Reason.{Reason}
-use Rattle.network_bounds.specs.declared.reason.Reason.TheVariants.{Bytes, Number, Rate, Stream}
+use Rattle.network_bounds.specs.declared.reason.Reason.TheVariants.{Bytes, Number, Rate}
 use Rattle.network_bounds.specs.declared.mixing.Mixture.{Mixture}
 use Rattle.network_bounds.specs.declared.mixing.Choice.{Choice}
 use Rattle.network_bounds.specs.declared.mixing.Choice.TheVariants.{Least, By}
@@ -13,7 +13,7 @@ use Rattle.network_bounds.specs.declared.delays.Weights.{Weights}
 use Rattle.network_bounds.specs.declared.delays.Later.{Later}
 use Rattle.network_bounds.specs.declared.delays.PortBound.{PortBound}
 use Rattle.network_bounds.specs.Numbers.{UNITS, capped}
-use Rattle.network_bounds.specs.Curves.{cost_of, is_first}
+use Rattle.network_bounds.specs.Curves.{is_first}
 use Rattle.network_bounds.specs.Mixing.{PortPlan, mixed_at, port_before}
 
 -- the number where the test holds, else the reason
@@ -79,19 +79,12 @@ waiting_bound port w =
 
 -- ---- the port
 
-abbrev pub plain_bound : PortPlan → Weights → PortBound
-plain_bound port w = record {
+abbrev pub bound_by : PortPlan → Weights → PortBound
+bound_by port w = record {
   first = first_of port.byte_ns (first_mixed port w) (mixed_at port Least false).greatest;
   later = later_bound port w;
   waiting = waiting_bound port w;
 }
-
--- none where another stream may come
-abbrev pub no_bound : PortBound
-no_bound = record { first = Err Stream; later = Err Stream; waiting = Err Stream }
-
-abbrev pub bound_by : PortPlan → Weights → PortBound
-bound_by port w = if port.is_plain then plain_bound port w else no_bound
 
 -- a bound of the port by some weights: any are right, and none is given only where those of the least rate do not fit
 abbrev pub IsBound : PortPlan → PortBound → Type 0
@@ -109,10 +102,10 @@ abbrev pub after : {X : Type 0} → Result X Reason → (X → Result ℕ Reason
 after (Ok x) f = f x
 after (Err reason) f = Err reason
 
--- from the port until its last bit has left, in ns
-abbrev pub later_delay : ℕ → VirtualLink → Later → Result ℕ Reason
-later_delay byte_ns link later =
-    only_if (nat_lt 0 later.left) (capped ((later.burst - UNITS * cost_of byte_ns link) / later.left + last_bit_after link.own.size byte_ns)) Rate
+-- from the port until its last bit has left, in ns. A frame waits for what comes besides it, so the least frame of a virtual link may wait longest
+abbrev pub later_delay : ℕ → ℕ → Later → Result ℕ Reason
+later_delay byte_ns least later =
+    only_if (nat_lt 0 later.left) (capped ((later.burst - UNITS * busy_for least byte_ns) / later.left + last_bit_after least byte_ns)) Rate
 
-abbrev pub delay_of : Bool → ℕ → PortBound → VirtualLink → Result ℕ Reason
-delay_of is_end byte_ns bound link = if is_first is_end link then bound.first else after bound.later (later_delay byte_ns link)
+abbrev pub delay_of : Bool → ℕ → PortBound → VirtualLink → ℕ → Result ℕ Reason
+delay_of is_end byte_ns bound link least = if is_first is_end link then bound.first else after bound.later (later_delay byte_ns least)

@@ -5,3 +5,4 @@ pub mod Mixing
 pub mod Delays
 pub mod Ages
 pub mod Text
+pub mod Sizes

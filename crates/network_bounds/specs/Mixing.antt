@@ -5,7 +5,6 @@ use Rattle.std.specs.Option.{option_map_or}
 use Rattle.std.specs.List.{range_with_len}
 use Rattle.network.specs.declared.wiring.LinePlan.{LinePlan}
 use Rattle.network.specs.Words.{Plan, is_end_system, lines_of}
-use Rattle.row_types.specs.declared.rows.VirtualLink.{VirtualLink}
 use Rattle.port_bounds.specs.Mixtures.{Flow, Group, flows_burst, flows_rate, groups_burst, groups_rate, mixed}
 use Rattle.network_bounds.specs.declared.passing.Passing.{Passing}
 use Rattle.network_bounds.specs.declared.mixing.Mixture.{Mixture}
@@ -14,16 +13,15 @@ use Rattle.network_bounds.specs.declared.mixing.Choice.TheVariants.{Least, By}
 use Rattle.network_bounds.specs.declared.share.Share.{Share}
 use Rattle.network_bounds.specs.Numbers.{SCALE, WHOLE, capped}
 use Rattle.network_bounds.specs.Curves.{burst_of, cost_of, flow_of, is_loose, rate_of}
-use Rattle.network_bounds.specs.Passing.{are_plain, comes, passings}
+use Rattle.network_bounds.specs.Passing.{comes, passings}
 
 -- no node has more ports
 abbrev pub PORTS : ℕ
 PORTS = 24
 
--- the port before a line: whether each virtual link that leaves by it is offered one frame of one size in each period, whether it is that of an end system, the ns of a byte on the line, what leaves by it, and for each port by which
--- frames come in the ns of a byte on the line there
+-- the port before a line: whether it is that of an end system, the ns of a byte on the line, what leaves by it, and for each port by which frames come in the
+-- ns of a byte on the line there
 pub record PortPlan : Type 0 where
-  pub is_plain : Bool
   pub is_end : Bool
   pub byte_ns : ℕ
   pub passings : List Passing
@@ -45,7 +43,6 @@ byte_ns_into plan n j = option_map_or (λ k. option_map (λ line. line.byte_ns) 
 
 abbrev pub port_before : Plan → LinePlan → PortPlan
 port_before plan line = record {
-  is_plain = are_plain plan (passings plan line.from line.from_port);
   is_end = is_end_system plan.nodes line.from;
   byte_ns = line.byte_ns;
   passings = passings plan line.from line.from_port;
@@ -54,17 +51,17 @@ port_before plan line = record {
 
 -- ---- what comes by port j with one priority
 
-abbrev pub flows_by : (Passing → Bool) → (VirtualLink → Flow) → List Passing → List Flow
+abbrev pub flows_by : (Passing → Bool) → (Passing → Flow) → List Passing → List Flow
 flows_by test flow [] = []
-flows_by test flow (p ∷ ps) = if test p then flow p.link ∷ flows_by test flow ps else flows_by test flow ps
+flows_by test flow (p ∷ ps) = if test p then flow p ∷ flows_by test flow ps else flows_by test flow ps
 
-abbrev pub greatest_by : (Passing → Bool) → (VirtualLink → ℕ) → List Passing → ℕ
+abbrev pub greatest_by : (Passing → Bool) → (Passing → ℕ) → List Passing → ℕ
 greatest_by test cost [] = 0
-greatest_by test cost (p ∷ ps) = if test p then max (cost p.link) (greatest_by test cost ps) else greatest_by test cost ps
+greatest_by test cost (p ∷ ps) = if test p then max (cost p) (greatest_by test cost ps) else greatest_by test cost ps
 
-abbrev pub any_by : (Passing → Bool) → (VirtualLink → Bool) → List Passing → Bool
+abbrev pub any_by : (Passing → Bool) → (Passing → Bool) → List Passing → Bool
 any_by test wide [] = false
-any_by test wide (p ∷ ps) = if test p then wide p.link || any_by test wide ps else any_by test wide ps
+any_by test wide (p ∷ ps) = if test p then wide p || any_by test wide ps else any_by test wide ps
 
 -- by their gaps, or by their BAGs
 abbrev pub flows_at : PortPlan → Bool → ℕ → Bool → List Flow
@@ -87,12 +84,12 @@ abbrev pub line_rate_at : PortPlan → Bool → ℕ → Bool → ℕ
 line_rate_at port by_gap j high = if is_bounding port j then SCALE else flows_rate (flows_at port by_gap j high)
 
 -- what comes, with one virtual link more, in numbers of 128 bits
-abbrev pub with_link : Share → Bool → Bool → ℕ → VirtualLink → Share
-with_link share is_end by_gap byte_ns link = record share {
-  burst = capped (share.burst + burst_of is_end by_gap byte_ns link);
-  rate = capped (share.rate + rate_of is_end by_gap byte_ns link);
-  greatest = max share.greatest (cost_of byte_ns link);
-  is_loose = share.is_loose || is_loose is_end link;
+abbrev pub with_link : Share → Bool → Bool → ℕ → Passing → Share
+with_link share is_end by_gap byte_ns p = record share {
+  burst = capped (share.burst + burst_of is_end by_gap byte_ns p);
+  rate = capped (share.rate + rate_of is_end by_gap byte_ns p);
+  greatest = max share.greatest (cost_of byte_ns p);
+  is_loose = share.is_loose || is_loose is_end p;
 }
 
 -- that, in numbers of 128 bits; without what the line bounds, and with it

@@ -1,12 +1,11 @@
 -- The virtual links that leave a node by a port, and where each came in.
 use Rattle.std.specs.Prelude.{ℕ, ◌==◌, ◌&&◌, Bool, not, if◌then◌else◌, List, [], ◌∷◌, flat_map, slice_get}
-use Rattle.std.specs.List.{list_all}
 use Rattle.std.specs.Option.{option_map_or, option_and_then}
 use Rattle.network.specs.declared.wiring.Way.{Way}
 use Rattle.network.specs.Words.{Plan, VlPlan, arrivals_of, departures_of, is_end_system, place_of_vl}
-use Rattle.traffic.specs.Plain.{is_plain}
 use Rattle.network_bounds.specs.declared.passing.Passing.{Passing}
 use Rattle.network_bounds.specs.Curves.{is_first}
+use Rattle.network_bounds.specs.Sizes.{sizes_in}
 
 -- the port by which the virtual link with this number comes in, of these ways
 abbrev pub first_port_of : List Way → ℕ → ℕ
@@ -18,7 +17,7 @@ abbrev pub input_of : Plan → ℕ → ℕ → ℕ
 input_of plan n id = if is_end_system plan.nodes n then 0 else first_port_of (arrivals_of plan n) id
 
 abbrev pub passing_by : Plan → ℕ → Way → VlPlan → List Passing
-passing_by plan n way vl = record { link = vl.link; input = input_of plan n way.vl.0 } ∷ []
+passing_by plan n way vl = record { link = vl.link; sizes = sizes_in plan vl.link; input = input_of plan n way.vl.0 } ∷ []
 
 abbrev pub passing_of : Plan → ℕ → Way → List Passing
 passing_of plan n way = option_map_or (passing_by plan n way) (option_and_then (slice_get plan.vls) (place_of_vl plan.vls way.vl.0)) []
@@ -29,10 +28,6 @@ passing_at plan n q way = if way.port == q then passing_of plan n way else []
 
 abbrev pub passings : Plan → ℕ → ℕ → List Passing
 passings plan n q = flat_map (passing_at plan n q) (departures_of plan n)
-
--- each is offered one frame of one size in each period, and nothing else: bounds know no other streams
-abbrev pub are_plain : Plan → List Passing → Bool
-are_plain plan ps = list_all (λ p. is_plain plan p.link) ps
 
 abbrev pub are_same : Bool → Bool → Bool
 are_same a b = if a then b else not b

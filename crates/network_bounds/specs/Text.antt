@@ -5,7 +5,7 @@ use Rattle.network.specs.Words.{Plan, VlPlan, destinations_of, line_name, lines_
 use Rattle.row_types.specs.declared.rows.VirtualLink.{VirtualLink}
 use Rattle.trace_segments.specs.Words.{line, place_name}
 use Rattle.network_bounds.specs.declared.reason.Reason.{Reason}
-use Rattle.network_bounds.specs.declared.reason.Reason.TheVariants.{Bytes, Number, Rate, Stream, Way}
+use Rattle.network_bounds.specs.declared.reason.Reason.TheVariants.{Bytes, Number, Rate, Way}
 use Rattle.network_bounds.specs.declared.delays.PortBound.{PortBound}
 use Rattle.network_bounds.specs.Numbers.{capped}
 use Rattle.network_bounds.specs.Delays.{AreBounds}
@@ -17,7 +17,6 @@ reason_name Rate = codes "rate"
 reason_name Bytes = codes "bytes"
 reason_name Way = codes "way"
 reason_name Number = codes "number"
-reason_name Stream = codes "stream"
 
 -- the first line
 abbrev pub bounds_head : List ℕ
@@ -26,7 +25,7 @@ bounds_head = line (codes "kind" ∷ codes "of" ∷ codes "where" ∷ codes "net
 -- a virtual link at a destination
 abbrev pub destination_line : Plan → VirtualLink → ℕ → Result ℕ Reason → List ℕ
 destination_line plan link n (Ok network_ns) =
-    line (codes "bound" ∷ decimal link.id.0 ∷ place_name plan n ∷ decimal network_ns ∷ decimal (wait_of link) ∷ decimal (capped (network_ns + wait_of link)) ∷ [])
+    line (codes "bound" ∷ decimal link.id.0 ∷ place_name plan n ∷ decimal network_ns ∷ decimal (wait_of plan link) ∷ decimal (capped (network_ns + wait_of plan link)) ∷ [])
 destination_line plan link n (Err reason) = line (codes "none" ∷ decimal link.id.0 ∷ place_name plan n ∷ reason_name reason ∷ [] ∷ [] ∷ [])
 
 -- at each of these destinations that there is

@@ -1,14 +1,14 @@
 //! How long a frame of a virtual link takes from its release to a place, along its path.
 ghost use Rattle.std.specs.Prelude.{◌≡◌, ◌<◌, length};
 ghost use Rattle.network.specs.Words.{lines_of};
-ghost use Rattle.network_bounds.specs.Ages.{age_after, age_by, ends_by, latency_of, network_ns_of, plus, sent_over};
+ghost use Rattle.network_bounds.specs.Ages.{age_after, age_by, age_to, ends_by, latency_of, plus, sent_over};
 
 use crate::delays::{PortBound, delay_of};
 use crate::passing::{input_of, is_end};
 use crate::port::line_into;
 use crate::reason::Reason;
 use network::{LinePlan, Network, NodeKind, VirtualLink};
-use vlink::VlId;
+use vlink::{FrameSize, VlId};
 
 /// Returns how long a frame takes through a node, in ns.
 fn latency_of(network: &Network, node: usize) -> u128
@@ -38,12 +38,13 @@ fn sent_over(
     line: &LinePlan,
     bound: &PortBound,
     link: &VirtualLink,
+    least: FrameSize,
     age: Result<u128, Reason>,
 ) -> Result<u128, Reason>
-    ensures { result ≡ sent_over is_end line.now bound.now link.now age }
+    ensures { result ≡ sent_over is_end line.now bound.now link.now least age }
 {
     let ns = age?;
-    let delay = delay_of(is_end, line.byte_ns, bound, link)?;
+    let delay = delay_of(is_end, line.byte_ns, bound, link, least)?;
     Ok(
         ns.saturating_add(delay)
             .saturating_add(u128::from(line.propagation_ns)),
@@ -55,11 +56,12 @@ fn age_after(
     network: &Network,
     bounds: &[PortBound],
     link: &VirtualLink,
+    least: FrameSize,
     lines: usize,
     line: usize,
 ) -> Result<u128, Reason>
     requires { line < length (lines_of network.now) }
-    ensures { result ≡ age_after network.now bounds.now link.now lines line }
+    ensures { result ≡ age_after network.now bounds.now link.now least lines line }
 {
     if lines == 0 {
         return Err(Reason::Way);
@@ -70,14 +72,14 @@ fn age_after(
     };
     let node = usize::from(ahead.from);
     if is_end(network, node) {
-        return sent_over(true, &ahead, bound, link, Ok(0));
+        return sent_over(true, &ahead, bound, link, least, Ok(0));
     }
     let Some(before) = line_into(network, node, input_of(network, node, link.id)) else {
         return Err(Reason::Way);
     };
-    let came = age_after(network, bounds, link, lines - 1, before);
+    let came = age_after(network, bounds, link, least, lines - 1, before);
     let age = plus(came, latency_of(network, node));
-    sent_over(false, &ahead, bound, link, age)
+    sent_over(false, &ahead, bound, link, least, age)
 }
 
 /// Whether a virtual link ends at a node by this port.
@@ -98,36 +100,39 @@ fn age_by(
     network: &Network,
     bounds: &[PortBound],
     link: &VirtualLink,
+    least: FrameSize,
     node: usize,
     port: u16,
 ) -> Result<u128, Reason>
     requires { node < length network.now.nodes }
-    ensures { result ≡ age_by network.now bounds.now link.now node port }
+    ensures { result ≡ age_by network.now bounds.now link.now least node port }
 {
     if !ends_by(network, node, link.id, port) {
         return Ok(0);
     }
     match line_into(network, node, port) {
-        Some(line) => age_after(network, bounds, link, network.line_count(), line),
+        Some(line) => age_after(network, bounds, link, least, network.line_count(), line),
         None => Err(Reason::Way),
     }
 }
 
-/// Returns how long a frame takes from its release to a destination, in ns: by the network on which it takes longer.
+/// Returns how long a frame takes from its release to a destination, in ns: by the network on which it takes longer. The least frame of the virtual
+/// link has `least` bytes.
 pub fn network_ns(
     network: &Network,
     bounds: &[PortBound],
     link: &VirtualLink,
+    least: FrameSize,
     node: usize,
 ) -> Result<u128, Reason>
     requires { node < length network.now.nodes }
-    ensures { result ≡ network_ns_of network.now bounds.now link.now node }
+    ensures { result ≡ age_to network.now bounds.now link.now least node }
 {
     if !ends_by(network, node, link.id, 0) && !ends_by(network, node, link.id, 1) {
         return Err(Reason::Way);
     }
-    let a = age_by(network, bounds, link, node, 0)?;
-    let b = age_by(network, bounds, link, node, 1)?;
+    let a = age_by(network, bounds, link, least, node, 0)?;
+    let b = age_by(network, bounds, link, least, node, 1)?;
     let age = a.max(b);
     if age < u128::MAX {
         Ok(age)

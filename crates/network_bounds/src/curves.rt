@@ -3,6 +3,7 @@ ghost use Rattle.std.specs.Prelude.{◌≡◌};
 ghost use Rattle.network.specs.Words.{IsLinkInLimits};
 ghost use Rattle.network_bounds.specs.Curves.{bag_of, burst_of, bag_rate, cost_of, gap_of, is_first, is_loose, rate_of, slack_of};
 
+use crate::passing::Passing;
 use network::{Policing, Priority, VirtualLink};
 
 /// The number of units in one ns.
@@ -15,11 +16,11 @@ pub fn bag_ns(link: &VirtualLink) -> u64
     u64::from(link.bag_ms) * 1_000_000
 }
 
-/// Returns how long a frame keeps the line busy, in ns, at `byte_ns` ns a byte.
-pub fn cost(byte_ns: u16, link: &VirtualLink) -> u32
-    ensures { result ≡ cost_of byte_ns link.now }
+/// Returns how long its greatest frame keeps the line busy, in ns, at `byte_ns` ns a byte.
+pub fn cost(byte_ns: u16, passing: &Passing) -> u32
+    ensures { result ≡ cost_of byte_ns passing.now }
 {
-    (u32::from(link.own.size.bytes()) + 20) * u32::from(byte_ns)
+    (u32::from(passing.sizes.greatest.bytes()) + 20) * u32::from(byte_ns)
 }
 
 /// Returns how much earlier than the BAG says a frame may come, in ns. At an end system its regulator spaces its frames; at a switch its
@@ -38,36 +39,36 @@ fn gap_ns(is_end: bool, link: &VirtualLink) -> u64
 }
 
 /// Returns the rate of a virtual link by its BAG, in units a ns.
-fn bag_rate(byte_ns: u16, link: &VirtualLink) -> u64
-    requires { IsLinkInLimits link.now }
-    ensures { result ≡ bag_rate byte_ns link.now }
+fn bag_rate(byte_ns: u16, passing: &Passing) -> u64
+    requires { IsLinkInLimits passing.now.link }
+    ensures { result ≡ bag_rate byte_ns passing.now }
 {
-    u64::from(128 / link.bag_ms) * u64::from(cost(byte_ns, link))
+    u64::from(128 / passing.link.bag_ms) * u64::from(cost(byte_ns, passing))
 }
 
 /// Returns the rate of a virtual link, in units a ns: by its gap if `by_gap` and there is one, otherwise by its BAG.
-pub fn rate(is_end: bool, by_gap: bool, byte_ns: u16, link: &VirtualLink) -> u64
-    requires { IsLinkInLimits link.now }
-    ensures { result ≡ rate_of is_end by_gap byte_ns link.now }
+pub fn rate(is_end: bool, by_gap: bool, byte_ns: u16, passing: &Passing) -> u64
+    requires { IsLinkInLimits passing.now.link }
+    ensures { result ≡ rate_of is_end by_gap byte_ns passing.now }
 {
-    let gap = gap_ns(is_end, link);
+    let gap = gap_ns(is_end, &passing.link);
     if by_gap && 0 < gap {
-        SCALE * u64::from(cost(byte_ns, link)) / gap + 1
+        SCALE * u64::from(cost(byte_ns, passing)) / gap + 1
     } else {
-        bag_rate(byte_ns, link)
+        bag_rate(byte_ns, passing)
     }
 }
 
 /// Returns the burst of a virtual link, in units: one frame by its gap; by its BAG also what its slack adds.
-pub fn burst(is_end: bool, by_gap: bool, byte_ns: u16, link: &VirtualLink) -> u128
-    requires { IsLinkInLimits link.now }
-    ensures { result ≡ burst_of is_end by_gap byte_ns link.now }
+pub fn burst(is_end: bool, by_gap: bool, byte_ns: u16, passing: &Passing) -> u128
+    requires { IsLinkInLimits passing.now.link }
+    ensures { result ≡ burst_of is_end by_gap byte_ns passing.now }
 {
-    if by_gap && 0 < gap_ns(is_end, link) {
-        return u128::from(SCALE) * u128::from(cost(byte_ns, link));
+    if by_gap && 0 < gap_ns(is_end, &passing.link) {
+        return u128::from(SCALE) * u128::from(cost(byte_ns, passing));
     }
-    let length = bag_ns(link) + u64::from(slack_ns(is_end, link));
-    u128::from(bag_rate(byte_ns, link)) * u128::from(length)
+    let length = bag_ns(&passing.link) + u64::from(slack_ns(is_end, &passing.link));
+    u128::from(bag_rate(byte_ns, passing)) * u128::from(length)
 }
 
 /// Whether its frames go first at the port.
@@ -84,14 +85,14 @@ pub fn is_first(is_end: bool, link: &VirtualLink) -> bool
 }
 
 /// Whether its account lets more frames pass than its BAGs allow.
-pub fn is_loose(is_end: bool, link: &VirtualLink) -> bool
-    ensures { result ≡ is_loose is_end link.now }
+pub fn is_loose(is_end: bool, passing: &Passing) -> bool
+    ensures { result ≡ is_loose is_end passing.now }
 {
     if is_end {
         return false;
     }
-    match link.policing {
-        Policing::Bytes => link.own.size.bytes() < link.smax.bytes(),
+    match passing.link.policing {
+        Policing::Bytes => passing.sizes.least.bytes() < passing.link.smax.bytes(),
         Policing::Frames => false,
     }
 }

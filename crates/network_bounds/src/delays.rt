@@ -6,12 +6,12 @@ ghost use Rattle.network_bounds.specs.Mixing.{mixed_at};
 ghost use Rattle.network_bounds.specs.Delays.{IsBound, bound_by, delay_of, first_mixed, first_of, fits_both, fits_first, fits_later, later_bound, later_delay, later_of, only_if, waiting_bound, waiting_of};
 
 use crate::choosing::choose;
-use crate::curves::{cost, is_first};
+use crate::curves::is_first;
 use crate::mixing::{Choice, Mixture, Parts, UNITS, mixed_at};
 use crate::port::Port;
 use crate::reason::Reason;
 use network::VirtualLink;
-use vlink::last_bit_ns;
+use vlink::{FrameSize, busy_ns, last_bit_ns};
 
 /// The mixtures of a port.
 #[derive(Clone, Copy)]
@@ -45,17 +45,10 @@ pub struct PortBound {
 }
 
 impl PortBound {
-    /// Returns the bounds by these weights, or none if another stream may come to the port than bounds know.
+    /// Returns the bounds by these weights.
     fn by(port: &Port, weights: &Weights) -> Self
         ensures { result ≡ bound_by port.now weights.now }
     {
-        if !port.is_plain {
-            return PortBound {
-                first: Err(Reason::Stream),
-                later: Err(Reason::Stream),
-                waiting: Err(Reason::Stream),
-            };
-        }
         PortBound {
             first: first_bound(port, weights),
             later: later_bound(port, weights),
@@ -194,15 +187,15 @@ fn waiting_bound(port: &Port, weights: &Weights) -> Result<u128, Reason>
     }
 }
 
-/// Returns how long a low frame takes until its last bit has left, in ns.
-fn later_delay(byte_ns: u16, link: &VirtualLink, later: Later) -> Result<u128, Reason>
-    ensures { result ≡ later_delay byte_ns link.now later }
+/// Returns how long a low frame takes until its last bit has left, in ns, if the least frame of its virtual link has `least` bytes.
+fn later_delay(byte_ns: u16, least: FrameSize, later: Later) -> Result<u128, Reason>
+    ensures { result ≡ later_delay byte_ns least later }
 {
     if later.left == 0 {
         return Err(Reason::Rate);
     }
-    let own = UNITS * u128::from(cost(byte_ns, link));
-    let last_bit = u128::from(last_bit_ns(link.own.size, u32::from(byte_ns)));
+    let own = UNITS * u128::from(busy_ns(least, u32::from(byte_ns)));
+    let last_bit = u128::from(last_bit_ns(least, u32::from(byte_ns)));
     Ok((later.burst.saturating_sub(own) / later.left).saturating_add(last_bit))
 }
 
@@ -212,12 +205,13 @@ pub fn delay_of(
     byte_ns: u16,
     bound: &PortBound,
     link: &VirtualLink,
+    least: FrameSize,
 ) -> Result<u128, Reason>
-    ensures { result ≡ delay_of is_end byte_ns bound.now link.now }
+    ensures { result ≡ delay_of is_end byte_ns bound.now link.now least }
 {
     if is_first(is_end, link) {
         bound.first
     } else {
-        later_delay(byte_ns, link, bound.later?)
+        later_delay(byte_ns, least, bound.later?)
     }
 }

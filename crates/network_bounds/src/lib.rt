@@ -11,6 +11,7 @@ mod passing;
 mod port;
 mod reason;
 mod share;
+mod sizes;
 mod text;
 mod waits;
 mod write;

@@ -2,18 +2,20 @@
 ghost use Rattle.std.specs.Prelude.{◌≡◌, ◌<◌, ◌++◌, All, length, IfOk, OnOk};
 ghost use Rattle.network.specs.Words.{IsLinkInLimits, is_end_system};
 ghost use Rattle.network_bounds.specs.Curves.{is_first};
-ghost use Rattle.network_bounds.specs.Passing.{are_plain, comes, first_port_of, input_of, passing_at, passings};
+ghost use Rattle.network_bounds.specs.Passing.{comes, first_port_of, input_of, passing_at, passings};
 
 use crate::curves::is_first;
+use crate::sizes::{FrameSizes, sizes};
 use network::{Network, NodeKind, VirtualLink, Way};
 use std::alloc::{AllocError, Global};
-use traffic::is_plain;
 use vlink::VlId;
 
 /// A virtual link that leaves a node by a port.
 #[derive(Clone, Copy)]
 pub struct Passing {
     pub link: VirtualLink,
+    /// The sizes of its frames.
+    pub sizes: FrameSizes,
     /// The port by which it came in at a switch; 0 at its end system.
     pub input: u16,
 }
@@ -72,8 +74,10 @@ fn push_passing(
     let Some(vl) = network.place_of(way.vl) else {
         return Ok(());
     };
+    let link = network.virtual_link(vl);
     found.push(Passing {
-        link: network.virtual_link(vl),
+        link,
+        sizes: sizes(network, &link),
         input: input_of(network, node, way.vl),
     })?;
     Ok(())
@@ -95,18 +99,6 @@ pub fn passings(
         push_passing(&mut found, network, node, port, *way)?;
     }
     Ok(found)
-}
-
-/// Whether each of these virtual links is offered one frame of one size in each period, and nothing else.
-pub fn are_plain(network: &Network, passings: &[Passing]) -> bool
-    ensures { result ≡ are_plain network.now passings.now }
-{
-    for passing in passings {
-        if !is_plain(network, &passing.link) {
-            return false;
-        }
-    }
-    true
 }
 
 impl Passing {

@@ -4,7 +4,7 @@ ghost use Rattle.std.specs.List.{range_with_len};
 ghost use Rattle.network.specs.Words.{lines_of};
 ghost use Rattle.network_bounds.specs.Mixing.{PORTS, byte_ns_into, leads_to, line_into, port_before};
 
-use crate::passing::{Passing, are_plain, is_end, passings};
+use crate::passing::{Passing, is_end, passings};
 use network::{GREATEST_PORTS, Network};
 use std::alloc::{AllocError, Global};
 use std::marker::Model;
@@ -14,8 +14,6 @@ use std::marker::Model;
 /// Clauses see what leaves by it, and for each port of its node the time of one byte on the line there, in ns.
 #[derive(Drop)]
 pub struct Port {
-    /// Whether each virtual link that leaves by it is offered one frame of one size in each period, and nothing else.
-    pub is_plain: bool,
     pub is_end: bool,
     /// The time on the line of one byte, in ns.
     pub byte_ns: u16,
@@ -31,7 +29,7 @@ impl Model for Port {
 
     ghost Value = { PortPlan };
 
-    ghost view = { λ p. record { is_plain = p.is_plain; is_end = p.is_end; byte_ns = p.byte_ns; passings = p.passings.items; before = p.before.items } };
+    ghost view = { λ p. record { is_end = p.is_end; byte_ns = p.byte_ns; passings = p.passings.items; before = p.before.items } };
 
     ghost invariant = { λ p. record { byte : 1 ≤ p.byte_ns; limits : All (λ passing. IsLinkInLimits passing.link) p.passings.items } };
 }
@@ -92,7 +90,6 @@ impl Port {
         let before = bytes_into(alloc, network, node)?;
         let passings = passings(alloc, network, node, ahead.from_port)?;
         Ok(Port {
-            is_plain: are_plain(network, passings.as_slice()),
             is_end: is_end(network, node),
             byte_ns: ahead.byte_ns,
             passings,

@@ -13,8 +13,6 @@ pub enum Reason {
     Way,
     /// A number exceeds 128 bits.
     Number,
-    /// A virtual link that may come there has a stream of its own row in `stream`, several frames at once, or sporadic ones.
-    Stream,
 }
 
 /// Returns the text of a reason.
@@ -26,6 +24,5 @@ pub(crate) fn reason_name<'a>(reason: Reason) -> &'a str
         Reason::Bytes => "bytes",
         Reason::Way => "way",
         Reason::Number => "number",
-        Reason::Stream => "stream",
     }
 }

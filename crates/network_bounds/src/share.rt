@@ -4,8 +4,8 @@ ghost use Rattle.network.specs.Words.{IsLinkInLimits};
 ghost use Rattle.network_bounds.specs.Mixing.{flows_share, is_bounding, share_at, with_link};
 
 use crate::curves::{SCALE, burst, cost, is_loose, rate};
+use crate::passing::Passing;
 use crate::port::Port;
-use network::VirtualLink;
 
 /// What comes to a port by one line, with one priority: bursts in units, rates in units a ns. All sums stop at the greatest number.
 #[derive(Clone, Copy)]
@@ -25,19 +25,22 @@ pub struct Share {
 }
 
 /// Adds one virtual link to what comes.
-fn with_link(share: Share, port: &Port, by_gap: bool, link: &VirtualLink) -> Share
-    requires { IsLinkInLimits link.now }
-    ensures { result ≡ with_link share port.now.is_end by_gap port.now.byte_ns link.now }
+fn with_link(share: Share, port: &Port, by_gap: bool, passing: &Passing) -> Share
+    requires { IsLinkInLimits passing.now.link }
+    ensures { result ≡ with_link share port.now.is_end by_gap port.now.byte_ns passing.now }
 {
     Share {
         burst: share
             .burst
-            .saturating_add(burst(port.is_end, by_gap, port.byte_ns, link)),
-        rate: share
-            .rate
-            .saturating_add(u128::from(rate(port.is_end, by_gap, port.byte_ns, link))),
-        greatest: share.greatest.max(u64::from(cost(port.byte_ns, link))),
-        is_loose: share.is_loose || is_loose(port.is_end, link),
+            .saturating_add(burst(port.is_end, by_gap, port.byte_ns, passing)),
+        rate: share.rate.saturating_add(u128::from(rate(
+            port.is_end,
+            by_gap,
+            port.byte_ns,
+            passing,
+        ))),
+        greatest: share.greatest.max(u64::from(cost(port.byte_ns, passing))),
+        is_loose: share.is_loose || is_loose(port.is_end, passing),
         ..share
     }
 }
@@ -57,7 +60,7 @@ fn flows_at(port: &Port, by_gap: bool, input: u16, is_high: bool) -> Share
     };
     for passing in &port.passings {
         if passing.comes(port.is_end, input, is_high) {
-            share = with_link(share, port, by_gap, &passing.link);
+            share = with_link(share, port, by_gap, passing);
         }
     }
     share

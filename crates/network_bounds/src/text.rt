@@ -40,7 +40,7 @@ pub fn push_bound(
     requires { IsLinkInLimits link.now }
     ensures { OnOk result (Adds out.old out.new (destination_line network.now link.now node (Ok network_ns))) }
 {
-    let wait = wait_ns(link);
+    let wait = wait_ns(network, link);
     let mut number = Buffer::new();
     let mut own = Buffer::new();
     let mut held = Buffer::new();

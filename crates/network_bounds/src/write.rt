@@ -5,17 +5,20 @@ ghost use Rattle.trace_segments.specs.declared.fault.OutFault.TheVariants.{Devic
 ghost use Rattle.trace_segments.specs.Words.{Adds, IsBeginning};
 ghost use Rattle.network.specs.Words.{IsLinkInLimits, lines_of};
 ghost use Rattle.network_bounds.specs.Delays.{AreBounds};
+ghost use Rattle.network_bounds.specs.Sizes.{sizes_in};
 ghost use Rattle.network_bounds.specs.Text.{IsBoundsText, bounds_text, destination_text, destinations_text, links_text, port_text, ports_text};
 
 use crate::ages::network_ns;
 use crate::delays::PortBound;
 use crate::port::Port;
+use crate::sizes::sizes;
 use crate::text;
 use csv::{Error, Writer};
 use network::{Network, VirtualLink};
 use std::alloc::{AllocError, Global};
 use trace_segments::line::{empty, text_of};
 use trace_segments::{OutFault, Sink, write_all};
+use vlink::FrameSize;
 
 /// Returns the bounds of the port before each line.
 fn bounds_of(alloc: Global, network: &Network) -> Result<Vec<PortBound>, AllocError>
@@ -35,15 +38,17 @@ fn push_destination(
     network: &Network,
     bounds: &[PortBound],
     link: &VirtualLink,
+    least: FrameSize,
     node: usize,
 ) -> Result<(), Error>
-    requires { IsLinkInLimits link.now }
+    requires limits { IsLinkInLimits link.now }
+    requires size { least ≡ (sizes_in network.now link.now).least }
     ensures { OnOk result (Adds out.old out.new (destination_text network.now bounds.now link.now node)) }
 {
     if node >= network.node_count() {
         return Ok(());
     }
-    match network_ns(network, bounds, link, node) {
+    match network_ns(network, bounds, link, least, node) {
         Ok(ns) => text::push_bound(out, network, link, node, ns),
         Err(reason) => text::push_no_bound(out, network, link, node, reason),
     }
@@ -55,13 +60,15 @@ fn push_destinations(
     network: &Network,
     bounds: &[PortBound],
     link: &VirtualLink,
+    least: FrameSize,
     nodes: &[usize],
 ) -> Result<(), Error>
     requires limits { IsLinkInLimits link.now }
+    requires size { least ≡ (sizes_in network.now link.now).least }
     ensures { OnOk result (Adds out.old out.new (destinations_text network.now bounds.now link.now nodes.now)) }
 {
     for node in nodes {
-        push_destination(out, network, bounds, link, *node)?;
+        push_destination(out, network, bounds, link, least, *node)?;
     }
     Ok(())
 }
@@ -76,7 +83,8 @@ fn push_links(
 {
     for vl in 0..network.vl_count() {
         let link = network.virtual_link(vl);
-        push_destinations(out, network, bounds, &link, network.destinations(vl))?;
+        let least = sizes(network, &link).least;
+        push_destinations(out, network, bounds, &link, least, network.destinations(vl))?;
     }
     Ok(())
 }

@@ -1,5 +1,6 @@
 -- Each bound of a network holds in its one-thread run, where its regulators hold frames no longer than they may.
-use Rattle.std.proofs.Common.{List, ◌≤◌, ◌≡◌, ℕ, ◌+◌, ◌-◌, ◌*◌, ◌<◌, ◌==◌, ◌&&◌, Bool, true, false, cond, min, nat_le, get_or, Option, Some, None, All, IfSome, inl, inr, refl, ap, sym, ◌∙◌, subst, arith, slice_get, option_and_then, eqb-true, leb-true}
+use Rattle.std.proofs.Common.{List, ◌≤◌, ◌≡◌, ℕ, ◌-◌, ◌*◌, ◌<◌, ◌==◌, ◌&&◌, not, Bool, true, false, cond, min, nat_le, get_or, Option, Some, None, All, IfSome, inl, inr, refl, ap, sym, ◌∙◌, subst, arith, slice_get, option_and_then, eqb-true, leb-true}
+use Rattle.std.specs.List.{list_any}
 use Rattle.std.proofs.lemmas.Bool.{cases_lt, false≢true}
 use Rattle.std.proofs.lemmas.Option.{slice_get-get_or}
 use Rattle.std.proofs.lemmas.List.Elements.{All-contains}
@@ -20,17 +21,15 @@ use Rattle.nodes.specs.undoing.Node.{node}
 use Rattle.port_turns.specs.Nodes.{IsOfNodes, is_offer}
 use Rattle.port_turns.specs.PortEvents.{outlet_in}
 use Rattle.seqsim.specs.Networks.{setting_of}
-use Rattle.traffic.specs.Plain.{is_plain}
-use Rattle.network_bounds.specs.Mixing.{port_before}
 use Rattle.plan_bounds.proofs.Sizes.{offers-sized, sizes_of}
 use Rattle.plan_ports.proofs.Linked.{all-empty}
 use Rattle.plan_ports.proofs.Offered.{all-offered}
 use Rattle.plan_ports.proofs.Ways.{all-lead}
-use Rattle.network_bounds.specs.Ages.{wait_of}
+use Rattle.network_bounds.specs.Ages.{is_steady, late_in, steady_wait, wait_of}
 use Rattle.network_bounds.specs.Curves.{bag_of}
 use Rattle.frame_ages.specs.Latencies.{AreLatenciesBounded, IsHeldWithin}
 use Rattle.frame_ages.specs.Sizes.{HaveEmptyRegulators, HaveIdlePorts, OpensEmpty}
-use Rattle.plan_waits.specs.Held.{AreListsHeld, ArePeriodsHeld, IsSent}
+use Rattle.plan_waits.specs.Held.{AreListsHeld, ArePeriodsHeld, IsSent, IsSteady}
 use Rattle.network_bounds.specs.declared.delays.PortBound.{PortBound}
 use Rattle.network_bounds.specs.Delays.{AreBounds}
 use Rattle.frame_ages.specs.Ports.{IsWaitingBound}
@@ -38,7 +37,7 @@ use Rattle.frame_ages.specs.Rooms.{AreFramesKept, HasRoomAt}
 use Rattle.nodes.specs.declared.ports.LineAhead.{LineAhead}
 use Rattle.plan_ports.specs.Outlets.{LeadsInto}
 use Rattle.plan_bounds.specs.Rooms.{AreRoomsEnough, Holds}
-use Rattle.plan_bounds.proofs.Routes.{bound-at, plain-is, waiting-plain}
+use Rattle.plan_bounds.proofs.Routes.{bound-at}
 use Rattle.plan_bounds.proofs.Waiting.{waiting-bound}
 use Rattle.plan_bounds.specs.Latencies.{AreLatencyBounds}
 use Rattle.plan_bounds.proofs.Destinations.{arriving, comes-within, sent}
@@ -47,6 +46,10 @@ use Rattle.plan_bounds.proofs.Sources.{destination-end}
 both-true : (a b : Bool) → (a && b) ≡ true → (a ≡ true) × (b ≡ true)
 both-true true b h = (refl, h)
 both-true false b h = absurd (false≢true h)
+
+not-true : (b : Bool) → not b ≡ true → b ≡ false
+not-true true h = absurd (false≢true h)
+not-true false h = refl
 
 -- ---- how a run begins
 
@@ -81,8 +84,8 @@ module _ (plan : Plan) (accepted : IsAccepted plan) where
   -- ---- how long a regulator holds frames
 
   module _ (laws : Laws (simulation_of (rules_of node) (setting_of plan))) (latencies : AreLatenciesBounded) (lists : AreListsHeld plan) (periods : ArePeriodsHeld plan) where
-    held : (p : ℕ) (vl : VlPlan) → IsSent plan p vl → is_plain plan vl.link ≡ true → IsHeldWithin (setting_of plan) p vl.link.id.0 (wait_of vl.link)
-    held p vl simple plain = go ((vl.link.sub == 1) && (nat_le (bag_of vl.link) vl.link.own.period_ns && nat_le vl.link.own.jitter_ns vl.link.own.period_ns)) refl
+    held : (p : ℕ) (vl : VlPlan) → IsSent plan p vl → IsHeldWithin (setting_of plan) p vl.link.id.0 (wait_of plan vl.link)
+    held p vl simple = go (is_steady plan vl.link) refl
       where
         by_list : IsHeldWithin (setting_of plan) p vl.link.id.0 (vl.link.depth * vl.link.sub * bag_of vl.link)
         by_list = lists laws of-nodes (sizes_of plan) opens-empty p vl simple
@@ -93,15 +96,22 @@ module _ (plan : Plan) (accepted : IsAccepted plan) where
           | inr ge ↦ (let same : b ≡ min a b = omega (arith, ge) in subst (IsHeldWithin (setting_of plan) p vl.link.id.0) same k)
         ]
 
-        go : (b : Bool) → ((vl.link.sub == 1) && (nat_le (bag_of vl.link) vl.link.own.period_ns && nat_le vl.link.own.jitter_ns vl.link.own.period_ns)) ≡ b
-            → IsHeldWithin (setting_of plan) p vl.link.id.0
-            (cond b (min (vl.link.depth * vl.link.sub * bag_of vl.link) (vl.link.own.jitter_ns + bag_of vl.link - vl.link.own.period_ns)) (vl.link.depth * vl.link.sub * bag_of vl.link))
+        steady : is_steady plan vl.link ≡ true → IsSteady plan vl (late_in vl.link.own)
+        steady e =
+            let (one, fits) = both-true ((vl.link.sub == 1) && not (list_any (λ s. s.vl.0 == vl.link.id.0) plan.streams)) _ e in
+            let (list, alone) = both-true (vl.link.sub == 1) _ one in
+            let (time, order) = both-true (nat_le (vl.link.own.frames * bag_of vl.link) vl.link.own.period_ns) _ fits in
+            record {
+              one_list = eqb-true vl.link.sub 1 list;
+              alone = not-true _ alone;
+              in_time = leb-true _ _ time;
+              late_is = refl;
+              in_order = leb-true _ _ order;
+            }
+
+        go : (b : Bool) → is_steady plan vl.link ≡ b → IsHeldWithin (setting_of plan) p vl.link.id.0 (cond b (min (vl.link.depth * vl.link.sub * bag_of vl.link) (steady_wait vl.link)) (vl.link.depth * vl.link.sub * bag_of vl.link))
         go false e = by_list
-        go true e =
-            let all = both-true (vl.link.sub == 1) (nat_le (bag_of vl.link) vl.link.own.period_ns && nat_le vl.link.own.jitter_ns vl.link.own.period_ns) e in
-            let two = both-true (nat_le (bag_of vl.link) vl.link.own.period_ns) (nat_le vl.link.own.jitter_ns vl.link.own.period_ns) all.1 in
-            lesser (vl.link.depth * vl.link.sub * bag_of vl.link) (vl.link.own.jitter_ns + bag_of vl.link - vl.link.own.period_ns) by_list
-            (periods laws of-nodes (sizes_of plan) opens-empty p vl simple plain (eqb-true vl.link.sub 1 all.0) (leb-true _ _ two.0) (leb-true _ _ two.1))
+        go true e = lesser (vl.link.depth * vl.link.sub * bag_of vl.link) (steady_wait vl.link) by_list (periods laws of-nodes (sizes_of plan) opens-empty p vl simple (late_in vl.link.own) (steady e))
 
     pub are-bounds : AreLatencyBounds plan
     are-bounds bounds are vl is_vl n there network_ns e =
@@ -120,7 +130,7 @@ module _ (plan : Plan) (accepted : IsAccepted plan) where
           is = c.end_system.is;
         } in
         λ events row found place latency note.
-        (let le = latencies (setting_of plan) laws of-nodes (sizes_of plan) opens-empty vl.link.id.0 has.node n (wait_of vl.link) network_ns below (held has.node vl simple c.plain)
+        (let le = latencies (setting_of plan) laws of-nodes (sizes_of plan) opens-empty vl.link.id.0 has.node n (wait_of plan vl.link) network_ns below (held has.node vl simple)
         (comes-within plan accepted vl is_vl bounds are has.node has.is n network_ns end arrival) events row found place vl.link.id latency refl note in
         omega (arith, le))
 
@@ -131,9 +141,7 @@ module _ (plan : Plan) (accepted : IsAccepted plan) where
     room-at bounds are p q outlet leads holds =
         let (w, is) = bound-at plan (lines_of plan) bounds are leads.k leads.line holds.bound leads.read holds.read in
         let byte : outlet.ahead.byte_ns ≡ leads.line.byte_ns = ap (λ (a : LineAhead). a.byte_ns) leads.ahead in
-        let plain = waiting-plain (port_before plan leads.line) w holds.bound is holds.bytes holds.waiting in
-        let by = plain-is (port_before plan leads.line) w holds.bound is plain in
-        let bound = waiting-bound plan accepted leads.k leads.line leads.read plain w outlet byte holds.bytes (ap (λ (b : PortBound). b.waiting) (sym by) ∙ holds.waiting) in
+        let bound = waiting-bound plan accepted leads.k leads.line leads.read w outlet byte holds.bytes (ap (λ (b : PortBound). b.waiting) (sym is) ∙ holds.waiting) in
         record {
           bytes = holds.bytes;
           bound = subst (λ n. IsWaitingBound (setting_of plan) (sizes_of plan) n q outlet holds.bytes) leads.from (subst (λ j. IsWaitingBound (setting_of plan) (sizes_of plan) leads.line.from j outlet holds.bytes) leads.from_port bound);

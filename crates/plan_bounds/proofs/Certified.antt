@@ -18,7 +18,7 @@ use Rattle.nodes.specs.rules.Opening.{line_opening}
 use Rattle.nodes.proofs.WayLemmas.{ways-within}
 use Rattle.seqsim.specs.Networks.{setting_of}
 use Rattle.port_turns.specs.Arrivals.{IsWay}
-use Rattle.plan_bounds.proofs.Sizes.{all-plain, sizes_of}
+use Rattle.plan_bounds.proofs.Sizes.{sizes_of}
 use Rattle.plan_ports.specs.Outlets.{line_process}
 use Rattle.plan_ports.proofs.OwnPorts.{own-ports}
 use Rattle.plan_ports.proofs.Ways.{line-way}
@@ -29,14 +29,14 @@ use Rattle.network_bounds.specs.declared.share.Share.{Share}
 use Rattle.network_bounds.specs.Curves.{is_first}
 use Rattle.network_bounds.specs.Mixing.{PORTS, PortPlan, any_loose_at, any_loose_below, byte_ns_into, flows_at, gaps_in, greatest_at, group_at, groups_below, is_bounding, port_before, share_at, weight_by, weight_of}
 use Rattle.network_bounds.specs.Numbers.{SCALE, WHOLE}
-use Rattle.network_bounds.specs.Passing.{are_plain, are_same, comes, first_port_of, input_of, passings}
+use Rattle.network_bounds.specs.Passing.{are_same, comes, first_port_of, input_of, passings}
 use Rattle.port_bounds.specs.Mixtures.{IsAmong, lines_of as group_lines, links_of}
 use Rattle.port_bounds.specs.Sublists.{Every}
 use Rattle.frame_ages.specs.Ports.{AreGroups, IsByLine, IsGroup}
 use Rattle.plan_bounds.proofs.Groups.{IsCounted, counted, costs-are, flow-among, flows-are, is_high_put, or-left, or-right}
 use Rattle.plan_bounds.proofs.Lines.{IsSlower, slower-is}
 use Rattle.plan_bounds.proofs.NodeKinds.{IsSwitchAt, node-kind}
-use Rattle.plan_bounds.proofs.Passed.{leaves-passed}
+use Rattle.plan_bounds.proofs.Passed.{leaves-passed, passed}
 
 weight-most : (choice : Choice) (j : ℕ) (share : Share) → weight_of choice j share ≤ WHOLE
 weight-most choice j share = go share.is_bounding
@@ -67,7 +67,7 @@ within-first id (way ∷ ways) all = go (way.vl.0 == id) (within-first id ways a
     go true later = all.0
     go false later = later
 
-module _ (plan : Plan) (accepted : IsAccepted plan) (k : ℕ) (line : LinePlan) (read : slice_get (lines_of plan) k ≡ Some line) (plain : are_plain plan (passings plan line.from line.from_port) ≡ true) where
+module _ (plan : Plan) (accepted : IsAccepted plan) (k : ℕ) (line : LinePlan) (read : slice_get (lines_of plan) k ≡ Some line) where
   abbrev port : PortPlan
   port = port_before plan line
 
@@ -119,7 +119,7 @@ module _ (plan : Plan) (accepted : IsAccepted plan) (k : ℕ) (line : LinePlan) 
               way = there;
               slower = (let le = slow.slower in let same = way.byte_ns in omega (arith, le, same));
               most = greatest_at port j high;
-              costs = costs-are plan accepted line.byte_ns line.from line.from_port (gaps_in choice) (comes (is_end_system plan.nodes line.from) j high) (is_end_system plan.nodes line.from) (passings plan line.from line.from_port) (λ x h. h) (all-plain plan (passings plan line.from line.from_port) plain) (greatest_at port j high) (omega arith);
+              costs = costs-are plan accepted line.byte_ns line.from line.from_port (gaps_in choice) (comes (is_end_system plan.nodes line.from) j high) (is_end_system plan.nodes line.from) (passings plan line.from line.from_port) (λ x h. h) (greatest_at port j high) (omega arith);
               burst = rw e refl;
               rate = rw e refl;
             }
@@ -128,7 +128,7 @@ module _ (plan : Plan) (accepted : IsAccepted plan) (k : ℕ) (line : LinePlan) 
     group-is j lt tight = record {
       weight = weight-most choice j (share_at port (gaps_in choice) j high);
       by_line = λ some. by-line j lt (is_bounding port j) refl some;
-      flows = flows-are plan accepted line.from line.from_port line.byte_ns (gaps_in choice) (comes (is_end_system plan.nodes line.from) j high) from-node (passings plan line.from line.from_port) (λ x h. h) (all-plain plan (passings plan line.from line.from_port) plain) tight;
+      flows = flows-are plan accepted line.from line.from_port line.byte_ns (gaps_in choice) (comes (is_end_system plan.nodes line.from) j high) from-node (passings plan line.from line.from_port) (λ x h. h) tight;
     }
 
     groups-are : (n : ℕ) → n ≤ PORTS → any_loose_below port high n ≡ false → Every (IsGroup (setting_of plan) line.from (sizes_of plan) line.byte_ns SCALE WHOLE) (groups_below port choice high n)
@@ -150,14 +150,14 @@ module _ (plan : Plan) (accepted : IsAccepted plan) (k : ℕ) (line : LinePlan) 
     link-among v input h (suc j) = (here, link-among v input h j)
       where
         passing : Passing
-        passing = record { link = h.vl.link; input = input_of plan line.from h.vl.link.id.0 }
+        passing = passed plan line.from h.vl
 
         here : input ≡ j → IsAmong v (links_of (flows_at port (gaps_in choice) j (is_high_put priority)))
         here same =
             let at : (input_of plan line.from h.vl.link.id.0 == j) ≡ true = eq-eqb _ _ (sym h.comes_in ∙ same) in
             let first : are_same (is_first (is_end_system plan.nodes line.from) h.vl.link) (is_high_put priority) ≡ true = ap (λ b. are_same b (is_high_put priority)) h.first ∙ same-is (is_high_put priority) in
             subst (λ n. IsAmong n (links_of (flows_at port (gaps_in choice) j (is_high_put priority)))) h.id
-            (flow-among plan accepted line.byte_ns (gaps_in choice) (comes (is_end_system plan.nodes line.from) j (is_high_put priority)) (is_end_system plan.nodes line.from) (passings plan line.from line.from_port) (record { link = h.vl.link; input = input_of plan line.from h.vl.link.id.0 })
+            (flow-among plan accepted line.byte_ns (gaps_in choice) (comes (is_end_system plan.nodes line.from) j (is_high_put priority)) (is_end_system plan.nodes line.from) (passings plan line.from line.from_port) (passed plan line.from h.vl)
             (leaves-passed plan accepted line.from line.from_port h.vl h.leaves) (rw at first))
 
     pub are-groups : (outlet : Outlet) → outlet.ahead.byte_ns ≡ line.byte_ns → any_loose_below port (is_high_put priority) PORTS ≡ false

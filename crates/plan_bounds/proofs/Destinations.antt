@@ -27,6 +27,7 @@ use Rattle.network_bounds.specs.declared.delays.PortBound.{PortBound}
 use Rattle.network_bounds.specs.declared.reason.Reason.{Reason}
 use Rattle.network_bounds.specs.declared.reason.Reason.TheVariants as reason
 use Rattle.network_bounds.specs.Ages.{age_after, age_by, ends_by, network_ns_of}
+use Rattle.network_bounds.specs.Sizes.{sizes_in}
 use Rattle.network_bounds.specs.Delays.{AreBounds, after}
 use Rattle.network_bounds.specs.Mixing.{line_into}
 use Rattle.network_bounds.specs.Numbers.{within}
@@ -99,13 +100,13 @@ module _ (plan : Plan) (accepted : IsAccepted plan) (vl : VlPlan) (is_vl : Conta
   -- ---- at a destination
 
   module _ (bounds : List PortBound) (are : AreBounds plan (lines_of plan) bounds) (source : ℕ) (from_source : begins_at vl ≡ Some source) where
-    comes-by : (n q : ℕ) → ends_by plan n vl.link.id.0 q ≡ true → (age : ℕ) → age < 2 ^ 128 - 1 → age_by plan bounds vl.link n q ≡ Ok age → (entry : IsOverIn plan vl n q) × IsComing plan vl source entry.leads.line age
+    comes-by : (n q : ℕ) → ends_by plan n vl.link.id.0 q ≡ true → (age : ℕ) → age < 2 ^ 128 - 1 → age_by plan bounds vl.link (sizes_in plan vl.link).least n q ≡ Ok age → (entry : IsOverIn plan vl n q) × IsComing plan vl source entry.leads.line age
     comes-by n q h age lt e =
         let entry = ends-over n q h in
         let into = line-into-there plan accepted n q entry.k entry.leads in
-        let here : option_map_or (age_after plan bounds vl.link (length (lines_of plan))) (line_into plan n q) (Err reason.Way) ≡ Ok age =
-        subst (λ b. cond b (option_map_or (age_after plan bounds vl.link (length (lines_of plan))) (line_into plan n q) (Err reason.Way)) (Ok 0) ≡ Ok age) h e in
-        let out : age_after plan bounds vl.link (length (lines_of plan)) entry.k ≡ Ok age = ap (λ o. option_map_or (age_after plan bounds vl.link (length (lines_of plan))) o (Err reason.Way)) (sym into) ∙ here in
+        let here : option_map_or (age_after plan bounds vl.link (sizes_in plan vl.link).least (length (lines_of plan))) (line_into plan n q) (Err reason.Way) ≡ Ok age =
+        subst (λ b. cond b (option_map_or (age_after plan bounds vl.link (sizes_in plan vl.link).least (length (lines_of plan))) (line_into plan n q) (Err reason.Way)) (Ok 0) ≡ Ok age) h e in
+        let out : age_after plan bounds vl.link (sizes_in plan vl.link).least (length (lines_of plan)) entry.k ≡ Ok age = ap (λ o. option_map_or (age_after plan bounds vl.link (sizes_in plan vl.link).least (length (lines_of plan))) o (Err reason.Way)) (sym into) ∙ here in
         (entry, coming plan accepted bounds are vl is_vl source from_source (length (lines_of plan)) entry.k entry.leads.line entry.leads.read entry.over age lt out)
 
     as-way : (n q age : ℕ) (entry : IsOverIn plan vl n q) → IsComing plan vl source entry.leads.line age → ComesBy (setting_of plan) (sizes_of plan) vl.link.id.0 source n q age
@@ -119,7 +120,7 @@ module _ (plan : Plan) (accepted : IsAccepted plan) (vl : VlPlan) (is_vl : Conta
       within = c.within;
     }
 
-    by-port : (n q age most : ℕ) → age < 2 ^ 128 - 1 → age ≤ most → age_by plan bounds vl.link n q ≡ Ok age → (outlet : Outlet) → outlet_in (opening plan n).equipment q ≡ Some outlet
+    by-port : (n q age most : ℕ) → age < 2 ^ 128 - 1 → age ≤ most → age_by plan bounds vl.link (sizes_in plan vl.link).least n q ≡ Ok age → (outlet : Outlet) → outlet_in (opening plan n).equipment q ≡ Some outlet
         → ((time : ℕ) × ComesBy (setting_of plan) (sizes_of plan) vl.link.id.0 source n q time × (time ≤ most)) ⊎ ComesNot (setting_of plan) vl.link.id.0 n q
     by-port n q age most lt le e outlet there = go (ends_by plan n vl.link.id.0 q) refl
       where
@@ -131,8 +132,8 @@ module _ (plan : Plan) (accepted : IsAccepted plan) (vl : VlPlan) (is_vl : Conta
     pub record IsArriving (n most : ℕ) : Type 0 where
       pub a : ℕ
       pub b : ℕ
-      pub a_is : age_by plan bounds vl.link n 0 ≡ Ok a
-      pub b_is : age_by plan bounds vl.link n 1 ≡ Ok b
+      pub a_is : age_by plan bounds vl.link (sizes_in plan vl.link).least n 0 ≡ Ok a
+      pub b_is : age_by plan bounds vl.link (sizes_in plan vl.link).least n 1 ≡ Ok b
       pub some : (ends_by plan n vl.link.id.0 0 || ends_by plan n vl.link.id.0 1) ≡ true
       pub held : max a b < 2 ^ 128 - 1
       pub is : most ≡ max a b
@@ -140,23 +141,23 @@ module _ (plan : Plan) (accepted : IsAccepted plan) (vl : VlPlan) (is_vl : Conta
     pub arriving : (n most : ℕ) → network_ns_of plan bounds vl.link n ≡ Ok most → IsArriving n most
     arriving n most e = go (ends_by plan n vl.link.id.0 0 || ends_by plan n vl.link.id.0 1) refl e
       where
-        last : (some : (ends_by plan n vl.link.id.0 0 || ends_by plan n vl.link.id.0 1) ≡ true) (a b : ℕ) → age_by plan bounds vl.link n 0 ≡ Ok a → age_by plan bounds vl.link n 1 ≡ Ok b → (held : Bool) → nat_lt (max a b) (2 ^ 128 - 1) ≡ held
+        last : (some : (ends_by plan n vl.link.id.0 0 || ends_by plan n vl.link.id.0 1) ≡ true) (a b : ℕ) → age_by plan bounds vl.link (sizes_in plan vl.link).least n 0 ≡ Ok a → age_by plan bounds vl.link (sizes_in plan vl.link).least n 1 ≡ Ok b → (held : Bool) → nat_lt (max a b) (2 ^ 128 - 1) ≡ held
             → cond held (Ok (max a b)) (Err reason.Number) ≡ Ok most → IsArriving n most
         last some a b a_is b_is true h e = record { a = a; b = b; a_is = a_is; b_is = b_is; some = some; held = lt-true _ _ h; is = sym (same-ok (max a b) most e) }
         last some a b a_is b_is false h e = absurd (err-ok reason.Number most e)
 
-        by-b : (some : (ends_by plan n vl.link.id.0 0 || ends_by plan n vl.link.id.0 1) ≡ true) (a : ℕ) → age_by plan bounds vl.link n 0 ≡ Ok a → (o : Result ℕ Reason) → age_by plan bounds vl.link n 1 ≡ o → after o (λ b. within (max a b)) ≡ Ok most → IsArriving n most
+        by-b : (some : (ends_by plan n vl.link.id.0 0 || ends_by plan n vl.link.id.0 1) ≡ true) (a : ℕ) → age_by plan bounds vl.link (sizes_in plan vl.link).least n 0 ≡ Ok a → (o : Result ℕ Reason) → age_by plan bounds vl.link (sizes_in plan vl.link).least n 1 ≡ o → after o (λ b. within (max a b)) ≡ Ok most → IsArriving n most
         by-b some a a_is (Err why) b_is e = absurd (err-ok why most e)
         by-b some a a_is (Ok b) b_is e = last some a b a_is b_is (nat_lt (max a b) (2 ^ 128 - 1)) refl e
 
-        by-a : (some : (ends_by plan n vl.link.id.0 0 || ends_by plan n vl.link.id.0 1) ≡ true) (o : Result ℕ Reason) → age_by plan bounds vl.link n 0 ≡ o → after o (λ a. after (age_by plan bounds vl.link n 1) (λ b. within (max a b))) ≡ Ok most → IsArriving n most
+        by-a : (some : (ends_by plan n vl.link.id.0 0 || ends_by plan n vl.link.id.0 1) ≡ true) (o : Result ℕ Reason) → age_by plan bounds vl.link (sizes_in plan vl.link).least n 0 ≡ o → after o (λ a. after (age_by plan bounds vl.link (sizes_in plan vl.link).least n 1) (λ b. within (max a b))) ≡ Ok most → IsArriving n most
         by-a some (Err why) a_is e = absurd (err-ok why most e)
-        by-a some (Ok a) a_is e = by-b some a a_is (age_by plan bounds vl.link n 1) refl e
+        by-a some (Ok a) a_is e = by-b some a a_is (age_by plan bounds vl.link (sizes_in plan vl.link).least n 1) refl e
 
         go : (some : Bool) → (ends_by plan n vl.link.id.0 0 || ends_by plan n vl.link.id.0 1) ≡ some
-            → cond some (after (age_by plan bounds vl.link n 0) (λ a. after (age_by plan bounds vl.link n 1) (λ b. within (max a b)))) (Err reason.Way) ≡ Ok most → IsArriving n most
+            → cond some (after (age_by plan bounds vl.link (sizes_in plan vl.link).least n 0) (λ a. after (age_by plan bounds vl.link (sizes_in plan vl.link).least n 1) (λ b. within (max a b)))) (Err reason.Way) ≡ Ok most → IsArriving n most
         go false some e = absurd (err-ok reason.Way most e)
-        go true some e = by-a some (age_by plan bounds vl.link n 0) refl e
+        go true some e = by-a some (age_by plan bounds vl.link (sizes_in plan vl.link).least n 0) refl e
 
     pub comes-within : (n most : ℕ) → is_end_system plan.nodes n ≡ true → IsArriving n most → ComesWithin (setting_of plan) (sizes_of plan) vl.link.id.0 source n most
     comes-within n most end h port outlet there = at port outlet there (two port outlet there)

@@ -7,7 +7,6 @@ use Rattle.row_types.specs.declared.rows.Policing.{Policing}
 use Rattle.row_types.specs.declared.rows.Policing.TheVariants as policing
 use Rattle.row_types.specs.declared.rows.Priority as row
 use Rattle.row_types.specs.declared.rows.Priority.TheVariants as rows
-use Rattle.row_types.specs.declared.rows.VirtualLink.{VirtualLink}
 use Rattle.output_port.specs.declared.event.Priority.{Priority}
 use Rattle.output_port.specs.declared.event.Priority.TheVariants.{High, Low}
 use Rattle.network.specs.Words.{IsAccepted, Plan, VlPlan, is_end_system}
@@ -17,9 +16,8 @@ use Rattle.nodes.specs.rules.Opening as opened
 use Rattle.nodes.specs.rules.Opening.{opening, port_priority, regulator_of}
 use Rattle.port_turns.specs.SwitchPuts.{transit_of}
 use Rattle.plan_ports.specs.Links.{LeavesBy}
-use Rattle.traffic.specs.Plain.{is_plain}
 use Rattle.frame_ages.specs.Sizes.{Sizes}
-use Rattle.plan_bounds.proofs.Sizes.{plain-sizes, sizes_of}
+use Rattle.plan_bounds.proofs.Sizes.{sizes-are, sizes_of}
 use Rattle.plan_ports.proofs.Linked.{are-bags, are-positive, are-sources, are-transits, have-sources, have-transits}
 use Rattle.network_bounds.specs.declared.passing.Passing.{Passing}
 use Rattle.network_bounds.specs.Curves.{bag_of, bag_rate, cost_of, counts_bytes, counts_gaps, flow_of, gap_of, is_first, is_high, is_loose, parts_of, slack_of}
@@ -34,7 +32,8 @@ use Rattle.port_bounds.specs.Sublists.{Every}
 use Rattle.frame_ages.specs.Ports.IsCurve.{ByBag, ByGap}
 use Rattle.frame_ages.specs.Ports.{AreApartBy, IsCurve, IsFlow, IsSentBy, IsThrough, IsThroughSwitch}
 use Rattle.plan_bounds.proofs.NodeKinds.{IsEndAt, IsSwitchAt, node-kind}
-use Rattle.plan_bounds.proofs.Passed.{input-is, passed-leaves}
+use Rattle.plan_bounds.proofs.Passed.{input-is, passed, passed-leaves}
+use Rattle.network_bounds.specs.Sizes.{sizes_in}
 
 abbrev pub is_high_put : Priority → Bool
 is_high_put High = true
@@ -95,43 +94,46 @@ module _ (plan : Plan) (accepted : IsAccepted plan) where
 
   -- ---- the curve of a virtual link
 
-  counts : (link : VirtualLink) → is_loose false link ≡ false → (opened.measure_of link.policing ≡ measure.Frames) ⊎ (link.smax ≤ link.own.size)
-  counts link tight = go link.policing refl tight
+  counts : (passing : Passing) → is_loose false passing ≡ false → (opened.measure_of passing.link.policing ≡ measure.Frames) ⊎ (passing.link.smax ≤ passing.sizes.least)
+  counts passing tight = go passing.link.policing refl tight
     where
-      go : (p : Policing) → link.policing ≡ p → (counts_bytes p && nat_lt link.own.size link.smax) ≡ false → (opened.measure_of p ≡ measure.Frames) ⊎ (link.smax ≤ link.own.size)
+      go : (p : Policing) → passing.link.policing ≡ p → (counts_bytes p && nat_lt passing.sizes.least passing.link.smax) ≡ false → (opened.measure_of p ≡ measure.Frames) ⊎ (passing.link.smax ≤ passing.sizes.least)
       go policing.Frames e h = inl refl
       go policing.Bytes e h = inr (grind (arith, nat_tests))
 
-  apart : (p q : ℕ) (vl : VlPlan) → p < length plan.nodes → LeavesBy plan p q vl → is_loose (is_end_system plan.nodes p) vl.link ≡ false
-      → AreApartBy (opening plan p).equipment vl.link.id.0 vl.link.own.size (bag_of vl.link) (slack_of (is_end_system plan.nodes p) vl.link)
+  apart : (p q : ℕ) (vl : VlPlan) → p < length plan.nodes → LeavesBy plan p q vl → is_loose (is_end_system plan.nodes p) (passed plan p vl) ≡ false
+      → AreApartBy (opening plan p).equipment vl.link.id.0 (sizes_in plan vl.link).least (bag_of vl.link) (slack_of (is_end_system plan.nodes p) vl.link)
   apart p q vl lt leaves tight = elim (node-kind plan p lt) [
-    | inl node ↦ subst (λ e. AreApartBy e vl.link.id.0 vl.link.own.size (bag_of vl.link) (slack_of (is_end_system plan.nodes p) vl.link)) (sym node.is)
+    | inl node ↦ subst (λ e. AreApartBy e vl.link.id.0 (sizes_in plan vl.link).least (bag_of vl.link) (slack_of (is_end_system plan.nodes p) vl.link)) (sym node.is)
         (regulator_of vl.link, ap (λ e. regulator_in e vl.link.id) (sym node.is) ∙ have-sources plan accepted p q vl leaves node.state node.is, refl, rw node.end refl)
-    | inr node ↦ subst (λ e. AreApartBy e vl.link.id.0 vl.link.own.size (bag_of vl.link) (slack_of (is_end_system plan.nodes p) vl.link)) (sym node.is) (
+    | inr node ↦ subst (λ e. AreApartBy e vl.link.id.0 (sizes_in plan vl.link).least (bag_of vl.link) (slack_of (is_end_system plan.nodes p) vl.link)) (sym node.is) (
       opened.transit_of plan p vl,
       ap (λ e. transit_of e vl.link.id.0) (sym node.is) ∙ have-transits plan accepted p q vl leaves node.state node.is,
-      record { positive = (are-positive plan accepted vl leaves.is_vl).0; counts = counts vl.link (ap (λ b. is_loose b vl.link) (sym node.no_end) ∙ tight) },
+      record { positive = (are-positive plan accepted vl leaves.is_vl).0; counts = counts (passed plan p vl) (ap (λ b. is_loose b (passed plan p vl)) (sym node.no_end) ∙ tight) },
       refl,
       rw node.no_end refl,
     )
   ]
 
-  curve-is : (is_end by_gap : Bool) (byte_ns : ℕ) (link : VirtualLink)
-      → IsCurve (parts_of link) (bag_of link) (slack_of is_end link) SCALE (cost_of byte_ns link) (flow_of is_end by_gap byte_ns link)
-  curve-is is_end by_gap byte_ns link = go (counts_gaps is_end by_gap link) refl
+  curve-is : (is_end by_gap : Bool) (byte_ns : ℕ) (passing : Passing)
+      → IsCurve (parts_of passing.link) (bag_of passing.link) (slack_of is_end passing.link) SCALE (cost_of byte_ns passing) (flow_of is_end by_gap byte_ns passing)
+  curve-is is_end by_gap byte_ns passing = go (counts_gaps is_end by_gap passing.link) refl
     where
-      gap : by_gap && nat_lt 0 (gap_of is_end link) ≡ true → 0 < gap_of is_end link
+      gap : by_gap && nat_lt 0 (gap_of is_end passing.link) ≡ true → 0 < gap_of is_end passing.link
       gap h = grind (arith, nat_tests)
 
-      go : (b : Bool) → counts_gaps is_end by_gap link ≡ b → IsCurve (parts_of link) (bag_of link) (slack_of is_end link) SCALE (cost_of byte_ns link)
-          (record { link = link.id.0; burst = cond b (SCALE * cost_of byte_ns link) (bag_rate byte_ns link * (bag_of link + slack_of is_end link)); rate = cond b (SCALE * cost_of byte_ns link / gap_of is_end link + 1) (bag_rate byte_ns link) })
-      go true h = ByGap refl (let lt = lt-mul-div-succ (SCALE * cost_of byte_ns link) {b = gap_of is_end link} (gap h) in omega (arith, lt))
+      go : (b : Bool) → counts_gaps is_end by_gap passing.link ≡ b → IsCurve (parts_of passing.link) (bag_of passing.link) (slack_of is_end passing.link) SCALE (cost_of byte_ns passing) (record {
+        link = passing.link.id.0;
+        burst = cond b (SCALE * cost_of byte_ns passing) (bag_rate byte_ns passing * (bag_of passing.link + slack_of is_end passing.link));
+        rate = cond b (SCALE * cost_of byte_ns passing / gap_of is_end passing.link + 1) (bag_rate byte_ns passing);
+      })
+      go true h = ByGap refl (let lt = lt-mul-div-succ (SCALE * cost_of byte_ns passing) {b = gap_of is_end passing.link} (gap h) in omega (arith, lt))
       go false h = ByBag refl refl
 
-  flow-is : (p q byte_ns : ℕ) (by_gap : Bool) (vl : VlPlan) → p < length plan.nodes → LeavesBy plan p q vl → is_plain plan vl.link ≡ true → is_loose (is_end_system plan.nodes p) vl.link ≡ false
-      → IsFlow (opening plan p).equipment (sizes_of plan) byte_ns SCALE (flow_of (is_end_system plan.nodes p) by_gap byte_ns vl.link)
-  flow-is p q byte_ns by_gap vl lt leaves plain tight =
-      let sized = plain-sizes plan accepted vl leaves.is_vl plain in
+  flow-is : (p q byte_ns : ℕ) (by_gap : Bool) (vl : VlPlan) → p < length plan.nodes → LeavesBy plan p q vl → is_loose (is_end_system plan.nodes p) (passed plan p vl) ≡ false
+      → IsFlow (opening plan p).equipment (sizes_of plan) byte_ns SCALE (flow_of (is_end_system plan.nodes p) by_gap byte_ns (passed plan p vl))
+  flow-is p q byte_ns by_gap vl lt leaves tight =
+      let sized = sizes-are plan accepted vl leaves.is_vl in
       let is_end = is_end_system plan.nodes p in
       record {
         parts = parts_of vl.link;
@@ -139,42 +141,41 @@ module _ (plan : Plan) (accepted : IsAccepted plan) where
         slack = slack_of is_end vl.link;
         apart = subst (λ (s : Sizes). AreApartBy (opening plan p).equipment vl.link.id.0 s.least (bag_of vl.link) (slack_of is_end vl.link)) (sym sized) (apart p q vl lt leaves tight);
         units = are-bags plan accepted vl leaves.is_vl;
-        curve = subst (λ (s : Sizes). IsCurve (parts_of vl.link) (bag_of vl.link) (slack_of is_end vl.link) SCALE (busy_for s.greatest byte_ns) (flow_of is_end by_gap byte_ns vl.link)) (sym sized) (curve-is is_end by_gap byte_ns vl.link);
+        curve = subst (λ (s : Sizes). IsCurve (parts_of vl.link) (bag_of vl.link) (slack_of is_end vl.link) SCALE (busy_for s.greatest byte_ns) (flow_of is_end by_gap byte_ns (passed plan p vl))) (sym sized) (curve-is is_end by_gap byte_ns (passed plan p vl));
       }
 
   -- ---- all that comes by a port with one priority
 
-  pub flows-are : (p q byte_ns : ℕ) (by_gap : Bool) (test : Passing → Bool) → p < length plan.nodes → (ps : List Passing) → ((passing : Passing) → Has ps passing → Has (passings plan p q) passing) → ((passing : Passing) → Has ps passing → is_plain plan passing.link ≡ true)
+  pub flows-are : (p q byte_ns : ℕ) (by_gap : Bool) (test : Passing → Bool) → p < length plan.nodes → (ps : List Passing) → ((passing : Passing) → Has ps passing → Has (passings plan p q) passing)
       → any_by test (is_loose (is_end_system plan.nodes p)) ps ≡ false
       → Every (IsFlow (opening plan p).equipment (sizes_of plan) byte_ns SCALE) (flows_by test (flow_of (is_end_system plan.nodes p) by_gap byte_ns) ps)
-  flows-are p q byte_ns by_gap test lt [] there plain tight = tt
-  flows-are p q byte_ns by_gap test lt (passing ∷ ps) there plain tight = go (test passing) tight (flows-are p q byte_ns by_gap test lt ps (λ x h. there x (inr h)) (λ x h. plain x (inr h)))
+  flows-are p q byte_ns by_gap test lt [] there tight = tt
+  flows-are p q byte_ns by_gap test lt (passing ∷ ps) there tight = go (test passing) tight (flows-are p q byte_ns by_gap test lt ps (λ x h. there x (inr h)))
     where
-      go : (b : Bool) → cond b (is_loose (is_end_system plan.nodes p) passing.link || any_by test (is_loose (is_end_system plan.nodes p)) ps) (any_by test (is_loose (is_end_system plan.nodes p)) ps) ≡ false
+      go : (b : Bool) → cond b (is_loose (is_end_system plan.nodes p) passing || any_by test (is_loose (is_end_system plan.nodes p)) ps) (any_by test (is_loose (is_end_system plan.nodes p)) ps) ≡ false
           → (any_by test (is_loose (is_end_system plan.nodes p)) ps ≡ false → Every (IsFlow (opening plan p).equipment (sizes_of plan) byte_ns SCALE) (flows_by test (flow_of (is_end_system plan.nodes p) by_gap byte_ns) ps))
-          → Every (IsFlow (opening plan p).equipment (sizes_of plan) byte_ns SCALE) (cond b (flow_of (is_end_system plan.nodes p) by_gap byte_ns passing.link ∷ flows_by test (flow_of (is_end_system plan.nodes p) by_gap byte_ns) ps) (flows_by test (flow_of (is_end_system plan.nodes p) by_gap byte_ns) ps))
+          → Every (IsFlow (opening plan p).equipment (sizes_of plan) byte_ns SCALE) (cond b (flow_of (is_end_system plan.nodes p) by_gap byte_ns passing ∷ flows_by test (flow_of (is_end_system plan.nodes p) by_gap byte_ns) ps) (flows_by test (flow_of (is_end_system plan.nodes p) by_gap byte_ns) ps))
       go true h later =
           let is = passed-leaves plan accepted p q passing (there passing (inl refl)) in (
-            subst (λ (l : VirtualLink). IsFlow (opening plan p).equipment (sizes_of plan) byte_ns SCALE (flow_of (is_end_system plan.nodes p) by_gap byte_ns l)) (sym is.link)
-                (flow-is p q byte_ns by_gap is.vl lt is.leaves (subst (λ (l : VirtualLink). is_plain plan l ≡ true) is.link (plain passing (inl refl))) (ap (is_loose (is_end_system plan.nodes p)) (sym is.link) ∙ or-left _ _ h)),
-            later (or-right (is_loose (is_end_system plan.nodes p) passing.link) _ h),
+            subst (λ (x : Passing). IsFlow (opening plan p).equipment (sizes_of plan) byte_ns SCALE (flow_of (is_end_system plan.nodes p) by_gap byte_ns x)) (sym is.is)
+                (flow-is p q byte_ns by_gap is.vl lt is.leaves (ap (is_loose (is_end_system plan.nodes p)) (sym is.is) ∙ or-left _ _ h)),
+            later (or-right (is_loose (is_end_system plan.nodes p) passing) _ h),
           )
       go false h later = later h
 
   -- their costs are no more than the greatest
-  pub costs-are : (byte_ns p q : ℕ) (by_gap : Bool) (test : Passing → Bool) (end : Bool) → (ps : List Passing) → ((passing : Passing) → Has ps passing → Has (passings plan p q) passing) → ((passing : Passing) → Has ps passing → is_plain plan passing.link ≡ true) → (most : ℕ) → greatest_by test (cost_of byte_ns) ps ≤ most
+  pub costs-are : (byte_ns p q : ℕ) (by_gap : Bool) (test : Passing → Bool) (end : Bool) → (ps : List Passing) → ((passing : Passing) → Has ps passing → Has (passings plan p q) passing) → (most : ℕ) → greatest_by test (cost_of byte_ns) ps ≤ most
       → Every (λ flow. busy_for (sizes_of plan flow.link).greatest byte_ns ≤ most) (flows_by test (flow_of end by_gap byte_ns) ps)
-  costs-are byte_ns p q by_gap test end [] there plain most below = tt
-  costs-are byte_ns p q by_gap test end (passing ∷ ps) there plain most below = go (test passing) below (costs-are byte_ns p q by_gap test end ps (λ x h. there x (inr h)) (λ x h. plain x (inr h)) most)
+  costs-are byte_ns p q by_gap test end [] there most below = tt
+  costs-are byte_ns p q by_gap test end (passing ∷ ps) there most below = go (test passing) below (costs-are byte_ns p q by_gap test end ps (λ x h. there x (inr h)) most)
     where
-      go : (b : Bool) → cond b (max (cost_of byte_ns passing.link) (greatest_by test (cost_of byte_ns) ps)) (greatest_by test (cost_of byte_ns) ps) ≤ most
+      go : (b : Bool) → cond b (max (cost_of byte_ns passing) (greatest_by test (cost_of byte_ns) ps)) (greatest_by test (cost_of byte_ns) ps) ≤ most
           → (greatest_by test (cost_of byte_ns) ps ≤ most → Every (λ flow. busy_for (sizes_of plan flow.link).greatest byte_ns ≤ most) (flows_by test (flow_of end by_gap byte_ns) ps))
-          → Every (λ flow. busy_for (sizes_of plan flow.link).greatest byte_ns ≤ most) (cond b (flow_of end by_gap byte_ns passing.link ∷ flows_by test (flow_of end by_gap byte_ns) ps) (flows_by test (flow_of end by_gap byte_ns) ps))
+          → Every (λ flow. busy_for (sizes_of plan flow.link).greatest byte_ns ≤ most) (cond b (flow_of end by_gap byte_ns passing ∷ flows_by test (flow_of end by_gap byte_ns) ps) (flows_by test (flow_of end by_gap byte_ns) ps))
       go true h later =
           let is = passed-leaves plan accepted p q passing (there passing (inl refl)) in
-          let one : is_plain plan is.vl.link ≡ true = subst (λ (l : VirtualLink). is_plain plan l ≡ true) is.link (plain passing (inl refl)) in
-          let sized : (sizes_of plan passing.link.id.0).greatest ≡ passing.link.own.size =
-          ap (λ (l : VirtualLink). (sizes_of plan l.id.0).greatest) is.link ∙ ap (λ (s : Sizes). s.greatest) (plain-sizes plan accepted is.vl is.leaves.is_vl one) ∙ ap (λ (l : VirtualLink). l.own.size) (sym is.link) in
+          let sized : (sizes_of plan passing.link.id.0).greatest ≡ passing.sizes.greatest =
+          ap (λ (x : Passing). (sizes_of plan x.link.id.0).greatest) is.is ∙ ap (λ (s : Sizes). s.greatest) (sizes-are plan accepted is.vl is.leaves.is_vl) ∙ ap (λ (x : Passing). x.sizes.greatest) (sym is.is) in
           (subst (λ n. busy_for n byte_ns ≤ most) (sym sized) (omega arith), later (omega arith))
       go false h later = later h
 
@@ -185,6 +186,6 @@ module _ (plan : Plan) (accepted : IsAccepted plan) where
       rw (ap test same ∙ passes) (inl (ap (λ (x : Passing). x.link.id.0) (sym same)))
   flow-among byte_ns by_gap test end (first ∷ ps) passing (inr there) passes = go (test first) (flow-among byte_ns by_gap test end ps passing there passes)
     where
-      go : (b : Bool) → IsAmong passing.link.id.0 (links_of (flows_by test (flow_of end by_gap byte_ns) ps)) → IsAmong passing.link.id.0 (links_of (cond b (flow_of end by_gap byte_ns first.link ∷ flows_by test (flow_of end by_gap byte_ns) ps) (flows_by test (flow_of end by_gap byte_ns) ps)))
+      go : (b : Bool) → IsAmong passing.link.id.0 (links_of (flows_by test (flow_of end by_gap byte_ns) ps)) → IsAmong passing.link.id.0 (links_of (cond b (flow_of end by_gap byte_ns first ∷ flows_by test (flow_of end by_gap byte_ns) ps) (flows_by test (flow_of end by_gap byte_ns) ps)))
       go true later = inr later
       go false later = later

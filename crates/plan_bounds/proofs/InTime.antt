@@ -4,7 +4,6 @@ use Rattle.std.proofs.Math.Nat.{div-mul-le_self, lt-mul-div-succ, mul-le-mul}
 use Rattle.std.proofs.lemmas.Bool.{cases_lt}
 use Rattle.std.proofs.lemmas.Bool.Decides.{nat_tests}
 use Rattle.vlink.specs.Wire.{busy_for}
-use Rattle.row_types.specs.declared.rows.VirtualLink.{VirtualLink}
 use Rattle.output_port.specs.declared.event.Priority.TheVariants.{High, Low}
 use Rattle.network.specs.declared.wiring.LinePlan.{LinePlan}
 use Rattle.network.specs.Words.{IsAccepted, Plan, is_end_system, lines_of}
@@ -15,8 +14,7 @@ use Rattle.network_faults.proofs.MemberLemmas.{Has}
 use Rattle.nodes.specs.declared.ports.Outlet.{Outlet}
 use Rattle.seqsim.specs.Networks.{setting_of}
 use Rattle.frame_ages.specs.Sizes.{Sizes}
-use Rattle.plan_bounds.proofs.Sizes.{all-plain, plain-sizes, sizes_of}
-use Rattle.plan_ports.proofs.Linked.{are-positive}
+use Rattle.plan_bounds.proofs.Sizes.{sizes-are, sizes_of, small-sizes}
 use Rattle.network_bounds.specs.declared.passing.Passing.{Passing}
 use Rattle.network_bounds.specs.declared.mixing.Choice.{Choice}
 use Rattle.network_bounds.specs.declared.mixing.Choice.TheVariants.{By, Least}
@@ -25,16 +23,17 @@ use Rattle.network_bounds.specs.declared.delays.Weights.{Weights}
 use Rattle.network_bounds.specs.declared.reason.Reason.{Reason}
 use Rattle.network_bounds.specs.declared.reason.Reason.TheVariants.{Bytes, Number, Rate}
 use Rattle.network_bounds.specs.Curves.{cost_of, is_first}
-use Rattle.network_bounds.specs.Delays.{first_mixed, first_of, fits_first, only_if, plain_bound}
+use Rattle.network_bounds.specs.Delays.{bound_by, first_mixed, first_of, fits_first, only_if}
 use Rattle.network_bounds.specs.Mixing.{PORTS, PortPlan, any_loose_below, greatest_at, greatest_below, greatest_by, groups_at, mixed_at, port_before}
 use Rattle.network_bounds.specs.Numbers.{SCALE, UNITS, WHOLE, capped}
-use Rattle.network_bounds.specs.Passing.{are_plain, are_same, comes, input_of, passings}
+use Rattle.network_bounds.specs.Passing.{are_same, comes, input_of, passings}
 use Rattle.port_bounds.specs.Mixtures.{groups_burst, groups_rate}
 use Rattle.frame_ages.specs.Ports.{IsThrough}
 use Rattle.frame_ages.specs.Ways.{IsInTime}
 use Rattle.plan_bounds.proofs.Certified.{are-groups, input-below}
 use Rattle.plan_bounds.proofs.Groups.{counted}
-use Rattle.plan_bounds.proofs.Passed.{leaves-passed, passed-leaves}
+use Rattle.plan_bounds.proofs.Passed.{leaves-passed, passed, passed-leaves}
+use Rattle.network_bounds.specs.Sizes.{sizes_in}
 
 -- ---- numbers of 128 bits
 
@@ -89,34 +88,34 @@ pair X value high low false = record { high = Least; low = Least; is = refl }
 
 -- ---- no frame costs more than the greatest does
 
-below-greatest : (test : Passing → Bool) (cost : VirtualLink → ℕ) (ps : List Passing) (passing : Passing) → Has ps passing → test passing ≡ true → cost passing.link ≤ greatest_by test cost ps
+below-greatest : (test : Passing → Bool) (cost : Passing → ℕ) (ps : List Passing) (passing : Passing) → Has ps passing → test passing ≡ true → cost passing ≤ greatest_by test cost ps
 below-greatest test cost [] passing there passes = absurd there
 below-greatest test cost (first ∷ ps) passing (inl same) passes =
-    rw (ap test same ∙ passes) (let is : cost first.link ≡ cost passing.link = ap (λ (x : Passing). cost x.link) same in omega (arith, is))
+    rw (ap test same ∙ passes) (let is : cost first ≡ cost passing = ap cost same in omega (arith, is))
 below-greatest test cost (first ∷ ps) passing (inr there) passes = go (test first) (below-greatest test cost ps passing there passes)
   where
-    go : (b : Bool) → cost passing.link ≤ greatest_by test cost ps → cost passing.link ≤ cond b (max (cost first.link) (greatest_by test cost ps)) (greatest_by test cost ps)
+    go : (b : Bool) → cost passing ≤ greatest_by test cost ps → cost passing ≤ cond b (max (cost first) (greatest_by test cost ps)) (greatest_by test cost ps)
     go true le = omega (arith, le)
     go false le = le
 
-greatest-small : (test : Passing → Bool) (cost : VirtualLink → ℕ) (most : ℕ) (ps : List Passing) → ((passing : Passing) → Has ps passing → cost passing.link ≤ most) → greatest_by test cost ps ≤ most
+greatest-small : (test : Passing → Bool) (cost : Passing → ℕ) (most : ℕ) (ps : List Passing) → ((passing : Passing) → Has ps passing → cost passing ≤ most) → greatest_by test cost ps ≤ most
 greatest-small test cost most [] each = omega arith
 greatest-small test cost most (first ∷ ps) each = go (test first) (each first (inl refl)) (greatest-small test cost most ps (λ x there. each x (inr there)))
   where
-    go : (b : Bool) → cost first.link ≤ most → greatest_by test cost ps ≤ most → cond b (max (cost first.link) (greatest_by test cost ps)) (greatest_by test cost ps) ≤ most
+    go : (b : Bool) → cost first ≤ most → greatest_by test cost ps ≤ most → cond b (max (cost first) (greatest_by test cost ps)) (greatest_by test cost ps) ≤ most
     go true here later = omega (arith, here, later)
     go false here later = later
 
-module _ (plan : Plan) (accepted : IsAccepted plan) (k : ℕ) (line : LinePlan) (read : slice_get (lines_of plan) k ≡ Some line) (plain : are_plain plan (passings plan line.from line.from_port) ≡ true) where
+module _ (plan : Plan) (accepted : IsAccepted plan) (k : ℕ) (line : LinePlan) (read : slice_get (lines_of plan) k ≡ Some line) where
   abbrev port : PortPlan
   port = port_before plan line
 
-  small-cost : (passing : Passing) → Has (passings plan line.from line.from_port) passing → cost_of line.byte_ns passing.link ≤ 1230400
+  small-cost : (passing : Passing) → Has (passings plan line.from line.from_port) passing → cost_of line.byte_ns passing ≤ 1230400
   small-cost passing there =
       let is = passed-leaves plan accepted line.from line.from_port passing there in
-      let size : passing.link.own.size ≤ 1518 = subst (λ (l : VirtualLink). l.own.size ≤ 1518) (sym is.link) (are-positive plan accepted is.vl is.leaves.is_vl).1 in
+      let size : passing.sizes.greatest ≤ 1518 = subst (λ (x : Passing). x.sizes.greatest ≤ 1518) (sym is.is) (small-sizes plan accepted is.vl is.leaves.is_vl) in
       let byte : line.byte_ns ≤ 800 = (line-within plan k line accepted read).times.greatest_byte in
-      let sum : passing.link.own.size + 20 ≤ 1538 = omega (arith, size) in
+      let sum : passing.sizes.greatest + 20 ≤ 1538 = omega (arith, size) in
       mul-le-mul sum byte
 
   small-greatest : (high : Bool) (n : ℕ) → greatest_below port high n ≤ 1230400
@@ -135,14 +134,14 @@ module _ (plan : Plan) (accepted : IsAccepted plan) (k : ℕ) (line : LinePlan) 
   low-cost : (v input : ℕ) → IsThrough (opening plan line.from).equipment line.from_port v input Low → busy_for (sizes_of plan v).greatest line.byte_ns ≤ greatest_below port false PORTS
   low-cost v input through =
       let h = counted plan accepted line.from line.from_port v input Low (line-read plan k line accepted read).0 through in
-      let passing : Passing = record { link = h.vl.link; input = input_of plan line.from h.vl.link.id.0 } in
+      let passing = passed plan line.from h.vl in
       let there = leaves-passed plan accepted line.from line.from_port h.vl h.leaves in
       let here : (input_of plan line.from h.vl.link.id.0 == input_of plan line.from h.vl.link.id.0) ≡ true = eq-eqb _ _ refl in
       let low : are_same (is_first (is_end_system plan.nodes line.from) h.vl.link) false ≡ true = ap (λ b. are_same b false) h.first in
       let le = below-greatest (comes (is_end_system plan.nodes line.from) (input_of plan line.from h.vl.link.id.0) false) (cost_of line.byte_ns) (passings plan line.from line.from_port) passing there (rw here low) in
-      let all = at-below false (input_of plan line.from h.vl.link.id.0) PORTS (input-below plan accepted k line read plain h.vl.link.id.0) in
-      let sized : (sizes_of plan v).greatest ≡ h.vl.link.own.size =
-      ap (λ n. (sizes_of plan n).greatest) (sym h.id) ∙ ap (λ (s : Sizes). s.greatest) (plain-sizes plan accepted h.vl h.leaves.is_vl (all-plain plan (passings plan line.from line.from_port) plain passing there)) in
+      let all = at-below false (input_of plan line.from h.vl.link.id.0) PORTS (input-below plan accepted k line read h.vl.link.id.0) in
+      let sized : (sizes_of plan v).greatest ≡ (sizes_in plan h.vl.link).greatest =
+      ap (λ n. (sizes_of plan n).greatest) (sym h.id) ∙ ap (λ (s : Sizes). s.greatest) (sizes-are plan accepted h.vl h.leaves.is_vl) in
       subst (λ n. busy_for n line.byte_ns ≤ greatest_below port false PORTS) (sym sized) (omega (arith, le, all))
 
   -- ---- high frames
@@ -150,7 +149,7 @@ module _ (plan : Plan) (accepted : IsAccepted plan) (k : ℕ) (line : LinePlan) 
   high-within : (burst most : ℕ) → burst + UNITS * most < UNITS * ((burst / UNITS + most) + 1)
   high-within burst most = let lt = lt-mul-div-succ burst {b = UNITS} (omega arith) in omega (arith, lt)
 
-  pub high-bound : (w : Weights) (v : ℕ) (outlet : Outlet) → outlet.ahead.byte_ns ≡ line.byte_ns → (delay : ℕ) → (plain_bound port w).first ≡ Ok delay
+  pub high-bound : (w : Weights) (v : ℕ) (outlet : Outlet) → outlet.ahead.byte_ns ≡ line.byte_ns → (delay : ℕ) → (bound_by port w).first ≡ Ok delay
       → IsInTime (setting_of plan) (sizes_of plan) v line.from line.from_port outlet High delay
   unfolding mixed_at
   high-bound w v outlet byte delay e =
@@ -175,7 +174,7 @@ module _ (plan : Plan) (accepted : IsAccepted plan) (k : ℕ) (line : LinePlan) 
               scale = SCALE;
               whole = WHOLE;
               high = groups_at port choice true;
-              high_are = are-groups plan accepted k line read plain choice High outlet byte tight;
+              high_are = are-groups plan accepted k line read choice High outlet byte tight;
               most = most;
               low_costs = λ v input through. subst (λ n. busy_for (sizes_of plan v).greatest n ≤ most) (sym byte) (low-cost v input through);
               rate = rate-fits (groups_rate WHOLE (groups_at port choice true)) rates;

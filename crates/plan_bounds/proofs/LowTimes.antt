@@ -3,16 +3,14 @@ use Rattle.std.proofs.Common.{◌≡◌, ℕ, ◌+◌, ◌-◌, ◌*◌, ◌/◌
 use Rattle.std.proofs.Math.Nat.{lt-mul-div-succ}
 use Rattle.std.proofs.lemmas.Bool.{false≢true}
 use Rattle.vlink.specs.Wire.{busy_for, last_bit_after}
-use Rattle.row_types.specs.declared.rows.VirtualLink.{VirtualLink}
 use Rattle.output_port.specs.declared.event.Priority.TheVariants.{High, Low}
 use Rattle.network.specs.declared.wiring.LinePlan.{LinePlan}
 use Rattle.network.specs.Words.{IsAccepted, Plan, VlPlan, lines_of}
 use Rattle.nodes.specs.declared.ports.Outlet.{Outlet}
 use Rattle.seqsim.specs.Networks.{setting_of}
-use Rattle.plan_bounds.proofs.Sizes.{plain-sizes, sizes_of}
-use Rattle.traffic.specs.Plain.{is_plain}
+use Rattle.plan_bounds.proofs.Sizes.{sizes-are, sizes_of}
 use Rattle.frame_ages.specs.Sizes.{Sizes}
-use Rattle.network_bounds.specs.Passing.{are_plain, passings}
+use Rattle.network_bounds.specs.Sizes.{sizes_in}
 use Rattle.network_bounds.specs.declared.mixing.Choice.{Choice}
 use Rattle.network_bounds.specs.declared.mixing.Choice.TheVariants.{By}
 use Rattle.network_bounds.specs.declared.mixing.Mixture.{Mixture}
@@ -20,8 +18,7 @@ use Rattle.network_bounds.specs.declared.delays.Later.{Later}
 use Rattle.network_bounds.specs.declared.delays.Weights.{Weights}
 use Rattle.network_bounds.specs.declared.reason.Reason.{Reason}
 use Rattle.network_bounds.specs.declared.reason.Reason.TheVariants.{Bytes, Number, Rate}
-use Rattle.network_bounds.specs.Curves.{cost_of}
-use Rattle.network_bounds.specs.Delays.{after, fits_both, fits_later, later_bound, later_by, later_delay, later_of, only_if, plain_bound}
+use Rattle.network_bounds.specs.Delays.{after, bound_by, fits_both, fits_later, later_bound, later_by, later_delay, later_of, only_if}
 use Rattle.network_bounds.specs.Mixing.{PortPlan, groups_at, mixed_at, port_before}
 use Rattle.network_bounds.specs.Numbers.{SCALE, UNITS, WHOLE, capped}
 use Rattle.port_bounds.specs.Mixtures.{groups_burst, groups_rate}
@@ -70,14 +67,14 @@ paired : (port : PortPlan) (w : Weights) → IsPair (Result Later Reason) (λ h 
 paired port w = pair (Result Later Reason) (λ h l. later_of (mixed_at port h true) (mixed_at port l false)) (By w.high) (By w.low) (later_by port (By w.high) (By w.low))
 
 -- the delay of a low frame of a virtual link
-record IsLowDelay (byte_ns : ℕ) (link : VirtualLink) (later : Later) (delay : ℕ) : Type 0 where
+record IsLowDelay (byte_ns least : ℕ) (later : Later) (delay : ℕ) : Type 0 where
   some : 0 < later.left
-  is : delay ≡ capped ((later.burst - UNITS * cost_of byte_ns link) / later.left + last_bit_after link.own.size byte_ns)
+  is : delay ≡ capped ((later.burst - UNITS * busy_for least byte_ns) / later.left + last_bit_after least byte_ns)
 
-low-delay : (byte_ns : ℕ) (link : VirtualLink) (later : Later) (delay : ℕ) → later_delay byte_ns link later ≡ Ok delay → IsLowDelay byte_ns link later delay
-low-delay byte_ns link later delay e = go (nat_lt 0 later.left) refl e
+low-delay : (byte_ns least : ℕ) (later : Later) (delay : ℕ) → later_delay byte_ns least later ≡ Ok delay → IsLowDelay byte_ns least later delay
+low-delay byte_ns least later delay e = go (nat_lt 0 later.left) refl e
   where
-    go : (b : Bool) → nat_lt 0 later.left ≡ b → only_if b (capped ((later.burst - UNITS * cost_of byte_ns link) / later.left + last_bit_after link.own.size byte_ns)) Rate ≡ Ok delay → IsLowDelay byte_ns link later delay
+    go : (b : Bool) → nat_lt 0 later.left ≡ b → only_if b (capped ((later.burst - UNITS * busy_for least byte_ns) / later.left + last_bit_after least byte_ns)) Rate ≡ Ok delay → IsLowDelay byte_ns least later delay
     go true h e = record { some = lt-true 0 later.left h; is = sym (same-ok _ delay e) }
     go false h e = absurd (err-ok Rate delay e)
 
@@ -94,12 +91,12 @@ low-within burst left cost some = let lt = lt-mul-div-succ (burst - UNITS * cost
 
 -- ---- low frames
 
-module _ (plan : Plan) (accepted : IsAccepted plan) (k : ℕ) (line : LinePlan) (read : slice_get (lines_of plan) k ≡ Some line) (plain : are_plain plan (passings plan line.from line.from_port) ≡ true) where
-  low-made : (vl : VlPlan) → Contains plan.vls vl → is_plain plan vl.link ≡ true → (outlet : Outlet) → outlet.ahead.byte_ns ≡ line.byte_ns → (delay : ℕ) → delay < 2 ^ 128 - 1 → (high low : Choice) (later : Later)
-      → IsLater (mixed_at (port_before plan line) high true) (mixed_at (port_before plan line) low false) later → IsLowDelay line.byte_ns vl.link later delay
+module _ (plan : Plan) (accepted : IsAccepted plan) (k : ℕ) (line : LinePlan) (read : slice_get (lines_of plan) k ≡ Some line) where
+  low-made : (vl : VlPlan) → Contains plan.vls vl → (outlet : Outlet) → outlet.ahead.byte_ns ≡ line.byte_ns → (delay : ℕ) → delay < 2 ^ 128 - 1 → (high low : Choice) (later : Later)
+      → IsLater (mixed_at (port_before plan line) high true) (mixed_at (port_before plan line) low false) later → IsLowDelay line.byte_ns (sizes_in plan vl.link).least later delay
       → IsInTime (setting_of plan) (sizes_of plan) vl.link.id.0 line.from line.from_port outlet Low delay
   unfolding mixed_at
-  low-made vl there one outlet byte delay lt high low later h d =
+  low-made vl there outlet byte delay lt high low later h d =
       let port = port_before plan line in
       let high_burst = groups_burst WHOLE (groups_at port high true) in
       let low_burst = groups_burst WHOLE (groups_at port low false) in
@@ -108,10 +105,11 @@ module _ (plan : Plan) (accepted : IsAccepted plan) (k : ℕ) (line : LinePlan) 
       let rates = rates-fit high_rate low_rate h.some h.rates in
       let burst_is : later.burst ≡ high_burst + low_burst = h.burst ∙ bursts-fit high_burst low_burst h.held in
       let left_is : later.left ≡ UNITS - high_rate = h.left ∙ ap (λ n. UNITS - n) rates.2 in
-      let cost = cost_of line.byte_ns vl.link in
+      let least = (sizes_in plan vl.link).least in
+      let cost = busy_for least line.byte_ns in
       let start = (later.burst - UNITS * cost) / later.left in
-      let time : delay ≡ start + last_bit_after vl.link.own.size line.byte_ns = d.is ∙ uncapped _ (subst (λ n. n < 2 ^ 128 - 1) d.is lt) in
-      let sized : (sizes_of plan vl.link.id.0).least ≡ vl.link.own.size = ap (λ (s : Sizes). s.least) (plain-sizes plan accepted vl there one) in
+      let time : delay ≡ start + last_bit_after least line.byte_ns = d.is ∙ uncapped _ (subst (λ n. n < 2 ^ 128 - 1) d.is lt) in
+      let sized : (sizes_of plan vl.link.id.0).least ≡ least = ap (λ (s : Sizes). s.least) (sizes-are plan accepted vl there) in
       let within : later.burst < later.left * (start + 1) + UNITS * cost = low-within later.burst later.left cost d.some in
       let within_is : high_burst + low_burst < (UNITS - high_rate) * (start + 1) + UNITS * cost = subst (λ n. n < (UNITS - high_rate) * (start + 1) + UNITS * cost) burst_is (subst (λ n. later.burst < n * (start + 1) + UNITS * cost) left_is within) in (
         start,
@@ -119,14 +117,14 @@ module _ (plan : Plan) (accepted : IsAccepted plan) (k : ℕ) (line : LinePlan) 
           scale = SCALE;
           whole = WHOLE;
           high = groups_at port high true;
-          high_are = are-groups plan accepted k line read plain high High outlet byte h.high_tight;
+          high_are = are-groups plan accepted k line read high High outlet byte h.high_tight;
           low = groups_at port low false;
-          low_are = are-groups plan accepted k line read plain low Low outlet byte h.low_tight;
+          low_are = are-groups plan accepted k line read low Low outlet byte h.low_tight;
           rates = rates.1;
           some = rates.0;
-          within = low-given outlet byte vl.link.own.size (sizes_of plan vl.link.id.0).least sized high_rate (high_burst + low_burst) start within_is;
+          within = low-given outlet byte least (sizes_of plan vl.link.id.0).least sized high_rate (high_burst + low_burst) start within_is;
         },
-        time-given outlet byte vl.link.own.size (sizes_of plan vl.link.id.0).least sized start delay time,
+        time-given outlet byte least (sizes_of plan vl.link.id.0).least sized start delay time,
       )
     where
       low-given : (outlet : Outlet) → outlet.ahead.byte_ns ≡ line.byte_ns → (bytes size : ℕ) → size ≡ bytes → (rate burst start : ℕ) → burst < (UNITS - rate) * (start + 1) + UNITS * busy_for bytes line.byte_ns
@@ -136,14 +134,14 @@ module _ (plan : Plan) (accepted : IsAccepted plan) (k : ℕ) (line : LinePlan) 
       time-given : (outlet : Outlet) → outlet.ahead.byte_ns ≡ line.byte_ns → (bytes size : ℕ) → size ≡ bytes → (start delay : ℕ) → delay ≡ start + last_bit_after bytes line.byte_ns → start + last_bit_after size outlet.ahead.byte_ns ≤ delay
       time-given outlet byte bytes size sized start delay time = rw (byte, sized) (let is = time in omega (arith, is))
 
-  pub low-bound : (w : Weights) (vl : VlPlan) → Contains plan.vls vl → is_plain plan vl.link ≡ true → (outlet : Outlet) → outlet.ahead.byte_ns ≡ line.byte_ns → (delay : ℕ) → delay < 2 ^ 128 - 1
-      → after (plain_bound (port_before plan line) w).later (later_delay line.byte_ns vl.link) ≡ Ok delay
+  pub low-bound : (w : Weights) (vl : VlPlan) → Contains plan.vls vl → (outlet : Outlet) → outlet.ahead.byte_ns ≡ line.byte_ns → (delay : ℕ) → delay < 2 ^ 128 - 1
+      → after (bound_by (port_before plan line) w).later (later_delay line.byte_ns (sizes_in plan vl.link).least) ≡ Ok delay
       → IsInTime (setting_of plan) (sizes_of plan) vl.link.id.0 line.from line.from_port outlet Low delay
-  low-bound w vl there one outlet byte delay lt e = go (later_bound (port_before plan line) w) refl e
+  low-bound w vl there outlet byte delay lt e = go (later_bound (port_before plan line) w) refl e
     where
-      go : (o : Result Later Reason) → later_bound (port_before plan line) w ≡ o → after o (later_delay line.byte_ns vl.link) ≡ Ok delay → IsInTime (setting_of plan) (sizes_of plan) vl.link.id.0 line.from line.from_port outlet Low delay
+      go : (o : Result Later Reason) → later_bound (port_before plan line) w ≡ o → after o (later_delay line.byte_ns (sizes_in plan vl.link).least) ≡ Ok delay → IsInTime (setting_of plan) (sizes_of plan) vl.link.id.0 line.from line.from_port outlet Low delay
       go (Err reason) is e = absurd (err-ok reason delay e)
       go (Ok later) is e =
-          low-made vl there one outlet byte delay lt (paired (port_before plan line) w).high (paired (port_before plan line) w).low later
+          low-made vl there outlet byte delay lt (paired (port_before plan line) w).high (paired (port_before plan line) w).low later
           (later-of (mixed_at (port_before plan line) (paired (port_before plan line) w).high true) (mixed_at (port_before plan line) (paired (port_before plan line) w).low false) later (sym (paired (port_before plan line) w).is ∙ is))
-          (low-delay line.byte_ns vl.link later delay e)
+          (low-delay line.byte_ns (sizes_in plan vl.link).least later delay e)

@@ -18,6 +18,7 @@ use Rattle.nodes.proofs.WayLemmas.{ways-own}
 use Rattle.plan_ports.specs.Links.{LeavesBy}
 use Rattle.network_bounds.specs.declared.passing.Passing.{Passing}
 use Rattle.network_bounds.specs.Passing.{first_port_of, input_of, passing_at, passing_by, passing_of, passings}
+use Rattle.network_bounds.specs.Sizes.{sizes_in}
 
 -- ---- a virtual link is found by its number
 
@@ -76,6 +77,10 @@ first-is by own (first ∷ vls) vl rising (inr there) =
     passed-over vl.link.id.0 first.link.id.0 (by first) (flat_map by vls) (own first) (below first.link.id.0 vls vl (sorted_head nat_cmp first.link.id.0 (ids_of vls) rising) there)
     ∙ first-is by own vls vl (sorted_tail nat_cmp first.link.id.0 (ids_of vls) rising) there
 
+-- what is counted of a virtual link at node p
+abbrev pub passed : Plan → ℕ → VlPlan → Passing
+passed plan p vl = record { link = vl.link; sizes = sizes_in plan vl.link; input = input_of plan p vl.link.id.0 }
+
 module _ (plan : Plan) (accepted : IsAccepted plan) where
   rising : IsStrictlySortedBy nat_cmp (ids_of plan.vls)
   rising = sorted_from_strictly_increasing (ids_of plan.vls) (ids-rise plan accepted)
@@ -85,9 +90,9 @@ module _ (plan : Plan) (accepted : IsAccepted plan) where
   input-is p vl there switch = rw switch (first-is (ways_at plan p In) (ways-own plan p In) plan.vls vl rising there)
 
   -- it is counted where it leaves
-  pub leaves-passed : (p q : ℕ) (vl : VlPlan) → LeavesBy plan p q vl → Has (passings plan p q) (record { link = vl.link; input = input_of plan p vl.link.id.0 })
+  pub leaves-passed : (p q : ℕ) (vl : VlPlan) → LeavesBy plan p q vl → Has (passings plan p q) (passed plan p vl)
   leaves-passed p q vl l =
-      let passing : Passing = record { link = vl.link; input = input_of plan p vl.link.id.0 } in
+      let passing = passed plan p vl in
       let found = with-there plan.vls vl rising (has-from_contains plan.vls vl l.is_vl) in
       let way : Way = record { vl = vl.link.id; port = q } in
       let here : (way.port == q) ≡ true = eq-eqb q q refl in
@@ -98,8 +103,7 @@ module _ (plan : Plan) (accepted : IsAccepted plan) where
   pub record IsPassing (p q : ℕ) (passing : Passing) : Type 0 where
     pub vl : VlPlan
     pub leaves : LeavesBy plan p q vl
-    pub link : passing.link ≡ vl.link
-    pub input : passing.input ≡ input_of plan p vl.link.id.0
+    pub is : passing ≡ passed plan p vl
 
   pub passed-leaves : (p q : ℕ) (passing : Passing) → Has (passings plan p q) passing → IsPassing p q passing
   passed-leaves p q passing there =
@@ -115,8 +119,7 @@ module _ (plan : Plan) (accepted : IsAccepted plan) where
           record {
             vl = vl;
             leaves = record { is_vl = contains-from_has plan.vls vl is_vl; way = contains-from_has (departures_of plan p) _ (subst (Has (departures_of plan p)) own departs) };
-            link = ap (λ (x : Passing). x.link) (sym made);
-            input = ap (λ (x : Passing). x.input) (sym made) ∙ ap (input_of plan p) (sym id);
+            is = sym made ∙ ap (λ n. record { link = vl.link; sizes = sizes_in plan vl.link; input = input_of plan p n }) (sym id);
           }
 
       at : (way : Way) → Has (departures_of plan p) way → (b : Bool) → (way.port == q) ≡ b → Has (cond b (passing_of plan p way) []) passing → IsPassing p q passing

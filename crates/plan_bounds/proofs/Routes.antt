@@ -18,8 +18,8 @@ use Rattle.nodes.specs.rules.Opening.{line_opening, port_priority}
 use Rattle.port_turns.specs.SwitchPuts.{transit_of}
 use Rattle.seqsim.specs.Networks.{setting_of}
 use Rattle.plan_ports.specs.Links.{LeavesBy}
-use Rattle.traffic.specs.Plain.{is_plain}
-use Rattle.plan_bounds.proofs.Sizes.{all-plain, sizes_of}
+use Rattle.plan_bounds.proofs.Sizes.{sizes_of}
+use Rattle.network_bounds.specs.Sizes.{sizes_in}
 use Rattle.plan_ports.specs.Outlets.{IsLineWay, line_process}
 use Rattle.plan_ports.proofs.Linked.{have-transits}
 use Rattle.plan_ports.proofs.OwnPorts.{own-ports}
@@ -30,17 +30,17 @@ use Rattle.network_bounds.specs.declared.reason.Reason.{Reason}
 use Rattle.network_bounds.specs.declared.reason.Reason.TheVariants as reason
 use Rattle.network_bounds.specs.Ages.{age_after, age_over, latency_of, plus, sent_over}
 use Rattle.network_bounds.specs.Curves.{is_first, is_high}
-use Rattle.network_bounds.specs.Delays.{AreBounds, IsBound, after, bound_by, delay_of, later_delay, no_bound, plain_bound}
-use Rattle.network_bounds.specs.Mixing.{PortPlan, line_into, port_before}
+use Rattle.network_bounds.specs.Delays.{AreBounds, IsBound, after, bound_by, delay_of, later_delay}
+use Rattle.network_bounds.specs.Mixing.{line_into, port_before}
 use Rattle.network_bounds.specs.Numbers.{capped}
-use Rattle.network_bounds.specs.Passing.{are_plain, input_of, passings}
+use Rattle.network_bounds.specs.Passing.{input_of}
 use Rattle.frame_ages.specs.Ways.{Hop, IsHop, IsInTime, IsRoute, source_of, way_time}
 use Rattle.plan_bounds.proofs.InTime.{err-ok, high-bound, same-ok}
 use Rattle.plan_bounds.proofs.Lines.{line-into-there}
 use Rattle.plan_bounds.proofs.LowTimes.{low-bound}
 use Rattle.plan_bounds.proofs.NodeKinds.{IsEndAt, IsSwitchAt, node-kind}
 use Rattle.plan_bounds.proofs.Over.{IsOver, IsOverIn, comes-over, over-leaves}
-use Rattle.plan_bounds.proofs.Passed.{input-is, leaves-passed}
+use Rattle.plan_bounds.proofs.Passed.{input-is}
 use Rattle.plan_bounds.proofs.Sources.{leaves-source}
 
 -- a bound is that of its port
@@ -51,42 +51,20 @@ bound-at plan (first ∷ lines) (one ∷ bounds) are zero line bound at by =
     subst (λ (l : LinePlan). IsBound (port_before plan l) bound) (same_Some first line at) (subst (IsBound (port_before plan first)) (same_Some one bound by) are.0)
 bound-at plan (first ∷ lines) (one ∷ bounds) are (suc k) line bound at by = bound-at plan lines bounds are.1 k line bound at by
 
--- where there is one, each virtual link that leaves by the port is offered one frame of one size in each period, and nothing else
-some-plain : {X : Type 0} (of : PortBound → Result X Reason) → of no_bound ≡ Err reason.Stream → (port : PortPlan) (w : Weights) (bound : PortBound) → bound ≡ bound_by port w → (x : X) → of bound ≡ Ok x → port.is_plain ≡ true
-some-plain of none port w bound is x e = go port.is_plain is
-  where
-    go : (b : Bool) → bound ≡ cond b (plain_bound port w) no_bound → b ≡ true
-    go true is = refl
-    go false is = absurd (err-ok reason.Stream x (sym none ∙ ap of (sym is) ∙ e))
-
-pub waiting-plain : (port : PortPlan) (w : Weights) (bound : PortBound) → bound ≡ bound_by port w → (bytes : ℕ) → bound.waiting ≡ Ok bytes → port.is_plain ≡ true
-waiting-plain port w bound is bytes e = some-plain (λ b. b.waiting) refl port w bound is bytes e
-
-delay-plain : (is_end : Bool) (byte_ns : ℕ) (link : VirtualLink) (port : PortPlan) (w : Weights) (bound : PortBound) → bound ≡ bound_by port w → (delay : ℕ) → delay_of is_end byte_ns bound link ≡ Ok delay → port.is_plain ≡ true
-delay-plain is_end byte_ns link port w bound is delay e = some-plain (λ b. delay_of is_end byte_ns b link) (go (is_first is_end link)) port w bound is delay e
-  where
-    go : (b : Bool) → ◌≡◌ {A = Result ℕ Reason} (cond b (Err reason.Stream) (Err reason.Stream)) (Err reason.Stream)
-    go true = refl
-    go false = refl
-
--- then it is by the mixtures of the port
-pub plain-is : (port : PortPlan) (w : Weights) (bound : PortBound) → bound ≡ bound_by port w → port.is_plain ≡ true → bound ≡ plain_bound port w
-plain-is port w bound is plain = is ∙ ap (λ (b : Bool). cond b (plain_bound port w) no_bound) plain
-
 -- ---- what an age is made of
 
-record IsSent (is_end : Bool) (line : LinePlan) (bound : PortBound) (link : VirtualLink) (before : Result ℕ Reason) (age : ℕ) : Type 0 where
+record IsSent (is_end : Bool) (line : LinePlan) (bound : PortBound) (link : VirtualLink) (least : ℕ) (before : Result ℕ Reason) (age : ℕ) : Type 0 where
   came : ℕ
   came_is : before ≡ Ok came
   delay : ℕ
-  delay_is : delay_of is_end line.byte_ns bound link ≡ Ok delay
+  delay_is : delay_of is_end line.byte_ns bound link least ≡ Ok delay
   is : age ≡ capped (capped (came + delay) + line.propagation_ns)
 
-sent-over : (is_end : Bool) (line : LinePlan) (bound : PortBound) (link : VirtualLink) (before : Result ℕ Reason) (age : ℕ) → sent_over is_end line bound link before ≡ Ok age → IsSent is_end line bound link before age
-sent-over is_end line bound link (Err why) age e = absurd (err-ok why age e)
-sent-over is_end line bound link (Ok came) age e = go (delay_of is_end line.byte_ns bound link) refl e
+sent-over : (is_end : Bool) (line : LinePlan) (bound : PortBound) (link : VirtualLink) (least : ℕ) (before : Result ℕ Reason) (age : ℕ) → sent_over is_end line bound link least before ≡ Ok age → IsSent is_end line bound link least before age
+sent-over is_end line bound link least (Err why) age e = absurd (err-ok why age e)
+sent-over is_end line bound link least (Ok came) age e = go (delay_of is_end line.byte_ns bound link least) refl e
   where
-    go : (o : Result ℕ Reason) → delay_of is_end line.byte_ns bound link ≡ o → after o (λ delay. Ok (capped (capped (came + delay) + line.propagation_ns))) ≡ Ok age → IsSent is_end line bound link (Ok came) age
+    go : (o : Result ℕ Reason) → delay_of is_end line.byte_ns bound link least ≡ o → after o (λ delay. Ok (capped (capped (came + delay) + line.propagation_ns))) ≡ Ok age → IsSent is_end line bound link least (Ok came) age
     go (Err why) is e = absurd (err-ok why age e)
     go (Ok delay) is e = record { came = came; came_is = refl; delay = delay; delay_is = is; is = sym (same-ok (capped (capped (came + delay) + line.propagation_ns)) age e) }
 
@@ -114,36 +92,23 @@ pub record IsComing (plan : Plan) (vl : VlPlan) (source : ℕ) (line : LinePlan)
   pub to_there : hop.to ≡ line.to
   pub to_port : hop.port ≡ line.to_port
   pub within : way_time (hop ∷ earlier) ≡ age
-  pub plain : is_plain plan vl.link ≡ true
   pub source_port : ℕ
   pub leaves : LeavesBy plan source source_port vl
   pub end_system : IsEndAt plan source
 
 module _ (plan : Plan) (accepted : IsAccepted plan) (bounds : List PortBound) (are : AreBounds plan (lines_of plan) bounds) (vl : VlPlan) (is_vl : Contains plan.vls vl) (source : ℕ) (from_source : begins_at vl ≡ Some source) where
-  at-port : (k : ℕ) (line : LinePlan) → slice_get (lines_of plan) k ≡ Some line → (bound : PortBound) → slice_get bounds k ≡ Some bound → (is_end : Bool) (delay : ℕ) → delay_of is_end line.byte_ns bound vl.link ≡ Ok delay
-      → are_plain plan (passings plan line.from line.from_port) ≡ true
-  at-port k line read bound at is_end delay e =
-      let (w, is) = bound-at plan (lines_of plan) bounds are k line bound read at in
-      delay-plain is_end line.byte_ns vl.link (port_before plan line) w bound is delay e
+  -- its least frame has so many bytes
+  abbrev least : ℕ
+  least = (sizes_in plan vl.link).least
 
-  -- it is such a one itself
-  plain-at : (k : ℕ) (line : LinePlan) → slice_get (lines_of plan) k ≡ Some line → LeavesBy plan line.from line.from_port vl → (bound : PortBound) → slice_get bounds k ≡ Some bound → (is_end : Bool) (delay : ℕ)
-      → delay_of is_end line.byte_ns bound vl.link ≡ Ok delay → is_plain plan vl.link ≡ true
-  plain-at k line read leaves bound at is_end delay e =
-      all-plain plan (passings plan line.from line.from_port) (at-port k line read bound at is_end delay e) _ (leaves-passed plan accepted line.from line.from_port vl leaves)
-
-  in-time : (k : ℕ) (line : LinePlan) → slice_get (lines_of plan) k ≡ Some line → LeavesBy plan line.from line.from_port vl → (bound : PortBound) → slice_get bounds k ≡ Some bound → (way : IsLineWay plan k line) → (delay : ℕ) → delay < 2 ^ 128 - 1
-      → (is_end : Bool) → delay_of is_end line.byte_ns bound vl.link ≡ Ok delay → IsInTime (setting_of plan) (sizes_of plan) vl.link.id.0 line.from line.from_port way.outlet (put_with (is_first is_end vl.link)) delay
-  in-time k line read leaves bound at way delay lt is_end e =
-      let (w, is) = bound-at plan (lines_of plan) bounds are k line bound read at in
-      let plain = at-port k line read bound at is_end delay e in
-      go w (plain-is (port_before plan line) w bound is plain) plain (plain-at k line read leaves bound at is_end delay e) (is_first is_end vl.link) e
+  in-time : (k : ℕ) (line : LinePlan) → slice_get (lines_of plan) k ≡ Some line → (bound : PortBound) → slice_get bounds k ≡ Some bound → (way : IsLineWay plan k line) → (delay : ℕ) → delay < 2 ^ 128 - 1
+      → (is_end : Bool) → delay_of is_end line.byte_ns bound vl.link least ≡ Ok delay → IsInTime (setting_of plan) (sizes_of plan) vl.link.id.0 line.from line.from_port way.outlet (put_with (is_first is_end vl.link)) delay
+  in-time k line read bound at way delay lt is_end e = let (w, is) = bound-at plan (lines_of plan) bounds are k line bound read at in go w is (is_first is_end vl.link) e
     where
-      go : (w : Weights) → bound ≡ plain_bound (port_before plan line) w → are_plain plan (passings plan line.from line.from_port) ≡ true → is_plain plan vl.link ≡ true
-          → (first : Bool) → cond first bound.first (after bound.later (later_delay line.byte_ns vl.link)) ≡ Ok delay
+      go : (w : Weights) → bound ≡ bound_by (port_before plan line) w → (first : Bool) → cond first bound.first (after bound.later (later_delay line.byte_ns least)) ≡ Ok delay
           → IsInTime (setting_of plan) (sizes_of plan) vl.link.id.0 line.from line.from_port way.outlet (put_with first) delay
-      go w is plain one true e = high-bound plan accepted k line read plain w vl.link.id.0 way.outlet way.byte_ns delay (ap (λ (b : PortBound). b.first) (sym is) ∙ e)
-      go w is plain one false e = low-bound plan accepted k line read plain w vl is_vl one way.outlet way.byte_ns delay lt (ap (λ (b : PortBound). after b.later (later_delay line.byte_ns vl.link)) (sym is) ∙ e)
+      go w is true e = high-bound plan accepted k line read w vl.link.id.0 way.outlet way.byte_ns delay (ap (λ (b : PortBound). b.first) (sym is) ∙ e)
+      go w is false e = low-bound plan accepted k line read w vl is_vl way.outlet way.byte_ns delay lt (ap (λ (b : PortBound). after b.later (later_delay line.byte_ns least)) (sym is) ∙ e)
 
   hop-of : (k : ℕ) (line : LinePlan) → IsLineWay plan k line → ℕ → Bool → ℕ → Hop
   hop-of k line way before is_end delay = record {
@@ -167,10 +132,10 @@ module _ (plan : Plan) (accepted : IsAccepted plan) (bounds : List PortBound) (a
 
   -- from the source
   from-end : (k : ℕ) (line : LinePlan) → slice_get (lines_of plan) k ≡ Some line → IsOver plan vl k → (bound : PortBound) → slice_get bounds k ≡ Some bound → (node : IsEndAt plan line.from) → (age : ℕ) → age < 2 ^ 128 - 1
-      → sent_over true line bound vl.link (Ok 0) ≡ Ok age → IsComing plan vl source line age
+      → sent_over true line bound vl.link least (Ok 0) ≡ Ok age → IsComing plan vl source line age
   unfolding hop-of
   from-end k line read over bound at node age lt e =
-      let sent = sent-over true line bound vl.link (Ok 0) age e in
+      let sent = sent-over true line bound vl.link least (Ok 0) age e in
       let none : sent.came ≡ 0 = sym (same-ok 0 sent.came sent.came_is) in
       let sum = sum-is age sent.came sent.delay line.propagation_ns sent.is lt in
       let way = line-way plan accepted (own-ports plan accepted) k line read in
@@ -180,14 +145,13 @@ module _ (plan : Plan) (accepted : IsAccepted plan) (bounds : List PortBound) (a
         hop = hop-of k line way 0 true sent.delay;
         earlier = [];
         route = (
-          is-hop k line way 0 true sent.delay (in-time k line read leaves bound at way sent.delay sum.1 true sent.delay_is),
+          is-hop k line way 0 true sent.delay (in-time k line read bound at way sent.delay sum.1 true sent.delay_is),
           record { end_system = node.state; is = node.is; at_once = refl; low = refl },
         );
         from_source = same_Some line.from source (sym begins ∙ from_source);
         to_there = refl;
         to_port = refl;
         within = (let total = sum.0 in omega (arith, total, none));
-        plain = plain-at k line read leaves bound at true sent.delay sent.delay_is;
         source_port = line.from_port;
         leaves = subst (λ n. LeavesBy plan n line.from_port vl) (same_Some line.from source (sym begins ∙ from_source)) leaves;
         end_system = subst (IsEndAt plan) (same_Some line.from source (sym begins ∙ from_source)) node;
@@ -195,11 +159,11 @@ module _ (plan : Plan) (accepted : IsAccepted plan) (bounds : List PortBound) (a
 
   -- through a switch
   through-switch : (k : ℕ) (line : LinePlan) → slice_get (lines_of plan) k ≡ Some line → IsOver plan vl k → (bound : PortBound) → slice_get bounds k ≡ Some bound → (node : IsSwitchAt plan line.from) → (age : ℕ) → age < 2 ^ 128 - 1
-      → (entry : IsOverIn plan vl line.from (first_port (ways_at plan line.from In vl))) → (came : ℕ) → sent_over false line bound vl.link (Ok (capped (came + latency_of plan line.from))) ≡ Ok age
+      → (entry : IsOverIn plan vl line.from (first_port (ways_at plan line.from In vl))) → (came : ℕ) → sent_over false line bound vl.link least (Ok (capped (came + latency_of plan line.from))) ≡ Ok age
       → (came < 2 ^ 128 - 1 → IsComing plan vl source entry.leads.line came) → IsComing plan vl source line age
   unfolding hop-of
   through-switch k line read over bound at node age lt entry came e coming =
-      let sent = sent-over false line bound vl.link (Ok (capped (came + latency_of plan line.from))) age e in
+      let sent = sent-over false line bound vl.link least (Ok (capped (came + latency_of plan line.from))) age e in
       let sum = sum-is age sent.came sent.delay line.propagation_ns sent.is lt in
       let added = plus-is sent.came came (latency_of plan line.from) (sym (same-ok (capped (came + latency_of plan line.from)) sent.came sent.came_is)) sum.2 in
       let way = line-way plan accepted (own-ports plan accepted) k line read in
@@ -209,7 +173,7 @@ module _ (plan : Plan) (accepted : IsAccepted plan) (bounds : List PortBound) (a
         hop = hop-of k line way (latency_of plan line.from) false sent.delay;
         earlier = first.hop ∷ first.earlier;
         route = (
-          is-hop k line way (latency_of plan line.from) false sent.delay (in-time k line read leaves bound at way sent.delay sum.1 false sent.delay_is),
+          is-hop k line way (latency_of plan line.from) false sent.delay (in-time k line read bound at way sent.delay sum.1 false sent.delay_is),
           record {
             switch = node.state;
             is = node.is;
@@ -226,7 +190,6 @@ module _ (plan : Plan) (accepted : IsAccepted plan) (bounds : List PortBound) (a
         to_there = refl;
         to_port = refl;
         within = (let total = sum.0 in let more = added.0 in let before = first.within in omega (arith, total, more, before));
-        plain = first.plain;
         source_port = first.source_port;
         leaves = first.leaves;
         end_system = first.end_system;
@@ -234,34 +197,34 @@ module _ (plan : Plan) (accepted : IsAccepted plan) (bounds : List PortBound) (a
 
   -- as it comes to a switch by the line to port j, and then through the switch
   abbrev came_by : ℕ → ℕ → ℕ → Result ℕ Reason
-  came_by lines n j = option_map_or (λ k. plus (age_after plan bounds vl.link lines k) (latency_of plan n)) (line_into plan n j) (Err reason.Way)
+  came_by lines n j = option_map_or (λ k. plus (age_after plan bounds vl.link least lines k) (latency_of plan n)) (line_into plan n j) (Err reason.Way)
 
-  pub coming : (lines k : ℕ) (line : LinePlan) → slice_get (lines_of plan) k ≡ Some line → IsOver plan vl k → (age : ℕ) → age < 2 ^ 128 - 1 → age_after plan bounds vl.link lines k ≡ Ok age → IsComing plan vl source line age
+  pub coming : (lines k : ℕ) (line : LinePlan) → slice_get (lines_of plan) k ≡ Some line → IsOver plan vl k → (age : ℕ) → age < 2 ^ 128 - 1 → age_after plan bounds vl.link least lines k ≡ Ok age → IsComing plan vl source line age
   coming zero k line read over age lt e = absurd (err-ok reason.Way age e)
   coming (suc lines) k line read over age lt e =
-      let here : option_map_or (age_over plan vl.link (age_after plan bounds vl.link lines) line) (slice_get bounds k) (Err reason.Way) ≡ Ok age =
-      ap (λ o. option_map_or (λ line. option_map_or (age_over plan vl.link (age_after plan bounds vl.link lines) line) (slice_get bounds k) (Err reason.Way)) o (Err reason.Way)) (sym read) ∙ e in
+      let here : option_map_or (age_over plan vl.link least (age_after plan bounds vl.link least lines) line) (slice_get bounds k) (Err reason.Way) ≡ Ok age =
+      ap (λ o. option_map_or (λ line. option_map_or (age_over plan vl.link least (age_after plan bounds vl.link least lines) line) (slice_get bounds k) (Err reason.Way)) o (Err reason.Way)) (sym read) ∙ e in
       go (slice_get bounds k) refl here (λ k line read over age lt e. coming lines k line read over age lt e)
     where
-      at-switch : (bound : PortBound) → slice_get bounds k ≡ Some bound → (node : IsSwitchAt plan line.from) → (entry : IsOverIn plan vl line.from (first_port (ways_at plan line.from In vl))) → (o : Result ℕ Reason) → age_after plan bounds vl.link lines entry.k ≡ o
-          → sent_over false line bound vl.link (plus o (latency_of plan line.from)) ≡ Ok age
-          → ((k : ℕ) (line : LinePlan) → slice_get (lines_of plan) k ≡ Some line → IsOver plan vl k → (age : ℕ) → age < 2 ^ 128 - 1 → age_after plan bounds vl.link lines k ≡ Ok age → IsComing plan vl source line age) → IsComing plan vl source line age
+      at-switch : (bound : PortBound) → slice_get bounds k ≡ Some bound → (node : IsSwitchAt plan line.from) → (entry : IsOverIn plan vl line.from (first_port (ways_at plan line.from In vl))) → (o : Result ℕ Reason) → age_after plan bounds vl.link least lines entry.k ≡ o
+          → sent_over false line bound vl.link least (plus o (latency_of plan line.from)) ≡ Ok age
+          → ((k : ℕ) (line : LinePlan) → slice_get (lines_of plan) k ≡ Some line → IsOver plan vl k → (age : ℕ) → age < 2 ^ 128 - 1 → age_after plan bounds vl.link least lines k ≡ Ok age → IsComing plan vl source line age) → IsComing plan vl source line age
       at-switch bound at node entry (Err why) is e before = absurd (err-ok why age e)
       at-switch bound at node entry (Ok came) is e before =
           through-switch k line read over bound at node age lt entry came e (λ small. before entry.k entry.leads.line entry.leads.read entry.over came small is)
 
-      go : (o : Option PortBound) → slice_get bounds k ≡ o → option_map_or (age_over plan vl.link (age_after plan bounds vl.link lines) line) o (Err reason.Way) ≡ Ok age
-          → ((k : ℕ) (line : LinePlan) → slice_get (lines_of plan) k ≡ Some line → IsOver plan vl k → (age : ℕ) → age < 2 ^ 128 - 1 → age_after plan bounds vl.link lines k ≡ Ok age → IsComing plan vl source line age) → IsComing plan vl source line age
+      go : (o : Option PortBound) → slice_get bounds k ≡ o → option_map_or (age_over plan vl.link least (age_after plan bounds vl.link least lines) line) o (Err reason.Way) ≡ Ok age
+          → ((k : ℕ) (line : LinePlan) → slice_get (lines_of plan) k ≡ Some line → IsOver plan vl k → (age : ℕ) → age < 2 ^ 128 - 1 → age_after plan bounds vl.link least lines k ≡ Ok age → IsComing plan vl source line age) → IsComing plan vl source line age
       go None at e before = absurd (err-ok reason.Way age e)
       go (Some bound) at e before = elim (node-kind plan line.from (line-read plan k line accepted read).0) [
         | inl node ↦ from-end k line read over bound at node age lt
-            (subst (λ b. sent_over b line bound vl.link (cond b (Ok 0) (came_by lines line.from (input_of plan line.from vl.link.id.0))) ≡ Ok age) node.end e)
+            (subst (λ b. sent_over b line bound vl.link least (cond b (Ok 0) (came_by lines line.from (input_of plan line.from vl.link.id.0))) ≡ Ok age) node.end e)
         | inr node ↦
             (let entry = comes-over plan accepted line.from line.from_port vl (over-leaves plan vl (has-from_contains plan.vls vl is_vl) k line read over) node.no_end in
             let input = input-is plan accepted line.from vl (has-from_contains plan.vls vl is_vl) node.no_end in
             let into = line-into-there plan accepted line.from (first_port (ways_at plan line.from In vl)) entry.k entry.leads in
-            let is : came_by lines line.from (input_of plan line.from vl.link.id.0) ≡ plus (age_after plan bounds vl.link lines entry.k) (latency_of plan line.from) =
-            ap (came_by lines line.from) input ∙ ap (λ o. option_map_or (λ k. plus (age_after plan bounds vl.link lines k) (latency_of plan line.from)) o (Err reason.Way)) into in
-            at-switch bound at node entry (age_after plan bounds vl.link lines entry.k) refl
-            (ap (sent_over false line bound vl.link) (sym is) ∙ subst (λ b. sent_over b line bound vl.link (cond b (Ok 0) (came_by lines line.from (input_of plan line.from vl.link.id.0))) ≡ Ok age) node.no_end e) before)
+            let is : came_by lines line.from (input_of plan line.from vl.link.id.0) ≡ plus (age_after plan bounds vl.link least lines entry.k) (latency_of plan line.from) =
+            ap (came_by lines line.from) input ∙ ap (λ o. option_map_or (λ k. plus (age_after plan bounds vl.link least lines k) (latency_of plan line.from)) o (Err reason.Way)) into in
+            at-switch bound at node entry (age_after plan bounds vl.link least lines entry.k) refl
+            (ap (sent_over false line bound vl.link least) (sym is) ∙ subst (λ b. sent_over b line bound vl.link least (cond b (Ok 0) (came_by lines line.from (input_of plan line.from vl.link.id.0))) ≡ Ok age) node.no_end e) before)
       ]

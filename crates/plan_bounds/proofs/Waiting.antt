@@ -7,7 +7,6 @@ use Rattle.network.proofs.PortLemmas.{line-within}
 use Rattle.nodes.specs.declared.ports.Outlet.{Outlet}
 use Rattle.output_port.specs.declared.event.Priority.TheVariants.{High, Low}
 use Rattle.seqsim.specs.Networks.{setting_of}
-use Rattle.network_bounds.specs.Passing.{are_plain, passings}
 use Rattle.plan_bounds.proofs.Sizes.{sizes_of}
 use Rattle.network_bounds.specs.declared.mixing.Choice.{Choice}
 use Rattle.network_bounds.specs.declared.mixing.Choice.TheVariants.{By}
@@ -15,7 +14,7 @@ use Rattle.network_bounds.specs.declared.mixing.Mixture.{Mixture}
 use Rattle.network_bounds.specs.declared.delays.Weights.{Weights}
 use Rattle.network_bounds.specs.declared.reason.Reason.{Reason}
 use Rattle.network_bounds.specs.declared.reason.Reason.TheVariants.{Bytes, Number, Rate}
-use Rattle.network_bounds.specs.Delays.{fits_both, only_if, plain_bound, waiting_bound, waiting_of}
+use Rattle.network_bounds.specs.Delays.{bound_by, fits_both, only_if, waiting_bound, waiting_of}
 use Rattle.network_bounds.specs.Mixing.{groups_at, mixed_at, port_before}
 use Rattle.network_bounds.specs.Numbers.{SCALE, UNITS, WHOLE, capped}
 use Rattle.port_bounds.specs.Mixtures.{groups_burst, groups_rate}
@@ -57,7 +56,7 @@ room-within burst byte_ns some =
     let positive : 0 < UNITS * byte_ns = omega (arith, least) in
     subst (λ n. burst < (UNITS * byte_ns) * (n + 1)) (sym (div-div-eq-div-mul burst UNITS byte_ns)) (lt-mul-div-succ burst {b = UNITS * byte_ns} positive)
 
-module _ (plan : Plan) (accepted : IsAccepted plan) (k : ℕ) (line : LinePlan) (read : slice_get (lines_of plan) k ≡ Some line) (plain : are_plain plan (passings plan line.from line.from_port) ≡ true) where
+module _ (plan : Plan) (accepted : IsAccepted plan) (k : ℕ) (line : LinePlan) (read : slice_get (lines_of plan) k ≡ Some line) where
   waiting-made : (outlet : Outlet) → outlet.ahead.byte_ns ≡ line.byte_ns → (bytes : ℕ) (high low : Choice) → IsWaiting line.byte_ns (mixed_at (port_before plan line) high true) (mixed_at (port_before plan line) low false) bytes
       → IsWaitingBound (setting_of plan) (sizes_of plan) line.from line.from_port outlet bytes
   unfolding mixed_at
@@ -74,14 +73,14 @@ module _ (plan : Plan) (accepted : IsAccepted plan) (k : ℕ) (line : LinePlan) 
         scale = SCALE;
         whole = WHOLE;
         high = groups_at port high true;
-        high_are = are-groups plan accepted k line read plain high High outlet byte h.high_tight;
+        high_are = are-groups plan accepted k line read high High outlet byte h.high_tight;
         low = groups_at port low false;
-        low_are = are-groups plan accepted k line read plain low Low outlet byte h.low_tight;
+        low_are = are-groups plan accepted k line read low Low outlet byte h.low_tight;
         rates = rates-both high_rate low_rate h.rates;
         within = subst (λ n. high_burst + low_burst < (UNITS * n) * (bytes + 1)) (sym byte) (subst (λ n. high_burst + low_burst < (UNITS * line.byte_ns) * (n + 1)) (sym bytes_is) within);
       }
 
-  pub waiting-bound : (w : Weights) (outlet : Outlet) → outlet.ahead.byte_ns ≡ line.byte_ns → (bytes : ℕ) → (plain_bound (port_before plan line) w).waiting ≡ Ok bytes
+  pub waiting-bound : (w : Weights) (outlet : Outlet) → outlet.ahead.byte_ns ≡ line.byte_ns → (bytes : ℕ) → (bound_by (port_before plan line) w).waiting ≡ Ok bytes
       → IsWaitingBound (setting_of plan) (sizes_of plan) line.from line.from_port outlet bytes
   waiting-bound w outlet byte bytes e =
       let port = port_before plan line in

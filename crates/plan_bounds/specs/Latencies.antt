@@ -18,4 +18,4 @@ IsLatencyBound plan vl n most =
 abbrev pub AreLatencyBounds : Plan → Type 0
 AreLatencyBounds plan =
     (bounds : List PortBound) → AreBounds plan (lines_of plan) bounds → (vl : VlPlan) → Contains plan.vls vl → (n : ℕ) → Contains (destinations_of vl) n →
-    (network_ns : ℕ) → network_ns_of plan bounds vl.link n ≡ Ok network_ns → IsLatencyBound plan vl n (network_ns + wait_of vl.link)
+    (network_ns : ℕ) → network_ns_of plan bounds vl.link n ≡ Ok network_ns → IsLatencyBound plan vl n (network_ns + wait_of plan vl.link)

@@ -26,10 +26,12 @@ pub fn bounds_law(network: &Network)
 }
 
 /// The bounds of a network hold in the one-thread run of each network of its shape: whatever its seed, end time and outages are, and whatever the
-/// offsets, periods and jitters of its virtual links. The wait in the regulator is that of the other network's period and jitter.
+/// streams of its virtual links are, if the least and the greatest frame of each virtual link are the same. The wait in the regulator is that of
+/// the other network's streams.
 pub fn shapes_law(shape: &Network, network: &Network)
     ensures latencies { AreShapeBounds shape.now network.now }
     ensures rooms { AreShapeRooms shape.now network.now }
 {
+    network.accepted_law();
     bounds_law(network);
 }

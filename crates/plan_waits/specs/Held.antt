@@ -1,10 +1,11 @@
 -- How long the regulators of a network hold frames.
-use Rattle.std.specs.Prelude.{◌≡◌, ℕ, ◌+◌, ◌-◌, ◌*◌, ◌<◌, ◌≤◌, Contains, true}
+use Rattle.std.specs.Prelude.{◌≡◌, ℕ, ◌+◌, ◌-◌, ◌*◌, ◌<◌, ◌≤◌, ◌==◌, Contains, false, if◌then◌else◌}
+use Rattle.std.specs.List.{list_any}
 use Rattle.reverse.specs.Rules.{rules_of}
 use Rattle.reverse.specs.Setting.{simulation_of}
 use Rattle.virtual_time.specs.Law.{Laws}
 use Rattle.network.specs.Words.{Plan, VlPlan, process_count}
-use Rattle.traffic.specs.Plain.{is_plain}
+use Rattle.traffic.specs.Plain.{is_periodic}
 use Rattle.nodes.specs.declared.equipment.Equipment.TheVariants as equipment
 use Rattle.nodes.specs.rules.EndSystem.{EndSystemState}
 use Rattle.nodes.specs.rules.Opening.{bag_ns, opening}
@@ -30,10 +31,20 @@ AreListsHeld plan =
     Laws (simulation_of (rules_of node) (setting_of plan)) → IsOfNodes (setting_of plan) → (size : ℕ → Sizes) → OpensEmpty (setting_of plan) size →
     (p : ℕ) (vl : VlPlan) → IsSent plan p vl → IsHeldWithin (setting_of plan) p vl.link.id.0 ((vl.link.depth * vl.link.sub) * bag_ns vl.link)
 
--- and, without sub-virtual links and of one frame of one size in each period, for no longer than jitter and BAG beyond the period, if neither is longer than the
+-- the virtual link has one list and no stream but its own. Bursts come in order, at most so late, and a period has a BAG for each frame of a burst. A
+-- sporadic burst is never late, as the next one is due a period after it comes
+pub record IsSteady (plan : Plan) (vl : VlPlan) (late : ℕ) : Type 0 where
+  pub one_list : vl.link.sub ≡ 1
+  pub alone : list_any (λ s. s.vl.0 == vl.link.id.0) plan.streams ≡ false
+  pub in_time : vl.link.own.frames * bag_ns vl.link ≤ vl.link.own.period_ns
+  pub late_is : late ≡ (if is_periodic vl.link.own.timing then vl.link.own.jitter_ns else 0)
+  pub in_order : late ≤ vl.link.own.period_ns
+
+-- then its regulator holds no frame for longer than the BAGs of the frames before it in its burst, and what those of a burst and its lateness are beyond the
 -- period
 abbrev pub ArePeriodsHeld : Plan → Type 0
 ArePeriodsHeld plan =
     Laws (simulation_of (rules_of node) (setting_of plan)) → IsOfNodes (setting_of plan) → (size : ℕ → Sizes) → OpensEmpty (setting_of plan) size →
-    (p : ℕ) (vl : VlPlan) → IsSent plan p vl → is_plain plan vl.link ≡ true → vl.link.sub ≡ 1 → bag_ns vl.link ≤ vl.link.own.period_ns → vl.link.own.jitter_ns ≤ vl.link.own.period_ns →
-    IsHeldWithin (setting_of plan) p vl.link.id.0 ((vl.link.own.jitter_ns + bag_ns vl.link) - vl.link.own.period_ns)
+    (p : ℕ) (vl : VlPlan) → IsSent plan p vl → (late : ℕ) → IsSteady plan vl late →
+    IsHeldWithin (setting_of plan) p vl.link.id.0
+    ((vl.link.own.frames * bag_ns vl.link - bag_ns vl.link) + ((late + vl.link.own.frames * bag_ns vl.link) - vl.link.own.period_ns))
