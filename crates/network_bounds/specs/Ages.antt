@@ -1,5 +1,5 @@
 -- How long a frame of a virtual link takes from its release to a place, along its path.
-use Rattle.std.specs.Prelude.{ℕ, zero, suc, ◌+◌, ◌-◌, ◌*◌, ◌==◌, ◌&&◌, ◌||◌, Bool, not, if◌then◌else◌, max, min, nat_le, List, length, slice_get, Result, Ok, Err}
+use Rattle.std.specs.Prelude.{ℕ, zero, suc, ◌+◌, ◌-◌, ◌*◌, ◌==◌, ◌&&◌, ◌||◌, Bool, not, if◌then◌else◌, max, min, nat_le, nat_lt, List, length, slice_get, Result, Ok, Err}
 use Rattle.std.specs.List.{list_any}
 use Rattle.std.specs.Option.{option_map_or}
 use Rattle.network.specs.declared.wiring.LinePlan.{LinePlan}
@@ -72,9 +72,13 @@ network_ns_of plan bounds link n = age_to plan bounds link (sizes_in plan link).
 abbrev pub late_in : Stream → ℕ
 late_in stream = if is_periodic stream.timing then stream.jitter_ns else 0
 
--- one list, and no stream but its own
+-- one list; or bursts of one frame that come each before the next one is due, so that at most one frame waits
+abbrev pub one_waits : VirtualLink → Bool
+one_waits link = (link.sub == 1) || ((link.own.frames == 1) && nat_lt (late_in link.own) link.own.period_ns)
+
+-- and no stream but its own
 abbrev pub is_alone : Plan → VirtualLink → Bool
-is_alone plan link = (link.sub == 1) && not (list_any (λ s. s.vl.0 == link.id.0) plan.streams)
+is_alone plan link = one_waits link && not (list_any (λ s. s.vl.0 == link.id.0) plan.streams)
 
 -- its bursts come in order, and a period has the BAGs of a burst
 abbrev pub is_in_time : VirtualLink → Bool

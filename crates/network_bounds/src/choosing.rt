@@ -2,9 +2,10 @@
 
 use crate::delays::Weights;
 use crate::filling::{Total, filled, lowered, shares_of, weigh};
-use crate::mixing::{Parts, UNITS};
+use crate::mixing::Parts;
 use crate::port::Port;
 use crate::share::Share;
+use bound_numbers::UNITS;
 use network::GREATEST_PORTS;
 
 /// What comes by each port with one priority.

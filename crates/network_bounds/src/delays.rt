@@ -7,9 +7,10 @@ ghost use Rattle.network_bounds.specs.Delays.{IsBound, bound_by, delay_of, first
 
 use crate::choosing::choose;
 use crate::curves::is_first;
-use crate::mixing::{Choice, Mixture, Parts, UNITS, mixed_at};
+use crate::mixing::{Choice, Mixture, Parts, mixed_at};
 use crate::port::Port;
 use crate::reason::Reason;
+use bound_numbers::{UNITS, first_ns};
 use network::VirtualLink;
 use vlink::{FrameSize, busy_ns, last_bit_ns};
 
@@ -89,8 +90,7 @@ fn first_of(byte_ns: u16, high: &Mixture, greatest: u64) -> Result<u128, Reason>
     if high.is_loose {
         Err(Reason::Bytes)
     } else if fits_first(high) {
-        let sent = (high.burst / UNITS).saturating_add(u128::from(greatest));
-        held(high.burst, sent.saturating_sub(12 * u128::from(byte_ns)))
+        held(high.burst, first_ns(byte_ns, high.burst, greatest))
     } else {
         Err(Reason::Rate)
     }

@@ -1,9 +1,9 @@
 //! Chooses weights for what comes with one priority, such that its burst is small. No contract is needed: that of `delays::PortBound::of`,
 //! which `choose` serves, holds for any weights.
 
-use crate::mixing::{WHOLE, mixed};
 use crate::port::Port;
 use crate::share::{Share, share_at};
+use bound_numbers::{WHOLE, mixed};
 use network::GREATEST_PORTS;
 
 /// A burst and a rate.

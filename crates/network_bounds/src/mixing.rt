@@ -1,18 +1,12 @@
 //! All that comes to a port with one priority: for each line a mixture of what the line bounds and what its virtual links can send.
 ghost use Rattle.std.specs.Prelude.{◌≡◌, ◌≤◌};
-ghost use Rattle.port_bounds.specs.Mixtures.{mixed};
-ghost use Rattle.network_bounds.specs.Numbers.{WHOLE, capped};
+ghost use Rattle.network_bounds.specs.Numbers.{WHOLE};
 ghost use Rattle.network_bounds.specs.Mixing.{gaps_in, mixed_at, weight_of, with_share};
 
 use crate::port::Port;
 use crate::share::{Share, share_at};
+use bound_numbers::{WHOLE, mixed};
 use network::GREATEST_PORTS;
-
-/// The number of parts of a mixture.
-pub const WHOLE: u32 = 1_000_000;
-
-/// The number of units of a mixture in one ns: SCALE times WHOLE.
-pub const UNITS: u128 = 128_000_000_000_000;
 
 /// The mixture of all that comes to a port with one priority. All sums stop at the greatest number.
 #[derive(Clone, Copy)]
@@ -75,16 +69,6 @@ fn weight_of(choice: Choice, input: usize, share: &Share) -> u32
             None => 0,
         },
     }
-}
-
-/// Returns the mixture: `weight` parts of the one and the others of the other.
-pub fn mixed(weight: u32, line: u128, flows: u128) -> u128
-    requires { weight ≤ WHOLE }
-    ensures { result ≡ capped (mixed WHOLE weight line flows) }
-{
-    let by_line = u128::from(weight).saturating_mul(line);
-    let by_flows = u128::from(WHOLE - weight).saturating_mul(flows);
-    by_line.saturating_add(by_flows)
 }
 
 /// Adds what comes by one more line.

@@ -3,7 +3,7 @@ ghost use Rattle.std.specs.Prelude.{◌≡◌, ◌*◌, ◌==◌, ◌≤◌};
 ghost use Rattle.std.specs.List.{list_any};
 ghost use Rattle.network.specs.Words.{IsLinkInLimits};
 ghost use Rattle.network_bounds.specs.Curves.{bag_of};
-ghost use Rattle.network_bounds.specs.Ages.{is_alone, is_in_time, late_in, steady_wait, wait_of};
+ghost use Rattle.network_bounds.specs.Ages.{is_alone, is_in_time, late_in, one_waits, steady_wait, wait_of};
 
 use crate::curves::bag_ns;
 use network::{Network, Stream, Timing, VirtualLink, VlStream};
@@ -41,11 +41,18 @@ fn has_row(rows: &[VlStream], id: VlId) -> bool
     false
 }
 
-/// Whether a virtual link has one list, and no stream but its own.
+/// Whether a virtual link has one list; or bursts of one frame that come each before the next one is due, so that at most one frame waits.
+fn one_waits(link: &VirtualLink) -> bool
+    ensures { result ≡ one_waits link.now }
+{
+    link.sub == 1 || (link.own.frames == 1 && late_ns(&link.own) < link.own.period_ns)
+}
+
+/// Whether a frame waits for no other list and no other stream of its virtual link.
 fn is_alone(network: &Network, link: &VirtualLink) -> bool
     ensures { result ≡ is_alone network.now link.now }
 {
-    link.sub == 1 && !has_row(network.streams(), link.id)
+    one_waits(link) && !has_row(network.streams(), link.id)
 }
 
 /// Whether the bursts of its own stream come in order, and a period has the BAGs of a burst.

@@ -1,5 +1,5 @@
 -- Each bound of a network holds in its one-thread run, where its regulators hold frames no longer than they may.
-use Rattle.std.proofs.Common.{List, ◌≤◌, ◌≡◌, ℕ, ◌-◌, ◌*◌, ◌<◌, ◌==◌, ◌&&◌, not, Bool, true, false, cond, min, nat_le, get_or, Option, Some, None, All, IfSome, inl, inr, refl, ap, sym, ◌∙◌, subst, arith, slice_get, option_and_then, eqb-true, leb-true}
+use Rattle.std.proofs.Common.{List, ◌≤◌, ◌≡◌, ℕ, ◌-◌, ◌*◌, ◌<◌, ◌==◌, ◌&&◌, ◌||◌, ◌⊎◌, not, Bool, true, false, cond, min, nat_le, nat_lt, ltb-true, get_or, Option, Some, None, All, IfSome, inl, inr, refl, ap, sym, ◌∙◌, subst, arith, slice_get, option_and_then, eqb-true, leb-true}
 use Rattle.std.specs.List.{list_any}
 use Rattle.std.proofs.lemmas.Bool.{cases_lt, false≢true}
 use Rattle.std.proofs.lemmas.Option.{slice_get-get_or}
@@ -46,6 +46,10 @@ use Rattle.plan_bounds.proofs.Sources.{destination-end}
 both-true : (a b : Bool) → (a && b) ≡ true → (a ≡ true) × (b ≡ true)
 both-true true b h = (refl, h)
 both-true false b h = absurd (false≢true h)
+
+either-true : (a b : Bool) → (a || b) ≡ true → (a ≡ true) ⊎ (b ≡ true)
+either-true true b h = inl refl
+either-true false b h = inr h
 
 not-true : (b : Bool) → not b ≡ true → b ≡ false
 not-true true h = absurd (false≢true h)
@@ -98,11 +102,15 @@ module _ (plan : Plan) (accepted : IsAccepted plan) where
 
         steady : is_steady plan vl.link ≡ true → IsSteady plan vl (late_in vl.link.own)
         steady e =
-            let (one, fits) = both-true ((vl.link.sub == 1) && not (list_any (λ s. s.vl.0 == vl.link.id.0) plan.streams)) _ e in
-            let (list, alone) = both-true (vl.link.sub == 1) _ one in
+            let single = (vl.link.own.frames == 1) && nat_lt (late_in vl.link.own) vl.link.own.period_ns in
+            let (one, fits) = both-true (((vl.link.sub == 1) || single) && not (list_any (λ s. s.vl.0 == vl.link.id.0) plan.streams)) _ e in
+            let (waits, alone) = both-true ((vl.link.sub == 1) || single) _ one in
             let (time, order) = both-true (nat_le (vl.link.own.frames * bag_of vl.link) vl.link.own.period_ns) _ fits in
             record {
-              one_list = eqb-true vl.link.sub 1 list;
+              one_waits = elim (either-true (vl.link.sub == 1) single waits) [
+                | inl list ↦ inl (eqb-true vl.link.sub 1 list)
+                | inr frame ↦ (let (count, before) = both-true (vl.link.own.frames == 1) _ frame in inr (eqb-true vl.link.own.frames 1 count, ltb-true _ _ before))
+              ];
               alone = not-true _ alone;
               in_time = leb-true _ _ time;
               late_is = refl;

@@ -30,6 +30,7 @@ use Rattle.frame_ages.specs.Latencies.{IsHeldWithin}
 use Rattle.frame_ages.specs.Sizes.{OpensEmpty, Sizes}
 use Rattle.frame_ages.specs.Waits.{IsOfferedBy}
 use Rattle.frame_ages.proofs.HeldLemmas.{lists-held, periods-held}
+use Rattle.sub_waits.proofs.SubLemmas.{subs-held}
 use Rattle.plan_ports.proofs.Linked.{have-sources, one-vl}
 use Rattle.plan_ports.proofs.Offered.{IsStreamOf, all-offered}
 use Rattle.plan_waits.specs.Held.{IsSent, IsSteady}
@@ -43,6 +44,9 @@ module _ (plan : Plan) (accepted : IsAccepted plan) (L : Laws (simulation_of (ru
   limits =
       All-contains (λ (v : VlPlan). IsLinkInLimits v.link) plan.vls vl
       (λ i d lt. link-read plan i (get_or plan.vls i d).link accepted (ap (option_map (λ (v : VlPlan). v.link)) (slice_get-get_or plan.vls i d lt))) S.is_vl
+
+  least-bag : 1 ≤ bag_ns vl.link
+  least-bag = let some = limits.least_bag in omega (arith, some)
 
   abbrev own : OfferedStream
   own = own_of vl.link (unwrap_or (source_of vl) 0)
@@ -193,14 +197,24 @@ module _ (plan : Plan) (accepted : IsAccepted plan) (L : Laws (simulation_of (ru
           | inr other ↦ subst (λ k. moment (n / f) ≤ moment k) (sym other.0) (in-order (n / f))
         ]
 
-    one-list : regulator_in (opening plan p).equipment (record { 0 = vl.link.id.0 }) ≡ Some (regulators.opening (bag_ns vl.link) vl.link.depth 1)
-    one-list = regulator ∙ ap (λ k. Some (regulators.opening (bag_ns vl.link) vl.link.depth k)) steady.one_list
+    abbrev early : ℕ
+    early = f * bag - bag
+
+    one-list : vl.link.sub ≡ 1 → IsHeldWithin (setting_of plan) p vl.link.id.0 (((early + over) + bag) - bag)
+    one-list one =
+        let opens = regulator ∙ ap (λ k. Some (regulators.opening (bag_ns vl.link) vl.link.depth k)) one in
+        periods-held (setting_of plan) L N size O p vl.link.id.0 bag vl.link.depth S.inside opens bag over early bursts (omega arith)
+
+    one-frame : f ≡ 1 → late < vl.link.own.period_ns → IsHeldWithin (setting_of plan) p vl.link.id.0 (((early + over) + bag) - bag)
+    one-frame one before =
+        let whole : f * bag ≡ 1 * bag = ap (λ n. n * bag) one in
+        let some : 1 ≤ bag = least-bag in
+        subs-held (setting_of plan) L N size O p vl.link.id.0 bag vl.link.depth vl.link.sub S.inside regulator bag over early bursts (omega arith) (omega (arith, whole, before, some))
 
     by-bursts : IsHeldWithin (setting_of plan) p vl.link.id.0 ((f * bag - bag) + over)
     by-bursts =
-        let early = f * bag - bag in
         let none : ((early + over) + bag) - bag ≡ early + over = omega arith in
-        subst (IsHeldWithin (setting_of plan) p vl.link.id.0) none (periods-held (setting_of plan) L N size O p vl.link.id.0 bag vl.link.depth S.inside one-list bag over early bursts (omega arith))
+        subst (IsHeldWithin (setting_of plan) p vl.link.id.0) none (elim steady.one_waits [ inl one ↦ one-list one | inr single ↦ one-frame single.0 single.1 ])
 
   pub held-periods : (late : ℕ) → IsSteady plan vl late
       → IsHeldWithin (setting_of plan) p vl.link.id.0 ((vl.link.own.frames * bag_ns vl.link - bag_ns vl.link) + ((late + vl.link.own.frames * bag_ns vl.link) - vl.link.own.period_ns))

@@ -1,5 +1,5 @@
 -- How long the regulators of a network hold frames.
-use Rattle.std.specs.Prelude.{◌≡◌, ℕ, ◌+◌, ◌-◌, ◌*◌, ◌<◌, ◌≤◌, ◌==◌, Contains, false, if◌then◌else◌}
+use Rattle.std.specs.Prelude.{◌≡◌, ℕ, ◌+◌, ◌-◌, ◌*◌, ◌<◌, ◌≤◌, ◌==◌, ◌⊎◌, Contains, false, if◌then◌else◌}
 use Rattle.std.specs.List.{list_any}
 use Rattle.reverse.specs.Rules.{rules_of}
 use Rattle.reverse.specs.Setting.{simulation_of}
@@ -31,10 +31,11 @@ AreListsHeld plan =
     Laws (simulation_of (rules_of node) (setting_of plan)) → IsOfNodes (setting_of plan) → (size : ℕ → Sizes) → OpensEmpty (setting_of plan) size →
     (p : ℕ) (vl : VlPlan) → IsSent plan p vl → IsHeldWithin (setting_of plan) p vl.link.id.0 ((vl.link.depth * vl.link.sub) * bag_ns vl.link)
 
--- the virtual link has one list and no stream but its own. Bursts come in order, at most so late, and a period has a BAG for each frame of a burst. A
--- sporadic burst is never late, as the next one is due a period after it comes
+-- the virtual link has no stream but its own, and one list; or its bursts are of one frame and come each before the next one is due, so at most one frame
+-- waits in its lists. Bursts come in order, at most so late, and a period has a BAG for each frame of a burst. A sporadic burst is never late, as the next
+-- one is due a period after it comes
 pub record IsSteady (plan : Plan) (vl : VlPlan) (late : ℕ) : Type 0 where
-  pub one_list : vl.link.sub ≡ 1
+  pub one_waits : (vl.link.sub ≡ 1) ⊎ ((vl.link.own.frames ≡ 1) × (late < vl.link.own.period_ns))
   pub alone : list_any (λ s. s.vl.0 == vl.link.id.0) plan.streams ≡ false
   pub in_time : vl.link.own.frames * bag_ns vl.link ≤ vl.link.own.period_ns
   pub late_is : late ≡ (if is_periodic vl.link.own.timing then vl.link.own.jitter_ns else 0)
