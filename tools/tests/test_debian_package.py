@@ -30,6 +30,8 @@ DONE = (
     ("explain NET", "accepted", None),
     ("bounds NET -o bounds.csv", "", "bounds.csv"),
     ("table EXAMPLES/flight_deck.csv", "until_ns", None),
+    ("table EXAMPLES/flight_deck.csv -o deck.toml", "", "deck.toml"),
+    ("results EXAMPLES/flight_deck.csv deck.toml --tables EXAMPLES/flight_deck.tables.csv -o results.csv", "", "results.csv"),
     ("table --back NET -o net.csv", "", "net.csv"),
     ("seq NET --trace trace.csv", TABLES, "trace.csv"),
     ("seq NET --trace second.csv --by second-opinion", TABLES, "second.csv"),
@@ -284,8 +286,7 @@ class Used:
         self.same("trace.csv", "second.csv")
         # A benchmark takes minutes.
         done = {words.split()[0] for words, _, _ in DONE + DONE_BY_THE_PROGRAM}
-        # Tests of their own try these two.
-        self.assertEqual(done | {"benchmark", "judge", "results"}, set(help_texts.commands(is_clone=False)))
+        self.assertEqual(done | {"benchmark"}, set(help_texts.commands(is_clone=False)))
 
     def test_so_does_what_only_the_program_does(self):
         if not self.is_real:

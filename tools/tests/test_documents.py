@@ -15,6 +15,7 @@ ROWS = os.path.join(TOOLS, "tests", "rows", "documents.txt")
 NODES = [["Name", "Net"], ["S", "A"], ["T", "B"]]
 LINKS = [["a", "b"], *[[end, switch] for end in ("E1", "E2", "E3", "E4") for switch in "ST"]]
 USUAL = {"priority": "low", "policing_jitter_ns": 500_000, "depth": 4, "offset_ns": 0, "jitter_ns": 0}
+OF_STREAMS = ("frames", "last_size", "timing", "end_ns", "sub_vl")
 
 
 def layouts():
@@ -67,15 +68,18 @@ def sheets_of(lines):
 
 
 def summary(tree):
-    """What is to be known of a description: a line for each virtual link, for each node that is not one of the cables above, and for
+    """What is to be known of a description: a line for each virtual link and each further stream, for each node that is not one of the cables above, and for
     links with another speed or length."""
     for vl in tree["vl"]:
         paths = {key: ",".join(sorted(path[-1] for path in vl[key])) or "-" for key in "ab"}
         source = (vl["a"] or vl["b"])[0][0]
         to = f"{paths['a']} by A and B" if paths["a"] == paths["b"] else f"{paths['a']} by A, {paths['b']} by B"
-        more = [f"{key} {value}" for key, value in vl.items() if key in (*USUAL, "sub", "policing") and USUAL.get(key) != value]
+        more = [f"{key} {value}" for key, value in vl.items() if key in (*USUAL, *OF_STREAMS, "sub", "policing") and USUAL.get(key) != value]
         more += [f"skew_max_ns {vl['skew_max_ns']}"] if vl["skew_max_ns"] != vl["bag_ms"] * 500_000 else []
         yield " ".join([f"{vl['id']}: {source} to {to}, bag {vl['bag_ms']} smax {vl['smax']} size {vl['size']} period {vl['period_ns'] // 1000}", *more])
+    for row in tree.get("stream", []):
+        more = [f"{key} {value}" for key, value in row.items() if key in (*USUAL, *OF_STREAMS) and USUAL.get(key) != value]
+        yield " ".join([f"stream of {row['vl']}: size {row['size']} period {row['period_ns'] // 1000}", *more])
     for row in tree["node"]:
         if row["name"] not in ("S", "T", "E1", "E2", "E3", "E4") or row.get("latency_ns", 16000) != 16000:
             yield " ".join(["node", row["name"], row["kind"], *([row["net"], str(row["latency_ns"])] if "net" in row else [])])

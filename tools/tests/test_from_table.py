@@ -35,8 +35,7 @@ def read(path):
 
 
 def examples():
-    """Those without streams: `table` refuses the lines that say them (test_streams_are_refused)."""
-    return sorted(it for it in glob.glob(os.path.join(EXAMPLES, "*.toml")) if "[[stream]]" not in read(it))
+    return sorted(glob.glob(os.path.join(EXAMPLES, "*.toml")))
 
 
 def tables_by_second_opinion(text):
@@ -90,7 +89,7 @@ class Here(unittest.TestCase):
 
 class Back(Here):
     def test_a_description_comes_back_from_its_tables(self):
-        """Each row of each example has the same values, but for keys that may be absent, and the run the same tables."""
+        """Each row of each example has the same values."""
         for path in examples():
             with self.subTest(path):
                 tables = os.path.join(self.folder, "back.csv")
@@ -98,7 +97,6 @@ class Back(Here):
                 self.assertEqual(self.call(tables, "-o", self.output), (0, "", ""))
                 found, wanted = (toml_lines.read(read(it)) for it in (self.output, path))
                 self.assertEqual(found, wanted)
-                self.assertEqual(tables_by_second_opinion(read(self.output)), read(path.replace(".toml", ".tables.csv")))
 
     def test_shortest_paths_are_those_of_the_examples(self):
         """The paths of each example are the shortest ones, so the tables need not state them."""
@@ -113,7 +111,7 @@ class Back(Here):
                 blocks[-1] = "\n".join(line.rsplit(",", 2)[0] for line in blocks[-1].splitlines())
                 table = self.file("without.csv", "\n\n".join(blocks) + "\n")
                 self.assertEqual(self.call(table, "-o", self.output), (0, "", ""))
-                self.assertEqual(tables_by_second_opinion(read(self.output)), read(path.replace(".toml", ".tables.csv")))
+                self.assertEqual(toml_lines.read(read(self.output)), wanted)
 
     def test_a_description_that_is_not_accepted(self):
         text = read(os.path.join(EXAMPLES, "n1.toml")).replace("bag_ms = 1", "bag_ms = 3")
@@ -411,6 +409,35 @@ id = 1
         (said,) = self.faults(NODES + LINKS + LINE.replace("smax", "smax,jitter_us").replace("100", '100,"1,5"'))
         self.assertEqual(said, "table0.csv line 12: jitter_us is '1,5', and no number")
 
+    def test_letters_of_excel(self):
+        """The same table as Excel writes it: in the letters of Windows, as `Unicode text`, and with a line that says what parts its cells."""
+        text = (NODES + LINKS + LINE).replace("DU", "\u00c9cran")
+        wanted, _ = self.noted(text)
+        self.assertIn("Ecran", [row["name"] for row in wanted["node"]])
+        read_as = "is no UTF-8, and is read as Windows-1252; if letters of names are wrong, save it as `CSV UTF-8 (comma delimited)`, or as a workbook (.xlsx)"
+        semicolons, tabs = (text.replace(",", mark).replace("\n", "\r\n") for mark in (";", "\t"))
+        for name, found, notes in (
+            ("cp1252", semicolons.encode("cp1252"), [read_as]),
+            ("UTF-8 with its mark", b"\xef\xbb\xbf" + semicolons.encode("utf-8"), []),
+            ("UTF-16 of Windows", b"\xff\xfe" + tabs.encode("utf-16-le"), []),
+            ("UTF-16 of others", b"\xfe\xff" + tabs.encode("utf-16-be"), []),
+            ("sep=", ("sep=;\r\n" + semicolons).encode("utf-8"), []),
+            ("sep=| in cp1252", ("sep=|\r\n" + semicolons.replace(";", "|")).encode("cp1252"), [read_as]),
+        ):
+            with self.subTest(name):
+                tree, said = self.noted(found)
+                self.assertEqual((tree, [line.removeprefix("table0.csv: ") for line in said]), (wanted, notes))
+        for name, found, said in (
+            ("half a letter of UTF-16", b"\xff\xfe" + tabs.encode("utf-16-le")[:-1], "begins as UTF-16 and is none: save it as `CSV UTF-8"),
+            ("UTF-16 without its mark", tabs.replace("\u00c9", "E").encode("utf-16-le"), "has bytes that no text has, as UTF-16 without its mark: save it as `CSV UTF-8"),
+            ("neither", semicolons.encode("utf-8") + b"\x81\xff", "is neither UTF-8 nor Windows-1252: save it as `CSV UTF-8"),
+        ):
+            with self.subTest(name):
+                path = self.file("bad.csv", found)
+                status, out, printed = self.call(path)
+                self.assertEqual((status, out, printed.count("\n")), (2, "", 1), printed)
+                self.assertIn(said, printed)
+
     def test_a_further_stream_is_a_line_of_its_virtual_link(self):
         net = os.path.join(self.folder, "net.toml")
         with open(net, "w", encoding="utf-8") as out:
@@ -422,13 +449,26 @@ id = 1
         self.assertEqual(lines[1], "1,ES1,ES2,,1,64,low,0,1000000,16,64,2,0,1000000000000,0,,ES1 SW1 ES2,-,")
         self.assertEqual(lines[2], "1,ES1,ES2,1,1,64,low,0,1000000,16,65,,7,2000000,0,sporadic,ES1 SW1 ES2,-,its status")
 
-    def test_streams_are_refused(self):
-        """`table` makes no streams: it makes nothing of the tables of a description that has some, and says why."""
-        tables = os.path.join(self.folder, "back.csv")
-        self.assertEqual(self.call("--back", os.path.join(EXAMPLES, "displays.toml"), "-o", tables), (0, "", ""))
-        status, out, said = self.call(tables)
-        self.assertEqual((status, out), (1, ""))
-        self.assertIn("has frames, and a description cannot have that yet: pass it over by --column", said)
+    def test_streams_come_back(self):
+        """In the order of their rows, with their own sub-virtual links and comments, also if all else is alike."""
+        table = "id,source,destinations,bag_ms,smax,sub_vl,port,message_bytes,period_ms,timing,limit_ms,remarks\n"
+        table += "1,ADC,DU,8,500,1,P1,100,16,,2,first\n1,ADC,FWC,8,500,1,P1,100,16,,3,\n2,DU,ADC,8,500,,Q1,100,16,,,\n"
+        table += "1,ADC,DU FWC,8,500,2,P2,100,16,,,\n1,ADC,DU,8,500,2,P3,2000,100,event,,last\n2,DU,ADC,8,500,,Q2,100,16,,,of Q2 at ADC\n"
+        path = self.file("table.csv", NODES + LINKS + "FWC,SWA\n\n" + table)
+        self.assertEqual(self.call(path, "-o", self.output)[0], 0)
+        text = read(self.output)
+        # The second row of `stream` goes to virtual link 2, the third to 1.
+        first, second, third = text.split("\n\n[[stream]]")[1:]
+        with open(self.output, "w", encoding="utf-8") as out:
+            out.write(text.replace(third.rstrip("\n"), "THIRD").replace(second, third.rstrip("\n")).replace("THIRD", second))
+        tables, again = (os.path.join(self.folder, name) for name in ("back.csv", "again.toml"))
+        self.assertEqual(self.call("--back", self.output, "-o", tables), (0, "", ""))
+        self.assertEqual(self.call(tables, "-o", again)[:2], (0, ""))
+        found, wanted = (toml_lines.read(read(it)) for it in (again, self.output))
+        self.assertEqual([(row["vl"], row.get("sub_vl"), row.get("frames"), row.get("timing")) for row in wanted["stream"]], [(1, 1, None, None), (2, None, None, None), (1, 1, 5, "sporadic")])
+        self.assertEqual(found, wanted)
+        said = [[line for line in read(it).split("\n") if line.startswith(("# limit", "# port", "# remarks"))] for it in (self.output, again)]
+        self.assertEqual(said[1], said[0])
 
     def test_limits_ports_and_remarks_come_back(self):
         links = LINKS.replace("a,b", "a,b,remarks").replace("DU,SWB\n", 'DU,SWB,"long, and old"\nFWC,SWA\nFWC,SWB\n')
@@ -486,7 +526,7 @@ class Workbooks(Here):
         self.assertEqual((status, out, said.splitlines()), (0, "", [title]))
         self.assertEqual(self.receipt, "12 virtual links of 30 rows, 13 nodes, 20 cables; 5 titles, 3 rows skipped, 0 rows left")
         found = read(self.output)
-        self.assertEqual(tables_by_second_opinion(found), read(path.replace(".xlsx", ".tables.csv")))
+        # OfTables runs what is made of the CSV.
         self.assertEqual(self.call(path.replace(".xlsx", ".csv"), "-o", self.output), (0, "", ""))
         self.assertEqual(toml_lines.read(found), toml_lines.read(read(self.output)))
         self.assertIn("# limit_us 500\n# udp_source_port 4101\n# udp_destination_port 5101\n# remarks for the standby display at DU_C\n", found)

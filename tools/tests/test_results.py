@@ -4,6 +4,7 @@ import csv
 import io
 import json
 import os
+import shutil
 import subprocess
 import tempfile
 import unittest
@@ -40,6 +41,9 @@ class Results(unittest.TestCase):
 
     def made(self, book, *words):
         self.assertEqual(called(from_table.main, book, "-o", self.net, *words)[0], 0)
+
+    def made_with_bounds(self, book, *words):
+        self.made(book, *words)
         called(bounds.main, self.net, "-o", self.bounds)
 
     def latencies(self):
@@ -52,7 +56,7 @@ class Results(unittest.TestCase):
 
     def test_csv(self):
         """Each row has the greatest latency and the bound of its destinations, from the tables and the bounds themselves."""
-        self.made(TABLE)
+        self.made_with_bounds(TABLE)
         out = self.path("out.csv")
         self.assertEqual(called(results.main, TABLE, self.net, "-o", out, "--tables", TABLES, "--bounds", self.bounds), (0, ""))
         with open(out, encoding="utf-8") as file, open(TABLE, encoding="utf-8") as before:
@@ -106,7 +110,7 @@ class Results(unittest.TestCase):
         book, out = self.path("icd.xlsx"), self.path("out.xlsx")
         text = f"import openpyxl\nbook = openpyxl.load_workbook({BOOK!r})\nsheet = book['History']\nsheet['E1'] = '=1+2'\nsheet.column_dimensions['B'].width = 47\nbook.save({book!r})\n"
         subprocess.run([workbook.DEBIAN, "-c", text], check=True)
-        self.made(book, "--skip", "History")
+        self.made_with_bounds(book, "--skip", "History")
         self.assertEqual(called(results.main, book, self.net, "-o", out, "--tables", TABLES, "--bounds", self.bounds), (0, ""))
         text = f"""
 import json, openpyxl
@@ -122,8 +126,6 @@ print(json.dumps([[[cell.value for cell in row] for row in sheet.iter_rows()], [
 """
         run = subprocess.run([workbook.DEBIAN, "-c", text], capture_output=True, text=True)
         self.assertEqual((run.returncode, run.stderr), (0, ""))
-
-
         rows, colours = json.loads(run.stdout)
         self.assertEqual(rows[2][-7:], HEADS)
         latencies, of_bounds = self.latencies(), self.of_bounds()
@@ -133,6 +135,23 @@ print(json.dumps([[[cell.value for cell in row] for row in sheet.iter_rows()], [
             limit = row[12]
             if limit:
                 self.assertEqual((row[16], row[17], colour), (limit, round(limit - row[15], 3), "00C6EFCE"))
+
+    @unittest.skipUnless(has_library() and shutil.which("soffice"), "there is no LibreOffice: apt-get install -y libreoffice-calc")
+    def test_libreoffice_opens_it(self):
+        """It reads the same values."""
+        out = self.path("out.xlsx")
+        self.made(BOOK, "--skip", "History")
+        self.assertEqual(called(results.main, BOOK, self.net, "-o", out, "--tables", TABLES, "--no-bounds"), (0, ""))
+        kind = "csv:Text - txt - csv (StarCalc):44,34,76,1,,0,false,true,false,false,false,-1"
+        command = ["soffice", "--headless", f"-env:UserInstallation=file://{self.path('profile')}", "--convert-to", kind, "--outdir", self.folder, out]
+        subprocess.run(command, stdout=subprocess.DEVNULL, stderr=subprocess.DEVNULL, check=True)
+        with open(self.path("out-Virtual links.csv"), encoding="utf-8") as file:
+            rows = list(csv.reader(file))
+        self.assertEqual(rows[2][-7:], HEADS)
+        latencies = self.latencies()
+        for row in rows[3:]:
+            self.assertEqual(float(row[14]), int(latencies[row[0], row[3]]["greatest_ns"]) / 1000)
+        self.assertTrue(os.path.exists(self.path("out-afdx results.csv")))
 
 
 if __name__ == "__main__":

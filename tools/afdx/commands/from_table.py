@@ -47,9 +47,11 @@ show what it has. Columns marked * are required. Lines that begin with # are ign
                   one over a switch that `via` names is taken, else the name decides. `a` and `b` state the paths of a
                   network themselves, as `ADC SWA DU | ADC SWA FWC`, and - for none. Lines that differ in the
                   destination alone are one virtual link, also in several sheets; what one leaves empty another may have.
-                  message_bytes (of a UDP message), network (A, B, A & B), sub_vl (lines for 1 to n), timing,
-                  direction beside equipment. name, message, port, limit_us, udp_port, udp_source_port,
-                  udp_destination_port and remarks become comments
+                  network (A, B, A & B), sub_vl (lines for 1 to n), direction beside equipment. Lines that name
+                  several ports of the sender (port, udp_source_port) are streams, each with its own size or
+                  message_bytes (of a UDP message, cut as IP cuts it), period_ns, offset_ns, jitter_ns, timing
+                  (sampling, queuing, event), frames, last_size, end_ns. name, message, port, rx_port, limit_us,
+                  udp_port, udp_source_port, udp_destination_port and remarks become comments
   nodes           name*, kind (es or switch; a node with a net is a switch), net, port_bytes, latency_ns
   links           a*, b*, mbit, propagation_ns or length_m, net
   outages         from*, to*, from_ns*, to_ns*

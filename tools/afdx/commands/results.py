@@ -4,7 +4,8 @@ the greatest latency, the bound, the limit and the margin, what was lost, and th
 the program, with checksums of all files.
 
 BOOK itself is never written. Its formulas, widths and other sheets stay; a line on error output names what the library cannot
-keep, as charts and macros. A row that names destinations has the worst of these, another row the worst of all.
+keep, as charts and macros. A row that names destinations has the worst of these, another row the worst of all. If the document has
+several files, each one with rows of virtual links takes a call.
 """
 import argparse
 import hashlib

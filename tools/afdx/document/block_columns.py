@@ -1,5 +1,6 @@
 """The columns of a table: what each of its headings means, with the faults of those that may mean several things or that look
 misspelt, and notes on those that are passed over."""
+import re
 from collections.abc import Callable, Collection, Sequence
 
 from afdx.document import cells, naming
@@ -9,6 +10,11 @@ from afdx.model import headings
 from afdx.model.headings import key_of, normal
 
 RECEIVER = "receiver:"
+# How the columns begin of which several have destinations: `Destination 1`, `Destination 2`.
+DESTINATION = "destinations:"
+NUMBERED = re.compile("(.*[a-z])_?([0-9]{1,2})")
+# A heading that names the switch of one network.
+OF_A_SWITCH = re.compile("(.*_)?(switch|sw)(_.*)?")
 # How the columns begin that afdx results has written.
 OF_RESULTS = "afdx "
 # Who hears of a heading: the number of its row, and what is said.
@@ -25,8 +31,7 @@ def first_columns(block: Block, columns: Columns) -> list[str]:
 
 
 class BlockColumns:
-    """The columns of a table, nothing for what is passed over, and `receiver:NAME` for a column of a matrix. `open_units` has
-    the numbers of columns whose heading names no unit: each of their cells does."""
+    """The columns of a table, nothing for what is passed over, and `receiver:NAME` for a column of a matrix."""
 
     def __init__(self, block: Block, columns: Columns, known: Collection[str], fault: Hearer, note: Hearer) -> None:
         self.block, self.columns, self.known = block, columns, known
@@ -36,13 +41,23 @@ class BlockColumns:
         self.present = {key_of(it, self.section) for it in first if it}
         self.found: list[str] = []
         self.said: dict[str, str] = {}
-        self.open_units: set[int] = set()
         for i, text in enumerate(block.head.texts):
             columns.use(text, self.section, block.place)
             self.found.append(self.column(i, " ".join(text.split())) if text else "")
+        if {"port", "tx_port"} <= set(self.found):
+            self.found[self.found.index("port")] = ""
+            self.note(f"the column {normal(self.said['port'])} is passed over: {self.said['tx_port']!r} names the port of the sender")
+        if "end" in self.found:
+            self.star(self.found.index("end"))
         for key in NEEDED[self.section]:
             if key not in self.present:
                 self.add(f"has no column {key}")
+
+    def star(self, i: int) -> None:
+        """A column beside those of a link: the end system that is linked with both, where they are a switch of each network."""
+        if not all(OF_A_SWITCH.fullmatch(normal(self.said.get(end, ""))) for end in "ab"):
+            self.note(f"the column {normal(self.said['end'])} is passed over")
+            self.found[i] = ""
 
     def below(self, i: int) -> list[str]:
         """The cells below a heading."""
@@ -61,7 +76,6 @@ class BlockColumns:
             return self.unknown(i, text)
         keys = {key_of(it, self.section) for it in fitting}
         if len({headings.OF_COLUMN[self.section][it].name for it in fitting}) == 1 and self.have_units(i):
-            self.open_units.add(i)
             return self.once(i, text, fitting[0])
         if self.present.issuperset(keys):
             self.note(f"the column {normal(text)} is passed over")
@@ -114,7 +128,12 @@ class BlockColumns:
     # ---- headings that are not known ----
 
     def unknown(self, i: int, text: str) -> str:
-        """A heading that is not known: a node of a matrix, a unit that is not known, a misspelt one, or one that is passed over."""
+        """A heading that is not known: one of several of destinations, a node of a matrix, a unit that is not known, a misspelt one, or one
+        that is passed over."""
+        several = NUMBERED.fullmatch(normal(text))
+        if self.section == "vl" and several and headings.columns_of(several[1].rstrip("_"), "vl") == ["destinations"]:
+            self.present.add("destinations")
+            return DESTINATION + several[2]
         if self.section == "vl" and self.is_receiver(i, text):
             return RECEIVER + naming.one(text)
         unit = headings.unknown_unit(text, self.section)

@@ -1,4 +1,5 @@
 """What stands in a cell: numbers with their units, words that say that nothing is there, networks, marks, and words of choices."""
+import functools
 import re
 from typing import NamedTuple
 
@@ -11,7 +12,7 @@ NUMBER_IN_HEX = re.compile(r"(?:vl[ _-]*)?0x([0-9a-f]+)", re.IGNORECASE)
 # A cell that says that nothing is there, and one that says that it is not decided yet.
 NOTHING = {"-", "--", "---", "—", "–", "n/a", "na", "n.a.", "n.a", "n/u", "not applicable", "not used", "nil", "none"}
 NOT_YET = {"tbd", "tbc", "tba", "t.b.d.", "t.b.c.", "t.b.d", "to be defined", "to be determined", "to be confirmed", "?", "??", "???"}
-MARKS = {"x", "✓", "✔", "●", "•", "y", "yes", "1", "true", "r", "rx", "o"}
+MARKS = {"x", "✓", "✔", "●", "•", "y", "yes", "1", "true", "r", "rx", "o", "d", "dst", "dest"}
 NO_MARKS = {"", "n", "no", "0", "false", "-", "–", "—", "n/a"}
 SENDS = {"t", "tx", "s", "src", "source", "transmit"}
 
@@ -59,6 +60,8 @@ def is_not_yet(text: str) -> bool:
 
 def number_of(text: str) -> Number | None:
     """The number of a cell, or None where it is none."""
+    if text.isascii() and text.isdigit():
+        return Number(text, "", "")
     found = NUMBER.fullmatch(text.strip())
     if not found:
         return None
@@ -81,6 +84,7 @@ def number_of_vl(text: str, in_hex: bool) -> str | None:
     return found[1] if found and len(found[1]) <= MOST_DIGITS else None
 
 
+@functools.cache
 def nets_of(text: str) -> str | None:
     """The networks that a cell names, as `A`, `B` or `AB`, or None."""
     plain = re.sub(r"\b(afdx|networks?|nets?|channels?|sides?|planes?)\b|_", " ", text.lower())

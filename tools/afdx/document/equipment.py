@@ -4,26 +4,15 @@ from collections.abc import Collection, Sequence
 
 from afdx.document import cells, naming
 from afdx.document.block_columns import RECEIVER
+from afdx.document.directions import RECEIVING, SENDING, direction_of, words_of
 from afdx.document.findings import Findings
 from afdx.document.lines import Line
 from afdx.document.reading import Block, Reading
 
-SENDING = {"tx", "transmit", "transmits", "transmitted", "transmission", "transmissions", "transmitter", "emission", "emissions", "emitted", "sent", "sends", "sending", "outgoing", "output", "outputs", "published"}
-RECEIVING = {"rx", "receive", "receives", "received", "reception", "receptions", "receiver", "receiving", "incoming", "input", "inputs", "subscribed", "consumed"}
 # What else the name of such a sheet may have.
 ASIDE = SENDING | RECEIVING | {"vl", "vls", "virtual", "links", "ports", "port", "messages", "data", "icd", "sheet", "lru", "equipment", "end", "system", "es"}
 OF_NETWORK = re.compile(r"(?:afdx )?(?:network|net|channel|side|plane)[ _-]*([ab])", re.IGNORECASE)
 OF_EQUIPMENT = re.compile(r"(?:lru|equipment|end system|es|node|unit|box)\s*(?:name)?\s*[:=]?\s+(.+)", re.IGNORECASE)
-
-
-def words_of(text: str) -> list[str]:
-    return re.findall(r"[^\W_]+", text.lower())
-
-
-def direction_of(text: str) -> str | None:
-    """Whether a title or the name of a sheet speaks of what is sent or of what is received."""
-    found = set(words_of(text))
-    return None if bool(found & SENDING) == bool(found & RECEIVING) else "tx" if found & SENDING else "rx"
 
 
 def equipment_of(text: str, known: Collection[str]) -> str | None:
@@ -80,15 +69,16 @@ class Contexts:
                 self.findings.add(line, f"{line.cell('direction')}: direction is {said!r}, and must be Tx or Rx")
         name = own or owner
         lacks = {"source", "destinations"} - ends
-        if len(lacks) == 1 and own is None:
+        if len(lacks) == 1 and name and own is None and said is None and way is None:
             # A sheet of an equipment that names the other end.
-            implied = "tx" if lacks == {"source"} else "rx"
-            way = implied if said is None else way
+            way = "tx" if lacks == {"source"} else "rx"
         if name and lacks and way:
             end = "source" if way == "tx" else "destinations"
             if end in lacks:
                 line.cells.setdefault(end, name)
-                line.at.setdefault(end, line.at.get("equipment", 0))
+                line.at = {end: line.at.get("equipment", 0)} | line.at
         elif own and lacks:
             self.findings.add(line, f"{line.cell('equipment')}: does {own} send or receive? Say what the column is by --column, source or destinations, or write Tx or Rx")
         line.is_of_receiver = "source" not in line.cells and "destinations" in line.cells and way != "tx" or way == "rx"
+        if line.is_of_receiver and "port" in line.cells and not line.is_port_of_sender:
+            line.cells.setdefault("rx_port", line.cells.pop("port"))

@@ -5,6 +5,7 @@ from collections.abc import Iterable, Mapping, Sequence
 from typing import NamedTuple
 
 from afdx.document.cells import number_of
+from afdx.document.directions import direction_of
 from afdx.document.places import PASSED, Columns, Place
 from afdx.model import heading_words, headings
 from afdx.model.headings import key_of
@@ -59,7 +60,9 @@ class Heads:
         return {text: key_of(it[0], section) for text in texts if text and len(it := self.columns.meanings(text, section, self.place)) == 1}
 
     def section_of(self, texts: Sequence[str]) -> tuple[int, str] | None:
-        """How many columns are known, and what a table has whose columns these are, or None."""
+        """How many columns are known, and what a table has whose columns these are, or None. No column has a number as its name."""
+        if any(text.isascii() and text.isdigit() for text in texts):
+            return None
         found = []
         for section, needed in SORTS:
             known = self.keys(texts, section)
@@ -130,13 +133,17 @@ class Heads:
         return above[left] if left is not None and under[left] and not self.spans.get(number) else ""
 
     def fitting(self, group: str, text: str) -> str:
-        """What a column is called, of its group and its own name: what is known."""
-        sections = list(heading_words.COLUMNS)
-        own = [f"{group} {text}"] if group and headings.normal(group) != headings.normal(text) else []
-        for name in (*own, text):
-            if any(self.columns.meanings(name, section, self.place) for section in sections):
-                return name
-        return text
+        """What a column is called, of its group and its own name: what is known. `LRU` below `Transmitters` is the end of that, and
+        `Equipment` below `Side A` is what the group says itself."""
+        if not group or headings.normal(group) == headings.normal(text):
+            return text
+        is_known = lambda name: any(self.columns.meanings(name, section, self.place) for section in heading_words.COLUMNS)
+        if is_known(f"{group} {text}"):
+            return f"{group} {text}"
+        if headings.normal(text) in heading_words.BOXES and is_known(group):
+            return group
+        way = {"source": "tx", "destinations": "rx"}.get("".join(headings.meanings(group, "vl"))) or direction_of(group)
+        return f"{way} {text}" if way and is_known(f"{way} {text}") else text
 
 
 def following(rows: Sequence[Row], i: int) -> list[str] | None:

@@ -1,38 +1,29 @@
 """Lines of one virtual link, in one sheet or in several, are one: what one of them leaves empty another says, and what two of them
 say is the same. Destinations, ports and what becomes a comment may differ."""
-import re
 from collections.abc import Iterator, Sequence
-from fractions import Fraction
 
 from afdx.document import cells
 from afdx.document.findings import Findings
-from afdx.document.lines import Line, commented
+from afdx.document.joining import alike, difference, other_of, take
+from afdx.document.lines import Joint, Line, commented
+from afdx.document.streams import OF_A_STREAM, PORTS, Streams
+from afdx.document.sub_links import SubLinks
 from afdx.files import cut, sheets
-from afdx.model import headings
-from afdx.model.headings import key_of, unit_of
+from afdx.model.headings import key_of
 
 # What lines of one virtual link may have each for itself.
-OF_A_LINE = {"destinations", "network", "sub_vl"}
-# The keys of what an application offers: several ports of one virtual link have each their own.
-OF_A_STREAM = {"size", "payload", "message_bytes", "period_ns", "offset_ns", "jitter_ns", "timing", "frames", "last_size", "end_ns"}
+OF_A_LINE = {"destinations", "network", "sub_vl", "stream"}
 # What a receiver may say too, of its own port.
 OF_A_READER = {"period_ns", "depth", "timing"}
-# Whether tables make several streams of a virtual link, and messages of several frames: where not, such a line is a fault.
-HAS_STREAMS = False
-NO_STREAMS = "a description has one stream of frames for each virtual link: leave all lines but one out by --skip, or give each a virtual link of its own"
-PORTS = ("port", "udp_port", "udp_source_port")
+NAMED = (*PORTS, "message", "stream")
 
 
-def alike(column: str, cell: str | None) -> Fraction | str | None:
-    """What two cells of the same meaning have alike: a number in the unit of its key, or a word in small letters. Names of nodes
-    are no such words."""
-    if cell is None:
-        return None
-    plain = cell.replace("_", "")
-    if re.fullmatch(rf"[0-9]{{1,{cells.MOST_DIGITS}}}(\.[0-9]{{1,{cells.MOST_DIGITS}}})?", plain):
-        unit = unit_of(column, "vl")
-        return unit[1](Fraction(plain)) if unit else Fraction(plain)
-    return cells.word_of(column, cell) or cell.lower() if column in cells.WORDS else cell
+FREE = {*OF_A_LINE, *commented("vl")}
+
+
+def of_link(line: Line) -> list[str]:
+    """The columns that a line has of its virtual link."""
+    return [column for column in line.cells if column not in FREE and key_of(column, "vl") not in OF_A_STREAM]
 
 
 class Joined:
@@ -40,124 +31,87 @@ class Joined:
 
     def __init__(self, findings: Findings, lines: Sequence[Line]) -> None:
         self.findings = findings
-        self.of: dict[str | int, Line] = {}
         self.continue_lines(lines)
-        # What a sender says counts before what a receiver says of its own port.
-        for line in lines:
-            self.join(line)
-        self.lines = list(self.of.values())
+        of: dict[str | int, list[Line]] = {}
+        for i, line in enumerate(lines):
+            of.setdefault(line.cells.get("id", i), []).append(line)
+        self.readers = {name for line in lines if line.is_of_receiver for name in names_in(line)}
+        sub_links = SubLinks(findings, lines)
+        self.lines = [self.joint(own) for own in of.values()]
         for joint in self.lines:
-            if len(joint.parts) > 1 or "sub_vl" in joint.parts[0].cells:
-                self.sub_virtual_links(joint)
+            sub_links.settle(joint, [joint.own or joint, *joint.streams])
             self.networks(joint)
             self.destinations(joint)
 
     def continue_lines(self, lines: Sequence[Line]) -> None:
-        """Gives a line without a number that of the line above it, where it says nothing else than that one."""
+        """Gives a line without a number that of the line above it, where it says nothing else than that one, or names a port of its own."""
         above: Line | None = None
         for line in lines:
             if "id" not in line.cells and above is not None and above.block == line.block and "id" not in line.at:
-                own = {column for column in line.cells if column not in OF_A_LINE and column not in commented("vl")}
+                has_port = any(it in line.cells and line.cells[it] != above.cells.get(it) for it in NAMED)
+                own = of_link(line) if has_port else [*of_link(line), *(it for it in line.cells if key_of(it, "vl") in OF_A_STREAM)]
                 if line.cells and all(alike(column, line.cells[column]) == alike(column, above.cells.get(column)) for column in own):
                     line.cells["id"] = above.cells["id"]
                     self.findings.note(line, f"has no number, and is of virtual link {above.cells['id']} as line {above.number} is")
             if "id" in line.cells:
                 above = line
 
-    def join(self, line: Line) -> None:
-        """Takes a line into that of its virtual link."""
-        number = line.cells.get("id")
-        joint = self.of.get(number) if number is not None else None
-        if joint is None:
-            joint = Line(line.place, line.number, {})
-            joint.block = line.block
-            self.of[number if number is not None else len(self.of)] = joint
-        different, streams = self.differences(joint, line)
+    def joint(self, lines: list[Line]) -> Joint:
+        """The line of a virtual link: what all of its lines say, and its streams. What a sender says counts before what a receiver
+        says of its own port."""
+        number = lines[0].cells.get("id", "")
+        joint = Joint(lines[0].place, lines[0].number, lines[0].block)
+        for line in sorted(lines, key=lambda line: line.is_of_receiver):
+            if self.agrees(joint, line, number):
+                joint.parts.append(line)
+                for column in of_link(line):
+                    take(joint, line, column)
+        self.streams(joint, number)
+        joint.parts.sort(key=lines.index)
+        return joint
+
+    def agrees(self, joint: Joint, line: Line, number: str) -> bool:
+        """Whether a line says of its virtual link what those before it say; else it is reported."""
+        different = []
+        for column, _ in difference(joint, line, of_link(line)):
+            if line.is_of_receiver and key_of(column, "vl") in OF_A_READER:
+                self.findings.note(line, f"{column} is that of the receiver, and is passed over")
+                del line.cells[column]
+            else:
+                different.append((column, joint))
         if different:
-            self.report(joint, line, number, different, streams)
-            return
-        if joint.parts and (port := self.further_port(joint, line)):
-            self.findings.add(line, f"virtual link {number} is in {port.where(line)} too, with another port: {NO_STREAMS}")
-        joint.parts.append(line)
-        for column, cell in line.cells.items():
-            before = joint.origin.get(next((it for it in joint.cells if key_of(it, "vl") == key_of(column, "vl")), ""))
-            if before is None or before.is_of_receiver and not line.is_of_receiver and key_of(column, "vl") in OF_A_READER:
-                for other in [it for it in joint.cells if key_of(it, "vl") == key_of(column, "vl")]:
-                    del joint.cells[other], joint.origin[other]
-                joint.cells[column] = cell
-                joint.origin[column] = line
-                joint.at[column] = line.at.get(column, 0)
+            self.report(line, number, different, "")
+        return not different
 
-    def differences(self, joint: Line, line: Line) -> tuple[list[tuple[str, Line]], bool]:
-        """In what a line differs from those before it, each with the line that says something else; and whether all of it is what
-        ports have for themselves."""
-        found = []
-        for column, cell in line.cells.items():
-            if column in OF_A_LINE or column in commented("vl"):
-                continue
-            key = key_of(column, "vl")
-            other = next((it for it in joint.cells if key_of(it, "vl") == key), None)
-            if other is None or alike(column, cell) == alike(other, joint.cells[other]):
-                continue
-            if key in OF_A_READER and joint.origin[other].is_of_receiver != line.is_of_receiver:
-                reader = line if line.is_of_receiver else joint.origin[other]
-                self.findings.note(reader, f"{column} is that of the receiver, and is passed over")
-                continue
-            found.append((column, joint.origin[other]))
-        return found, bool(found) and all(key_of(column, "vl") in OF_A_STREAM for column, _ in found)
-
-    def report(self, joint: Line, line: Line, number: str | None, different: Sequence[tuple[str, Line]], streams: bool) -> None:
+    def report(self, line: Line, number: str, different: Sequence[tuple[str, Joint]], more: str) -> None:
         """Reports in what a line differs."""
-        texts = []
-        for column, there in different:
-            other = next(it for it in joint.cells if key_of(it, "vl") == key_of(column, "vl"))
-            texts.append(f"{column} is {cut(line.cells[column])} here and {cut(joint.cells[other])} there")
-        more = f": {NO_STREAMS}" if streams and any(port in line.at for port in (*PORTS, "sub_vl", "message")) else ""
-        self.findings.add(line, f"virtual link {number} is in {different[0][1].where(line)} too, and {'; '.join(texts)}{more}")
+        texts: list[str] = []
+        there = line
+        for column, joint in reversed(different):
+            other = other_of(joint, column) or column
+            there = joint.by(other)
+            texts.insert(0, f"{column} is {cut(line.cells[column])} here and {cut(joint.cells[other])} there")
+        self.findings.add(line, f"virtual link {number} is in {there.where(line)} too, and {'; '.join(dict.fromkeys(texts))}{': ' if more else ''}{more}")
 
-    @staticmethod
-    def further_port(joint: Line, line: Line) -> Line | None:
-        """The line of another port of the sender with the same destinations, whose frames come on top; else None."""
-        if line.is_of_receiver or "sub_vl" in line.cells:
-            return None
-        mine = set(sheets.names_of(line.cells.get("destinations", "")))
-        for part in joint.parts:
-            is_alike = part.block == line.block and mine == set(sheets.names_of(part.cells.get("destinations", "")))
-            if is_alike and any(line.cells.get(port) != part.cells.get(port) and port in part.cells and port in line.cells for port in PORTS):
-                return part
-        return None
+    def streams(self, joint: Joint, number: str) -> None:
+        """The streams of a virtual link, of which the first is its own."""
+        senders = [line for line in joint.parts if not line.is_of_receiver]
+        readers = [line for line in joint.parts if line.is_of_receiver]
+        hear = lambda line, different, more: self.report(line, number, different, more)
+        found = Streams(self.findings, number, senders or readers, hear)
+        for line in readers if senders else ():
+            found.hear(line, OF_A_READER)
+        first, *further = found.of or [joint]
+        joint.own, joint.streams = first, further
+        for stream in further:
+            stream.own = first
+        for column in first.cells if first is not joint else ():
+            if key_of(column, "vl") in OF_A_STREAM:
+                joint.take(first.origin[column], column)
 
     # ---- what lines have each for itself ----
 
-    def sub_virtual_links(self, joint: Line) -> None:
-        """Lines for the sub-virtual links 1 to n are those of a virtual link with n of them."""
-        found: set[int] = set()
-        for part in joint.parts:
-            text = part.cells.get("sub_vl")
-            if text is None:
-                continue
-            said = re.fullmatch(r"(?:svl|sub[ _-]?vl|sub)?[ _#-]*([0-9]{1,3})(?:\s*(?:/|of)\s*([0-9]{1,3}))?", text, re.IGNORECASE)
-            if not said:
-                self.findings.add(part, f"{part.cell('sub_vl')}: sub_vl is {cut(text)}, and must be the number of a sub-virtual link")
-                return
-            found.add(int(said[1]))
-            if said[2]:
-                found.update(range(1, int(said[2]) + 1))
-        if not found:
-            return
-        count = len(found)
-        if found not in (set(range(1, count + 1)), set(range(count))):
-            word = joint.parts[0].place.column_word("Sub-VL", "sub")
-            some = ", ".join(map(str, sorted(found)))
-            text = f"has the sub-virtual links {some}, and they are 1 to n: write a line for each, or, if the column counts them, say so by --column {word}"
-            self.findings.add(next(part for part in joint.parts if "sub_vl" in part.cells), text)
-        elif "sub" in joint.cells and joint.cells["sub"] != str(count):
-            self.findings.add(joint.origin["sub"], f"sub is {joint.cells['sub']}, and the lines have the sub-virtual links 1 to {count}")
-        elif count > 1:
-            joint.cells["sub"] = str(count)
-            joint.origin["sub"] = joint.origin["sub_vl"]
-
-    def networks(self, joint: Line) -> None:
+    def networks(self, joint: Joint) -> None:
         """The networks of each destination, as far as lines name them: `` has those of all."""
         for part in joint.parts:
             text = part.cells.get("network")
@@ -167,27 +121,69 @@ class Joined:
             if nets is None:
                 self.findings.add(part, f"{part.cell('network')}: network is {cut(text)}, and must be A, B or A & B")
                 continue
-            for name in sheets.names_of(part.cells.get("destinations", "")) or [""]:
+            for name in names_in(part) or [""]:
                 joint.nets[name] = "".join(sorted({*joint.nets.get(name, ""), *nets}))
+        self.rest_of_networks(joint)
         whole = joint.nets.get("")
         for name, nets in joint.nets.items():
             if whole and not set(whole) & set(nets):
                 self.findings.add(joint, f"goes by network {whole} in one line, and to {name} by {nets} in another")
 
-    def destinations(self, joint: Line) -> None:
+    def rest_of_networks(self, joint: Joint) -> None:
+        """The networks of destinations whose own lines name none: those of the virtual link, if its lines agree."""
+        if not joint.nets:
+            marked = next((part for part in joint.parts if {"network_a", "network_b"} & set(part.headings)), None)
+            if marked is not None:
+                self.findings.add(marked, "is marked for neither network")
+            return
+        open_ones = [(part, name) for part in joint.parts for name in names_in(part) if name not in joint.nets]
+        if open_ones and "" not in joint.nets:
+            if len(set(joint.nets.values())) == 1:
+                joint.nets[""] = next(iter(joint.nets.values()))
+            else:
+                part, name = open_ones[0]
+                self.findings.add(part, f"names no network for {name}, and other lines of virtual link {joint.cells.get('id')} name several")
+
+    def destinations(self, joint: Joint) -> None:
         """The destinations of all lines."""
-        names: dict[str, Line] = {}
+        number = joint.cells.get("id")
+        names: dict[str, list[Line]] = {}
         for part in joint.parts:
             again = []
-            for name in dict.fromkeys(sheets.names_of(part.cells.get("destinations", ""))):
-                before = names.setdefault(name, part)
-                if before is not part and before.block == part.block:
+            for name in dict.fromkeys(names_in(part)):
+                before = next((it for it in names.get(name, []) if it.block == part.block and self.is_of_one_port(joint, it, part)), None)
+                names.setdefault(name, []).append(part)
+                if before is not None:
                     again.append((name, before))
             if again:
-                text = f"names {', '.join(sorted(name for name, _ in again))} for virtual link {joint.cells.get('id')} again, as line"
+                text = f"names {', '.join(sorted(name for name, _ in again))} for virtual link {number} again, as line"
                 self.findings.note(part, f"{text} {again[0][1].number} does")
         if names:
             joint.cells["destinations"] = " ".join(names)
+        self.both_ends(joint, names)
+
+    @staticmethod
+    def is_of_one_port(joint: Joint, one: Line, other: Line) -> bool:
+        """Whether two lines speak of the same streams, and of the same port of a receiver."""
+        if one.cells.get("rx_port") != other.cells.get("rx_port"):
+            return False
+        return all((one in stream.parts) == (other in stream.parts) for stream in [*([joint.own] if joint.own else []), *joint.streams])
+
+    def both_ends(self, joint: Joint, names: dict[str, list[Line]]) -> None:
+        """Notes where lines of the sender and lines of the receivers do not name the same destinations."""
+        number = joint.cells.get("id")
+        sender = next((part for part in joint.parts if not part.is_of_receiver and names_in(part)), None)
+        if sender is None:
+            return
+        for name, parts in names.items():
+            if all(part.is_of_receiver for part in parts):
+                self.findings.note(parts[0], f"has {name} as a receiver of virtual link {number}, and {sender.where(parts[0])} does not name it: it counts")
+            elif name in self.readers and not any(part.is_of_receiver for part in parts):
+                self.findings.note(parts[0], f"names {name} for virtual link {number}, and the lines of what {name} receives do not have it: it counts")
+
+
+def names_in(line: Line) -> list[str]:
+    return sheets.names_of(line.cells.get("destinations", ""))
 
 
 def lines_of(line: Line) -> Iterator[tuple[str, list[int]]]:

@@ -2,7 +2,7 @@
 from fractions import Fraction
 
 from afdx.document import cells, naming
-from afdx.document.block_columns import RECEIVER, BlockColumns
+from afdx.document.block_columns import DESTINATION, RECEIVER, BlockColumns
 from afdx.document.commas import Commas
 from afdx.document.findings import Findings
 from afdx.document.lines import Line, commented
@@ -21,26 +21,33 @@ class LineMaker:
     def __init__(self, findings: Findings, block: Block, columns: BlockColumns, commas: Commas) -> None:
         self.findings, self.block, self.columns, self.commas = findings, block, columns, commas
         self.section = block.head.section
+        self.shared: dict[tuple[tuple[str, int], ...], dict[str, int]] = {}
 
     def line(self, number: int, row: list[str]) -> Line:
         """The line of a row."""
         line = Line(self.block.place, number, {})
-        line.section, line.block = self.section, id(self.block)
+        line.section, line.block, line.headings = self.section, id(self.block), self.columns.said
         if any(row[len(self.columns.found) :]):
             last = max(i for i, cell in enumerate(row) if cell)
             self.findings.add(line, f"has {last + 1} cells, and the table has {len(self.columns.found)} columns")
+        at: dict[str, int] = {}
+        line.at = at
         for i, (column, text) in enumerate(zip(self.columns.found, row)):
             if column and text:
-                line.at[column] = self.block.head.first + i
-                self.cell(line, column, text, i)
+                at[column] = self.block.head.first + i
+                self.cell(line, at, column, text)
+        line.at = self.shared.setdefault(tuple(at.items()), at)
         return line
 
-    def cell(self, line: Line, column: str, text: str, i: int) -> None:
+    def cell(self, line: Line, at: dict[str, int], column: str, text: str) -> None:
         """Takes a cell."""
         if text.startswith("=") and self.block.place.sheet is not None:
             self.findings.add(line, f"{line.cell(column)} is a formula without a value: open and save it in the program that has made it")
         elif column.startswith(RECEIVER):
             self.receiver(line, column, text)
+        elif column.startswith(DESTINATION):
+            at.setdefault("destinations", at[column])
+            self.destination(line, text)
         elif column in ("network_a", "network_b"):
             if cells.is_mark(text):
                 line.cells["network"] = line.cells.get("network", "") + column[-1].upper()
@@ -48,10 +55,12 @@ class LineMaker:
             self.not_yet(line, column, text)
         elif cells.is_nothing(text) and not (column in ("a", "b") and self.section == "vl" or column == "network" and text.isalpha()):
             return
+        elif column == "tx_port":
+            line.cells["port"], at["port"], line.is_port_of_sender = text, at[column], True
         elif column in ("id", "id_hex"):
             line.cells["id"] = cells.number_of_vl(text, column == "id_hex") or text
         elif OF_COLUMN[self.section][column].units or column in ("depth", "sub", "frames", "seed"):
-            self.number(line, column, text, i in self.columns.open_units)
+            self.number(line, at, column, text)
         else:
             line.cells[column] = text
 
@@ -61,6 +70,13 @@ class LineMaker:
             self.findings.add(line, f"{line.cell(column)}: {column} is {text!r}, and nothing usual stands for it: write its value")
         else:
             self.findings.note(line, f"{line.cell(column)}: {column} is {text!r}, and counts as empty")
+
+    def destination(self, line: Line, text: str) -> None:
+        """A cell of one of several columns with destinations."""
+        if cells.is_not_yet(text):
+            self.not_yet(line, "destinations", text)
+        elif not cells.is_nothing(text):
+            line.cells["destinations"] = "\n".join(filter(None, (line.cells.get("destinations"), text)))
 
     def receiver(self, line: Line, column: str, text: str) -> None:
         """A cell of a matrix: whether the node of its column receives or sends."""
@@ -74,7 +90,7 @@ class LineMaker:
         elif text.lower() not in cells.NO_MARKS:
             self.findings.add(line, f"{line.cell(column)}: the column {name!r} is that of a node, and {cut(text)} is no mark as X")
 
-    def number(self, line: Line, column: str, text: str, is_open: bool) -> None:
+    def number(self, line: Line, at: dict[str, int], column: str, text: str) -> None:
         """A number: in the unit that the cell names, else in that of its column. What is none stays as it is, and is a fault later."""
         found = cells.number_of(text)
         own = headings.in_unit(column, self.section, found.unit) if found and found.unit else column
@@ -92,8 +108,24 @@ class LineMaker:
         plain = found.plain
         if self.section == "link" and own.startswith("length_"):
             plain, own = decimal(Fraction(plain) * OF_A_METRE[own.removeprefix("length_")]), "length_m"
-        line.at.setdefault(own, line.at[column])
+        at.setdefault(own, at[column])
         line.cells[own] = plain
+
+
+def star(line: Line, findings: Findings) -> list[Line]:
+    """The links of a row that names an end system and its switch of each network."""
+    if "end" not in line.cells:
+        findings.add(line, "names switches, and no end system that is linked with them")
+        return []
+    found = []
+    for end, net in (("a", "A"), ("b", "B")):
+        if end in line.cells:
+            link = Line(line.place, line.number, {"net": net} | {it: cell for it, cell in line.cells.items() if it not in ("a", "b", "end")})
+            link.cells |= {"a": line.cells["end"], "b": line.cells[end]}
+            link.section, link.block, link.headings = line.section, line.block, line.headings
+            link.at = line.at | {"a": line.at["end"], "b": line.at[end]}
+            found.append(link)
+    return found
 
 
 def decimal(number: Fraction) -> str:

@@ -5,7 +5,8 @@ from typing import NamedTuple
 
 from afdx.document.cells import number_of
 from afdx.document.heads import Head, Heads, Row
-from afdx.document.places import Columns, Place, Skip
+from afdx.document.places import PASSED, Columns, Place, Skip
+from afdx.model.headings import OF_COLUMN
 
 TITLE, USED, SKIPPED, LEFT = "titles", "used", "skipped", "left"
 
@@ -88,9 +89,13 @@ class SheetReader:
         if any(block.is_again(cells) for block in self.open):
             self.verdicts[number] = TITLE
             return 1
-        if self.open and any(number_of(cell) for cell in cells if cell):
+        if self.open and any(number_of(cell) for cell in cells if cell) and not self.is_entry(cells):
             # Names of columns have no numbers, and most lines have: that is seen sooner.
             self.line(number, cells)
+            return 1
+        if self.is_entry(cells):
+            self.verdicts[number] = LEFT
+            self.reasons[number] = f"has a value beside its name, {' '.join(cell for cell in cells if cell)!r}, and no table of columns"
             return 1
         found = self.heads.at(self.rows, i, bool(self.open) and not (is_behind_empty and not self.looks_like_line(cells)))
         if found and self.is_head(found, cells):
@@ -109,6 +114,13 @@ class SheetReader:
         else:
             self.outside(number, cells)
         return 1
+
+    def is_entry(self, cells: Sequence[str]) -> bool:
+        """Whether a row is one of a form: the name of a number and the number, and nothing else."""
+        filled = [cell for cell in cells if cell]
+        if len(filled) != 2 or number_of(filled[0]) or not number_of(filled[1]):
+            return False
+        return any(it.startswith("id") or OF_COLUMN[section][it].units for section in OF_COLUMN for it in self.heads.columns.meanings(filled[0], section, self.place) if it != PASSED)
 
     def titles_behind(self) -> list[str]:
         """The texts of the last rows of the tables before, as far as they may be titles of the next one."""

@@ -7,8 +7,8 @@ from afdx.document.reading import LEFT, SKIPPED, TITLE, USED, Reading
 from afdx.document.rows import Maker
 from afdx.files.page_text import counted
 
-HEAD = ["file", "sheet", "rows", "used", "titles", "skipped", "left", "virtual_links", "nodes", "links", "outages"]
-SECTIONS = ("vl", "node", "link", "outage")
+HEAD = ["file", "sheet", "rows", "used", "titles", "skipped", "left", "virtual_links", "nodes", "links", "outages", "streams"]
+SECTIONS = ("vl", "node", "link", "outage", "stream")
 
 
 class Sheet(NamedTuple):
@@ -31,7 +31,7 @@ def sheet_of(reading: Reading, maker: Maker) -> Sheet:
     made = []
     for section in SECTIONS:
         parts = [line.parts or [line] for line in maker.made_of[section]]
-        own = [any(part.place == reading.place and part.section == section for part in it) for it in parts]
+        own = [any(part.place == reading.place and part.section in (section, "vl" if section == "stream" else "") for part in it) for it in parts]
         made.append(sum(own))
     return Sheet(reading.place.path, reading.place.sheet or "", reading.size, used, reading.size - used - skipped - left, skipped, left, tuple(made))
 
@@ -48,6 +48,7 @@ class Receipt:
         """In one line."""
         total = lambda name: sum(getattr(sheet, name) for sheet in self.sheets)
         made = [f"{counted(self.counts['vl'], 'virtual link')} of {counted(self.lines_of_links, 'row')}"]
+        made += [counted(self.counts["stream"], "further stream")] if self.counts["stream"] else []
         made += [counted(self.counts["node"], "node"), counted(self.counts["link"], "cable")]
         made += [counted(self.counts["outage"], "outage")] if self.counts["outage"] else []
         skipped = f", {counted(total('skipped'), 'row')} skipped" if total("skipped") else ""

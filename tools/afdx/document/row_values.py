@@ -12,8 +12,8 @@ from afdx.files import cut
 from afdx.model.headings import key_of, unit_of
 from afdx.model.keys import KEYS
 
-# Columns that have words of a document, and numbers of another kind than a key of the name: no tables make these keys.
-OF_STREAMS = {"frames", "last_size", "timing", "end_ns", "sub_vl"}
+# Keys whose columns have words of a document, and numbers that are counted otherwise.
+OTHERWISE = {"timing", "sub_vl"}
 DECIMAL = re.compile(rf"[0-9]{{1,{MOST_DIGITS}}}(\.[0-9]{{1,{MOST_DIGITS}}})?")
 
 
@@ -30,6 +30,8 @@ Row = dict[str, Value]
 
 def one_line(text: str) -> str:
     """A text as it may stand in a comment."""
+    if text.isalnum():
+        return text
     return " ".join(re.sub(r"[\x00-\x1f\x7f]", " ", text).split())
 
 
@@ -86,7 +88,7 @@ class RowValues:
     def row_of(self, line: Line, section: str, usual: dict[str, Any]) -> Row:
         """The values of the keys of a section that a line has, or else usual ones."""
         row: Row = {}
-        own = [it.name for it in KEYS[section] if it.value_type != "paths" and it.name not in OF_STREAMS]
+        own = [it.name for it in KEYS[section] if it.value_type != "paths" and it.name not in OTHERWISE]
         for column in line.cells:
             key = key_of(column, section)
             if key in own:

@@ -23,6 +23,15 @@ USUAL: dict[str, dict[str, Any]] = {
 }
 
 
+def in_order(streams: list[tuple[Line, Row]]) -> list[tuple[Line, Row]]:
+    """Further streams in the order of their rows: as the column `stream` numbers them where each has a number of its own, else as they
+    stand."""
+    numbers = [line.cells.get("stream", "") for line, _ in streams]
+    if len(set(numbers)) < len(numbers) or not all(text.isdigit() and len(text) <= cells.MOST_DIGITS for text in numbers):
+        return streams
+    return sorted(streams, key=lambda it: int(it[0].cells["stream"]))
+
+
 class Maker(RowValues):
     """The rows of a description, made of the lines of tables. Each row is a dictionary of values, and `made_of` has the
     line of each."""
@@ -43,8 +52,13 @@ class Maker(RowValues):
         for line in tables.lines["outage"]:
             self.put("outage", line, self.row_of(line, "outage", {}))
         links = VirtualLinks(tables, Ways({net: self.network(net) for net in "AB"}), self.named)
-        for line in tables.lines["vl"]:
-            self.put("vl", line, links.row(line))
+        further: list[tuple[Line, Row]] = []
+        for joint in tables.joints:
+            row, own = links.rows(joint)
+            self.put("vl", joint, row)
+            further += zip(joint.streams, own)
+        for line, row in in_order(further):
+            self.put("stream", line, row)
 
     def put(self, section: str, line: Line, row: Row) -> None:
         self.rows[section].append(row)

@@ -8,7 +8,7 @@ from afdx.document.commas import Commas
 from afdx.document.equipment import Contexts
 from afdx.document.findings import Findings
 from afdx.document.joined import Joined
-from afdx.document.line_maker import LineMaker
+from afdx.document.line_maker import LineMaker, star
 from afdx.document.lines import Line
 from afdx.document.places import Columns, Place, Said, Skip, said_of
 from afdx.document.reading import LEFT, TITLE, USED, Block, Reading, SheetReader
@@ -105,7 +105,8 @@ class Tables(Findings):
         Contexts(self, self.lines["vl"], self.readings, known)
         self.names = translate(self.lines)
         self.lines_of_links = len(self.lines["vl"])
-        self.lines["vl"] = Joined(self, self.lines["vl"]).lines
+        self.joints = Joined(self, self.lines["vl"]).lines
+        self.lines["vl"] = [*self.joints]
 
     def titles(self, reading: Reading, known: set[str]) -> None:
         """The titles outside of tables. Two nodes are none."""
@@ -125,7 +126,8 @@ class Tables(Findings):
         for number, row in block.rows:
             verdict, reason = values.verdict(row)
             if verdict == USED:
-                self.lines[block.head.section].append(maker.line(number, row))
+                line = maker.line(number, row)
+                self.lines[block.head.section] += star(line, self) if "end" in columns.found else [line]
             elif verdict == TITLE and len(block.beside) == 1:
                 note(number, f"is a title, {' '.join(filter(None, row))!r}, and is passed over")
             # Of tables side by side one may have a line where another has none.

@@ -43,11 +43,12 @@ def lines_said(line: Line) -> str:
 def comments_of(section: str, line: Line) -> list[str]:
     """What a table has of a row that no key has. If the lines that it is made of differ, each is named with its
     destinations."""
-    parts, said = line.parts or [line], []
+    said = []
     # An end system without a line of its own is made of another row's.
     is_own = section != "node" or "name" in line.cells and line.section == "node"
     for column in commented(section) if is_own else ():
-        cells = [one_line(part.cells.get(column, "")) for part in parts]
+        parts = parts_with(section, line, column)
+        cells = [one_line(part.cells[column]) if column in part.cells else "" for part in parts]
         for cell in dict.fromkeys(filter(None, cells)):
             names = [name for part, own in zip(parts, cells) if own == cell for name in sheets.names_of(part.cells.get("destinations", ""))]
             # So is a text that ends as if it named some.
@@ -55,6 +56,15 @@ def comments_of(section: str, line: Line) -> list[str]:
             of = f" at {' '.join(dict.fromkeys(names))}" if is_said and names else ""
             said.append(f"{column} {cell}{of}")
     return said
+
+
+def parts_with(section: str, line: Line, column: str) -> list[Line]:
+    """The lines whose cells of a column become comments of a row: what lines of a further port say of it stands behind the head of its
+    own row."""
+    if section == "stream":
+        return [part for part in line.parts if not line.own or part not in line.own.parts]
+    further = [part for stream in line.streams for part in stream.parts if line.own and part not in line.own.parts]
+    return [part for part in line.parts or [line] if column not in commented("stream") or part not in further]
 
 
 def text_of_rows(maker: Maker, paths: list[str]) -> str:

@@ -3,14 +3,16 @@ import re
 from collections.abc import Collection, Mapping, Sequence
 
 from afdx.document import cells, naming
+from afdx.document.block_columns import DESTINATION
 from afdx.document.lines import commented
 from afdx.document.places import PASSED
 from afdx.document.reading import LEFT, NEEDED, TITLE, USED
 from afdx.model.headings import key_of
 
 # Columns whose cells are names of nodes.
-NAMES = {"vl": ("source", "destinations", "equipment"), "node": ("name",), "link": ("a", "b"), "outage": ("from", "to"), "top": ()}
+NAMES = {"vl": ("source", "destinations", "equipment"), "node": ("name",), "link": ("a", "b", "end"), "outage": ("from", "to"), "top": ()}
 FREE = ("via", "a", "b")
+ONLY_MARKS = re.compile(r"[\W_]+")
 
 
 def looks_like_name(text: str) -> bool:
@@ -26,11 +28,11 @@ class Values:
 
     def is_value(self, column: str, text: str) -> bool:
         """Whether a cell is a value of its column."""
-        if not column or column == PASSED or re.fullmatch(r"[\W_]+", text) and text not in ("?", "??"):
+        if not column or column == PASSED or ONLY_MARKS.fullmatch(text) and text not in ("?", "??"):
             return False
         if cells.is_not_yet(text) or cells.is_nothing(text):
             return True
-        if column in NAMES[self.section]:
+        if column in NAMES[self.section] or column.startswith(DESTINATION):
             return any(name in self.known for name in (naming.one(text), *naming.split(text, self.known)))
         if column.startswith(("id", "receiver:")) and self.section == "vl":
             return cells.number_of_vl(text, column == "id_hex") is not None or column.startswith("receiver:") and cells.is_mark(text)
@@ -46,7 +48,7 @@ class Values:
         count = sum(1 for text in row if text)
         if any(self.is_value(column, text) for column, text in filled) or self.is_continued(filled) or self.is_whole(filled):
             return USED, ""
-        if all(re.fullmatch(r"[\W_]+", text) for text in row if text):
+        if all(ONLY_MARKS.fullmatch(text) for text in row if text):
             return TITLE, ""
         if self.section == "node" and count == 1 and filled and filled[0][0] == "name" and looks_like_name(filled[0][1]):
             return LEFT, f"has {filled[0][1]!r} alone, of which no link and no virtual link speaks: is it a node? Then write what kind it is"
@@ -55,7 +57,10 @@ class Values:
         return LEFT, "is no line of the table above it: none of its cells is a value of its column"
 
     def is_whole(self, filled: Sequence[tuple[str, str]]) -> bool:
-        """Whether names stand in all columns that a table of nodes or links cannot be without, or a name alone in one of several."""
+        """Whether names stand in all columns that a table of nodes or links cannot be without, or a name alone in one of several; or what
+        may be a further destination of the virtual link above."""
+        if self.section == "vl":
+            return all(column.startswith("destinations") and looks_like_name(text) for column, text in filled) and bool(filled)
         needed = NEEDED[self.section]
         names = [text for column, text in filled if key_of(column, self.section) in needed]
         if self.section == "node":
@@ -70,12 +75,10 @@ class Values:
 
 def sure_names(section: str, columns: Sequence[str], row: Sequence[str]) -> list[str]:
     """The names of nodes of a row that is a line for certain: another cell of it is a value that is no name."""
-    found = dict(zip(columns, row))
     judge = Values(section, columns, ())
-    others = [column for column, text in found.items() if text and column not in NAMES[section] and judge.is_value(column, text)]
-    if not others:
+    if not any(text and column not in NAMES[section] and judge.is_value(column, text) for column, text in zip(columns, row)):
         return []
-    return [naming.one(found[column]) for column in NAMES[section] if column != "destinations" and found.get(column)]
+    return [naming.one(text) for column, text in zip(columns, row) if text and column != "destinations" and column in NAMES[section]]
 
 
 def known_names(tables: Sequence[tuple[str, Sequence[str], Sequence[Sequence[str]]]]) -> set[str]:

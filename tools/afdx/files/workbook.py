@@ -5,7 +5,6 @@ import json
 import subprocess
 import sys
 import warnings
-import zipfile
 from decimal import Decimal
 from typing import Any, NamedTuple
 
@@ -68,7 +67,16 @@ def by_another(*words: str) -> list[Sheet]:
         raise BadWorkbook(f"is a workbook, which needs a library: apt-get install -y {PACKAGE}; or save its sheets as CSV") from None
     if isinstance(found, str):
         raise BadWorkbook(found)
-    return [Sheet(*sheet) for sheet in found]
+    texts = found["texts"]
+    return [Sheet(name, [(row, [texts[i] for i in cells]) for row, cells in rows], *more) for name, rows, *more in found["sheets"]]
+
+
+def as_json(sheets: list[Sheet]) -> str:
+    """The sheets, with each text once."""
+    texts: dict[str, int] = {}
+    number = lambda text: texts.setdefault(text, len(texts))
+    found = [[name, [[row, [number(cell) for cell in cells]] for row, cells in rows], *more] for name, rows, *more in sheets]
+    return json.dumps({"sheets": found, "texts": list(texts)})
 
 
 def text_of(value: Any) -> str:
@@ -82,80 +90,106 @@ def text_of(value: Any) -> str:
     return str(value).strip()
 
 
-def texts_of(sheet: Any, formulas: Any) -> dict[int, dict[int, str]]:
-    """The texts of the cells that a sheet has, by row and column. Only those that are there are looked at: one cell that
-    was left behind in the last row of a sheet has a million empty ones before it. Cells that are merged downwards share
-    the text of the first."""
-    found: dict[int, dict[int, str]] = {}
-    for (row, column), cell in sheet._cells.items():
-        text = text_of(cell.value)
-        if text:
-            found.setdefault(row, {})[column] = text
-    for (row, column), cell in formulas._cells.items() if formulas else ():
-        if cell.data_type == "f" and not found.get(row, {}).get(column):
-            value = cell.value
-            found.setdefault(row, {})[column] = value if isinstance(value, str) else "=.."
-    last = max(found, default=0)
-    for span in sheet.merged_cells.ranges:
-        above = found.get(span.min_row, {}).get(span.min_col)
-        for row in range(span.min_row + 1, min(span.max_row, last + 1) + 1):
-            if above:
-                found.setdefault(row, {})[span.min_col] = above
-    return found
+def merged(rows: list[tuple[int, list[str]]], spans: list[Any]) -> list[tuple[int, list[str]]]:
+    """The rows with cells that are merged downwards, which share the text of the first. A row that is not there has none."""
+    of, last = dict(rows), rows[-1][0] if rows else 0
+    for first_row, first, last_row in spans:
+        above = of.get(first_row, [])
+        text = above[first] if first < len(above) else ""
+        for row in range(first_row + 1, min(last_row, last) + 1) if text else ():
+            cells = of.setdefault(row, [])
+            cells += [""] * (first + 1 - len(cells))
+            cells[first] = text
+    return sorted(of.items())
 
 
-def rows_of(texts: dict[int, dict[int, str]]) -> list[tuple[int, list[str]]]:
-    """The rows that have a text, each with its number and its cells up to the last one."""
-    return [(row, [texts[row].get(column, "") for column in range(1, max(texts[row]) + 1)]) for row in sorted(texts)]
-
-
-def spans_of(sheet: Any, texts: dict[int, dict[int, str]]) -> list[tuple[int, int, int]]:
-    """Where cells are merged sideways, in rows that have a text."""
-    spans = [span for span in sheet.merged_cells.ranges if span.max_col > span.min_col]
-    return [(row, span.min_col - 1, span.max_col - 1) for span in spans for row in range(span.min_row, span.max_row + 1) if row in texts]
-
-
-def hidden_of(sheet: Any, texts: dict[int, dict[int, str]]) -> list[tuple[int | None, str]]:
+def hidden_of(state: str, rows: list[tuple[int, list[str]]], hidden: set[int], columns: list[tuple[str, int, int]], struck: set[int]) -> list[tuple[int | None, str]]:
     """What of a sheet looks as if it did not count: for each piece the line, or None, and what it is."""
-    found: list[tuple[int | None, str]] = [(None, "is hidden")] if sheet.sheet_state != "visible" else []
-    found += [(row, "is hidden") for row in sorted(texts) if row in sheet.row_dimensions and sheet.row_dimensions[row].hidden]
-    used = {column for cells in texts.values() for column in cells}
-    for name, column in sheet.column_dimensions.items():
-        if column.hidden and any(column.min <= it <= column.max for it in used):
+    found: list[tuple[int | None, str]] = [(None, "is hidden")] if state != "visible" else []
+    found += [(row, "is hidden") for row, _ in rows if row in hidden]
+    for name, first, last in columns:
+        if any(cell for _, cells in rows for cell in cells[first - 1 : last]):
             found.append((None, f"has the column {name}, which is hidden"))
-    struck = {i for i, font in enumerate(sheet.parent._fonts) if font.strike}
-    cells = sheet._cells if struck else {}
-    rows = {row for (row, column), cell in cells.items() if cell._style.fontId in struck and texts.get(row, {}).get(column)}
-    return found + [(row, "is struck out") for row in sorted(rows)]
+    return found + [(row, "is struck out") for row in sorted(struck)]
 
 
-def has_formulas(path: str) -> bool:
-    """Whether a sheet of a workbook has a formula: only then it is worth reading twice."""
-    with zipfile.ZipFile(path) as archive:
-        return any(b"<f" in archive.read(name).replace(b"<family", b"") for name in archive.namelist() if name.startswith("xl/worksheets/"))
+class Cells:
+    """The cells of a sheet, row by row. Each text of `texts` is there once; `struck` are the styles that strike a cell out."""
+
+    def __init__(self, texts: dict[str, str], struck: set[int]) -> None:
+        self.texts, self.struck = texts, struck
+        self.rows: list[tuple[int, list[str]]] = []
+        self.typed: list[tuple[int, int]] = []
+        self.struck_rows: set[int] = set()
+
+    def row(self, number: int, cells: list[dict[str, Any]]) -> None:
+        """Takes a row, if it has a text."""
+        found: list[str] = []
+        for cell in cells:
+            value = cell["value"]
+            text = text_of(value)
+            if text:
+                column = cell["column"] - 1
+                found += [""] * (column + 1 - len(found))
+                found[column] = self.texts.setdefault(text, text)
+                if isinstance(value, str) and text[0].isdigit():
+                    self.typed.append((number, column))
+                if cell["style_id"] in self.struck:
+                    self.struck_rows.add(number)
+        if found:
+            self.rows.append((number, found))
+
+
+def parser_of(book: Any, sheet: Any, source: Any) -> Any:
+    """The library's parser of a sheet, which hands over one row after another. It gives a formula without a value its text."""
+    from openpyxl.worksheet._reader import FORMULA_TAG, WorkSheetParser
+
+    class Parser(WorkSheetParser):
+        def parse_cell(self, element: Any) -> dict[str, Any]:
+            cell: dict[str, Any] = super().parse_cell(element)
+            if cell["value"] is None and (formula := element.find(FORMULA_TAG)) is not None:
+                cell["value"] = f"={formula.text or '..'}"
+            return cell
+
+    return Parser(source, sheet._shared_strings, True, book.epoch, book._date_formats, book._timedelta_formats)
+
+
+def sheet_of(book: Any, sheet: Any, texts: dict[str, str]) -> Sheet | None:
+    """A sheet, None where it has no text."""
+    cells = Cells(texts, {i for i, style in enumerate(book._cell_styles) if book._fonts[style.fontId].strike})
+    with book._archive.open(sheet._worksheet_path) as source:
+        parser = parser_of(book, sheet, source)
+        for number, row in parser.parse():
+            cells.row(number, row)
+    spans = parser.merged_cells.mergeCell if parser.merged_cells else []
+    rows = merged(sorted(cells.rows), [(it.min_row, it.min_col - 1, it.max_row) for it in spans])
+    if not rows:
+        return None
+    numbers = {row for row, _ in rows}
+    sideways = [(row, it.min_col - 1, it.max_col - 1) for it in spans if it.max_col > it.min_col for row in range(it.min_row, it.max_row + 1) if row in numbers]
+    is_set = lambda attributes: attributes.get("hidden") in ("1", "true")
+    hidden = {int(row) for row, attributes in parser.row_dimensions.items() if is_set(attributes)}
+    columns = [(name, int(it["min"]), int(it["max"])) for name, it in parser.column_dimensions.items() if is_set(it)]
+    return Sheet(sheet.title, rows, hidden_of(sheet.sheet_state, rows, hidden, columns, cells.struck_rows), sideways, cells.typed)
 
 
 def read(path: str) -> list[Sheet]:
     """The sheets of a workbook that have cells."""
     import openpyxl
+    from openpyxl.worksheet._read_only import ReadOnlyWorksheet
 
     warnings.simplefilter("ignore")
     try:
-        values = openpyxl.load_workbook(path, data_only=True)
-        formulas = openpyxl.load_workbook(path) if has_formulas(path) else None
-        sheets: list[Sheet] = []
-        for sheet in values.worksheets:
-            texts = texts_of(sheet, formulas and formulas[sheet.title])
-            if texts:
-                typed = [(row, column - 1) for (row, column), cell in sheet._cells.items() if isinstance(cell.value, str) and cell.value.strip()[:1].isdigit()]
-                sheets.append(Sheet(sheet.title, rows_of(texts), hidden_of(sheet, texts), spans_of(sheet, texts), typed))
-        return sheets
+        book = openpyxl.load_workbook(path, read_only=True, data_only=True)
+        texts: dict[str, str] = {}
+        found = [sheet_of(book, sheet, texts) for sheet in book._sheets if isinstance(sheet, ReadOnlyWorksheet)]
+        return [sheet for sheet in found if sheet]
     except Exception as fault:  # The library raises what its own libraries raise.
         raise BadWorkbook(f"is no workbook that can be read: {type(fault).__name__}: {' '.join(str(fault).split())}") from None
 
 
 if __name__ == "__main__":
     try:
-        print(json.dumps(read(sys.argv[2])))
+        print(as_json(read(sys.argv[2])))
     except BadWorkbook as fault:
         print(json.dumps(str(fault)))

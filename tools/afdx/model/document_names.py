@@ -21,7 +21,8 @@ class DocumentNames:
         lines = net.text.split("\n")
         for vl in net.vls.values():
             own: dict[str, list[str]] = {}
-            for kind, text in comments_behind(lines, net.description.line("vl", vl.row), OF_VL):
+            heads = [net.description.line(stream.section, stream.row) for stream in vl.streams]
+            for kind, text in (it for head in heads for it in comments_behind(lines, head, OF_VL)):
                 own.setdefault(kind, []).append(without_destinations(text, vl.destinations))
             if own:
                 self.vls[vl.id] = {kind: "; ".join(dict.fromkeys(own[kind])) for kind in OF_VL if kind in own}

@@ -67,7 +67,19 @@ def sides(letter: str, number: str, word: str) -> list[str]:
     """The headings of one end of a cable: `From LRU`, `Node A`, `Equipment 1`."""
     boxes = (*BOXES, "end", "side", "switch", "terminal", "connection")
     either = [f"{box}_{mark}" for box in boxes for mark in (letter, number)] + [f"{box}{mark}" for box in boxes for mark in (letter, number)]
-    return [word, *(f"{word}_{box}" for box in BOXES), *either, f"{letter}_end", f"{letter}_side", f"end_{letter}_name", f"end_{number}_name"]
+    return [word, *(f"{word}_{box}" for box in (*BOXES, "switch", "name")), *either, f"{letter}_end", f"{letter}_side", f"end_{letter}_name", f"end_{number}_name"]
+
+
+def switches(net: str) -> list[str]:
+    """The headings of the switch of one network that an end system is linked with, beside `switch_a`."""
+    return [f"{switch}_{of}{net}" for switch in ("switch", "sw") for of in ("", "net_", "network_", "channel_", "of_network_")] + [
+        f"{of}{net}_{switch}" for switch in ("switch", "sw") for of in ("", "net_", "network_", "channel_")
+    ]
+
+
+def ports(*words: str) -> list[str]:
+    """The headings of the port of one end."""
+    return [f"{word}_{port}" for word in words for port in ("port", "port_name", "port_id", "afdx_port", "com_port", "comm_port")]
 
 
 NETWORKS = ("network", "networks", "channel", "channels", "afdx_network", "network_id", "side", "plane")
@@ -95,8 +107,9 @@ COLUMNS = {
         plain("document_name", "ICD"),
     ],
     "link": [
-        plain("a", "ICD", *sides("a", "1", "from")),
-        plain("b", "ICD", *sides("b", "2", "to")),
+        plain("a", "ICD", *sides("a", "1", "from"), *switches("a")),
+        plain("b", "ICD", *sides("b", "2", "to"), *switches("b")),
+        plain("end", "ICD", "end_system", "end_system_name", "es", "es_name", "lru", "lru_name", "equipment", "equipment_name", "node", "node_name", "unit", "box"),
         Column("mbit", SPEEDS, "", ("speed", "link_speed", "data_rate", "bit_rate", "mbit_s", "mbps", "line_rate", "bandwidth", "rate"), "664"),
         time("propagation", "ICD", "propagation_delay", "propagation_time", "cable_delay"),
         Column("length", METRES, "m", ("cable_length", "wire_length", "harness_length", "length_of_cable"), "ICD"),
@@ -171,7 +184,10 @@ COLUMNS = {
         ),
         plain("name", "ICD", "vl_name", "virtual_link_name", "vl_label", "vl_designation"),
         plain("message", "ICD", "message_name", "msg", "msg_name", "messages"),
-        plain("port", "653", "port_name", "port_id", "ports", "afdx_port", "comm_port", "com_port", "communication_port", "tx_port", "rx_port", "stream"),
+        plain("port", "653", "port_name", "port_id", "ports", "afdx_port", "comm_port", "com_port", "communication_port"),
+        plain("tx_port", "653", *ports("tx", "transmit", "transmitting", "sending", "sender", "source_afdx", "publisher"), "source_port_name"),
+        plain("rx_port", "653", *ports("rx", "receive", "receiving", "receiver", "destination_afdx", "subscriber"), "destination_port_name", "dest_port_name"),
+        plain("stream", "ICD", "stream_number", "stream_no", "stream_id"),
         plain("udp_port", "664", "udp", "udp_ports"),
         plain("udp_source_port", "664", "source_port", "src_port", "udp_source", "udp_src_port", "source_udp_port", "tx_udp_port"),
         plain(

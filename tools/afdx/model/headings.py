@@ -1,5 +1,6 @@
 """What the headings of interface control documents mean: which column of afdx table each of them is, and in which unit."""
 import difflib
+import functools
 import re
 import unicodedata
 from collections.abc import Callable
@@ -14,10 +15,10 @@ HERTZ = {"hz": 1, "khz": 1000}
 OF_A_METRE = {"m": Fraction(1), "cm": Fraction(1, 100), "mm": Fraction(1, 1000), "km": Fraction(1000), "ft": Fraction(3048, 10000)}
 # Columns that become comments of a row. Those of virtual links may differ where lines differ in the destination alone.
 LIMITS = ["limit_us", "limit_ms", "limit_ns", "limit_s"]
-NAMED = ["name", "message", "port"]
+NAMED = ["name", "message", "port", "rx_port"]
 UDP = ["udp_port", "udp_source_port", "udp_destination_port"]
 # Columns that are no values of a description, so that nothing usual stands in the place of one that is misspelt.
-ASIDE = {REMARKS, "document_name", "direction", *NAMED, *UDP}
+ASIDE = {REMARKS, "document_name", "direction", "tx_port", "stream", *NAMED, *UDP}
 # What stands in brackets behind a heading, or behind a slash at its end.
 BEHIND = re.compile(r"(.*?)\s*[(\[{]\s*([^()\[\]{}]*?)\s*[)\]}]\s*$", re.DOTALL)
 
@@ -88,6 +89,7 @@ def unknown_unit(text: str, section: str) -> tuple[str, list[str]] | None:
     return (behind[2], fitting) if fitting else None
 
 
+@functools.cache
 def key_of(column: str, section: str) -> str:
     """The key of a section for which a column stands, in whatever unit; other columns stand for themselves."""
     if column in ("id_hex",):
@@ -102,6 +104,7 @@ def key_of(column: str, section: str) -> str:
     return "bag_ms" if found[1] == "bag" else found[1] + "_ns"
 
 
+@functools.cache
 def unit_of(column: str, section: str) -> tuple[str, Callable[[Fraction], Fraction]] | None:
     """Of a column of times or rates the key for which it stands, and what makes of a number in its unit one in that of the
     key; None where it is no such column."""
@@ -115,6 +118,7 @@ def unit_of(column: str, section: str) -> tuple[str, Callable[[Fraction], Fracti
     return key, lambda number: number * Fraction(NS[unit], NS["ms"] if key == "bag_ms" else 1)
 
 
+@functools.cache
 def in_unit(column: str, section: str, word: str) -> str | None:
     """The column that a column of numbers is where a cell names a unit: `period_ms` is `rate_hz` for `50 Hz`. None where it has
     no such unit."""

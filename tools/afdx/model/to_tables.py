@@ -2,7 +2,7 @@
 keys, as limits, ports and remarks, stands in comments behind the head of each row; it has columns again.
 
 A further stream is a further line of its virtual link, whose own cells it repeats: the column `stream` has the number of its row of
-`stream`, from 1, and is empty in the lines of the virtual link itself."""
+`stream`, from 1, and is empty in the lines of the virtual link itself. The column sub_vl counts from 1, as documents do."""
 import csv
 import io
 import re
@@ -13,6 +13,8 @@ from afdx.model import KEYS, SECTIONS, STREAM_KEYS, Key, description_faults
 
 # How the text of a comment ends that is of some destinations alone.
 AT = re.compile("(.+) at (.+)")
+# The columns of comments that name ports.
+PORTS = ("port", "udp_source_port", "udp_port")
 # The texts of comments, by destination and column.
 Comments = dict[str, dict[str, list[str]]]
 
@@ -20,7 +22,7 @@ Comments = dict[str, dict[str, list[str]]]
 def cell_of(key: Key, value: Any) -> str:
     if key.value_type == "paths":
         return " | ".join(" ".join(path) for path in value) or "-"
-    return str(value)
+    return str(value + 1 if key.name == "sub_vl" else value)
 
 
 def comments_behind(lines: list[str], head: int, columns: Collection[str]) -> Iterator[tuple[str, str]]:
@@ -81,10 +83,11 @@ class Back:
         lines: list[dict[str, str]] = []
         for i, row in enumerate(rows, 1):
             lines += self.row(section, i, row, keys)
-            lines += (self.stream(row, *it, keys) for it in streams.get(row["id"], ())) if streams else ()
+            lines += [line for it in (streams.get(row["id"], ()) if streams else ()) for line in self.stream(row, *it, keys)]
         own = [key.name for key in keys]
         more = [name for name in self.commented(section) if any(name in line for line in lines)]
-        beside = ["source", "destinations"] + ["stream"] * bool(streams) if section == "vl" else []
+        has_streams = bool(streams) or any(key.name == "sub_vl" for key in keys) or has_several_ports(lines)
+        beside = ["source", "destinations"] + ["stream"] * has_streams if section == "vl" else []
         columns = own[:1] + beside + own[1:] + more
         heads = {column: name for _, name, column in self.said}
         return [[heads.get(name, name) for name in columns]] + [[line.get(name, "") for name in columns] for line in lines] if lines else []
@@ -100,7 +103,6 @@ class Back:
         of = of_destinations(found, list(dict.fromkeys(way[-1] for way in paths)))
         return [cells | {"source": paths[0][0], "destinations": " ".join(names)} | more for names, more in lines_of_comments(of)]
 
-
     def streams(self) -> dict[int, list[tuple[int, dict[str, Any]]]]:
         """The rows of `stream` by the numbers of their virtual links: each with its number, from 1."""
         found: dict[int, list[tuple[int, dict[str, Any]]]] = {}
@@ -108,13 +110,20 @@ class Back:
             found.setdefault(row["vl"], []).append((i, row))
         return found
 
-    def stream(self, vl: dict[str, Any], i: int, row: dict[str, Any], keys: list[Key]) -> dict[str, str]:
-        """The line of a further stream of a virtual link."""
+    def stream(self, vl: dict[str, Any], i: int, row: dict[str, Any], keys: list[Key]) -> list[dict[str, str]]:
+        """The lines of a further stream of a virtual link."""
         of_streams = {key.name for key in STREAM_KEYS}
         cells = {key.name: cell_of(key, it[key.name]) for key in keys for it in (row if key.name in of_streams else vl,) if key.name in it}
         paths = [*vl["a"], *vl["b"]]
-        cells |= {"source": paths[0][0], "destinations": " ".join(dict.fromkeys(way[-1] for way in paths)), "stream": str(i)}
-        return cells | dict(comments_behind(self.lines, self.description.line("stream", i), self.commented("vl")))
+        found = list(comments_behind(self.lines, self.description.line("stream", i), self.commented("vl")))
+        of = of_destinations(found, list(dict.fromkeys(way[-1] for way in paths)))
+        return [cells | {"source": paths[0][0], "destinations": " ".join(names), "stream": str(i)} | more for names, more in lines_of_comments(of)]
+
+
+def has_several_ports(lines: Iterable[dict[str, str]]) -> bool:
+    """Whether lines of a virtual link name several ports, which are one stream all the same."""
+    found: dict[tuple[str, str], str] = {}
+    return any(column in line and found.setdefault((line["id"], column), line[column]) != line[column] for line in lines for column in PORTS)
 
 
 def table(lines: list[list[str]]) -> str:
