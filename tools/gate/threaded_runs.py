@@ -17,9 +17,10 @@ the run is finished, that nothing was refused and that nothing was not enabled.
 Each run with an odd number is over several groups of several members: its network is larger (4 to 12 end systems, 2 to 4
 switches on each network, 8 to 40 virtual links, so 28 processes and more). It has at least two workers, and from two groups
 to half as many as there are end systems and switches. Each group has at least one of these, and the lines that lead to it.
-All of these runs write their journals. One that handles more events than it commits has rolled back. In one of five of them
-the last worker stands still from its start (by `ptrace`) until all others have ended: then these have given its groups their
-turns.
+One that handles more events than it commits has rolled back, as its journal shows. In one of five of them the last worker
+stands still from its start (by `ptrace`) until all others have ended: then these have given its groups their turns. Another
+one of five has two groups a worker, no journal and a longer time, and is followed (by `ptrace`): it is stopped once where a
+worker has stolen a group from the deque of another, if one does (gate/stolen_groups.py).
 
 With --second-opinion no worker runs: the tables and the trace of `afdxsim seq` must have the bytes of those that
 afdx second-opinion makes.
@@ -43,15 +44,20 @@ from afdx.commands import large_network
 from afdx.files import toml_lines
 from afdx.model import GREATEST_FRAME, GREATEST_SEED, LATEST_NS, PROGRAM, text_of_tree, whole
 from afdx.runs.plain_simulator import Simulation
-from gate import stopped_threads
+from gate import stolen_groups, stopped_threads
 
 WELL_REPLAYED = re.compile(r"replay: \d+ did, 0 not enabled, 0 refused, gvt \d+, finished\n")
 GROUPS_AND_WORKERS = re.compile(r"^afdxsim: (\d+) groups, (\d+) workers$", re.MULTILINE)
 
 # What runs did, beside coming out as they must, in the words of the report. Of so many runs each must be done by one at least.
 SEVERAL, ROLLED_BACK, SERVED = "over several groups of several members", "rolled back", "served the groups of a worker that stood still"
+FOLLOWED, STOLEN, NO_PLACE = "were followed", "stole a group", "no place"
 NOT_ALLOWED = "not allowed"
 ENOUGH_RUNS = 50
+# A worker steals in about half of the runs that are followed.
+ENOUGH_FOLLOWED = 20
+# How much longer a run is that is followed, so that workers come to steal.
+LONGER = 40
 # How long the other workers of one that stands still may take to end, in s: after 10 s a run at the same GVT gives its workers up.
 SECONDS_TO_SERVE = 8
 
@@ -71,7 +77,7 @@ one that stood still.
 status:
   0  each run had the right results
   1  a run had not: it differs, ended with another status, or took longer than --seconds; or of 50 runs or more none did one
-     of the things that are counted, although the system lets a program be stopped
+     of the things that are counted (of 20 that were followed none stole), although the system lets a program be stopped
   2  a word is wrong, or the program is missing
 """
 
@@ -82,13 +88,13 @@ def power(draw: random.Random, most: int) -> int:
     return min(most, draw.randrange(low, 2 * low))
 
 
-def network_of(draw: random.Random, is_large: bool) -> toml_lines.Table:
-    """The tree of a drawn network."""
+def network_of(draw: random.Random, is_large: bool, times: int = 1) -> toml_lines.Table:
+    """The tree of a drawn network, whose run is so many times as long."""
     end_systems, switches, vls = ((4, 12), (2, 4), (8, 40)) if is_large else ((2, 6), (1, 3), (1, 12))
     words = large_network.words_of(
         ["--end-systems", str(draw.randint(*end_systems)), "--switches", str(draw.randint(*switches)), "--columns", "1"]
         + ["--virtual-links", str(draw.randint(*vls)), "--destinations", str(draw.randint(1, 3))]
-        + ["--port-bytes", str(draw.choice([1518, 4096, 65536])), "--until", str(draw.randint(1, 20) * 10**6)]
+        + ["--port-bytes", str(draw.choice([1518, 4096, 65536])), "--until", str(draw.randint(1, 20) * 10**6 * times)]
         + ["--seed", str(draw.randint(0, GREATEST_SEED)), "--sub", "4", "--policing", "both"]
     )
     pieces: list[str] = []
@@ -171,7 +177,8 @@ class Drawn:
         draw = random.Random(number)
         self.number = number
         self.is_large = number % 2 == 1
-        tree = network_of(draw, self.is_large)
+        self.is_followed = number % 10 == 9
+        tree = network_of(draw, self.is_large, LONGER if self.is_followed else 1)
         self.network = text_of_tree(tree)
         self.nodes = len(tree["node"])
         self.processes = self.nodes + 2 * len(tree["link"])
@@ -182,7 +189,10 @@ class Drawn:
         if self.is_large:
             self.workers = max(2, self.workers)
             self.groups = draw.choice([2, draw.randint(2, self.nodes // 2)])
-        self.has_journal = self.is_large or number % 10 == 0
+        if self.is_followed:
+            # Two groups a worker, as the program gives them, so that there is something to steal.
+            self.workers, self.groups = draw.randint(2, 4), None
+        self.has_journal = (self.is_large or number % 10 == 0) and not self.is_followed
         self.has_stopped = number % 10 == 5
 
     def pace(self) -> list[str]:
@@ -239,6 +249,8 @@ def hold(program: str, drawn: Drawn, folder: str, seconds: int) -> set[str]:
     words = ["run", "net.toml", *drawn.pace()]
     if drawn.has_stopped and workers > 1:
         did |= hold_with_stopped(program, words, folder, seconds, workers, tables)
+    elif drawn.is_followed and workers > 1:
+        did |= hold_followed(program, words, folder, seconds, tables)
     else:
         same(ended(program, words, folder, seconds)[0], tables, "the tables of run alone")
     if drawn.has_journal:
@@ -273,6 +285,21 @@ def hold_with_stopped(program: str, words: list[str], folder: str, seconds: int,
         raise Difference(f"run with a worker that stood still ended with status {run.returncode}: {errors.decode(errors='replace').strip()}")
     same(printed, tables, "the tables of run with a worker that stood still")
     return {SERVED} if is_served else set()
+
+
+def hold_followed(program: str, words: list[str], folder: str, seconds: int, tables: bytes) -> set[str]:
+    """Makes a run that is followed. The answer is whether a worker stole a group, or why this is not known."""
+    try:
+        outcome = stolen_groups.followed([program, *words], folder, seconds)
+    except stopped_threads.NotAllowed:
+        return {NOT_ALLOWED}
+    except stolen_groups.NoPlace:
+        same(ended(program, words, folder, seconds)[0], tables, "the tables of run alone")
+        return {NO_PLACE}
+    if outcome.status:
+        raise Difference(f"run that was followed ended with status {outcome.status}: {outcome.errors.decode(errors='replace').strip()}")
+    same(outcome.printed, tables, "the tables of run that was followed")
+    return {FOLLOWED, STOLEN} if outcome.has_stolen else {FOLLOWED}
 
 
 def has_rolled_back(journal: bytes) -> bool:
@@ -341,11 +368,14 @@ def main(arguments: list[str] | None = None) -> int:
     files.say(f"{words.runs} runs, {outcomes['well']} came out as {other}, {outcomes['another way']} did not")
     if words.second_opinion:
         return 1 if outcomes["another way"] else 0
-    files.say("of these " + ", ".join(f"{outcomes[what]} {what}" for what in (SEVERAL, ROLLED_BACK, SERVED)))
+    files.say("of these " + ", ".join(f"{outcomes[what]} {what}" for what in (SEVERAL, ROLLED_BACK, SERVED, FOLLOWED)) + f", of which {outcomes[STOLEN]} {STOLEN}")
     if outcomes[NOT_ALLOWED]:
         files.say(f"in {outcomes[NOT_ALLOWED]} no worker could be stopped: this system does not allow ptrace")
+    if outcomes[NO_PLACE]:
+        files.say(f"in {outcomes[NO_PLACE]} it is not known whether a group was stolen: the program has another form, or objdump is not there")
     wanted = (SEVERAL, ROLLED_BACK) if outcomes[NOT_ALLOWED] else (SEVERAL, ROLLED_BACK, SERVED)
     is_lacking = words.runs >= ENOUGH_RUNS and not all(outcomes[what] for what in wanted)
+    is_lacking |= outcomes[FOLLOWED] >= ENOUGH_FOLLOWED and not outcomes[STOLEN]
     return 1 if outcomes["another way"] or is_lacking else 0
 
 

@@ -14,7 +14,7 @@ from afdx.commands import benchmark, large_network
 from afdx.files import toml_lines
 from afdx.model import description_faults
 from afdx.runs.plain_simulator import Simulation
-from gate import stopped_threads, threaded_runs
+from gate import stolen_groups, stopped_threads, threaded_runs
 from tests.places import TOOLS
 
 # A program whose commands all print the same tables, and do these lines of a test's own before.
@@ -79,7 +79,7 @@ class ThreadedRuns(unittest.TestCase):
             self.assertEqual((status, found), (0, [
                 "4 runs, 4 came out as seq, 0 did not",
                 f"of these {several} over several groups of several members, {rolled_back} rolled back, "
-                "0 served the groups of a worker that stood still",
+                "0 served the groups of a worker that stood still, 0 were followed, of which 0 stole a group",
             ]))
 
     @unittest.skipUnless(stopped_threads.is_allowed(), "this system does not allow ptrace")
@@ -91,8 +91,27 @@ class ThreadedRuns(unittest.TestCase):
             for enough in (1, 2):
                 with self.subTest(lines=lines, enough=enough), mock.patch.object(threaded_runs, "ENOUGH_RUNS", enough):
                     status, found = self.ended(lines, "--runs", "1", "--first", "5")
-                    self.assertEqual(tuple(map(int, re.findall(r"\d+", found[1]))), did)
+                    self.assertEqual(tuple(map(int, re.findall(r"\d+", found[1]))), (*did, 0, 0))
                     self.assertEqual(status, 0 if all(did) or enough > 1 else 1)
+
+    def test_stolen_groups_are_counted(self):
+        """Of enough runs that are followed one steals at least; of a program of another form nothing is known."""
+        tables = b"tables\n"
+        for outcome, enough, wanted in (
+            (stolen_groups.Outcome(0, tables, b"", True), 1, (0, (1, 1))),
+            (stolen_groups.Outcome(0, tables, b"", False), 1, (1, (1, 0))),
+            (stolen_groups.Outcome(0, tables, b"", False), 2, (0, (1, 0))),
+            (stolen_groups.Outcome(0, b"others", b"", True), 2, (1, (0, 0))),
+            (stolen_groups.Outcome(5, tables, b"afdxsim: out of memory", True), 2, (1, (0, 0))),
+            (stolen_groups.NoPlace(), 1, (0, (0, 0))),
+        ):
+            followed = mock.Mock(side_effect=outcome) if isinstance(outcome, Exception) else mock.Mock(return_value=outcome)
+            with self.subTest(outcome=outcome), mock.patch.object(stolen_groups, "followed", followed):
+                with mock.patch.object(threaded_runs, "ENOUGH_FOLLOWED", enough):
+                    status, found = self.ended("", "--runs", "1", "--first", "9")
+                counts = next(line for line in found if line.startswith("of these"))
+                self.assertEqual((status, tuple(map(int, re.findall(r"\d+", counts)))[-2:]), wanted, found)
+                self.assertEqual(any("it is not known whether a group was stolen" in line for line in found), isinstance(outcome, Exception))
 
     def test_each_difference_is_reported(self):
         for lines, said in (
