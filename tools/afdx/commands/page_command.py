@@ -4,10 +4,12 @@ import os
 import subprocess
 import sys
 import tempfile
-from typing import BinaryIO
+import time
+from typing import Any, BinaryIO
 
 from afdx import files, model
 from afdx.commands.chosen_program import chosen, ended, for_bounds, foresee, taken_out, write
+from afdx.commands.page_steps import BETWEEN_LOOKS, Step, ended_together
 from afdx.files import program, watch
 from afdx.files.program import NoProgram
 from afdx.reckon import output_sizes
@@ -82,45 +84,119 @@ def page(arguments: list[str]) -> int:
     path: str
     for path in filter(None, (words.net, words.tables)):
         files.reads(path)
-    outputs: list[str | None] = [words.output, taken_out(more, "--junit")[1], taken_out(more, "--late")[1]]
+    outputs: list[str | None] = [words.output, *(taken_out(more, name)[1] for name in WRITTEN)]
     files.ready(list(filter(None, outputs)))
-    if status := explained(words.net):
-        return status
-    if limits := taken_out(more, "--limits")[1]:
-        # Before the run, which may take long.
-        limits_of(limits, model.Network(words.net))
     it = None if words.tables else chosen(words.by, words.program)
-    if it:
-        report(it.says)
     with tempfile.TemporaryDirectory(prefix="afdx-page-") as folder:
-        tables, trace, bounds = (os.path.join(folder, name) for name in ("tables.csv", "trace.csv", "bounds.csv"))
-        reckoning = None if words.no_bounds else reckoning_of(words, bounds)
+        steps = PageSteps(words, more, folder, it)
         try:
-            status = simulate(it, words.net, tables, trace) if it else 0
-        except BaseException:
-            if reckoning:
-                reckoning.kill()
-            raise
+            return steps.side_by_side() if it is None or it.how in ("proved", "given") else steps.one_by_one()
         finally:
-            bounded = reckoning.wait() if reckoning else 0
-        if status or bounded:
-            return status or bounded
-        # The page names what it was made of, so it is made where these names are short and always the same.
-        more = [absolute(word) for word in more]
-        more += ["--trace", "trace.csv"] if os.path.exists(trace) else []
+            steps.stop()
+
+
+class PageSteps:
+    """The steps of a page: it explains, bounds and simulates the description, and draws the page of all that."""
+
+    def __init__(self, words: argparse.Namespace, more: list[str], folder: str, it: program.Program | None) -> None:
+        self.words, self.more, self.folder, self.it = words, more, folder, it
+        self.tables, self.trace, self.bounds = (os.path.join(folder, name) for name in ("tables.csv", "trace.csv", "bounds.csv"))
+        self.steps: list[Step] = []
+
+    def step(self, name: str, command: list[str], **more: Any) -> Step:
+        found = Step(self.folder, name, command, **more)
+        self.steps.append(found)
+        return found
+
+    def stop(self) -> None:
+        for step in self.steps:
+            step.stop()
+
+    def judge_limits(self) -> None:
+        """Refuses limits before the run, which may take long."""
+        if limits := taken_out(self.more, "--limits")[1]:
+            limits_of(limits, model.Network(self.words.net))
+
+    def one_by_one(self) -> int:
+        """The same for makers of runs that do not judge the description as the program does, or that take minutes."""
+        assert self.it
+        if status := explained(self.words.net):
+            return status
+        self.judge_limits()
+        report(self.it.says)
+        bounding = self.bounding()
+        status = simulate(self.it, self.words.net, self.tables, self.trace)
+        bounded = bounding.show() if bounding else 0
+        return status or bounded or subprocess.run(self.drawing(os.path.exists(self.trace)), cwd=self.folder).returncode
+
+    def side_by_side(self) -> int:
+        """Explains, bounds and simulates at once. The page is begun once the tables are there, and waits for the bounds. If the
+        description has a fault, nothing else is said."""
+        net, it = self.words.net, self.it
+        explaining = self.step("explain", program.command("explain", net))
+        bounding = self.bounding()
+        path = it.path if it else None
+        simulating = self.step("simulate", [path, "seq", net, "--trace", self.trace], output=self.tables) if path else None
+        try:
+            self.judge_limits()
+        except files.Fault:
+            if status := self.show_explained(explaining):
+                return status
+            raise
+        with watch.Watch("afdx"):
+            return self.followed(explaining, bounding, simulating)
+
+    def followed(self, explaining: Step, bounding: Step | None, simulating: Step | None) -> int:
+        """Begins the page once the tables are there, prints what each step says in its turn, and returns the status."""
+        drawing, is_explained = None, False
+        while not (drawing and is_explained):
+            if not drawing and (not simulating or simulating.run.poll() == 0):
+                more = ["--bounds-come"] if bounding else []
+                drawing = self.step("draw", self.drawing(bool(simulating)) + more, cwd=self.folder)
+            if not is_explained and explaining.run.poll() is not None:
+                is_explained = True
+                if status := self.show_explained(explaining):
+                    return status
+                if self.it:
+                    report(self.it.says)
+            if is_explained and simulating and simulating.has_failed():
+                return simulating.show()
+            watch.stage(f"{'simulates' if is_explained else 'explains'} {files.printable(self.words.net)}")
+            time.sleep(BETWEEN_LOOKS)
+        if simulating:
+            simulating.show()
+        watch.stage(f"draws the page of {files.printable(self.words.net)}")
+        ended_together(drawing, bounding)
+        bounded = bounding.show() if bounding and (bounding.has_failed() or drawing.status() == 0) else 0
+        return bounded or drawing.show()
+
+    def show_explained(self, explaining: Step) -> int:
+        """Prints on error output what explain found, and returns the status."""
+        status = explaining.status()
+        printed, said = explaining.texts()
+        lines = [line for line in printed.decode("utf-8", "backslashreplace").splitlines() if not line.endswith(": accepted")]
+        with watch.quiet():
+            write(sys.stderr, said + "".join(line + "\n" for line in lines).encode("utf-8", "backslashreplace"))
+        return status
+
+    def bounding(self) -> Step | None:
+        """The process that computes the bounds, with the numbers of the program if there is one."""
+        if self.words.no_bounds:
+            return None
+        it = for_bounds(self.words.by, self.words.program)
+        named = ["--program", it.path] if it and it.path else []
+        command = [sys.executable, "-m", "afdx.commands.bounds", self.words.net, "-o", self.bounds, *named]
+        return self.step("bounds", command, env=program.environment())
+
+    def drawing(self, has_trace: bool) -> list[str]:
+        """The command that draws. The page names what it was made of, so it is made where these names are short and always the same."""
+        words = self.words
+        more = [absolute(word, before) for before, word in zip(["", *self.more], self.more)]
+        more += ["--trace", "trace.csv"] if has_trace else []
         more += [] if words.no_bounds else ["--bounds", "bounds.csv"]
-        more += ["--made-by", it.maker.in_words()] if it else []
-        tables = linked_tables(words.tables, folder) if words.tables else "tables.csv"
-        command = program.command("report", linked(words.net, folder), tables, "-o", os.path.abspath(words.output), *more)
-        return subprocess.run(command, cwd=folder).returncode
-
-
-def reckoning_of(words: argparse.Namespace, output: str) -> subprocess.Popen[bytes]:
-    """The process that computes the bounds, with the numbers of the program if there is one."""
-    it = for_bounds(words.by, words.program)
-    named = ["--program", it.path] if it and it.path else []
-    command = [sys.executable, "-m", "afdx.commands.bounds", words.net, "-o", output, *named]
-    return subprocess.Popen(command, env=program.environment())
+        more += ["--made-by", self.it.maker.in_words()] if self.it else []
+        tables = linked_tables(words.tables, self.folder) if words.tables else "tables.csv"
+        return program.command("report", linked(words.net, self.folder), tables, "-o", os.path.abspath(words.output), *more)
 
 
 def linked_tables(path: str, folder: str) -> str:
@@ -139,10 +215,18 @@ def linked(path: str, folder: str) -> str:
     return name
 
 
-def absolute(word: str) -> str:
-    """A word with the file that it names, if it does, named from the root on."""
-    option, has_value, value = word.rpartition("=") if word.startswith("--") else ("", "", word)
-    return option + has_value + (os.path.abspath(value) if os.path.exists(value) else value)
+# The options of a page whose values name files that it writes, so that these need not be there.
+WRITTEN = ("--junit", "--late")
+
+
+def absolute(word: str, before: str = "") -> str:
+    """A word with the file that it names, if it does, named from the root on: `before` is the word before it."""
+    option, has_value, value = word.partition("=") if word.startswith("--") else ("", "", word)
+    if word.startswith("--") and not has_value:
+        return word
+    of = option or before
+    is_written = len(of) > 3 and any(name.startswith(of) for name in WRITTEN)
+    return option + has_value + (os.path.abspath(value) if is_written or os.path.exists(value) else value)
 
 
 def simulate(it: program.Program, net: str, tables: str, trace: str) -> int:

@@ -86,6 +86,8 @@ def words_of(arguments: list[str] | None = None) -> argparse.Namespace:
     add("--trace", metavar="FILE", help="the trace of the same run")
     add("--limits", metavar="FILE", help="the greatest latency that each destination may have; NET itself for its comments")
     add("--bounds", metavar="FILE", help="the worst-case bounds that afdx bounds printed for NET")
+    # Of afdx page, which computes them at the same time.
+    add("--bounds-come", action="store_true", help=argparse.SUPPRESS)
     add("--strict", action="store_true", help="the status is 1 also where a limit is below its bound, or has none")
     add("--junit", metavar="FILE", help="writes what became of each limit as JUnit's XML")
     add("--late", metavar="FILE", help="writes as CSV why the worst frames of broken and nearest limits are late, hop by hop")

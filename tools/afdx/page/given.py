@@ -1,6 +1,7 @@
 """What a page is made of: the files that the words name, held against each other."""
 import argparse
 import os
+import time
 from collections.abc import Sequence
 from typing import Any, NamedTuple
 
@@ -13,6 +14,10 @@ from afdx.model.traces import Trace
 from afdx.reckon import bounds_file, bounds_reader, bounds_table, frames, hops, limits, margins, transmit_jitter
 from afdx.reckon.frames import Ends
 from afdx.runs import campaign_record, worst_frames
+
+
+# How long is waited between two looks for bounds that are computed at the same time, in seconds.
+BETWEEN_LOOKS = 0.02
 
 
 class Other(NamedTuple):
@@ -130,6 +135,9 @@ def given_by(words: argparse.Namespace) -> Given:
     if tables.merged and words.trace:
         raise files.Fault(words.trace, None, f"is the trace of one run, and {tables.path} has the tables of several")
     trace = Trace(words.trace, tables) if words.trace else None
+    ends = ends_of(words, tables, found, trace)
+    while words.bounds_come and not os.path.exists(words.bounds):
+        time.sleep(BETWEEN_LOOKS)
     bounds = bounds_reader.read(words.bounds, net) if words.bounds else None
     held = margins.margins_of(limits.limits_of(words.limits, net), net, tables.latencies, bounds) if words.limits else []
     measured = hops.Hops(words.hops, tables) if words.hops else None
@@ -145,7 +153,7 @@ def given_by(words: argparse.Namespace) -> Given:
     by_place = {(it.limit.vl, it.limit.where): it for it in held}
     percentiles = campaign_record.percentiles(found, tables) if tables.merged else None
     made_of += [os.path.join(os.path.dirname(tables.path), campaign_record.GREATEST)] if percentiles else []
-    ends, made_of = ends_of(words, tables, found, trace), list(filter(None, made_of))
+    made_of = list(filter(None, made_of))
     of_delay = lambda found: found and (lambda vl, line: found("delay", vl, line))
     transmit = transmit_jitter.TransmitJitter(net, of_delay(measured and measured.greatest), of_delay(bounds and bounds.of_kind))
     is_by_contract, ways = margins.by_contract(net, bounds), ways_of(words, tables, found, held)

@@ -26,7 +26,7 @@ MARKS = (
 def late(ways: Ways, names: DocumentNames) -> str:
     """The panel of a page."""
     pieces = [legend(*MARKS)] if ways.found else []
-    pieces += [way(it, names) for it in ways.found]
+    pieces += [way(i, it, names) for i, it in enumerate(ways.found, 1)]
     if ways.left_out:
         text = (
             f"For {counted(ways.left_out, 'limit')} the way is not shown: its runs deliver more than {MOST_DELIVERED:,} frames together. "
@@ -50,8 +50,8 @@ def alone(ways: Ways, path: str, names: DocumentNames, made_by: str) -> str:
     )
 
 
-def way(it: Worst, names: DocumentNames) -> str:
-    """The way of a frame: a title, and a table with a line for the regulator and for each port."""
+def way(i: int, it: Worst, names: DocumentNames) -> str:
+    """The way of a frame, the one of this number: a title, and a table with a line for the regulator and for each port."""
     late, limit = it.late, it.margin.limit
     named = f" {esc(names.name(late.vl))}" if names.name(late.vl) else ""
     seed = "" if it.run == AS_DESCRIBED else f", {it.run}"
@@ -63,7 +63,7 @@ def way(it: Worst, names: DocumentNames) -> str:
     rows = [regulator(it)] + [port(it, hop) for hop in late.hops]
     return (
         f"<h3>Virtual link {late.vl}{named} at {esc(late.where)}: {said}</h3><p>{how}</p>"
-        f'<div class="wide"><table class="way"><thead>{head}<th>from the offer to the destination</th><th>behind</th></tr></thead>'
+        f'<div class="wide"><table class="way" id="late-{i}"><thead>{head}<th>from the offer to the destination</th><th>behind</th></tr></thead>'
         f"<tbody>{''.join(rows)}</tbody></table></div>"
     )
 

@@ -135,18 +135,22 @@ class Route:
     def __init__(self, net: Network, vl: VirtualLink, where: str) -> None:
         self.vl, self.where = vl, where
         self.ways = {side: Way(net, vl, path) for side, path in ways_of(vl, where).items()}
-        steps = {step for side in "AB" for path in vl.paths[side] for step in zip(path, path[1:])}
+
+    @functools.cached_property
+    def forks(self) -> set[str]:
+        """Where a copy goes on by several ports, so that tables do not show at which of them it was lost. It is asked for only where
+        copies are lost."""
+        steps = {step for side in "AB" for path in self.vl.paths[side] for step in zip(path, path[1:])}
         forks = {here for here, count in Counter(here for here, _ in steps).items() if count > 1}
-        sides = sum(bool(paths) for paths in vl.paths.values())
-        # If a copy goes on by several ports, tables do not show at which of them it was lost.
-        self.forks = forks - ({vl.source} if len(self.ways) == sides else set())
+        sides = sum(bool(paths) for paths in self.vl.paths.values())
+        return forks - ({self.vl.source} if len(self.ways) == sides else set())
 
 
 class Journey:
     """A virtual link at one of its destinations: its ways there, and what tables show of the copies lost on them."""
 
     def __init__(self, route: Route, losses: Iterable[Loss]) -> None:
-        self.vl, self.where, self.ways, self.forks = route.vl, route.where, route.ways, route.forks
+        self.route, self.vl, self.where, self.ways = route, route.vl, route.where, route.ways
         self.losses = [loss for loss in losses if any(loss.where in way.soonest for way in self.ways.values())]
         # A destination refuses frames of the networks alone on which copies were lost before.
         before = [side for side in self.ways for loss in self.losses if loss.where in self.on_the_way(side)]
@@ -166,7 +170,7 @@ class Journey:
         total, lost = exactly(0), {side: exactly(0) for side in self.ways}
         for loss in self.losses:
             sides = self.sides_of(loss.where, loss.cause)
-            is_sure = not (loss.cause == "port_full" and loss.where in self.forks)
+            is_sure = not (loss.cause == "port_full" and loss.where in self.route.forks)
             total += Range(loss.count * is_sure, loss.count)
             for side in sides:
                 lost[side] += Range(loss.count * (is_sure and len(sides) == 1), loss.count)
@@ -287,7 +291,7 @@ class Ends:
             return "merged tables do not show of which frames the lost copies were"
         if not self.trace:
             return "tables do not show of which frames the lost copies were; --trace shows more"
-        full = [where for where, cause in self.trace.lost_on_the_way(journey.vl.id) if cause == "port_full" and where in journey.forks]
+        full = [where for where, cause in self.trace.lost_on_the_way(journey.vl.id) if cause == "port_full" and where in journey.route.forks]
         if full:
             return f"at {' and '.join(sorted(full))} copies go on by several ports, and no trace shows which of them was full"
         if not journey.vl.is_plain():
