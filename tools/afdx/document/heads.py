@@ -69,6 +69,8 @@ class Heads:
             keys = set(known.values()) - {PASSED}
             names = {headings.normal(text) for text, key in known.items() if key == "name"}
             is_weak = section == "node" and not keys & headings.OF_NODES and names <= headings.WEAK
+            # A list of authors has names, too.
+            is_weak = is_weak or section == "node" and not keys & {*headings.OF_NODES, "kind"} and len(known) < len(set(filter(None, texts)))
             if needed <= keys and not is_weak:
                 found.append((len(keys), section))
         return max(found, key=lambda it: it[0]) if found else None

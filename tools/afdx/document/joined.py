@@ -67,7 +67,8 @@ class Joined:
                 for column in of_link(line):
                     take(joint, line, column)
         self.streams(joint, number)
-        joint.parts.sort(key=lines.index)
+        place = {id(line): i for i, line in enumerate(lines)}
+        joint.parts.sort(key=lambda part: place[id(part)])
         return joint
 
     def agrees(self, joint: Joint, line: Line, number: str) -> bool:

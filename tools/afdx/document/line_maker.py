@@ -108,6 +108,8 @@ class LineMaker:
         plain = found.plain
         if self.section == "link" and own.startswith("length_"):
             plain, own = decimal(Fraction(plain) * OF_A_METRE[own.removeprefix("length_")]), "length_m"
+        elif self.section == "link" and own == "mbit_gbit":
+            plain, own = decimal(Fraction(plain) * 1000), "mbit"
         at.setdefault(own, at[column])
         line.cells[own] = plain
 

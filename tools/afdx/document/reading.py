@@ -31,12 +31,13 @@ class Block:
 
     def __init__(self, place: Place, head: Head, number: int, titles: Sequence[str]) -> None:
         self.place, self.head, self.number, self.titles = place, head, number, list(titles)
+        self.first = next(filter(None, head.texts), "")
         self.rows: list[Row] = []
         self.beside: list[Block] = [self]
 
     def is_again(self, cells: Sequence[str]) -> bool:
         """Whether a row names the columns once more."""
-        return [cell for cell in cells if cell] == [text for text in self.head.texts if text]
+        return next(filter(None, cells), "") == self.first and [cell for cell in cells if cell] == [text for text in self.head.texts if text]
 
 
 class SheetReader:
@@ -117,8 +118,10 @@ class SheetReader:
 
     def is_entry(self, cells: Sequence[str]) -> bool:
         """Whether a row is one of a form: the name of a number and the number, and nothing else."""
+        if sum(map(bool, cells)) != 2:
+            return False
         filled = [cell for cell in cells if cell]
-        if len(filled) != 2 or number_of(filled[0]) or not number_of(filled[1]):
+        if number_of(filled[0]) or not number_of(filled[1]):
             return False
         return any(it.startswith("id") or OF_COLUMN[section][it].units for section in OF_COLUMN for it in self.heads.columns.meanings(filled[0], section, self.place) if it != PASSED)
 

@@ -61,7 +61,7 @@ class Streams:
 
     def join(self, stream: Joint, line: Line) -> None:
         """Takes a line into a stream."""
-        if line not in stream.parts:
+        if not stream.parts or stream.parts[-1] is not line:
             stream.parts.append(line)
         for column in [*traffic(line), *(it for it in ("stream", *PORTS, *BESIDE) if it in line.cells)]:
             take(stream, line, column)

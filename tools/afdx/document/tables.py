@@ -3,6 +3,7 @@ import csv
 import re
 from collections.abc import Iterable
 
+from afdx.document import same_nodes
 from afdx.document.block_columns import BlockColumns, first_columns
 from afdx.document.commas import Commas
 from afdx.document.equipment import Contexts
@@ -104,6 +105,7 @@ class Tables(Findings):
                 self.add(line, text)
         Contexts(self, self.lines["vl"], self.readings, known)
         self.names = translate(self.lines)
+        self.lines["node"] = same_nodes.joined(self, self.lines["node"])
         self.lines_of_links = len(self.lines["vl"])
         self.joints = Joined(self, self.lines["vl"]).lines
         self.lines["vl"] = [*self.joints]

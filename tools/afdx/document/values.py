@@ -44,9 +44,11 @@ class Values:
 
     def verdict(self, row: Sequence[str]) -> tuple[str, str]:
         """What a row is, and why it is left."""
+        if any(self.is_value(column, text) for column, text in zip(self.columns, row) if text):
+            return USED, ""
         filled = [(column, text) for column, text in zip(self.columns, row) if text]
         count = sum(1 for text in row if text)
-        if any(self.is_value(column, text) for column, text in filled) or self.is_continued(filled) or self.is_whole(filled):
+        if self.is_continued(filled) or self.is_whole(filled):
             return USED, ""
         if all(ONLY_MARKS.fullmatch(text) for text in row if text):
             return TITLE, ""
@@ -88,8 +90,8 @@ def known_names(tables: Sequence[tuple[str, Sequence[str], Sequence[Sequence[str
     for section, columns, rows in tables:
         for row in rows:
             known.update(sure_names(section, columns, row))
-            found: Mapping[str, str] = dict(zip(columns, row))
-            if section == "link" and found.get("a") and found.get("b"):
+            found: Mapping[str, str] = dict(zip(columns, row)) if section == "link" else {}
+            if found.get("a") and found.get("b"):
                 links.append((naming.one(found["a"]), naming.one(found["b"])))
     size = -1
     while size != len(known):

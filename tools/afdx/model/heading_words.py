@@ -20,7 +20,7 @@ TIMES = {
 }
 RATES = {"hz": ("hz", "hertz"), "khz": ("khz",)}
 BYTES = {"": ("byte", "bytes", "octet", "octets", "b", "o")}
-SPEEDS = {"": ("mbit", "mbits", "mbps", "mbit_s", "mbits_s", "mb_s", "mbit_sec")}
+SPEEDS = {"": ("mbit", "mbits", "mbps", "mbit_s", "mbits_s", "mb_s", "mbit_sec"), "gbit": ("gbit", "gbits", "gbps", "gbit_s", "gbits_s", "gb_s")}
 METRES = {
     "m": ("m", "metre", "metres", "meter", "meters"),
     "cm": ("cm", "centimetres", "centimeters"),

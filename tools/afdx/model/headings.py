@@ -94,8 +94,8 @@ def key_of(column: str, section: str) -> str:
     """The key of a section for which a column stands, in whatever unit; other columns stand for themselves."""
     if column in ("id_hex",):
         return "id"
-    if section == "link" and column.startswith("length_"):
-        return "length_m"
+    if section == "link" and column.startswith(("length_", "mbit_")):
+        return "length_m" if column.startswith("length_") else "mbit"
     found = re.fullmatch("(.*)_(ns|us|ms|s|hz|khz)", column)
     if not found or section == "vl" and column.startswith("limit_"):
         return column
