@@ -364,6 +364,15 @@ id = 1
         self.assertEqual(self.call(tables, "-o", again), (0, "", ""))
         self.assertEqual(toml_lines.read(read(again)), tree)
 
+    def test_columns_that_words_name_in_one_sheet(self):
+        """What is made of the description again has no such sheet, and the names of the columns."""
+        table = self.file("table.csv", NODES + LINKS + "id,Box,destinations,bag_ms,smax\n1,ADC,DU,8,100\n")
+        self.assertEqual(self.call(table, "-o", self.output, "--column", "table.csv!Box=source"), (0, "", ""))
+        tables, again = (os.path.join(self.folder, name) for name in ("back.csv", "again.toml"))
+        self.assertEqual(self.call("--back", self.output, "-o", tables), (0, "", ""))
+        self.assertEqual(self.call(tables, "-o", again), (0, "", ""))
+        self.assertEqual(toml_lines.read(read(again)), toml_lines.read(read(self.output)))
+
     def test_tables_that_are_of_something_else(self):
         """A list of equipment is no table of nodes, and one remark is enough."""
         tree, said = self.noted(NODES + LINKS + LINE.replace("smax", "smax,Remarks,Description").replace("100", "100,left,right"))

@@ -15,7 +15,7 @@ from afdx.model.headings import key_of
 OF_A_STREAM = {"size", "payload", "message_bytes", "period_ns", "offset_ns", "jitter_ns", "timing", "frames", "last_size", "end_ns"}
 # What names a port of the sender, and what may.
 PORTS = ("port", "udp_source_port", "udp_port")
-BESIDE = ("message", "sub_vl")
+BESIDE = ("message", "udp_destination_port", "sub_vl")
 ASK = "lines of several ports of one virtual link name them in a column `port`"
 
 
@@ -101,15 +101,20 @@ class Streams:
             return "other" if differs or self.is_sure(stream, line, others) or self.is_again(stream, line) else "asked"
         if not shared:
             return "open"
-        if not differs:
-            return "same"
-        return "other" if any(it in line.cells and it in stream.cells and line.cells[it] != stream.cells[it] for it in BESIDE) else "against"
+        others = [it for it in BESIDE if line.cells.get(it) != stream.cells.get(it) and it in line.cells and it in stream.cells]
+        if differs:
+            return "other" if others else "against"
+        return "other" if "udp_destination_port" in others and self.comes_on_top(stream, line) else "same"
 
     def by_message(self, stream: Joint, line: Line, others: list[str], differs: bool) -> str:
         """The same of lines that name no port: a message with the same destinations comes on top, if each says its own traffic."""
         if differs:
             return "other" if others else "against"
-        return "other" if "message" in others and traffic(line) and self.is_again(stream, line) else "same"
+        return "other" if {"message", "udp_destination_port"} & set(others) and self.comes_on_top(stream, line) else "same"
+
+    def comes_on_top(self, stream: Joint, line: Line) -> bool:
+        """Whether a line with the same destinations says its own traffic."""
+        return bool(traffic(line)) and self.is_again(stream, line)
 
     @staticmethod
     def is_sure(stream: Joint, line: Line, others: Sequence[str]) -> bool:

@@ -13,8 +13,8 @@ from afdx.model import KEYS, SECTIONS, STREAM_KEYS, Key, description_faults
 
 # How the text of a comment ends that is of some destinations alone.
 AT = re.compile("(.+) at (.+)")
-# The columns of comments that name ports.
-PORTS = ("port", "udp_source_port", "udp_port")
+# The columns of comments that name ports or messages.
+PORTS = ("port", "udp_source_port", "udp_port", "udp_destination_port", "message")
 # The texts of comments, by destination and column.
 Comments = dict[str, dict[str, list[str]]]
 
@@ -65,7 +65,9 @@ class Back:
         self.description = description_faults.accepted(path)
         self.commented = commented
         self.lines = self.description.text.split("\n")
-        self.said = [(line, *found[1].rpartition("=")[::2]) for line in self.lines if (found := said.fullmatch(line.rstrip()))]
+        said_of = [(line, *found[1].rpartition("=")[::2]) for line in self.lines if (found := said.fullmatch(line.rstrip()))]
+        # What is said of one sheet alone is not said of these tables: their columns have their own names.
+        self.said = [it for it in said_of if "!" not in it[1]]
 
     def text(self) -> str:
         blocks = [block for section in ("top", *SECTIONS) if section != "stream" and (block := self.block(section))]
