@@ -89,7 +89,7 @@ def port(it: Worst, hop: Hop) -> str:
 def row(name: str, came: int, waited: int, begins: int, left: int | None, bars: str, behind: str) -> str:
     number = lambda ns: "" if ns is None else span(ns).removesuffix(" µs")
     cells = "".join(f'<td class="n">{number(ns)}</td>' for ns in (came, waited, begins, left))
-    picture = f'<svg viewBox="0 0 {WIDE} {HIGH}" width="{WIDE}" height="{HIGH}">{bars}</svg>'
+    picture = f'<svg viewBox="0 0 {WIDE} {HIGH}" width="{WIDE}" height="{HIGH}" preserveAspectRatio="none">{bars}</svg>'
     return f'<tr><td>{name}</td>{cells}<td class="steps">{picture}</td><td class="wrap">{behind}</td></tr>'
 
 
