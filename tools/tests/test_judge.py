@@ -13,6 +13,7 @@ import unittest
 import xml.etree.ElementTree as xml
 import zlib
 
+import afdx
 from afdx import model
 from afdx.commands import judge, pcap
 from afdx.files.captures import Capture
@@ -290,6 +291,30 @@ class Rest(Here):
         status, out, said = called(judge.main, os.path.join(EXAMPLES, "n2.toml"), self.capture)
         self.assertEqual((status, out.count("\nlength,")), (0, 39))
         self.assertIn(", within a block; the 39 packets before it are whole\n", said)
+
+    def test_lost_frames_that_an_account_may_have_refused(self):
+        """By the bounds it may. A tap before it, or what afdx pcap writes there, shows whether it did."""
+        changed = afdx.read(COCKPIT)
+        changed.vl[103].policing_jitter_ns = 1000
+        net = os.path.join(self.folder, "net.toml")
+        changed.write(net)
+        whole = [(name, 10**9 + moment, frame) for name, moment, frame in self.packets("cockpit")]
+        first, later = model.lines_of_path(changed.vl[103].a[0])[:2]
+        switch = later.split(">")[0]
+        own = lambda line: [i for i, it in enumerate(whole) if it[0] == line and it[2][4:6] == (103).to_bytes(2, "big")]
+        lost = own(later)[9]
+        packets = [*whole[:lost], *whole[lost + 1 :]]
+        early = own(first)[20]
+        close = [(name, moment - 30_000 * (i == early), frame) for i, (name, moment, frame) in enumerate(whole) if i != lost]
+        for found, verdict, why in (
+            (packets, "broken", ""), (sorted(close, key=lambda it: it[1]), "allowed", rf'"?frames come up to [0-9]+ ns too early to {switch}'),
+            ([it for it in packets if it[0] != first], "broken", f"by the bounds the account at {switch} may refuse frames: a tap at {first} would show"),
+            ([*(it for it in packets if it[0] != first), (switch, *whole[lost][1:])], "allowed", f"the capture has frames of it at {switch}"),
+        ):
+            _, rows, _ = self.judged(found, net=net)
+            (row,) = [row for row in rows if (row["what"], row["tap"], row["vl"]) == ("lost", later, "103")]
+            self.assertEqual(row["verdict"], verdict, why)
+            self.assertRegex(row["why"], f"^{why}" if why else "^$")
 
     def test_json_and_junit(self):
         packets = list(self.packets("cockpit"))

@@ -33,6 +33,8 @@ class CaptureJudge:
         self.links: list[CapturedLink] = []
         self.by_vl: dict[int, list[CapturedLink]] = {}
         self.pairs: list[Pair] = []
+        # The virtual links of interfaces that have the name of a switch.
+        self.named_by_switches: dict[str, set[int]] = {}
         self.steps, self.windows = ClockSteps(), ClockWindows(self.taps)
         # The lines of each virtual link by network, and the virtual links of each line.
         self.lines: dict[tuple[int, str], set[str]] = {}
@@ -85,6 +87,8 @@ class CaptureJudge:
             self.windows.pass_on(tap, packet.moment)
         frame = tap.frame(packet)
         if frame is None or tap.place is None:
+            if frame is not None and tap.name in self.net.nodes:
+                self.named_by_switches.setdefault(tap.name, set()).add(frame.vl)
             return
         found = tap.of.get((frame.vl, frame.net))
         if found is None:

@@ -5,6 +5,7 @@ from afdx.reckon.capture_judge import CaptureJudge
 from afdx.reckon.capture_rows import ALLOWED, BROKEN, KEPT, UNKNOWN, Row
 from afdx.reckon.captured_links import CapturedLink
 from afdx.reckon.captured_pairs import Copies, Way
+from afdx.reckon.lost_frames import verdict_of_losses
 from afdx.reckon.pair_verdicts import NO_BOUND, latency, skew
 from afdx.reckon.sequence_numbers import LOST, TROUBLES
 from afdx.reckon.taps import Stray
@@ -67,8 +68,8 @@ def sequence(judge: CaptureJudge, link: CapturedLink) -> Iterator[Row]:
     frames, numbers = link.lengths.count, link.numbers
     found = [(what, numbers.counts[what], numbers.first[what]) for what in TROUBLES if numbers.counts.get(what)]
     for what, count, packet in found:
-        why = judge.limits.why_lost(link.vl, link.line) if what == LOST else ""
-        yield row(what, link, frames, count, count, 0, ALLOWED if why else BROKEN, packet, why)
+        verdict, why = verdict_of_losses(judge, link) if what == LOST else (BROKEN, "")
+        yield row(what, link, frames, count, count, 0, verdict, packet, why)
     if not found and link.without_number:
         yield row("sequence", link, frames, 0, None, None, UNKNOWN, None, f"the capture lacks the last byte of {link.without_number:,} frames")
     elif not found:

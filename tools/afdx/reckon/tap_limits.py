@@ -112,11 +112,15 @@ class TapLimits:
             return f"NET has an outage of {out[0]}"
         if vl.sizes[-1] > vl.smax and len(way) > 1:
             return "NET has frames above smax, which the first switch drops"
-        refusing = [it.split(">")[0] for it in way[1:] if self.may_refuse(vl, it.split(">")[0])]
-        if refusing:
-            return f"by the bounds the account at {refusing[0]} may refuse frames"
         small = [it for it in way if it in self.small]
         return f"by the bounds the port before {small[0]} may be too small" if small else ""
+
+    def refusing(self, vl: VirtualLink, line: str) -> list[tuple[str, str]]:
+        """The switches before the end of a line whose account may refuse frames of a virtual link by the bounds, each with the line by
+        which they come to it."""
+        way = self.way_to(vl, line)
+        found = [(later.split(">")[0], before) for before, later in zip(way, way[1:])]
+        return [(switch, before) for switch, before in found if self.may_refuse(vl, switch)]
 
     def skew(self, vl: VirtualLink, where: str) -> int | None:
         """The longest time between the copies of a frame at a destination in the worst case, or None."""
