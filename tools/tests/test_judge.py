@@ -70,8 +70,7 @@ class Here(unittest.TestCase):
         self.write(packets, **changes)
         status, out, said = called(judge.main, net, self.capture, *words)
         self.assertIn(status, (0, 1), said)
-        head, *lines = out.splitlines()
-        return status, [dict(zip(head.split(","), line.split(","))) for line in lines], said
+        return status, list(csv.DictReader(io.StringIO(out))), said
 
     def broken(self, *words, **changes):
         status, rows, _ = self.judged(*words, **changes)
@@ -255,13 +254,18 @@ class Rest(Here):
         self.assertEqual(self.broken(packets), [])
 
     def test_clocks_that_drift(self):
-        """No constant offset fits, and one of each second does: by 50 ppm. A frame that is late by 5 ms is found as well."""
-        packets = self.packets("cockpit", "receiver")
-        drift = lambda found: sorted(((name, moment + moment // 20_000 * (name == "DU_L"), frame) for name, moment, frame in found), key=lambda it: it[1])
+        """By 50 ppm: no constant offset fits, and one of each second does. A frame that is late by 5 ms is found as well."""
+        ends = ("FMC1", "FMC2")
+        at = lambda line: next((end for end in ends if end in line.split(">")), None)
+        packets = [(at(line), moment, frame) for line, moment, frame in self.packets("cockpit") if at(line)]
+        drift = lambda found: sorted(((name, moment + moment // 20_000 * (name == "FMC2"), frame) for name, moment, frame in found), key=lambda it: it[1])
         _, rows, _ = self.judged(drift(packets))
-        whys = {row["why"].partition(",")[2] for row in rows if row["what"] == "latency" and "DU_L" in row["tap"].split(" ") and row["verdict"] == "kept"}
-        self.assertLessEqual(whys, {" in windows of a second"})
-        self.assertNotIn("broken", {row["verdict"] for row in rows})
+        found = [row for row in rows if row["what"] == "latency"]
+        self.assertEqual({row["verdict"] for row in found}, {"kept"})
+        self.assertIn("ns, in windows of a second", found[0]["why"])
+        late = next(i for i, it in enumerate(packets) if it[0] == "FMC2" and it[2][4:6] == int(found[0]["vl"]).to_bytes(2, "big") and i > 300)
+        packets[late] = "FMC2", packets[late][1] + 5_000_000, packets[late][2]
+        self.assertIn(("latency", int(found[0]["vl"]), "FMC1 FMC2"), self.broken(drift(packets)))
 
     def test_sections_and_interfaces_that_follow_one_another(self):
         packets = self.packets("n2", "line")
