@@ -8,6 +8,8 @@ from collections.abc import Iterable
 from typing import NamedTuple
 
 Clock = str
+# Among more clocks than these limits are not carried on: the time grows with the third power of their number.
+MOST_CLOCKS = 200
 
 
 class Offset(NamedTuple):
@@ -36,16 +38,36 @@ class ClockOffsets:
         before = self.ahead.get((one, other))
         self.ahead[one, other] = most if before is None else min(before, most)
 
-    def settle(self) -> None:
-        """Carries limits on over clocks between: Floyd and Warshall's shortest ways."""
-        clocks = sorted({clock for pair in self.ahead for clock in pair})
-        for middle in clocks:
-            for one in clocks:
-                first = self.ahead.get((one, middle))
-                for other in clocks if first is not None else ():
-                    second = self.ahead.get((middle, other))
-                    if first is not None and second is not None and one != other:
-                        self.limit(one, other, first + second)
+    def settle(self, most: int = MOST_CLOCKS) -> None:
+        """Carries limits on over clocks between: Floyd and Warshall's shortest ways, among the clocks that may be limited both ways. If
+        these are more than `most`, only frames that pass both clocks limit them."""
+        core = self.core()
+        if len(core) > most:
+            return
+        limits: dict[Clock, dict[Clock, int]] = {clock: {} for clock in core}
+        for (one, other), ns in self.ahead.items():
+            if one in limits and other in limits:
+                limits[one][other] = ns
+        for middle in core:
+            onward = limits[middle]
+            for one in core:
+                own, first = limits[one], limits[one].get(middle)
+                for other, second in onward.items() if first is not None else ():
+                    if first is not None and other != one and first + second < own.get(other, first + second + 1):
+                        own[other] = first + second
+        for one, found in limits.items():
+            for other, ns in found.items():
+                self.limit(one, other, ns)
+
+    def core(self) -> list[Clock]:
+        """The clocks without those that frames only leave or only come to, again and again: no other one is limited both ways."""
+        pairs = set(self.ahead)
+        while True:
+            kept = {one for one, _ in pairs} & {other for _, other in pairs}
+            left = {pair for pair in pairs if kept.issuperset(pair)}
+            if left == pairs:
+                return sorted(kept)
+            pairs = left
 
     def of(self, one: Clock, other: Clock) -> Offset:
         """By how much the clock of the other is ahead of that of the one."""

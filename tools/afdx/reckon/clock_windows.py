@@ -9,6 +9,8 @@ from afdx.reckon.tap_limits import CLOCK_PPM
 from afdx.reckon.taps import Tap
 
 WINDOW_NS = 10**9
+# As in `clock_offsets`, for each window.
+MOST_CLOCKS = 40
 # By how much two clocks may move against each other in a window.
 MOST_MOVED_NS = 2 * CLOCK_PPM * WINDOW_NS // 10**6
 
@@ -35,7 +37,7 @@ class ClockWindows:
         for pair in self.touched:
             if isinstance(pair, Way) and pair.ahead_in_window is not None:
                 offsets.limit(pair.one.tap, pair.other.tap, pair.ahead_in_window)
-        offsets.settle()
+        offsets.settle(MOST_CLOCKS)
         for pair in self.touched:
             pair.end_window(self.offset(offsets, pair))
         self.touched.clear()

@@ -32,6 +32,8 @@ class TapLimits:
     def __init__(self, net: Network, bounds: Bounds) -> None:
         self.net, self.bounds = net, bounds
         self.transmit = transmit_jitter.TransmitJitter(net)
+        # The ways to the lines of each virtual link that was asked for.
+        self.ways: dict[int, dict[str, list[str]]] = {}
         self.out = {it.line for it in net.outages}
         self.small = set(bounds.too_small()) if isinstance(bounds, bounds_file.Bounds) else {
             line for line, port in bounds.ports.items() if port.most is None or port.most > port.node.port_bytes
@@ -58,12 +60,13 @@ class TapLimits:
 
     def way_to(self, vl: VirtualLink, line: str) -> list[str]:
         """The lines of a virtual link from its source to a line, which is the last of them."""
-        for paths in vl.paths.values():
-            for path in paths:
+        if vl.id not in self.ways:
+            self.ways[vl.id] = {}
+            for path in (path for paths in vl.paths.values() for path in paths):
                 lines = lines_of_path(path)
-                if line in lines:
-                    return lines[: lines.index(line) + 1]
-        return []
+                for i, one in enumerate(lines, 1):
+                    self.ways[vl.id].setdefault(one, lines[:i])
+        return self.ways[vl.id].get(line, [])
 
     def byte_ns(self, line: str) -> int:
         return 8000 // self.net.mbit[line]
