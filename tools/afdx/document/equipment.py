@@ -11,6 +11,8 @@ from afdx.document.reading import Block, Reading
 
 # What else the name of such a sheet may have.
 ASIDE = SENDING | RECEIVING | {"vl", "vls", "virtual", "links", "ports", "port", "messages", "data", "icd", "sheet", "lru", "equipment", "end", "system", "es"}
+# So many titles of a sheet are looked at for a name of an equipment.
+MOST_TITLES = 50
 OF_NETWORK = re.compile(r"(?:afdx )?(?:network|net|channel|side|plane)[ _-]*([ab])", re.IGNORECASE)
 OF_EQUIPMENT = re.compile(r"(?:lru|equipment|end system|es|node|unit|box)\s*(?:name)?\s*[:=]?\s+(.+)", re.IGNORECASE)
 
@@ -52,7 +54,7 @@ class Contexts:
         net = OF_NETWORK.fullmatch(name.strip())
         columns = {column for line in lines for column in line.at}
         ends = {"source" if "source" in columns else "", "destinations" if columns & {"destinations"} or any(it.startswith(RECEIVER) for it in columns) else ""}
-        owner = next((it for text in (*titles, *reversed(reading.texts())) if (it := equipment_of(text, self.known))), None)
+        owner = next((it for text in (*titles, *reversed(reading.texts()[-MOST_TITLES:])) if (it := equipment_of(text, self.known))), None)
         way = next((it for text in titles if (it := direction_of(text))), None)
         for line in lines:
             if net and "network" not in line.cells and "network" not in columns:

@@ -78,6 +78,8 @@ class Heads:
     def at(self, rows: Sequence[Row], i: int, is_alone: bool) -> list[Head]:
         """The heads of tables that begin in a row, side by side: none where it is no such row. `is_alone`: it may not be a line
         of groups above the names of columns."""
+        if not self.has_heading(rows[i][1]) and not self.has_heading(following(rows, i) or []):
+            return []
         texts, groups, taken = self.texts_at(rows, i, is_alone)
         parts = parts_of(texts)
         found = [(first, own, self.section_of(own)) for first, own in parts]
@@ -85,6 +87,10 @@ class Heads:
             return [Head(it[1], first, own, groups[first : first + len(own)], taken) for first, own, it in found if it]
         whole = self.section_of(texts)
         return [Head(whole[1], 0, texts, groups, taken)] if whole else []
+
+    def has_heading(self, cells: Sequence[str]) -> bool:
+        """Whether a row has the name of a column of some table."""
+        return any(self.columns.meanings(cell, section, self.place) for cell in cells if cell for section in heading_words.COLUMNS)
 
     def texts_at(self, rows: Sequence[Row], i: int, is_alone: bool) -> tuple[list[str], list[str], int]:
         """The names of columns that a row has, alone or with the row below it; the groups above them; and how many rows they

@@ -86,6 +86,8 @@ class Columns:
 
     def of(self, text: str, place: Place) -> Said | None:
         """What is said of a heading: that of its sheet counts first."""
+        if not self.said:
+            return None
         behind = headings.BEHIND.fullmatch(text.strip())
         names = {normal(text), normal(behind[1]) if behind else ""}
         fitting = [it for it in self.said if it.name in names and (it.sheet is None or it.sheet in place.names())]

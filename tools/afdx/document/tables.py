@@ -139,14 +139,13 @@ class Tables(Findings):
 
     def left(self, reading: Reading) -> None:
         """Reports the rows that are left."""
-        numbers = [number for number, verdict in sorted(reading.verdicts.items()) if verdict == LEFT]
-        for number in numbers:
+        for first, last in runs(sorted(number for number, verdict in reading.verdicts.items() if verdict == LEFT)):
             if reading.blocks:
-                first, last = run_of(numbers, number)
                 word, what = reading.place.skip_word(first, last), "it" if first == last else "these lines"
             else:
                 word, what = reading.place.skip_word(), "the sheet"
-            self.at(reading.place, number, f"is left: it {reading.reasons[number]}. --column says what headings mean, and --skip {word} leaves out {what}")
+            for number in range(first, last + 1):
+                self.at(reading.place, number, f"is left: it {reading.reasons[number]}. --column says what headings mean, and --skip {word} leaves out {what}")
 
     def words_of_no_use(self) -> None:
         """Reports words that name a heading, a sheet or rows that are not there."""
@@ -161,11 +160,12 @@ class Tables(Findings):
                 self.at(place, None, f"no row is named by --skip {skip.text!r}; there are {names}")
 
 
-def run_of(numbers: list[int], number: int) -> tuple[int, int]:
-    """The first and the last of the numbers that follow each other, around one of them."""
-    first = last = number
-    while first - 1 in numbers:
-        first -= 1
-    while last + 1 in numbers:
-        last += 1
-    return first, last
+def runs(numbers: list[int]) -> list[tuple[int, int]]:
+    """The first and the last of each run of numbers that follow each other."""
+    found: list[tuple[int, int]] = []
+    for number in numbers:
+        if found and found[-1][1] == number - 1:
+            found[-1] = found[-1][0], number
+        else:
+            found.append((number, number))
+    return found

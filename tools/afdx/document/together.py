@@ -16,18 +16,18 @@ VALUES = re.compile(
 
 
 def together(faults: Iterable[Fault]) -> list[Fault]:
-    found: dict[Any, tuple[Fault, list[int]]] = {}
-    said: list[tuple[Fault, list[int]]] = []
+    found: dict[Any, tuple[Fault, dict[int, None]]] = {}
+    said: list[tuple[Fault, dict[int, None]]] = []
     for fault in faults:
         kind = fault.path, VALUES.sub("#", fault.text)
         first = found.get(kind)
         if first is None or fault.line is None or first[0].line == fault.line and fault.text != first[0].text and not is_of_path(fault):
-            one: tuple[Fault, list[int]] = (fault, [])
+            one: tuple[Fault, dict[int, None]] = (fault, {})
             found[kind if first is None else len(said)] = one
             said.append(one)
-        elif fault.line not in first[1] and fault.line != first[0].line:
-            first[1].append(fault.line)
-    return [with_lines(fault, lines) for fault, lines in said]
+        elif fault.line != first[0].line:
+            first[1].setdefault(fault.line)
+    return [with_lines(fault, list(lines)) for fault, lines in said]
 
 
 def is_of_path(fault: Fault) -> bool:

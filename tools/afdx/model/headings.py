@@ -69,6 +69,7 @@ def columns_of(name: str, section: str) -> list[str]:
     return FORMS[section].get(name, [])
 
 
+@functools.lru_cache(maxsize=100_000)
 def meanings(text: str, section: str) -> list[str]:
     """The columns that a heading may be, as it is written: what stands in brackets behind it is its unit, or says nothing of a
     column without units."""
