@@ -81,6 +81,7 @@ class Contexts:
                 line.at = {end: line.at.get("equipment", 0)} | line.at
         elif own and lacks:
             self.findings.add(line, f"{line.cell('equipment')}: does {own} send or receive? Say what the column is by --column, source or destinations, or write Tx or Rx")
-        line.is_of_receiver = "source" not in line.cells and "destinations" in line.cells and way != "tx" or way == "rx"
+        # In a table with senders a line without one goes on with the line above.
+        line.is_of_receiver = "source" not in {*line.cells, *ends} and "destinations" in line.cells and way != "tx" or way == "rx"
         if line.is_of_receiver and "port" in line.cells and not line.is_port_of_sender:
             line.cells.setdefault("rx_port", line.cells.pop("port"))

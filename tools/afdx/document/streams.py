@@ -45,7 +45,8 @@ class Streams:
         if not self.of and common:
             self.add(common[0])
         for line in common:
-            self.spread(line)
+            if self.of[0].parts[0] is not line:
+                self.spread(line)
 
     def names(self, line: Line) -> dict[str, str]:
         """What a line has that names its port."""
