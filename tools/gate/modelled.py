@@ -16,19 +16,21 @@ KEPT = Path(__file__).with_name("modelled.txt")
 # The functions that are modelled, by their files.
 MODELLED = {
     "crates/turns/src/agenda.rt": "begin_round put_in_order order list next steal",
+    "crates/turns/src/handling.rt": "handle_due handle_pieces handle_piece ends_turn",
     "crates/turns/src/looks.rt": "work help look_in_vain are_to_help may_publish are_to_rest",
     "crates/turns/src/moments.rt": (
-        "first_ns lower_next publish stop is_over furthest_behind limit_ns is_due waits_for_gvt letter_ns tell collect call call_all"
+        "first_ns lower_next publish stop is_over furthest_behind limit_ns is_due waits_for_gvt letter_ns tell collect call call_all is_beyond limit_behind"
     ),
     "crates/turns/src/pieces.rt": "messages_of_piece",
     "crates/turns/src/report.rt": "first_ns has_letters is_to_post is_due waits_for_gvt is_to_meet is_called can_raise is_behind ends_turn",
     "crates/turns/src/signals.rt": "wake_due wake begin_rest rest end_rest end",
     "crates/turns/src/worker.rt": (
-        "give_turns turns_until_over own_turns turn_of_others stolen help turn_of turn meet handle_due found_nothing handle_piece rest "
-        "is_any_due is_to_go_on is_to_meet ends_turn publish"
+        "give_turns turns_until_over own_turns turn_of_others stolen help turn_of turn meet found_nothing rest "
+        "is_any_due is_to_go_on is_to_meet publish"
     ),
     "crates/turns/src/workers.rt": "watch_all show_gvt",
-    "crates/worker_pool/src/tasks.rt": "handle meet publish meet_at",
+    "crates/group_turns/src/section.rt": "meet_at",
+    "crates/worker_pool/src/tasks.rt": "handle meet publish announced",
 }
 
 EXAMPLES = """

@@ -6,16 +6,16 @@ which others see or change at most one thing, and has the name of the function t
 events, each at a moment in a group. An event is sent when another one is handled, or only if a third one was handled before,
 so that a rollback sends other messages. All states that can be reached are listed, breadth first.
 
-What a step models, in `crates/turns/src` and, of a group, in `tasks.rt` of `crates/worker_pool/src`:
+What a step models, in `crates/turns/src` and, of a group, in `section.rt` of `crates/group_turns/src` and `tasks.rt` of `crates/worker_pool/src`:
 
   turns_until_over    worker.rt: `is_over`, and the beginning of `own_turns`
   begin_round         worker.rt: the limit of the round; agenda.rt, `begin_round`: the order of its groups, and those that are due on the deque
   next_own            agenda.rt, `next`: the front of the deque, or the next group behind those that were listed
   turn_of             worker.rt: `try_take` of a seat; `turn`: `is_to_meet`, `is_due` (report.rt) by the limit of the round or of the helper
-  meet                tasks.rt: `meet_at`, the section of the exchange: Post, Gvt, Take, and `Moments::collect` (moments.rt)
+  meet                section.rt: `meet_at`, the section of the exchange: Post, Gvt, Take, and `Moments::collect` (moments.rt)
   call_all            moments.rt: one `fetch_min` of the moment of a letter
   tell_next           worker.rt: `tell` at the end of `meet`
-  handle_due          worker.rt: `handle_piece` with `handle` and `tell`; `ends_turn` and `is_to_post` (report.rt)
+  handle_due          handling.rt: `handle_piece` with `handle` and `tell`; `ends_turn` and `is_to_post` (report.rt)
   wake_due            signals.rt: is anyone resting? Then `wake_of`, is this group due, and `wake`, its worker: a step each
   give_back           worker.rt, `turn_of`: the seat is given back; behind it a helper calls `wake_due`
   turn_of_others      worker.rt: the limit, and `furthest_behind` (moments.rt); `steal`: the front of that worker's deque, and `look_at_stolen`;
@@ -31,6 +31,9 @@ Only a wake-up ends a rest, since its time limit would hide a lost one; --timeou
 reads the moments of all groups, or tries all seats of a worker, or lists all groups of a round, at one go; the code does so one
 after another. A deque that takes no more, a thief that comes too late, and faults are left out. If the end can be reached from a
 state, a scheduler that is unfair for ever may still keep the run from it.
+
+The model ends where the workers have ended, by themselves or since they were given up. What follows is no part of it: they are joined,
+and one thread finishes the run by a loop that does finitely many rounds, which is proved (`end` of the crate `group_end`).
 
 The text of each function named here stands in tools/gate/modelled.txt, as it was when the model was last compared with it. A test
 fails if a function has changed since: compare it with its step, mend the model, and then run `python3 -m gate.modelled --write`.

@@ -11,4 +11,5 @@ pub mod Reading
 pub mod Replaying
 pub mod Progress
 pub mod MoreProgress
+pub mod Speed
 pub mod Streams

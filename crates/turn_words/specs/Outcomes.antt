@@ -18,3 +18,12 @@ module _ {F : Type 0} (number : F → ℕ) where
   IsToldOf is_memory start threads told =
       ((fault : F) × (told ≡ Err fault) × is_memory fault)
       ⊎ ((outcomes : List (Result ⊤ F)) × (length outcomes ≡ threads + 1) × (slice_get outcomes 0 ≡ Some start) × IsLeastOf outcomes told)
+
+  -- what a run by so many workers reports: all of them were started, or memory or a worker's start was refused; and of that start and of what the
+  -- threads ended with it is the least fault
+  pub record IsToldByWorkers (is_memory is_unstarted : F → Type 0) (workers : ℕ) (told : Result ⊤ F) : Type 0 where
+    pub start : Result ⊤ F
+    pub threads : ℕ
+    pub why : IfErr start (λ fault. is_memory fault ⊎ is_unstarted fault)
+    pub all : OnOk start (threads ≡ workers)
+    pub least : IsToldOf is_memory start threads told

@@ -9,6 +9,9 @@ pub trait Refusal: Drop {
     /// The fault is lack of memory.
     ghost is_memory: { Self → Type 0 };
 
+    /// The fault is that a worker could not be started.
+    ghost is_unstarted: { Self → Type 0 };
+
     /// Returns its number.
     fn number(&self) -> u8
         ensures { result ≡ rank self.now };
@@ -18,5 +21,6 @@ pub trait Refusal: Drop {
         ensures { is_memory result };
 
     /// Makes the fault for a worker that could not be started.
-    fn unstarted() -> Self;
+    fn unstarted() -> Self
+        ensures { is_unstarted result };
 }

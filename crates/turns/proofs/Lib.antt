@@ -1,2 +1,4 @@
 mod FirstOutcome
 mod Order
+mod TurnPieces
+pub mod Told

@@ -1,8 +1,9 @@
 //! The order of a worker's turns: a deque of its groups that are due, from which other workers steal.
 //!
 //! The order of its groups has an exact clause. Which of them another worker steals first has none.
-ghost use Rattle.std.specs.Prelude.{◌<◌, ◌≤◌, All, IsPermutation, drop, take};
+ghost use Rattle.std.specs.Prelude.{◌≡◌, ◌<◌, ◌≤◌, All, IfOk, IsPermutation, drop, length, slice_get, take};
 ghost use Rattle.std.specs.List.Sorted.{IsNonDecreasingBy};
+ghost use Rattle.std.specs.Option.{option_map};
 
 use crate::common::Common;
 use crate::moments::Moments;
@@ -95,7 +96,9 @@ impl<R: TurnRun> Agenda<R> {
 
     /// Returns the group whose turn is number `place` of the round: first the listed ones that nobody stole, then the others in their
     /// order.
-    pub(crate) fn next(&mut self, place: usize) -> Option<usize> {
+    pub(crate) fn next(&mut self, place: usize) -> Option<usize>
+        ensures others { self.old.listed ≤ place → result ≡ option_map (λ own. own.hint.group) (slice_get self.old.own.items place) }
+    {
         if place < self.listed {
             return match self.deque.pop() {
                 Some(hint) => Some(usize::from(hint.group)),
@@ -145,7 +148,9 @@ impl<R: TurnRun> Stealers<R> {
 pub(crate) fn agendas_of<G: Drop, K: Tasks<G>>(
     alloc: Global,
     common: &Common<G, K>,
-) -> Result<(Vec<Agenda<K::Run>>, Stealers<K::Run>), AllocError> {
+) -> Result<(Vec<Agenda<K::Run>>, Stealers<K::Run>), AllocError>
+    ensures each { IfOk result (λ r. length r.0.items ≡ common.now.workers) }
+{
     let mut agendas = Vec::new(alloc);
     let mut stealers = Vec::new(alloc);
     for worker in 0..common.workers {

@@ -11,6 +11,8 @@ use vlink::Time;
 pub struct Common<G, K> {
     /// The number of workers.
     pub workers: usize,
+    /// The number of groups.
+    pub groups: usize,
     /// The most messages that a group handles in a turn.
     pub turn: u32,
     /// The most that a group runs ahead of the GVT that it saw, in ns.
@@ -19,6 +21,7 @@ pub struct Common<G, K> {
     pub(crate) signals: Signals,
     /// What they do with a group.
     pub tasks: K,
+    ghost seated: { length seats.seats.items ≡ groups },
 }
 
 impl<G: Drop, K: Drop> Common<G, K> {
@@ -34,13 +37,16 @@ impl<G: Drop, K: Drop> Common<G, K> {
         tasks: K,
     ) -> Result<Self, AllocError>
         ensures workers { IfOk result (λ common. common.workers ≡ min (length groups.items) workers) }
+        ensures groups { IfOk result (λ common. common.groups ≡ length groups.items) }
         ensures turn { IfOk result (λ common. common.turn ≡ turn) }
         ensures window { IfOk result (λ common. common.window_ns ≡ window_ns) }
     {
-        let workers = groups.len().min(usize::from(workers));
+        let count = groups.len();
+        let workers = count.min(usize::from(workers));
         match seated(alloc, until, groups, workers) {
             Ok((signals, seats)) => Ok(Common {
                 workers,
+                groups: count,
                 turn: u32::from(turn),
                 window_ns,
                 seats,
@@ -56,7 +62,8 @@ impl<G: Drop, K: Drop> Common<G, K> {
 
     /// Returns the groups, in order, and what was done with them. Only memory can be refused.
     pub fn into_groups(self, alloc: Global) -> Result<(Vec<G>, K), AllocError>
-        ensures { IfOk result (λ r. r.1 ≡ self.tasks) }
+        ensures all { IfOk result (λ r. length r.0.items ≡ self.groups) }
+        ensures tasks { IfOk result (λ r. r.1 ≡ self.tasks) }
     {
         let Common {
             seats,
@@ -81,7 +88,9 @@ fn seated<G: Drop>(
     until: Time,
     groups: Vec<G>,
     workers: usize,
-) -> Result<(Signals, Seats<G>), AllocError> {
+) -> Result<(Signals, Seats<G>), AllocError>
+    ensures all { IfOk result (λ r. length r.1.seats.items ≡ length groups.items) }
+{
     let count = groups.len();
     let seats = Seats::of(alloc, groups)?;
     match Signals::new(alloc, count, workers, until) {

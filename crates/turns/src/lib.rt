@@ -9,7 +9,7 @@
 //! until one of its own is due, each time twice as long as before.
 //!
 //! What is a function of numbers has an exact clause: when a group is due, posts, meets the others or ends its turn (`Report`), how many
-//! messages a piece of a turn has (`pieces`), the order of an agenda (`Agenda`), how long a worker looks (`Looks`), and when a run stands still
+//! messages a piece of a turn has (`pieces`) and a turn (`handling`), the order of an agenda (`Agenda`), how long a worker looks (`Looks`), and when a run stands still
 //! (`Standstill`). When a thread sees what another wrote has no clause, nor has who steals from whom: a wrong estimate costs a turn or a
 //! rollback.
 #![tactic(auto)]
@@ -17,6 +17,7 @@
 mod agenda;
 mod apart;
 mod common;
+mod handling;
 mod locking;
 mod looks;
 mod moments;

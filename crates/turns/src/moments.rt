@@ -1,4 +1,10 @@
 //! When each group has something to do next, and how far the workers have come.
+//!
+//! When a thread sees what another wrote has no clause. What it makes of it is exact where it is a function of numbers.
+ghost use Rattle.std.specs.Prelude.{◌≡◌, ◌↔◌, ◌+◌, ◌<◌, IsTrue, min};
+ghost use Rattle.turns.specs.Meeting.{never};
+ghost use Rattle.turns.specs.declared.TheConstants.{LEAD_NS};
+
 use crate::LEAD_NS;
 use crate::apart::Apart;
 use std::alloc::{AllocError, Global};
@@ -57,6 +63,20 @@ fn owners_of(alloc: Global, groups: usize, workers: usize) -> Result<Vec<usize>,
         };
     }
     Ok(owners)
+}
+
+/// Whether GVT is beyond the end, both in ns: then all is done.
+fn is_beyond(gvt_ns: u64, until_ns: u64) -> bool
+    ensures { IsTrue result ↔ (until_ns < gvt_ns) }
+{
+    gvt_ns > until_ns
+}
+
+/// Before which moment events are due if this is the least moment of all groups, both in ns.
+fn limit_behind(least_ns: u64) -> u64
+    ensures { result ≡ min (least_ns + LEAD_NS) never }
+{
+    least_ns.saturating_add(LEAD_NS)
 }
 
 /// What the workers announce to one another.
@@ -137,7 +157,7 @@ impl Moments {
 
     /// Whether GVT is beyond the end, or a refusal ends all workers.
     pub(crate) fn is_over(&self) -> bool {
-        self.gvt_ns() > self.until_ns || self.stop.load(Ordering::SeqCst)
+        is_beyond(self.gvt_ns(), self.until_ns) || self.stop.load(Ordering::SeqCst)
     }
 
     /// Returns the group, other than those of this worker, that is furthest behind, if it has something to do before this moment, in ns.
@@ -163,7 +183,7 @@ impl Moments {
         for moment in &self.moments {
             least_ns = least_ns.min(moment.value.first_ns());
         }
-        least_ns.saturating_add(LEAD_NS)
+        limit_behind(least_ns)
     }
 
     /// Returns the moment at which the group has something to do, in ns.

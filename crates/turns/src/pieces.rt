@@ -1,5 +1,5 @@
 //! How many messages a group handles before it announces how far it is.
-ghost use Rattle.std.specs.Prelude.{◌≡◌, ◌≢◌, ◌-◌, min};
+ghost use Rattle.std.specs.Prelude.{◌≡◌, ◌≢◌, ◌-◌, ◌≤◌, min};
 ghost use Rattle.turns.specs.declared.TheConstants.{PIECE};
 
 use crate::PIECE;
@@ -8,6 +8,7 @@ use crate::PIECE;
 /// Nobody needs to know how far the only group is.
 pub(crate) fn messages_of_piece(groups: usize, turn: u32, handled: u32) -> u32
     ensures alone { groups ≡ 1 → result ≡ turn - handled }
+    ensures left { result ≤ turn - handled }
     ensures among { groups ≢ 1 → result ≡ min (turn - handled) PIECE }
 {
     let left = turn.saturating_sub(handled);

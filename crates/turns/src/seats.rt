@@ -1,4 +1,6 @@
 //! The groups of a run, each with a lock of its own.
+ghost use Rattle.std.specs.Prelude.{◌≡◌, IfOk, length};
+
 use crate::apart::Apart;
 use crate::seat::Seat;
 use std::alloc::{AllocError, Global};
@@ -12,7 +14,9 @@ pub(crate) struct Seats<G> {
 
 impl<G: Drop> Seats<G> {
     /// Makes the seats of these groups. Only memory can be refused.
-    pub(crate) fn of(alloc: Global, groups: Vec<G>) -> Result<Self, AllocError> {
+    pub(crate) fn of(alloc: Global, groups: Vec<G>) -> Result<Self, AllocError>
+        ensures all { IfOk result (λ seats. length seats.seats.items ≡ length groups.items) }
+    {
         let mut seats = Vec::with_capacity(alloc, groups.len())?;
         for group in groups {
             seats.push(Apart::new(Mutex::new(Seat::new(group))))?;
@@ -29,7 +33,9 @@ impl<G: Drop> Seats<G> {
     }
 
     /// Returns the groups, in order. Only memory can be refused.
-    pub(crate) fn into_groups(self, alloc: Global) -> Result<Vec<G>, AllocError> {
+    pub(crate) fn into_groups(self, alloc: Global) -> Result<Vec<G>, AllocError>
+        ensures all { IfOk result (λ groups. length groups.items ≡ length self.seats.items) }
+    {
         let Seats { seats } = self;
         let mut groups = Vec::with_capacity(alloc, seats.len())?;
         for seat in seats {

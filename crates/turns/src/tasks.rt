@@ -1,5 +1,5 @@
 //! What a worker does with a group.
-ghost use Rattle.std.specs.Prelude.{◌<◌};
+ghost use Rattle.std.specs.Prelude.{ℕ, ◌<◌, ◌≤◌, IfOk};
 
 use crate::moments::Moments;
 use crate::report::Report;
@@ -14,16 +14,25 @@ pub trait Tasks<G> {
     /// The run to which the groups belong.
     type Run: TurnRun;
 
+    /// The group handled so many messages, at most `most`, no further ahead of the GVT that it saw than so many ns.
+    ghost handles: { G → G → ℕ → ℕ → ℕ → Type 0 };
+
+    /// A look at the group changed nothing.
+    ghost stays: { G → G → Type 0 };
+
     /// Returns how far a group is.
     fn report(&self, seat: &Seat<G>) -> Report
         ensures within { result.number < Self.Run.groups };
 
     /// Returns the moment of its next event, in ns, or the greatest number if it has none.
-    fn next_ns(&self, group: &mut G) -> u64;
+    fn next_ns(&self, group: &mut G) -> u64
+        ensures { stays group.old group.new };
 
     /// The group handles at most `most` messages, which are no further ahead of the GVT that it saw than `ahead_ns`, in ns. Returns how
     /// many.
-    fn handle(&self, group: &mut G, most: u32, ahead_ns: u64) -> Result<u32, Self::Fault>;
+    fn handle(&self, group: &mut G, most: u32, ahead_ns: u64) -> Result<u32, Self::Fault>
+        ensures few { IfOk result (λ count. count ≤ most) }
+        ensures handled { IfOk result (λ count. handles group.old group.new most ahead_ns count) };
 
     /// In one section of the exchange the group posts what it did, and its letters go to the other groups and are listed: for each group
     /// the least moment is lowered, in ns. Then its own letters come to it. In between GVT is set, if the group waits for it or it is time.

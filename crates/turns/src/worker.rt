@@ -2,8 +2,8 @@
 use crate::PAUSES;
 use crate::agenda::{Agenda, Stealers};
 use crate::common::Common;
+use crate::handling::handle_due;
 use crate::looks::Looks;
-use crate::pieces::messages_of_piece;
 use crate::report::Report;
 use crate::seat::Seat;
 use crate::signals::Signals;
@@ -173,7 +173,7 @@ impl<'s, G: Drop, K: Tasks<G>, T: Wait> Worker<'s, G, K, T> {
         } else if !report.is_due(limit_ns, common.window_ns) {
             return Ok(false);
         }
-        let has_worked = self.handle_due(seat)?;
+        let has_worked = handle_due(common, seat)?;
         if common.tasks.report(seat).is_to_post(is_own) {
             self.meet(seat)?;
         }
@@ -199,26 +199,6 @@ impl<'s, G: Drop, K: Tasks<G>, T: Wait> Worker<'s, G, K, T> {
         Ok(())
     }
 
-    /// The group handles messages as long as they are due, as many as a turn has, and announces now and then how far it is. It ends where it is to meet the
-    /// others. The answer is whether a message was handled.
-    fn handle_due(&self, seat: &mut Seat<G>) -> Result<bool, K::Fault> {
-        let common = self.common;
-        let moments = &common.signals.moments;
-        let turn = common.turn;
-        let mut handled = 0;
-        for _ in 0..turn {
-            let most = messages_of_piece(moments.groups(), turn, handled);
-            let count = handle_piece(common, seat, most)?;
-            handled = handled.saturating_add(count);
-            let is_done = count < most || handled >= turn;
-            if is_done || ends_turn(common, seat, handled) {
-                break;
-            }
-        }
-        seat.unposted = seat.unposted.saturating_add(handled);
-        Ok(handled != 0)
-    }
-
     /// Acts on a look in vain: it looks again soon, and rests after many looks. If it waits for GVT, or has waited for long, it sets GVT
     /// now and then.
     fn found_nothing(&mut self) -> Result<(), K::Fault> {
@@ -238,25 +218,6 @@ impl<'s, G: Drop, K: Tasks<G>, T: Wait> Worker<'s, G, K, T> {
         }
         Ok(())
     }
-}
-
-/// The group handles messages that are due, at most `most`, no further ahead of the GVT that it saw than the window. It announces how far
-/// it is: no further than its earliest letter that is not posted. Returns how many messages.
-fn handle_piece<G: Drop, K: Tasks<G>>(
-    common: &Common<G, K>,
-    seat: &mut Seat<G>,
-    most: u32,
-) -> Result<u32, K::Fault> {
-    let tasks = &common.tasks;
-    let moments = &common.signals.moments;
-    let report = tasks.report(seat);
-    // A letter that waits is to arrive before what is later.
-    let limit_ns = moments.limit_ns().min(moments.letter_ns(report.number));
-    let due_ns = limit_ns.saturating_sub(report.seen_ns);
-    let count = tasks.handle(&mut seat.group, most, due_ns.min(common.window_ns))?;
-    seat.next_ns = tasks.next_ns(&mut seat.group);
-    moments.tell(report.number, tasks.report(seat).first_ns());
-    Ok(count)
 }
 
 /// A worker that has looked in vain for long rests until a group of its own is due, unless one is.
@@ -289,12 +250,6 @@ fn is_any_due<G: Drop, K: Tasks<G>>(common: &Common<G, K>, number: usize) -> boo
 fn is_to_go_on<G: Drop, K: Tasks<G>>(common: &Common<G, K>, seat: &Seat<G>, limit_ns: u64) -> bool {
     let report = common.tasks.report(seat);
     report.is_due(limit_ns, common.window_ns) || is_to_meet(common, &report, limit_ns, u64::MAX)
-}
-
-/// Whether a group should meet the others once it has handled `handled` messages in its turn, by the moments that the workers announce.
-fn ends_turn<G: Drop, K: Tasks<G>>(common: &Common<G, K>, seat: &Seat<G>, handled: u32) -> bool {
-    let report = common.tasks.report(seat);
-    report.ends_turn(common.signals.moments.letter_ns(report.number), handled)
 }
 
 /// Whether a group should meet the others before it goes on, by the moments that the workers announce. Events before the limit, in ns, are

@@ -1,6 +1,6 @@
 //! Threads that give turns to groups.
-ghost use Rattle.std.specs.Prelude.{◌≡◌, ◌+◌, ◌<◌, IfErr, IfOk, Some, length, slice_get};
-ghost use Rattle.turn_words.specs.Outcomes.{IsToldOf};
+ghost use Rattle.std.specs.Prelude.{◌≡◌, ◌+◌, ◌<◌, ◌⊎◌, IfErr, IfOk, OnOk, Some, length, slice_get};
+ghost use Rattle.turn_words.specs.Outcomes.{IsToldByWorkers, IsToldOf};
 
 use crate::LOOK_US;
 use crate::agenda::{Agenda, Stealers, agendas_of};
@@ -13,7 +13,7 @@ use actor_run::Watch;
 use std::alloc::{AllocError, Global};
 use std::sync::Wait;
 use std::thread;
-use std::thread::{JoinHandle, Threads};
+use std::thread::{JoinHandle, Scope, Threads};
 use turn_words::{Refusal, TurnRun, add_outcome, least_fault};
 use vlink::Time;
 
@@ -30,6 +30,7 @@ pub fn work_all<
     W: Watch + Drop,
 >(rt: &T, alloc: Global, common: &Common<G, K>, watch: W) -> (Result<(), F>, W)
     ensures some { IfErr result.0 (λ fault. 0 < common.now.workers) }
+    ensures told { IsToldByWorkers F.rank F.is_memory F.is_unstarted common.now.workers result.0 }
     ensures watched { W.becomes watch result.1 }
 {
     if common.workers == 0 {
@@ -58,32 +59,76 @@ fn start_all<
     agendas: Vec<Agenda<R>>,
     watch: W,
 ) -> (Result<(), F>, W)
+    ensures told { IsToldByWorkers F.rank F.is_memory F.is_unstarted (length agendas.items) result.0 }
     ensures watched { W.becomes watch result.1 }
 {
     thread::scope(
         thread::scope_env(),
         rt,
         |scope| -> (Result<(), F>, W)
+            ensures told { IsToldByWorkers F.rank F.is_memory F.is_unstarted (length agendas.items) result.0 }
             ensures watched { W.becomes watch result.1 }
         {
             let mut handles = Vec::new(alloc);
-            let mut start = Ok(());
-            for agenda in agendas {
-                if handles.reserve(1).is_err() {
-                    start = Err(F::memory());
-                    break;
-                }
-                let Ok(handle) = scope.spawn(move || give_turns(
-                    rt, alloc, common, stealers, agenda,
-                )) else {
-                    start = Err(F::unstarted());
-                    break;
-                };
-                handles.push_reserved(handle);
-            }
+            let start = start_each(scope, rt, alloc, common, stealers, agendas, &mut handles);
             watch_all(rt, alloc, &common.signals, start, handles, watch)
         },
     )
+}
+
+/// Starts a worker for each of these agendas, as long as none is refused, and lists their handles.
+fn start_each<
+    's,
+    E: 's,
+    G: Drop + Send,
+    F: Refusal + Send + 's,
+    R: TurnRun + Send + Sync,
+    K: Tasks<G, Fault = F, Run = R> + Sync,
+    T: Threads + Wait + Sync,
+>(
+    scope: &Scope<'s, E>,
+    rt: &'s T,
+    alloc: Global,
+    common: &'s Common<G, K>,
+    stealers: &'s Stealers<R>,
+    agendas: Vec<Agenda<R>>,
+    handles: &mut Vec<JoinHandle<Result<(), F>>>,
+) -> Result<(), F>
+    ensures why { IfErr result (λ fault. F.is_memory fault ⊎ F.is_unstarted fault) }
+    ensures all { OnOk result (length handles.new.items ≡ length handles.old.items + length agendas.items) }
+{
+    for agenda in agendas {
+        if handles.reserve(1).is_err() {
+            return Err(F::memory());
+        }
+        handles.push_reserved(start_one(scope, rt, alloc, common, stealers, agenda)?);
+    }
+    Ok(())
+}
+
+/// Starts a worker.
+fn start_one<
+    's,
+    E: 's,
+    G: Drop + Send,
+    F: Refusal + Send + 's,
+    R: TurnRun + Send + Sync,
+    K: Tasks<G, Fault = F, Run = R> + Sync,
+    T: Threads + Wait + Sync,
+>(
+    scope: &Scope<'s, E>,
+    rt: &'s T,
+    alloc: Global,
+    common: &'s Common<G, K>,
+    stealers: &'s Stealers<R>,
+    agenda: Agenda<R>,
+) -> Result<JoinHandle<Result<(), F>>, F>
+    ensures unstarted { IfErr result F.is_unstarted }
+{
+    match scope.spawn(move || give_turns(rt, alloc, common, stealers, agenda)) {
+        Ok(handle) => Ok(handle),
+        Err(_) => Err(F::unstarted()),
+    }
 }
 
 /// Shows the watch GVT until the run ends. If the start was refused, the workers must end, and those that rest are woken. They are joined.

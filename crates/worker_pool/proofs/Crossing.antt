@@ -49,8 +49,8 @@ use Rattle.worker_pool.specs.contracts.leaving.Leaving as Leaving
 use Rattle.run_rows.specs.contracts.row_tables.RowTables as RowTables
 use Rattle.run_rows.specs.contracts.row_tables.RowTables.TheInside as RowTablesIn
 use Rattle.worker_pool.specs.contracts.tasks.NetworkTasks as Tasks
-use Rattle.worker_pool.specs.contracts.shared.Shared as Shared
-use Rattle.worker_pool.specs.contracts.shared.Shared.TheInside as SharedIn
+use Rattle.group_turns.specs.contracts.shared.Shared as Shared
+use Rattle.group_turns.specs.contracts.shared.Shared.TheInside as SharedIn
 use Rattle.worker_pool.proofs.desk.TraceLock.TheSendSync as trace
 use Rattle.turns.proofs.apart.Apart.TheSendSync as apart
 

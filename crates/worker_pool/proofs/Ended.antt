@@ -1,5 +1,5 @@
 -- What holds of a run that is ended.
-use Rattle.std.proofs.Common.{◌≡◌, ◌<◌, ◌≤◌, ◌∙◌, ◌++◌, refl, inl, inr, ℕ, suc, ◌+◌, ◌==◌, Bool, true, false, List, [], map, length, get_or, slice_get, append-nil, sym, ap, subst, arith, Some}
+use Rattle.std.proofs.Common.{◌≡◌, ◌<◌, ◌≤◌, ◌∙◌, ◌++◌, refl, inl, inr, ℕ, ◌+◌, ◌==◌, Bool, true, false, List, [], map, length, get_or, slice_get, append-nil, sym, ap, subst, arith, Some}
 use Rattle.std.proofs.lemmas.Bool.{cases_eq}
 use Rattle.std.proofs.lemmas.List.Elements.{All-get_or, filter-append}
 use Rattle.std.proofs.lemmas.Option.{slice_get-get_or}
@@ -8,7 +8,7 @@ use Rattle.vlink.specs.Letters.{Row}
 use Rattle.vlink.specs.Order.{message_order}
 use Rattle.virtual_time.specs.Law.{Part, earlier, rowed, rows_at, Laws, one, IsWhole, behind, waiting_in}
 use Rattle.virtual_time.specs.declared.step.Step.{Step}
-use Rattle.network.specs.Words.{Plan, process_count}
+use Rattle.network.specs.Words.{Plan}
 use Rattle.nodes.specs.Words.{NodeState, opening, simulation_of}
 use Rattle.nodes.specs.declared.node.NodeRecord.{NodeRecord}
 use Rattle.group_queues.specs.declared.block.Word.{Word}
@@ -23,7 +23,6 @@ use Rattle.seqsim.proofs.CommittedRows.{rows-all}
 use Rattle.run_rows.specs.Counts.{moment_of}
 use Rattle.worker_pool.specs.Runs.{IsOfWorld, IsEnded}
 use Rattle.worker_pool.proofs.GroupRows.{AreOfGroup}
-use Rattle.worker_pool.proofs.Places.{some-at}
 
 -- the group at a place has committed all that it has done
 abbrev pub HasCommitted : Plan → List ℕ → ℕ → GroupState NodeState NodeRecord → Type 0
@@ -72,25 +71,6 @@ module _ (plan : Plan) (owners : List ℕ) where
       }
 
   module _ (steps : List Step) (groups : List (GroupState NodeState NodeRecord)) where
-    -- the end is passed, and each group is of the journal's world and has committed all
-    pub ended : (gvt : ℕ) → gvt ≡ (after plan steps).gvt → gvt ≡ plan.until + 1 → AreGrouped (process_count plan) (length groups) owners →
-        ((g : ℕ) (group : GroupState NodeState NodeRecord) → slice_get groups g ≡ Some group → IsOfWorld plan owners steps g group) →
-        ((g : ℕ) (group : GroupState NodeState NodeRecord) → slice_get groups g ≡ Some group → HasCommitted plan owners g group) → IsEnded plan owners steps groups
-    ended gvt reached over grouped each committed =
-        record {
-          finished = record {
-            over = let e : (after plan steps).gvt ≡ suc plan.until = omega arith in e;
-            all_committed = λ p i.
-                let own = own-group grouped p i in
-                let at = some-at groups own.0 own.1 in
-                let here = each own.0 at.0 at.1 in
-                ap (λ (part : Part Message NodeState). part.done) (sym (here.parts p own.2))
-                ∙ committed own.0 at.0 at.1 p (subst (λ g. is_of owners g p ≡ true) (sym here.number) own.2);
-          };
-          grouped = grouped;
-          each = each;
-        }
-
     module _ (E : IsEnded plan owners steps groups) where
       -- the rows of one group more
       pub rows-next : (n : ℕ) (group : GroupState NodeState NodeRecord) → slice_get groups n ≡ Some group → (rows more longer : List Row) → longer ≡ rows ++ more →

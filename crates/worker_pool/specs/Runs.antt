@@ -14,11 +14,6 @@ use Rattle.seqsim.specs.Committed.{after}
 use Rattle.seqsim.specs.Networks.{AreRowsOf}
 use Rattle.run_rows.specs.Counts.{moment_of}
 
--- so many steps the journal of a run can have: 2 to the power of 26 where it is kept, and of 62 where it is not
-abbrev pub most_steps : Bool → ℕ
-most_steps true = 67108864
-most_steps false = 4611686018427387904
-
 -- the processes of a network are in so many groups, each of which has a process
 pub record IsGroupingOf (plan : Plan) (groups : ℕ) (owners : List ℕ) : Type 0 where
   pub grouped : AreGrouped (process_count plan) groups owners

@@ -3,7 +3,7 @@ ghost use Rattle.std.specs.Prelude.{◌≡◌, length};
 ghost use Rattle.worker_pool.specs.Paces.{pace_of};
 
 use crate::ending::Unlocked;
-use crate::network_run::NetworkRun;
+use network_runs::NetworkRun;
 use std::marker::Model;
 
 /// The number of workers of a run and of its groups, and its turn and window. Only a run by workers makes one: from its groups, once they

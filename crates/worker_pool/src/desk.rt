@@ -11,18 +11,22 @@ ghost use Rattle.run_rows.specs.Traces.{HasLawfulRows};
 ghost use Rattle.worker_pool.specs.Gatherings.{IsGatheringOfRun};
 ghost use Rattle.run_rows.specs.Written.{IsPlaceFault};
 ghost use Rattle.worker_pool.specs.Gatherings.{first_of, told_of};
+ghost use Rattle.group_end.specs.Together.{OnlyRowsLeft};
 
 use crate::group_segments::next_group_segment;
-use crate::network_run::{NetworkGroup, NetworkRun};
-use crate::run_fault::RunFault;
 use crate::start::StartOf;
 use crossbeam_channel::{SendError, Sender};
+use group_turns::{NetworkGroup, RunFault};
 use journal::PoolFault;
+use network_runs::NetworkRun;
 use run_rows::{RunBatch, rows_law};
 use std::alloc::{AllocError, Global};
 use std::sync::{Mutex, Wait};
 use trace_tables::{Gather, Segment, SegmentFault, batches_in_order_law, segments_of_rows_law};
 use vlink::Time;
+
+/// The most segments that a group gives: a trace has at most this many intervals.
+const MOST_SEGMENTS: u64 = 1024;
 
 /// The contents of the lock of the trace: the segments that wait for those of other groups, the end of the channel to the writer's thread,
 /// and the first fault of a segment's place. By its type the segments have the rows that the one-thread run of the network has.
@@ -151,6 +155,7 @@ impl<J: NetworkRun> TraceLock<J> {
 
     /// Puts the next segment that a group can give on the desk. Returns whether there was one.
     fn give_segment<T: Wait>(&self, rt: &T, group: &mut NetworkGroup<J>) -> Result<bool, PoolFault>
+        ensures rows { OnlyRowsLeft group.old group.new }
         ensures memory { IfErr result (λ fault. fault ≡ pool.OutOfMemory) }
     {
         // The group is one of the run.
@@ -163,21 +168,23 @@ impl<J: NetworkRun> TraceLock<J> {
     }
 
     /// Puts the segments that a group can give on the desk, one after another. The caller does not have the lock of the exchange.
+    #[tactic(auto, using(crate::proofs::LeftRows::left_both))]
     pub(crate) fn give_segments<T: Wait>(
         &self,
         rt: &T,
         group: &mut NetworkGroup<J>,
     ) -> Result<(), RunFault<J>>
+        ensures rows { OnlyRowsLeft group.old group.new }
         ensures memory { IfErr result (λ fault. fault ≡ pool.OutOfMemory) }
     {
-        for _ in rt.forever() {
+        for _ in 0..MOST_SEGMENTS {
             match self.give_segment(rt, group) {
                 Ok(true) => {}
                 Ok(false) => return Ok(()),
                 Err(fault) => return Err(RunFault::other(fault)),
             }
         }
-        unreachable!()
+        Ok(())
     }
 
     /// Returns the first fault of a segment that is not lack of memory. No batch is sent from here on.

@@ -1,23 +1,25 @@
 //! The end of a run: one thread holds everything, and gives turns until all is committed.
-ghost use Rattle.std.specs.Prelude.{◌≡◌, ◌≢◌, ◌<◌, ℕ, true, [], length, slice_get, Some, IsTrue, IfErr, OnOk};
+ghost use Rattle.std.specs.Prelude.{◌≡◌, ◌≢◌, ℕ, true, length, slice_get, Some, IfErr, OnOk};
+ghost use Rattle.virtual_time.specs.Law.{IsFinished, Laws};
 ghost use Rattle.network.specs.Words.{process_count};
 ghost use Rattle.nodes.specs.Words.{NodeState, simulation_of};
 ghost use Rattle.nodes.specs.declared.node.NodeRecord.{NodeRecord};
 ghost use Rattle.journal.specs.declared.fault.PoolFault.TheVariants.{Spawn};
-ghost use Rattle.group_exchange.specs.Views.{GroupState, in_group, is_of};
+ghost use Rattle.group_exchange.specs.Views.{GroupState};
 ghost use Rattle.group_exchange.specs.Keeps.{AreGrouped};
+ghost use Rattle.group_end.specs.Together.{AreInPlace, AreOver};
+ghost use Rattle.seqsim.specs.Committed.{after};
 ghost use Rattle.worker_pool.specs.Runs.{IsOfWorld, IsEnded, HaveGoneBy};
 
-use crate::leaving::Leaving;
-use crate::network_run::{NetworkGroup, NetworkRun, OfGroups};
-use crate::run_fault::RunFault;
-use crate::shared::Shared;
+use crate::leaving::{Leaving, LeavingNow};
 use crate::speed::Speed;
-use group_exchange::GroupExchange;
+use group_end::{end, put_in_place};
+use group_turns::{NetworkGroup, RunFault, Shared};
 use journal::Gate;
 use network::Network;
-use nodes::Node;
+use network_runs::NetworkRun;
 use run_rows::moment_of;
+use seqsim::network_law;
 use std::sync::Wait;
 use vlink::Time;
 
@@ -31,81 +33,96 @@ pub(crate) struct Unlocked<'n, J: NetworkRun> {
     pub ghost planned: { network.now ≡ J.plan },
 }
 
-/// Whether this group is number `place`, has seen a GVT later than the end, and has no step that is not in the journal. Then its processes
-/// are those of the journal.
-fn is_of_world<J: NetworkRun>(
-    exchange: &GroupExchange<Node, OfGroups<J>>,
-    group: &NetworkGroup<J>,
-    place: usize,
-    until: Time,
-) -> bool
-    requires { until ≡ J.plan.until }
-    ensures { result ≡ true → IsOfWorld J.plan J.owners exchange.now.steps place group.now }
+/// Returns the end time of the run, which meets the laws of virtual time.
+fn until_of<J: NetworkRun>(network: &Network) -> Time
+    requires { network.now ≡ J.plan }
+    ensures laws { Laws (simulation_of J.plan) }
+    ensures until { result ≡ J.plan.until }
 {
-    if usize::from(group.number()) != place
-        || group.has_block()
-        || group.gvt_seen().ns() <= until.ns()
-    {
-        return false;
-    }
-    exchange.fits(group)
+    network_law(network);
+    network.until()
 }
 
 impl<J: NetworkRun> Unlocked<'_, J> {
-    /// Sets GVT and gives each group a turn, again and again until the run is ended, and, if it is asked for, no row has left a group. In
-    /// the last turn each group has seen the GVT after the end, and has no segment of the trace left to give.
+    /// Sets GVT and gives each group a turn, again and again until the run is ended. The loop does finitely many rounds (`group_end::end`).
+    /// In the last turn each group has seen the GVT after the end, and has no segment of the trace left to give.
     pub(crate) fn end<G: Gate, T: Wait>(
         &mut self,
         rt: &T,
         leaving: &Leaving<'_, J>,
-        keeps_rows: bool,
         gate: &G,
     ) -> Result<(), RunFault<J>>
+        requires { length self.old.groups.items ≡ length J.names }
         ensures ended { OnOk result (IsEnded J.plan J.owners self.new.exchange.steps self.new.groups.items) }
         ensures count { OnOk result (length self.new.groups.items ≡ length J.names) }
         ensures speed { self.new.speed ≡ self.old.speed }
-        ensures kept { OnOk result (IsTrue keeps_rows → HaveGoneBy [] 0 self.new.groups.items) }
         ensures no_spawn { IfErr result (λ fault. fault ≢ Spawn) }
     {
-        'turns: for _ in rt.forever() {
-            let _gvt = self.exchange.publish()?;
-            self.take_turns(rt, leaving, gate)?;
-            if self.is_ended() && (!keeps_rows || self.have_gone_by(&[], Time::default())) {
-                return Ok(());
-            }
-        }
-        unreachable!()
+        self.put_in_place();
+        self.finish(rt, leaving, gate)?;
+        self.are_of_world();
+        Ok(())
     }
 
-    /// Gives each group a turn. Its rows that can no longer change leave it, if they leave at all.
-    fn take_turns<G: Gate, T: Wait>(
+    /// Puts each group at the place of its number.
+    fn put_in_place(&mut self)
+        requires { length self.old.groups.items ≡ length J.names }
+        ensures all { length self.new.groups.items ≡ length J.names }
+        ensures in_place { AreInPlace self.new.groups.items }
+        ensures speed { self.new.speed ≡ self.old.speed }
+    {
+        put_in_place(&mut self.exchange.inner, self.groups.as_mut_slice());
+    }
+
+    /// Gives rounds until the world is finished.
+    fn finish<G: Gate, T: Wait>(
         &mut self,
         rt: &T,
         leaving: &Leaving<'_, J>,
         gate: &G,
     ) -> Result<(), RunFault<J>>
+        requires all { length self.old.groups.items ≡ length J.names }
+        requires in_place { AreInPlace self.old.groups.items }
+        ensures all { length self.new.groups.items ≡ length J.names }
+        ensures in_place { OnOk result (AreInPlace self.new.groups.items) }
+        ensures over { OnOk result (AreOver J.plan.until self.new.groups.items) }
+        ensures finished { OnOk result (IsFinished (simulation_of J.plan) (after J.plan self.new.exchange.steps)) }
         ensures speed { self.new.speed ≡ self.old.speed }
         ensures no_spawn { IfErr result (λ fault. fault ≢ Spawn) }
     {
-        for group in self.groups.iter_mut() {
-            self.exchange
-                .give_turn(group, self.speed.turn, self.speed.window_ns, gate)?;
-            leaving.take_rows(rt, self.network, group)?;
+        let until = until_of::<J>(self.network);
+        let rows = LeavingNow {
+            rt,
+            leaving,
+            network: self.network,
+        };
+        match end(
+            &mut self.exchange.inner,
+            self.groups.as_mut_slice(),
+            until,
+            self.speed.turn.max(1),
+            self.speed.window_ns.max(1),
+            gate,
+            &rows,
+        ) {
+            Ok(()) => Ok(()),
+            Err(fault) => Err(RunFault::new(fault)),
         }
-        Ok(())
     }
 
-    /// Whether GVT is beyond the end, all groups are here, each in its place and without a block, and each has committed all that it has
-    /// done.
-    fn is_ended(&self) -> bool
-        ensures ended { result ≡ true → IsEnded J.plan J.owners self.now.exchange.steps self.now.groups.items }
-        ensures count { result ≡ true → length self.now.groups.items ≡ length J.names }
+    /// Groups for which the run is over have no step that is not in the journal. So their processes are those of the journal.
+    fn are_of_world(&self)
+        requires in_place { AreInPlace self.now.groups.items }
+        requires over { AreOver J.plan.until self.now.groups.items }
+        ensures grouped { AreGrouped (process_count J.plan) (length J.names) J.owners }
+        ensures each { (g : ℕ) (group : GroupState NodeState NodeRecord) → slice_get self.now.groups.items g ≡ Some group →
+            IsOfWorld J.plan J.owners self.now.exchange.steps g group }
     {
-        let until = self.network.until();
-        if self.exchange.as_exchange().gvt().ns() != until.ns() + 1 || !self.are_of_world(until) {
-            return false;
+        let _groups = self.exchange.as_exchange().groups();
+        for place in 0..self.groups.len() {
+            let group = &self.groups[place];
+            let _fits = self.exchange.as_exchange().fits(group);
         }
-        self.all_committed()
     }
 
     /// Whether all rows that have left a group are of moments before its own, in ns, if one is listed, and otherwise before `end`. None has
@@ -116,40 +133,6 @@ impl<J: NetworkRun> Unlocked<'_, J> {
         for place in 0..self.groups.len() {
             let group = &self.groups[place];
             if group.gone_before().ns() > moment_of(own, end, place).ns() {
-                return false;
-            }
-        }
-        true
-    }
-
-    /// Whether all groups of the run are here, each in its place and without a block, and have seen a GVT later than the end.
-    fn are_of_world(&self, until: Time) -> bool
-        requires { until ≡ J.plan.until }
-        ensures count { result ≡ true → length self.now.groups.items ≡ length J.names }
-        ensures grouped { result ≡ true → AreGrouped (process_count J.plan) (length self.now.groups.items) J.owners }
-        ensures each { result ≡ true → (g : ℕ) (group : GroupState NodeState NodeRecord) → slice_get self.now.groups.items g ≡ Some group →
-            IsOfWorld J.plan J.owners self.now.exchange.steps g group }
-    {
-        if self.groups.len() != usize::from(self.exchange.as_exchange().groups()) {
-            return false;
-        }
-        for place in 0..self.groups.len() {
-            let group = &self.groups[place];
-            if !is_of_world(self.exchange.as_exchange(), group, place, until) {
-                return false;
-            }
-        }
-        true
-    }
-
-    /// Whether no group has a done event that is not committed.
-    fn all_committed(&self) -> bool
-        ensures { result ≡ true → (g : ℕ) (group : GroupState NodeState NodeRecord) → slice_get self.now.groups.items g ≡ Some group →
-            (p : ℕ) → is_of J.owners group.number p ≡ true → ((in_group (simulation_of J.plan) group).parts p).done ≡ [] }
-    {
-        for place in 0..self.groups.len() {
-            let group = &self.groups[place];
-            if !group.all_committed() {
                 return false;
             }
         }

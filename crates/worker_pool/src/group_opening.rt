@@ -4,11 +4,11 @@ ghost use Rattle.reverse.specs.Setting.{Opens};
 ghost use Rattle.seqsim.specs.Networks.{setting_of};
 
 use crate::grouping::Grouping;
-use crate::network_run::{NetworkGroup, NetworkRun};
-use crate::shared::{Shared, most_steps};
 use crate::start::StartOf;
 use group_exchange::GroupExchange;
+use group_turns::{NetworkGroup, Shared, most_steps};
 use network::Network;
+use network_runs::NetworkRun;
 use nodes::Node;
 use seqsim::{layout_law, nodes_of};
 use std::alloc::{AllocError, Global};

@@ -2,10 +2,11 @@
 ghost use Rattle.std.specs.Prelude.{◌≡◌, ◌+◌, ◌<◌, ◌↔◌, ℕ, IsSome, MatchOption, IfSome, IfOk, OnErr};
 ghost use Rattle.vlink.specs.declared.time.TheConstants.{GREATEST_NS};
 ghost use Rattle.trace_segments.specs.Words.{cut};
+ghost use Rattle.group_end.specs.Together.{OnlyRowsLeft};
 ghost use Rattle.worker_pool.specs.Segments.{IsGroupIntervalSealed, IsGroupSegmentOfRun, IsNextGroupSegment};
 
-use crate::network_run::{NetworkGroup, NetworkRun};
-use network_runs::interval_at;
+use group_turns::NetworkGroup;
+use network_runs::{NetworkRun, interval_at};
 use std::alloc::{AllocError, Global};
 use trace_tables::{Segment, cut};
 use vlink::Time;
@@ -26,6 +27,7 @@ pub(crate) fn next_group_segment<J: NetworkRun>(
     ensures segment { IfOk result (λ segment. IfSome segment (IsNextGroupSegment J.plan J.owners group.old)) }
     ensures some { IfOk result (λ segment. IsSome segment ↔ ((k : ℕ) × IsGroupIntervalSealed J.plan k group.old)) }
     ensures given { IfOk result (λ segment. MatchOption segment (group.new ≡ group.old) (λ p. group.new.gone ≡ p.to)) }
+    ensures rows { OnlyRowsLeft group.old group.new }
     ensures refused { OnErr result (group.new ≡ group.old) }
 {
     let Some(k) = interval_at(until, group.gone_before()) else {

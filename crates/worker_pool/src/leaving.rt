@@ -1,11 +1,15 @@
 //! What happens to the rows of a run that can no longer change, while it goes on.
 ghost use Rattle.std.specs.Prelude.{◌≡◌, IfErr};
 ghost use Rattle.journal.specs.declared.fault.PoolFault.TheVariants.{OutOfMemory};
+ghost use Rattle.group_end.specs.Together.{OnlyRowsLeft};
 
 use crate::desk::TraceLock;
-use crate::network_run::{NetworkGroup, NetworkRun};
-use crate::run_fault::RunFault;
+use group_end::RowsLeave;
+use group_turns::{NetworkGroup, OfGroups, RunFault};
+use journal::PoolFault;
 use network::Network;
+use network_runs::NetworkRun;
+use nodes::Node;
 use run_rows::{Counted, moment_of};
 use std::alloc::AllocError;
 use std::sync::{Mutex, Wait};
@@ -33,6 +37,7 @@ impl<J: NetworkRun> Leaving<'_, J> {
         group: &mut NetworkGroup<J>,
     ) -> Result<(), RunFault<J>>
         requires { network.now ≡ J.plan }
+        ensures rows { OnlyRowsLeft group.old group.new }
         ensures memory { IfErr result (λ fault. fault ≡ OutOfMemory) }
     {
         match self {
@@ -49,6 +54,24 @@ impl<J: NetworkRun> Leaving<'_, J> {
     }
 }
 
+/// What happens to rows behind each turn that the thread gives which holds everything.
+#[derive(Drop)]
+pub(crate) struct LeavingNow<'s, J: NetworkRun, T> {
+    pub rt: &'s T,
+    pub leaving: &'s Leaving<'s, J>,
+    pub network: &'s Network,
+    pub ghost planned: { network.now ≡ J.plan },
+}
+
+impl<J: NetworkRun, T: Wait> RowsLeave<Node, OfGroups<J>> for LeavingNow<'_, J, T> {
+    fn let_go(&self, group: &mut NetworkGroup<J>) -> Result<(), PoolFault> {
+        match self.leaving.take_rows(self.rt, self.network, group) {
+            Ok(()) => Ok(()),
+            Err(fault) => Err(PoolFault::from(fault)),
+        }
+    }
+}
+
 /// Counts the rows of a group that can no longer change, as far as the group saw. They leave it, if it has a moment of its own there. It
 /// fails only if memory is or was refused; then no tables exist from then on.
 fn count_rows<J: NetworkRun>(
@@ -57,6 +80,7 @@ fn count_rows<J: NetworkRun>(
     group: &mut NetworkGroup<J>,
 ) -> Result<(), AllocError>
     requires { network.now ≡ J.plan }
+    ensures { OnlyRowsLeft group.old group.new }
 {
     let number = usize::from(group.number());
     let to = group.gvt_seen();

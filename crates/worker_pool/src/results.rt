@@ -8,7 +8,7 @@ ghost use Rattle.seqsim.specs.Networks.{AreRowsOf};
 ghost use Rattle.worker_pool.specs.Runs.{IsEnded, IsJournalOf, HaveGoneBy};
 
 use crate::ending::Unlocked;
-use crate::network_run::NetworkRun;
+use network_runs::NetworkRun;
 use nodes::{Node, NodeRecord};
 use run_rows::{Counted, moment_of, rows_law};
 use seqsim::{network_law, rows_by_process_law};

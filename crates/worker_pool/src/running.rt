@@ -1,10 +1,10 @@
 //! The run of a network by workers.
-ghost use Rattle.std.specs.Prelude.{◌≡◌, ◌≢◌, ◌<◌, true, [], length, min, IsTrue, IfOk, IfErr};
+ghost use Rattle.std.specs.Prelude.{◌≡◌, ◌≢◌, ◌<◌, true, [], length, min, IfOk, IfErr};
 ghost use Rattle.network.specs.Words.{process_count};
 ghost use Rattle.journal.specs.declared.fault.PoolFault.TheVariants.{Exhausted, Spawn, Torn};
 ghost use Rattle.trace_tables.specs.Tables.{tables_of};
 ghost use Rattle.seqsim.specs.Networks.{AreRowsOf};
-ghost use Rattle.worker_pool.specs.Outcomes.{CanWantWorkers, UsesUpNumbers};
+ghost use Rattle.worker_pool.specs.Outcomes.{CanWantWorkers, HandsOnFaults, UsesUpNumbers};
 ghost use Rattle.worker_pool.specs.Paces.{pace_in, pace_of};
 ghost use Rattle.worker_pool.specs.Runs.{IsEnded, IsJournalOf, HaveGoneBy};
 ghost use Rattle.worker_pool.specs.Starts.{BeginsRun};
@@ -13,22 +13,22 @@ use crate::ending::Unlocked;
 use crate::group_opening::open_groups;
 use crate::grouping::marked_groups;
 use crate::leaving::Leaving;
-use crate::network_run::NetworkRun;
 use crate::pace::Pace;
-use crate::run_fault::RunFault;
 use crate::start::{Start, StartOf};
 use crate::tasks::{CommonOf, NetworkTasks};
 use crate::workers::groups_worked;
 use actor_run::{Unwatched, Watch};
+use group_turns::RunFault;
 use journal::{Gate, PoolFault};
 use network::Network;
+use network_runs::NetworkRun;
 use std::alloc::{AllocError, Global};
 use std::marker::Brand;
 use std::sync::{Mutex, Wait};
 use std::thread::Threads;
 use trace_tables::Tables;
 use turns::{Apart, Common};
-use vlink::{Row, Step};
+use vlink::{Row, Step, Time};
 
 /// The results of a run: a row for each frame that was delivered or dropped, in message order, and their tables; and the steps that were
 /// done, in their order.
@@ -39,8 +39,8 @@ pub struct Outcome {
     pub journal: Vec<Step>,
 }
 
-/// Runs a network by workers until it is ended. Rows that can no longer change leave the groups, or stay; if they must stay, none has left
-/// at the end. The watch is shown GVT while the run goes on.
+/// Runs a network by workers until it is ended. Rows that can no longer change leave the groups, or stay. The watch is shown GVT while the
+/// run goes on.
 pub(crate) fn run_to_end<
     'n,
     J: NetworkRun + Send + Sync,
@@ -53,12 +53,11 @@ pub(crate) fn run_to_end<
     start: StartOf<'n, J>,
     gate: &G,
     leaving: &Leaving<'_, J>,
-    keeps_rows: bool,
     watch: &mut W,
 ) -> Result<Unlocked<'n, J>, RunFault<J>>
     ensures ended { IfOk result (λ r. IsEnded J.plan J.owners r.exchange.steps r.groups.items) }
     ensures pace { IfOk result (λ r. pace_of r.speed (length r.groups.items) ≡ pace_in start.entry.grouping.groups start.entry.pace) }
-    ensures kept { IfOk result (λ r. IsTrue keeps_rows → HaveGoneBy [] 0 r.groups.items) }
+    ensures told { HandsOnFaults (min start.entry.grouping.groups start.entry.pace.workers) result }
     ensures spawn { IfErr result (λ fault. fault ≡ Spawn → CanWantWorkers start.entry.pace.workers (process_count J.plan)) }
     ensures watched { W.becomes watch.old watch.new }
 {
@@ -66,7 +65,7 @@ pub(crate) fn run_to_end<
         return Err(RunFault::other(PoolFault::OutOfMemory));
     };
     let unlocked = groups_worked(rt, alloc, common, watch)?;
-    to_end(rt, unlocked, leaving, keeps_rows, gate)
+    to_end(rt, unlocked, leaving, gate)
 }
 
 /// Makes what the workers of a run share at the start. Only memory can be refused.
@@ -77,6 +76,7 @@ fn opened<'s, 'n, J: NetworkRun, G: Gate, T: Wait>(
     gate: &'s G,
     leaving: &'s Leaving<'s, J>,
 ) -> Result<CommonOf<'s, 'n, J, G, T>, AllocError>
+    ensures groups { IfOk result (λ common. common.groups ≡ length J.names) }
     ensures workers { IfOk result (λ common. common.workers ≡ min start.entry.grouping.groups start.entry.pace.workers) }
     ensures turn { IfOk result (λ common. common.turn ≡ start.entry.pace.turn) }
     ensures window { IfOk result (λ common. common.window_ns ≡ start.entry.pace.window_ns) }
@@ -108,16 +108,15 @@ fn to_end<'n, J: NetworkRun, G: Gate, T: Wait>(
     rt: &T,
     unlocked: Unlocked<'n, J>,
     leaving: &Leaving<'_, J>,
-    keeps_rows: bool,
     gate: &G,
 ) -> Result<Unlocked<'n, J>, RunFault<J>>
+    requires { length unlocked.groups.items ≡ length J.names }
     ensures ended { IfOk result (λ r. IsEnded J.plan J.owners r.exchange.steps r.groups.items) }
     ensures pace { IfOk result (λ r. pace_of r.speed (length r.groups.items) ≡ pace_of unlocked.entry.speed (length J.names)) }
-    ensures kept { IfOk result (λ r. IsTrue keeps_rows → HaveGoneBy [] 0 r.groups.items) }
     ensures no_spawn { IfErr result (λ fault. fault ≢ Spawn) }
 {
     let mut unlocked = unlocked;
-    match unlocked.end(rt, leaving, keeps_rows, gate) {
+    match unlocked.end(rt, leaving, gate) {
         Ok(()) => Ok(unlocked),
         Err(fault) => {
             drop(unlocked);
@@ -179,22 +178,20 @@ fn run_named<J: NetworkRun + Send + Sync, G: Gate + Sync, T: Threads + Wait + Sy
 {
     let start: StartOf<J> = StartOf::of(start);
     let watch = &mut Unwatched;
-    let ended = run_to_end::<J, G, T, Unwatched>(
-        rt,
-        alloc,
-        start,
-        gate,
-        &Leaving::Stay,
-        true,
-        watch,
-    )?;
+    let ended = run_to_end::<J, G, T, Unwatched>(rt, alloc, start, gate, &Leaving::Stay, watch)?;
+    // No step of this run lets a row go, and no type states it. If one had left, want of memory would be reported.
+    if !ended.have_gone_by(&[], Time::default()) {
+        drop(ended);
+        return Err(PoolFault::OutOfMemory);
+    }
     Ok(outcome_of(alloc, ended)?)
 }
 
 /// Simulates a network by workers that run ahead and roll back, as the pace states. It calls the gate for each message that is handled.
 ///
 /// Rows and tables are those of the one-thread run, as `seqsim::run` returns them, whatever the threads did, and the world after the
-/// journal's steps is finished. Not promised is how long the run waits for its threads, or that it ends.
+/// journal's steps is finished. Once its workers are joined, the loop of its end does finitely many rounds. Not promised is how long the
+/// run waits for its threads, or that they end.
 ///
 /// `OutOfMemory`: memory was refused. `Exhausted`: a process did not have enough numbers left for what its next message can send, so that
 /// some run of the network uses up numbers. `JournalFull`: the run takes more than 2^26 steps. `Spawn`: a worker could not be started, so

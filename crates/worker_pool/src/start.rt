@@ -4,10 +4,10 @@ ghost use Rattle.std.proofs.Props.{props};
 ghost use Rattle.worker_pool.specs.Runs.{IsGroupingOf};
 
 use crate::grouping::Grouping;
-use crate::network_run::NetworkRun;
 use crate::pace::Pace;
 use group_exchange::Pairs;
 use network::Network;
+use network_runs::NetworkRun;
 use std::marker::PhantomData;
 
 /// What a run begins with: its network and its pace, whether its journal is stored, its groups, and the pairs of their marks.

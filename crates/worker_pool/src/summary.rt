@@ -1,11 +1,11 @@
 //! The results of a run without its trace: its tables, and its steps if they are wanted. It lists no rows.
-ghost use Rattle.std.specs.Prelude.{◌≡◌, ◌⊎◌, List, Err, length, IfOk, IfErr, IfNone};
+ghost use Rattle.std.specs.Prelude.{◌≡◌, ◌⊎◌, List, Err, length, min, IfOk, IfErr, IfNone};
 ghost use Rattle.vlink.specs.Letters.{Row};
 ghost use Rattle.network.specs.Words.{process_count};
 ghost use Rattle.journal.specs.declared.fault.PoolFault.TheVariants.{OutOfMemory, Exhausted, Spawn, Torn};
 ghost use Rattle.trace_tables.specs.Tables.{tables_of};
 ghost use Rattle.seqsim.specs.Networks.{AreRowsOf};
-ghost use Rattle.worker_pool.specs.Outcomes.{CanWantWorkers, UsesUpNumbers};
+ghost use Rattle.worker_pool.specs.Outcomes.{CanWantWorkers, HandsOnFaults, UsesUpNumbers};
 ghost use Rattle.worker_pool.specs.Paces.{actual_pace, pace_in, pace_of};
 ghost use Rattle.worker_pool.specs.Runs.{IsEnded, IsJournalAsked, IsSummaryOf};
 ghost use Rattle.worker_pool.specs.Starts.{BeginsRun};
@@ -14,13 +14,13 @@ use crate::actual_pace::ActualPace;
 use crate::ending::Unlocked;
 use crate::grouping::marked_groups;
 use crate::leaving::Leaving;
-use crate::network_run::NetworkRun;
 use crate::pace::Pace;
 use crate::running::run_to_end;
 use crate::start::{Start, StartOf};
 use actor_run::Watch;
 use journal::{Gate, PoolFault};
 use network::Network;
+use network_runs::NetworkRun;
 use run_rows::Counted;
 use std::alloc::{AllocError, Global};
 use std::marker::Brand;
@@ -119,6 +119,7 @@ fn summary_named<J: NetworkRun + Send + Sync, G: Gate + Sync, T: Threads + Wait 
     requires { BeginsRun J.plan J.keeps J.names J.owners start }
     ensures found { IfOk result (λ s. IsSummaryOf J.plan J.keeps s.tables s.journal.items) }
     ensures pace { IfOk result (λ s. s.pace ≡ pace_in start.entry.grouping.groups start.entry.pace) }
+    ensures told { HandsOnFaults (min start.entry.grouping.groups start.entry.pace.workers) result }
     ensures exhausted { IfErr result (λ fault. fault ≡ Exhausted → UsesUpNumbers J.plan) }
     ensures spawn { IfErr result (λ fault. fault ≡ Spawn → CanWantWorkers start.entry.pace.workers (process_count J.plan)) }
     ensures watched { W.becomes watch.old watch.new }
@@ -127,7 +128,7 @@ fn summary_named<J: NetworkRun + Send + Sync, G: Gate + Sync, T: Threads + Wait 
     let keeps = start.keeps;
     let counted = Mutex::new(Counted::each(alloc, start.network, start.grouping.groups)?);
     let leaving = Leaving::Counted(&counted);
-    let ended = run_to_end::<J, G, T, W>(rt, alloc, start, gate, &leaving, false, watch)?;
+    let ended = run_to_end::<J, G, T, W>(rt, alloc, start, gate, &leaving, watch)?;
     summary_of(alloc, ended, counted.into_inner(), keeps)
 }
 
@@ -148,6 +149,7 @@ pub fn run_summary<G: Gate + Sync, T: Threads + Wait + Sync, W: Watch>(
     ensures each { IfOk result (λ s. (rows : List Row) → AreRowsOf network.now rows → s.tables ≡ tables_of network.now rows) }
     ensures journal { IfOk result (λ s. IsJournalAsked network.now with_steps s.journal.items) }
     ensures pace { IfOk result (λ s. s.pace ≡ actual_pace (process_count network.now) pace) }
+    ensures told { HandsOnFaults (actual_pace (process_count network.now) pace).workers result }
     ensures exhausted { IfErr result (λ fault. fault ≡ Exhausted → UsesUpNumbers network.now) }
     ensures spawn { IfErr result (λ fault. fault ≡ Spawn → CanWantWorkers pace.workers (process_count network.now)) }
     ensures watched { W.becomes watch.old watch.new }

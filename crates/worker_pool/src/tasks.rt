@@ -1,18 +1,14 @@
 //! What a worker does with a group of a network's run.
 ghost use Rattle.std.specs.Prelude.{◌≡◌};
 
-use crate::group_work::work_ahead;
 use crate::leaving::Leaving;
-use crate::network_run::{NetworkGroup, NetworkRun, OfGroups};
-use crate::run_fault::RunFault;
-use crate::shared::Shared;
-use group_exchange::GroupExchange;
+use group_turns::{NetworkGroup, OfGroups, RunFault, Shared, least_ns, meet_at, work_ahead};
 use journal::Gate;
 use network::Network;
-use nodes::Node;
+use network_runs::NetworkRun;
 use std::sync::{Mutex, Wait};
-use turns::{Apart, Common, Moments, Report, Seat, Tasks, TurnRun, locked_soon};
-use vlink::Letter;
+use turns::{Apart, Common, Moments, Report, Seat, Tasks, locked_soon};
+use vlink::Time;
 
 /// What workers use for the groups of a run that they hold: the lock of the exchange, and what happens to rows.
 #[derive(Drop)]
@@ -28,16 +24,19 @@ pub(crate) struct NetworkTasks<'s, 'n, J: NetworkRun, G, T> {
 /// What all workers of a run share.
 pub(crate) type CommonOf<'s, 'n, J, G, T> = Common<NetworkGroup<J>, NetworkTasks<'s, 'n, J, G, T>>;
 
-impl<J: NetworkRun> TurnRun for OfGroups<J> {
-    ghost use Rattle.std.specs.Prelude.{length};
-
-    ghost groups = { length J.names };
-}
-
 impl<J: NetworkRun, G: Gate, T: Wait> Tasks<NetworkGroup<J>> for NetworkTasks<'_, '_, J, G, T> {
     type Fault = RunFault<J>;
 
     type Run = OfGroups<J>;
+
+    ghost use Rattle.std.specs.Prelude.{◌≡◌};
+    ghost use Rattle.nodes.specs.Words.{simulation_of};
+    ghost use Rattle.group_hand.specs.Hands.{IsAsBefore};
+    ghost use Rattle.group_exchange.specs.Effects.{Works};
+
+    ghost handles = { λ old new most ahead_ns count. Works (simulation_of J.plan) J.owners most ahead_ns old new count };
+
+    ghost stays = { λ old new. new ≡ record old { held = new.held } × IsAsBefore old.held new.held };
 
     fn report(&self, seat: &Seat<NetworkGroup<J>>) -> Report {
         let group = &seat.group;
@@ -79,7 +78,10 @@ impl<J: NetworkRun, G: Gate, T: Wait> Tasks<NetworkGroup<J>> for NetworkTasks<'_
         letters_ns: &mut [u64],
     ) -> Result<u64, RunFault<J>> {
         let mut exchange = locked_soon(self.rt, &self.exchange);
-        let met = meet_at(&mut exchange.value, moments, group, waits, letters_ns);
+        let met = match meet_at(&mut exchange.value, group, waits, letters_ns) {
+            Ok(gvt) => Ok(announced(moments, group.number(), gvt)),
+            Err(fault) => Err(fault),
+        };
         drop(exchange);
         met
     }
@@ -97,50 +99,11 @@ impl<J: NetworkRun, G: Gate, T: Wait> Tasks<NetworkGroup<J>> for NetworkTasks<'_
     }
 }
 
-/// In a section of a worker, what the group did goes to the journal, and its letters go to the other groups and are listed; then its own
-/// letters come to it. Now and then, or if its next event waits for it, GVT is set in between, so that the group goes on by a GVT in which
-/// its own floor and letters count.
-fn meet_at<J: NetworkRun>(
-    shared: &mut Shared<J>,
-    moments: &Moments,
-    group: &mut NetworkGroup<J>,
-    waits: bool,
-    letters_ns: &mut [u64],
-) -> Result<u64, RunFault<J>> {
-    list_letters(letters_ns, &shared.inner, group);
-    shared.post(group)?;
-    if let Some(gvt) = shared.publish_if_due(waits)? {
+/// Announces GVT, in ns, if a section set it, and that the letters that waited for the group are collected. Returns the least moment of those
+/// that were announced, in ns. The caller has the lock of the exchange.
+fn announced(moments: &Moments, group: u16, gvt: Option<Time>) -> u64 {
+    if let Some(gvt) = gvt {
         let _is_new = moments.publish(gvt.ns());
     }
-    shared.collect(group)?;
-    Ok(moments.collect(group.number()))
-}
-
-/// Returns the least moment of these letters, in ns, or the greatest number if there are none.
-fn least_ns(letters: &[Letter]) -> u64 {
-    let mut least_ns = u64::MAX;
-    for letter in letters {
-        least_ns = least_ns.min(letter.message.time.ns());
-    }
-    least_ns
-}
-
-/// Lowers for each group the moment, in ns, to the least of the letters that this group has for it.
-fn list_letters<J: NetworkRun>(
-    letters_ns: &mut [u64],
-    exchange: &GroupExchange<Node, OfGroups<J>>,
-    group: &NetworkGroup<J>,
-) {
-    for letter in group.letters_abroad() {
-        if let Some(owner) = exchange.owner(letter.message.receiver) {
-            lower(letters_ns, usize::from(owner), letter.message.time.ns());
-        }
-    }
-}
-
-/// Lowers the moment at a place.
-fn lower(moments_ns: &mut [u64], place: usize, moment_ns: u64) {
-    if let Some(least_ns) = moments_ns.get_mut(place) {
-        *least_ns = moment_ns.min(*least_ns);
-    }
+    moments.collect(group)
 }

@@ -1,5 +1,5 @@
 //! The run of a network by workers that write its trace while it goes on.
-ghost use Rattle.std.specs.Prelude.{◌≡◌, ◌≢◌, ◌+◌, List, length, IfOk, IfErr, IfSome, IsOkAnd, OnOk};
+ghost use Rattle.std.specs.Prelude.{◌≡◌, ◌≢◌, ◌+◌, Err, List, length, min, IfOk, IfErr, IfSome, IsOkAnd, OnOk};
 ghost use Rattle.std.specs.Io.KnownBytes.{append_known};
 ghost use Rattle.vlink.specs.Letters.{Row};
 ghost use Rattle.network.specs.Words.{process_count};
@@ -9,7 +9,7 @@ ghost use Rattle.trace_segments.specs.declared.trace_fault.TraceFault.TheVariant
 ghost use Rattle.trace_segments.specs.Words.{IsBeginning, trace_text};
 ghost use Rattle.trace_tables.specs.Tables.{tables_of};
 ghost use Rattle.seqsim.specs.Networks.{AreRowsOf};
-ghost use Rattle.worker_pool.specs.Outcomes.{UsesUpNumbers};
+ghost use Rattle.worker_pool.specs.Outcomes.{HandsOnFaults, UsesUpNumbers};
 ghost use Rattle.worker_pool.specs.Paces.{actual_pace, pace_in, pace_of};
 ghost use Rattle.worker_pool.specs.Runs.{IsEnded, IsJournalAsked, IsSummaryOf};
 ghost use Rattle.worker_pool.specs.Starts.{BeginsRun};
@@ -20,16 +20,16 @@ use crate::desk::TraceLock;
 use crate::ending::Unlocked;
 use crate::grouping::marked_groups;
 use crate::leaving::Leaving;
-use crate::network_run::NetworkRun;
 use crate::pace::Pace;
-use crate::run_fault::RunFault;
 use crate::running::run_to_end;
 use crate::start::{Start, StartOf};
 use crate::summary::{Summary, summary_of};
 use actor_run::Watch;
 use crossbeam_channel::{Receiver, bounded};
+use group_turns::RunFault;
 use journal::{Gate, PoolFault};
 use network::Network;
+use network_runs::NetworkRun;
 use run_rows::{Counted, RunBatch, TraceRun, Writing};
 use std::alloc::{AllocError, Global};
 use std::marker::Brand;
@@ -68,10 +68,11 @@ fn run_to_trace<
     ensures ended { IfOk result.0 (λ r. IsEnded J.plan J.owners r.exchange.steps r.groups.items) }
     ensures pace { IfOk result.0 (λ r. pace_of r.speed (length r.groups.items) ≡ pace_in start.entry.grouping.groups start.entry.pace) }
     ensures fault { IfSome result.1 IsPlaceFault }
+    ensures told { HandsOnFaults (min start.entry.grouping.groups start.entry.pace.workers) result.0 }
     ensures watched { W.becomes watch.old watch.new }
 {
     let leaving = Leaving::Trace(&trace);
-    let ended = run_to_end::<J, G, T, W>(rt, alloc, start, gate, &leaving, false, watch);
+    let ended = run_to_end::<J, G, T, W>(rt, alloc, start, gate, &leaving, watch);
     (ended, trace.into_fault())
 }
 
@@ -86,6 +87,7 @@ fn summary_told<J: NetworkRun>(
     requires keeps { with_steps ≡ J.keeps }
     ensures found { IfOk result (λ s. IsSummaryOf J.plan J.keeps s.tables s.journal.items) }
     ensures pace { IfOk result (λ s. IsOkAnd ended.entry (λ r. s.pace ≡ pace_of r.speed (length r.groups.items))) }
+    ensures told { IfErr ended.entry (λ fault. result ≡ Err fault) }
     ensures exhausted { IfErr result (λ fault. fault ≡ Exhausted → UsesUpNumbers J.plan) }
 {
     match ended {
@@ -108,6 +110,7 @@ fn traced_of<'a, J: NetworkRun, K: TraceRun, S: Sink + Drop>(
     requires exhausted { IfErr summary (λ fault. fault ≡ Exhausted → UsesUpNumbers J.plan) }
     ensures found { IfOk result (λ t. IsSummaryOf J.plan J.keeps t.outcome.tables t.outcome.journal.items) }
     ensures pace { IfOk result (λ t. IsOkAnd summary (λ s. t.outcome.pace ≡ s.pace)) }
+    ensures told { IfErr summary (λ fault. result ≡ Err fault) }
     ensures written { IfOk result (λ t. IsWritten J.plan K.taken K.failures t.written (S.taken t.sink) (S.failures t.sink)) }
     ensures exhausted { IfErr result (λ fault. fault ≡ Exhausted → UsesUpNumbers J.plan) }
 {
@@ -147,6 +150,7 @@ fn run_beside<
 ) -> (Result<Traced<S>, PoolFault>, W)
     ensures found { IfOk result.0 (λ t. IsSummaryOf J.plan J.keeps t.outcome.tables t.outcome.journal.items) }
     ensures pace { IfOk result.0 (λ t. t.outcome.pace ≡ pace_in start.entry.grouping.groups start.entry.pace) }
+    ensures told { HandsOnFaults (min start.entry.grouping.groups start.entry.pace.workers) result.0 }
     ensures written { IfOk result.0 (λ t. IsWritten J.plan K.taken K.failures t.written (S.taken t.sink) (S.failures t.sink)) }
     ensures exhausted { IfErr result.0 (λ fault. fault ≡ Exhausted → UsesUpNumbers J.plan) }
     ensures watched { W.becomes watch result.1 }
@@ -204,6 +208,7 @@ fn traced_named<
     requires failures { S.failures sink ≡ K.failures }
     ensures found { IfOk result.0 (λ t. IsSummaryOf J.plan J.keeps t.outcome.tables t.outcome.journal.items) }
     ensures pace { IfOk result.0 (λ t. t.outcome.pace ≡ pace_in start.entry.grouping.groups start.entry.pace) }
+    ensures told { HandsOnFaults (min start.entry.grouping.groups start.entry.pace.workers) result.0 }
     ensures written { IfOk result.0 (λ t. IsWritten J.plan K.taken K.failures t.written (S.taken t.sink) (S.failures t.sink)) }
     ensures exhausted { IfErr result.0 (λ fault. fault ≡ Exhausted → UsesUpNumbers J.plan) }
     ensures watched { W.becomes watch result.1 }
@@ -223,6 +228,7 @@ fn traced_named<
             requires { network.now ≡ J.plan }
             ensures found { IfOk result.0 (λ t. IsSummaryOf J.plan J.keeps t.outcome.tables t.outcome.journal.items) }
             ensures pace { IfOk result.0 (λ t. t.outcome.pace ≡ pace_in start.entry.grouping.groups start.entry.pace) }
+            ensures told { HandsOnFaults (min start.entry.grouping.groups start.entry.pace.workers) result.0 }
             ensures written { IfOk result.0 (λ t. IsWritten J.plan K.taken K.failures t.written (S.taken t.sink) (S.failures t.sink)) }
             ensures exhausted { IfErr result.0 (λ fault. fault ≡ Exhausted → UsesUpNumbers J.plan) }
             ensures watched { W.becomes watch result.1 }
@@ -271,6 +277,7 @@ pub fn run_traced<S: Sink + Drop + Send, G: Gate + Sync, T: Threads + Wait + Syn
     ensures each { IfOk result (λ t. (rows : List Row) → AreRowsOf network.now rows → t.outcome.tables ≡ tables_of network.now rows) }
     ensures journal { IfOk result (λ t. IsJournalAsked network.now with_steps t.outcome.journal.items) }
     ensures pace { IfOk result (λ t. t.outcome.pace ≡ actual_pace (process_count network.now) pace) }
+    ensures told { HandsOnFaults (actual_pace (process_count network.now) pace).workers result }
     ensures whole { IfOk result (λ t. OnOk t.written ((rows : List Row) → AreRowsOf network.now rows →
         S.taken t.sink ≡ append_known (S.taken sink) (trace_text network.now rows))) }
     ensures beginning { IfOk result (λ t. (rows : List Row) → AreRowsOf network.now rows →

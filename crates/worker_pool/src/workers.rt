@@ -1,15 +1,16 @@
 //! The end of the threads: their groups come back.
-ghost use Rattle.std.specs.Prelude.{◌≡◌, ◌<◌, IfOk, IfErr, IsErr};
+ghost use Rattle.std.specs.Prelude.{◌≡◌, ◌<◌, Err, IfOk, IfErr, IsErr, length};
 ghost use Rattle.journal.specs.declared.fault.PoolFault.TheVariants.{Spawn};
+ghost use Rattle.worker_pool.specs.Outcomes.{HandsOnFaults};
 ghost use Rattle.worker_pool.specs.Paces.{speed_of};
 
 use crate::ending::Unlocked;
-use crate::network_run::NetworkRun;
-use crate::run_fault::RunFault;
 use crate::speed::Speed;
 use crate::tasks::{CommonOf, NetworkTasks};
 use actor_run::Watch;
+use group_turns::RunFault;
 use journal::Gate;
+use network_runs::NetworkRun;
 use std::alloc::{AllocError, Global};
 use std::sync::Wait;
 use std::thread::Threads;
@@ -33,6 +34,8 @@ pub(crate) fn groups_worked<
     watch: &mut W,
 ) -> Result<Unlocked<'n, J>, RunFault<J>>
     ensures speed { IfOk result (λ r. r.speed ≡ speed_of common.entry.workers common.entry.turn common.entry.window_ns) }
+    ensures groups { IfOk result (λ r. length r.groups.items ≡ common.entry.groups) }
+    ensures told { HandsOnFaults common.entry.workers result }
     ensures spawn { IfErr result (λ fault. fault ≡ Spawn → 0 < common.entry.workers) }
     ensures watched { W.becomes watch.old watch.new }
 {
@@ -47,6 +50,8 @@ fn unlocked_of<'n, J: NetworkRun, G: Gate, T: Wait>(
     common: CommonOf<'_, 'n, J, G, T>,
 ) -> Result<Unlocked<'n, J>, RunFault<J>>
     ensures speed { IfOk result (λ r. r.speed ≡ speed_of common.entry.workers common.entry.turn common.entry.window_ns) }
+    ensures groups { IfOk result (λ r. length r.groups.items ≡ common.entry.groups) }
+    ensures told { IfErr worked (λ fault. result ≡ Err fault) }
     ensures spawn { IfErr result (λ fault. fault ≡ Spawn → IsErr worked) }
 {
     match worked {
@@ -63,7 +68,8 @@ fn taken_back<'n, J: NetworkRun, G: Gate, T: Wait>(
     alloc: Global,
     common: CommonOf<'_, 'n, J, G, T>,
 ) -> Result<Unlocked<'n, J>, AllocError>
-    ensures { IfOk result (λ r. r.speed ≡ speed_of common.entry.workers common.entry.turn common.entry.window_ns) }
+    ensures speed { IfOk result (λ r. r.speed ≡ speed_of common.entry.workers common.entry.turn common.entry.window_ns) }
+    ensures groups { IfOk result (λ r. length r.groups.items ≡ common.entry.groups) }
 {
     let speed = Speed {
         workers: common.workers,

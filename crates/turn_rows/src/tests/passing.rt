@@ -1,4 +1,6 @@
 //! What is done with a group of plain lists, over a locked exchange of lists.
+ghost use Rattle.std.specs.Prelude.{◌≤◌, IfOk};
+
 use super::boxes::Boxes;
 use super::group::{Group, least_ns};
 use std::alloc::{AllocError, Global};
@@ -21,6 +23,8 @@ impl Refusal for Fault {
     ghost rank = { λ fault. fault.number };
 
     ghost is_memory = { λ fault. fault.number ≡ 200 };
+
+    ghost is_unstarted = { λ fault. fault.number ≡ 201 };
 
     fn number(&self) -> u8 {
         self.number
@@ -129,10 +133,28 @@ impl<'t, T: Wait> Passing<'t, T> {
     }
 }
 
+// The group handles at most `most` tokens that are earlier than the limit, in ns. Returns how many.
+fn handle_before(group: &mut Group, most: u32, limit_ns: u64) -> Result<u32, AllocError>
+    ensures { IfOk result (λ count. count ≤ most) }
+{
+    for handled in 0..most {
+        if !group.handle(limit_ns)? {
+            return Ok(handled);
+        }
+    }
+    Ok(most)
+}
+
 impl<T: Wait> Tasks<Group> for Passing<'_, T> {
     type Fault = Fault;
 
     type Run = PassingRun;
+
+    ghost use Rattle.std.specs.Prelude.{⊤};
+
+    ghost handles = { λ _ _ _ _ _. ⊤ };
+
+    ghost stays = { λ _ _. ⊤ };
 
     fn report(&self, seat: &Seat<Group>) -> Report {
         let group = &seat.group;
@@ -154,13 +176,7 @@ impl<T: Wait> Tasks<Group> for Passing<'_, T> {
         self.refuse(group)?;
         self.take(group);
         let limit_ns = group.seen_ns.saturating_add(ahead_ns);
-        let mut count: u32 = 0;
-        for _ in 0..most {
-            if !group.handle(limit_ns)? {
-                break;
-            }
-            count = count.saturating_add(1);
-        }
+        let count = handle_before(group, most, limit_ns)?;
         self.give_back(group);
         Ok(count)
     }

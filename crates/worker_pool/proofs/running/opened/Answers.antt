@@ -1,4 +1,4 @@
-use Rattle.std.proofs.Common.{◌≡◌, ◌<◌, ◌≤◌, IfOk, min, length, subst, arith}
+use Rattle.std.proofs.Common.{◌≡◌, ◌<◌, ◌≤◌, ◌∙◌, IfOk, sym, min, length, subst, arith}
 use Rattle.std.proofs.Math.Nat.{min-le_left, min-le_right}
 use Rattle.network.specs.Words.{process_count}
 use Rattle.actor_run.proofs.Errors.{ok-weaker}
@@ -9,6 +9,12 @@ use Rattle.worker_pool.proofs.running.opened.Goals as goal
 pub returns-clause-workers : goal.returns-clause-workers
 returns-clause-workers g c =
     subst (λ n. IfOk c.of.result (λ common. common.workers ≡ min n c.args.start.pace.workers)) c.in_ok-exchange.ensures.count c.of.ensures.workers
+
+pub returns-clause-groups : goal.returns-clause-groups
+returns-clause-groups g c =
+    ok-weaker _ (λ common. common.groups ≡ length g.J.NetworkRun.names)
+    (λ common is. is ∙ (c.in_ok-exchange.ensures.count ∙ sym c.args.start.each))
+    c.of.result c.of.ensures.groups
 
 -- workers are no more than groups, and a group has a process
 pub returns-clause-wanted : goal.returns-clause-wanted

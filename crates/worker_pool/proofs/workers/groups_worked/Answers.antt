@@ -10,6 +10,9 @@ use Rattle.worker_pool.proofs.workers.groups_worked.Lts.{arg-0-0, arg-0-3}
 pub returns-clause-spawn : goal.returns-clause-spawn
 returns-clause-spawn g c = spawned _ c.unlocked_of.result c.work_all-worked.result.0 c.unlocked_of.ensures.spawn c.work_all-worked.ensures.some
 
+pub returns-clause-told : goal.returns-clause-told
+returns-clause-told g c = record { worked = c.work_all-worked.result.0; least = c.work_all-worked.ensures.told; handed_on = c.unlocked_of.ensures.told }
+
 -- a group may be sent, and what workers do with groups is shared: the gate and the runtime by their bounds, all else by its type
 pub work_all-worked-requires-send-G : goal.work_all-worked-requires-send-G
 work_all-worked-requires-send-G g c κs within =

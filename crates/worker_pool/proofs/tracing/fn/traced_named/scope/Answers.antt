@@ -5,6 +5,7 @@ use Rattle.std.proofs.Crossing.{crosses}
 use Rattle.crossbeam_channel.proofs.channel.Receiver.TheSendSync as receiver
 use Rattle.network.proofs.network.Network.TheSendSync as network
 use Rattle.worker_pool.proofs.Crossing.{counted-send}
+use Rattle.worker_pool.proofs.Told.{before-start}
 use Rattle.worker_pool.specs.contracts.tracing.fn.traced_named.scope.{S-row, T-row}
 use Rattle.run_rows.proofs.run_batch.RunBatch.TheSendSync as batch
 use Rattle.run_rows.proofs.writing.Writing.TheSendSync as writing
@@ -31,4 +32,4 @@ spawn-requires-send-T g c κs within = param_send 2 _ (given-send g κs (search 
 
 -- where no thread could be started, the watch was shown nothing
 pub returns : goal.returns
-returns g c = record { found = tt; pace = tt; written = tt; exhausted = λ e. absurd (cc); watched = g.met.W.Watch.stays c.captures.watch }
+returns g c = record { found = tt; pace = tt; told = before-start _; written = tt; exhausted = λ e. absurd (cc); watched = g.met.W.Watch.stays c.captures.watch }

@@ -1,0 +1,4 @@
+mod Emptied
+mod Limit
+mod Listing
+mod UsedUp

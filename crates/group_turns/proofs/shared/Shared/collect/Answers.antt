@@ -1,0 +1,10 @@
+use Rattle.std.proofs.Common.{◌∙◌}
+use Rattle.nodes.specs.Words.{simulation_of}
+use Rattle.group_turns.proofs.Limit.{collect-limit}
+use Rattle.group_turns.proofs.shared.Shared.collect.Goals as goal
+
+pub invariant_of-self : goal.invariant_of-self
+invariant_of-self g c =
+    collect-limit (simulation_of g.J.NetworkRun.plan) g.J.NetworkRun.owners c.self.inside.inner c.args.group.now c.collect.new.exchange c.collect.new.group c.collect.result
+    c.collect.ensures.ok c.collect.ensures.unchanged
+    ∙ c.self.invariant

@@ -1,0 +1,10 @@
+use Rattle.std.proofs.Common.{◌∙◌}
+use Rattle.nodes.specs.Words.{simulation_of}
+use Rattle.group_turns.proofs.Limit.{post-limit}
+use Rattle.group_turns.proofs.shared.Shared.post.Goals as goal
+
+pub invariant_of-self : goal.invariant_of-self
+invariant_of-self g c =
+    post-limit (simulation_of g.J.NetworkRun.plan) g.J.NetworkRun.owners c.self.inside.inner c.args.group.now c.post.new.exchange c.post.new.group c.post.result
+    c.post.ensures.ok c.post.ensures.unchanged
+    ∙ c.self.invariant

@@ -1,0 +1,10 @@
+use Rattle.std.proofs.Common.{◌∙◌}
+use Rattle.nodes.specs.Words.{simulation_of}
+use Rattle.group_turns.proofs.Limit.{publish-limit}
+use Rattle.group_turns.proofs.shared.Shared.publish.Goals as goal
+
+pub invariant_of-self : goal.invariant_of-self
+invariant_of-self g c =
+    publish-limit (simulation_of g.J.NetworkRun.plan) g.J.NetworkRun.owners c.self.inside.inner c.publish.new.exchange c.publish.result
+    c.publish.ensures.ok c.publish.ensures.unchanged
+    ∙ c.self.invariant
