@@ -85,17 +85,22 @@ class Documents(unittest.TestCase):
 
 
 class Package(unittest.TestCase):
-    """A clone with few crates and all that a package has, and the package of its commit."""
+    """A clone with few crates and all that a package has, the package of its commit, and the files of that: made once for all classes."""
 
-    once = None
+    folder = once = files = None
 
     @classmethod
     def setUpClass(cls):
         if not shutil.which("dpkg-deb"):
             raise unittest.SkipTest("a package is made by dpkg-deb, which is not here")
-        cls.stack = contextlib.ExitStack()
-        cls.addClassCleanup(cls.stack.close)
-        cls.folder = cls.stack.enter_context(tempfile.TemporaryDirectory())
+        if Package.folder is None:
+            Package.make_clone()
+
+    @classmethod
+    def make_clone(cls):
+        stack = contextlib.ExitStack()
+        unittest.addModuleCleanup(stack.close)
+        cls.folder = stack.enter_context(tempfile.TemporaryDirectory())
         os.chmod(cls.folder, 0o755)
         cls.clone = os.path.join(cls.folder, "clone")
         for name in ("tools", "docs", "examples"):
@@ -106,6 +111,8 @@ class Package(unittest.TestCase):
         cls.write("clone/.gitignore", "out/\ndist/\n__pycache__/\n")
         cls.git("init", "-q")
         cls.commit()
+        # Each command of the clone would compile its tools again.
+        cls.compiled(os.path.join(cls.clone, "tools"))
         # The program: the built one, where there is one.
         cls.is_real = is_elf(os.path.join(TOP, program.BUILT))
         cls.built = os.path.join(cls.clone, program.BUILT)
@@ -123,6 +130,10 @@ class Package(unittest.TestCase):
             )
         cls.write("bin/rt", f"#!/bin/sh\necho {KIT}\n", 0o755)
         cls.record("7 passed, 0 failed")
+
+    @staticmethod
+    def compiled(folder):
+        subprocess.run([debian_package.PYTHON, "-m", "compileall", "-q", folder], check=True)
 
     @classmethod
     def write(cls, name, text, mode=0o644):
@@ -151,7 +162,7 @@ class Package(unittest.TestCase):
     def env(self, **more):
         return os.environ | {"PATH": f"{self.folder}/bin:/usr/sbin:/usr/bin:/sbin:/bin"} | more
 
-    def packed(self, name="dist", **more):
+    def packed(self, name, **more):
         """The package, made anew."""
         ended = run(debian_package.PYTHON, "afdx", "package", "-o", os.path.join(self.folder, name), cwd=self.clone, env=self.env(**more))
         self.assertEqual(ended.returncode, 0, ended.stdout + ended.stderr)
@@ -160,23 +171,26 @@ class Package(unittest.TestCase):
         return path
 
     def made(self):
-        """The package, made once for all tests of a class."""
+        """The package, made once."""
         if self.once is None:
-            type(self).once = self.packed("once")
+            Package.once = self.packed("once")
         return self.once
 
     def unpacked(self):
-        """A folder with the files of the package alone."""
-        folder = self.enterContext(tempfile.TemporaryDirectory())
-        self.assertEqual(run("dpkg-deb", "-x", self.made(), folder).returncode, 0)
-        return folder
+        """A folder with the files of the package alone, compiled as installing does it."""
+        if self.files is None:
+            files = os.path.join(self.folder, "files")
+            self.assertEqual(run("dpkg-deb", "-x", self.made(), files).returncode, 0)
+            self.compiled(os.path.join(files, "usr/lib/afdxsim"))
+            Package.files = files
+        return self.files
 
 
 class Packages(Package):
     """What it has, and of what it is made."""
 
     def test_what_it_has(self):
-        path = self.packed()
+        path = self.made()
         self.assertEqual(os.path.basename(path), f"afdxsim_{program.version(TOP)}_amd64.deb")
         lines = run("dpkg-deb", "--contents", path).stdout.splitlines()
         names = {line.split()[5].removeprefix("./"): line for line in lines}
@@ -207,7 +221,7 @@ class Packages(Package):
         })
 
     def test_the_same_bytes_from_the_same_commit(self):
-        one = self.packed("one")
+        one = self.made()
         for name in ("tools/afdx/commands/one_command.py", program.BUILT, "afdx"):
             os.utime(os.path.join(self.clone, name), (time.time(), time.time()))
         before = os.umask(0o077)
@@ -325,7 +339,7 @@ class Unpacked(Used, Package):
         if not self.is_real:
             # It knows its tools by the path at which they will be.
             self.skipTest(f"there is no built program at {program.BUILT}, and the stand-in for it wants a whole root folder")
-        self.root = self.work = self.unpacked()
+        self.root, self.work = self.unpacked(), self.enterContext(tempfile.TemporaryDirectory())
         self.examples, self.lib = (os.path.join(self.root, "usr", name) for name in ("share/doc/afdxsim/examples", "lib/afdxsim"))
 
     def run_there(self, name, *words):

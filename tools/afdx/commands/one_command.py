@@ -6,7 +6,6 @@ import sys
 
 from afdx import files, model
 from afdx.commands import debian_package, help_texts
-from afdx.commands.campaign_words import help_of_outages
 from afdx.commands.chosen_program import Mistake, asks_for_help, chosen, for_bounds, taken_out
 from afdx.commands.page_command import explained, page
 from afdx.commands.program_commands import by_program
@@ -40,6 +39,9 @@ def by_tool(name: str, words: list[str]) -> int:
     if asks_for_help(words) and name in help_texts.RUN_IT:
         files.say(f"{help_texts.OF_CHOICE}\n")
     if asks_for_help(words) and name == "outages":
+        # Each command would wait for what campaigns import.
+        from afdx.commands.campaign_words import help_of_outages
+
         files.write_out(help_of_outages())
         return 0
     asks = asks_for_help(words) or not words
