@@ -20,8 +20,8 @@ BESIDE_PROOFS = (
 )
 # Files that take longest, for a machine that has no times of an earlier run.
 LONGEST = (
-    "test_report.py", "test_rows.py", "test_refuse_memory.py", "test_processes.py", "test_commands.py", "test_types.py", "test_campaign.py",
-    "test_debian_package.py", "test_from_table.py", "test_second_opinion.py", "test_bounds.py", "test_misuse.py", "test_hands.py", "test_large_page.py",
+    "test_debian_package.py", "test_report.py", "test_commands.py", "test_campaign.py", "test_rows.py", "test_misuse.py", "test_types.py",
+    "test_refuse_memory.py", "test_processes.py", "test_from_table.py", "test_second_opinion.py", "test_bounds.py", "test_hands.py", "test_large_page.py",
     "test_cluster.py",
 )
 
