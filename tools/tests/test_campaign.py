@@ -175,7 +175,7 @@ class WithTheProgram(Here):
     def test_a_refused_description_names_the_line(self):
         for change, said in (
             (("bag_ms = 1", "bag_ms = 3"), "line 32: is refused: afdxsim: description: 4 OutOfLimit at vl 1 bag_ms"),
-            (("mbit = 100", "mbit = 1000"), "line 22: is refused: afdxsim: description: 4 OutOfLimit at link 1 mbit"),
+            (("mbit = 100", "mbit = 1001"), "line 22: is refused: afdxsim: description: 4 OutOfLimit at link 1 mbit"),
             (("seed = 42", "seed = -1"), "line 2: is refused: afdxsim: description: 4 OutOfLimit at top seed"),
             (
                 ('kind = "switch"', 'kind = "switch"\ncolour = 1'),

@@ -109,6 +109,22 @@ class OfPcapng(Here):
                 self.assertEqual([it[2:] for it in Capture(self.path + ".new").packets()], [wanted])
 
 
+    @unittest.skipUnless(shutil.which("tshark"), "there is no tshark: apt-get install -y tshark")
+    def test_what_tshark_reads(self):
+        """A second reader: the same times, lengths and bytes kept, of sections, units, and simple and old blocks; also where a file is cut."""
+        both = b"".join(
+            files.section(order) + files.interface(order, name="eth0", resolution=9) + files.interface(order, resolution=0x80 | 20, offset=1)
+            + files.packet(1, 5, ONE, order=order) + files.packet(0, 1_764_576_000_123_456_789, OTHER, order=order) for order in "<>"
+        )
+        simple = files.section() + files.interface(most=40) + files.simple_packet(ONE[:40], 60) + files.old_packet(0, 9, OTHER)
+        for text in (both, both[:-9], simple, files.pcap([(7, 5, ONE), (8, 999_999, OTHER, 1500)], ">", 0xA1B23C4D)):
+            _, own = self.read(text)
+            words = ["tshark", "-r", self.path, "-T", "fields", "-e", "frame.time_epoch", "-e", "frame.len", "-e", "frame.cap_len"]
+            lines = subprocess.run(words, capture_output=True, text=True).stdout.splitlines()
+            found = [line.split("\t") for line in lines]
+            self.assertEqual([[it and f"{it // 10**9}.{it % 10**9:09d}" or "", str(long), str(len(kept))] for _, it, kept, long in own], found)
+
+
 class OfCutFiles(Here):
     def test_each_cut_gives_what_is_whole(self):
         """Wherever the file ends, the packets before are read, and one line says so unless a packet ends there."""

@@ -40,9 +40,7 @@ def by_tool(name: str, words: list[str]) -> int:
         files.say(f"{help_texts.OF_CHOICE}\n")
     if asks_for_help(words) and name == "outages":
         # Each command would wait for what campaigns import.
-        from afdx.commands.campaign_words import help_of_outages
-
-        files.write_out(help_of_outages())
+        files.write_out(importlib.import_module("afdx.commands.campaign_words").help_of_outages())
         return 0
     asks = asks_for_help(words) or not words
     # At the end of the options, since it may have a value.

@@ -86,11 +86,12 @@ def page(arguments: list[str]) -> int:
         files.reads(path)
     outputs: list[str | None] = [words.output, *(taken_out(more, name)[1] for name in WRITTEN)]
     files.ready(list(filter(None, outputs)))
-    it = None if words.tables else chosen(words.by, words.program)
+    # A program that judges the description itself. Else the description is explained before one is looked for.
+    it = None if words.tables else for_bounds(words.by, words.program)
     with tempfile.TemporaryDirectory(prefix="afdx-page-") as folder:
         steps = PageSteps(words, more, folder, it)
         try:
-            return steps.side_by_side() if it is None or it.how in ("proved", "given") else steps.one_by_one()
+            return steps.side_by_side() if it or words.tables else steps.one_by_one()
         finally:
             steps.stop()
 
@@ -119,10 +120,10 @@ class PageSteps:
 
     def one_by_one(self) -> int:
         """The same for makers of runs that do not judge the description as the program does, or that take minutes."""
-        assert self.it
         if status := explained(self.words.net):
             return status
         self.judge_limits()
+        self.it = chosen(self.words.by, self.words.program)
         report(self.it.says)
         bounding = self.bounding()
         status = simulate(self.it, self.words.net, self.tables, self.trace)

@@ -23,17 +23,12 @@ class VirtualLinks(StreamValues):
     def __init__(self, findings: Findings, ways: Ways, named: Collection[str]) -> None:
         super().__init__(findings)
         self.ways, self.named = ways, named
-        # Those that are known to be numbers.
-        self.limits: set[tuple[str, str]] = set()
+        # The limits in ns by column and text.
+        self.limits: dict[tuple[str, str], int | None] = {}
 
     def rows(self, line: Joint) -> tuple[Row, list[Row]]:
         """The row of a virtual link, and those of its further streams."""
-        for part in line.parts:
-            for column in headings.LIMITS:
-                if column in part.cells and (column, part.cells[column]) not in self.limits:
-                    unit = headings.NS[column.removeprefix("limit_")]
-                    if self.time(part, column, part.cells[column], "limit_ns", lambda number: number * unit) is not None:
-                        self.limits.add((column, part.cells[column]))
+        self.limits_of(line)
         row = self.row_of(line, "vl", {})
         further = [self.row_of(stream, "stream", {}) for stream in line.streams]
         if "id" in row:
@@ -50,6 +45,27 @@ class VirtualLinks(StreamValues):
             row[key] = self.stated(line, key) if key in line.cells else self.shortest(line, net)
         self.ends(line, row)
         return row, further
+
+    def limits_of(self, line: Joint) -> None:
+        """Of several limits of one destination, as each port may have its own, the least counts: tools read one."""
+        found = [(part, column) for part in line.parts for column in headings.LIMITS if column in part.cells]
+        least: dict[str, int] = {}
+        for part, column in found:
+            ns = self.limit(part, column)
+            for name in sheets.names_of(part.cells.get("destinations", "")) or [""]:
+                if ns is not None:
+                    least[name] = min(ns, least.get(name, ns))
+        for part, column in found:
+            ns, names = self.limit(part, column), sheets.names_of(part.cells.get("destinations", "")) or [""]
+            if ns is not None and all(least[name] < ns for name in names):
+                self.findings.note(part, f"{column} is {part.cells.pop(column)}, and another line of virtual link {line.cells.get('id')} has a lower one, which counts")
+
+    def limit(self, part: Line, column: str) -> int | None:
+        """The limit of a cell in ns, or None where it is none."""
+        key, unit = (column, part.cells[column]), headings.NS[column.removeprefix("limit_")]
+        if self.limits.get(key) is None:
+            self.limits[key] = self.time(part, column, part.cells[column], "limit_ns", lambda number: number * unit)
+        return self.limits[key]
 
     # ---- sizes and times ----
 
