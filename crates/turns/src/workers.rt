@@ -154,8 +154,8 @@ fn watch_all<F: Refusal, T: Threads + Wait, W: Watch + Drop>(
     (join_all(rt, alloc, start, handles), watch)
 }
 
-/// The watch is shown GVT once in `LOOK_US`, until the run ends. If it stands still, the workers end at their next turn, without a fault: one thread
-/// finishes the run then.
+/// The watch is shown GVT once in `LOOK_US`, until the run ends. If it stands still, the workers end at their next turn, without a fault. One thread
+/// finishes the run then, by a loop that does finitely many rounds (`end` of `group_end`).
 ///
 /// A thread that the system has stopped may have the lock of the exchange; then the other workers wait for it too. The calling thread
 /// cannot take the lock from it, and joins all of them: it waits until that thread goes on.
