@@ -3,3 +3,4 @@ pub mod ShareLemmas
 pub mod PassingLemmas
 pub mod TextLemmas
 pub mod AgeLemmas
+pub mod SizeLemmas

@@ -1,5 +1,5 @@
 -- Which sizes the frames of a virtual link have: from the least to the greatest that its streams offer.
-use Rattle.std.specs.Prelude.{ℕ, ◌==◌, if◌then◌else◌, min, max, nat_le, List, [], ◌∷◌, unwrap_or}
+use Rattle.std.specs.Prelude.{ℕ, ◌==◌, if◌then◌else◌, min, max, nat_le, List, [], ◌∷◌, map, unwrap_or}
 use Rattle.row_types.specs.declared.rows.Stream.{Stream}
 use Rattle.row_types.specs.declared.rows.VirtualLink.{VirtualLink}
 use Rattle.network.specs.declared.plan.VlStream.{VlStream}
@@ -27,3 +27,7 @@ sizes_with id found (row ∷ rows) = sizes_with id (if row.vl.0 == id then with_
 
 abbrev pub sizes_in : Plan → VirtualLink → FrameSizes
 sizes_in plan link = sizes_with link.id.0 (sizes_of_stream link.own) plan.streams
+
+-- those of each virtual link
+abbrev pub all_sizes : Plan → List FrameSizes
+all_sizes plan = map (λ vl. sizes_in plan vl.link) plan.vls

@@ -2,10 +2,11 @@
 ghost use Rattle.std.specs.Prelude.{◌≡◌, ◌<◌, ◌++◌, All, length, IfOk, OnOk};
 ghost use Rattle.network.specs.Words.{IsLinkInLimits, is_end_system};
 ghost use Rattle.network_bounds.specs.Curves.{is_first};
+ghost use Rattle.network_bounds.specs.Sizes.{all_sizes};
 ghost use Rattle.network_bounds.specs.Passing.{comes, first_port_of, input_of, passing_at, passings};
 
 use crate::curves::is_first;
-use crate::sizes::{FrameSizes, sizes};
+use crate::sizes::{FrameSizes, sizes_at};
 use network::{Network, NodeKind, VirtualLink, Way};
 use std::alloc::{AllocError, Global};
 use vlink::VlId;
@@ -59,11 +60,13 @@ pub fn input_of(network: &Network, node: usize, id: VlId) -> u16
 fn push_passing(
     found: &mut Vec<Passing>,
     network: &Network,
+    known: &[FrameSizes],
     node: usize,
     port: u16,
     way: Way,
 ) -> Result<(), AllocError>
     requires node { node < length network.now.nodes }
+    requires known { known.now ≡ all_sizes network.now }
     requires limits { All (λ p. IsLinkInLimits p.link) found.old.items }
     ensures passing { OnOk result (found.new.items ≡ found.old.items ++ passing_at network.now node port way) }
     ensures limits { OnOk result (All (λ p. IsLinkInLimits p.link) found.new.items) }
@@ -77,7 +80,7 @@ fn push_passing(
     let link = network.virtual_link(vl);
     found.push(Passing {
         link,
-        sizes: sizes(network, &link),
+        sizes: sizes_at(network, known, vl, &link),
         input: input_of(network, node, way.vl),
     })?;
     Ok(())
@@ -87,16 +90,18 @@ fn push_passing(
 pub fn passings(
     alloc: Global,
     network: &Network,
+    known: &[FrameSizes],
     node: usize,
     port: u16,
 ) -> Result<Vec<Passing>, AllocError>
-    requires { node < length network.now.nodes }
+    requires node { node < length network.now.nodes }
+    requires known { known.now ≡ all_sizes network.now }
     ensures passings { IfOk result (λ found. found.items ≡ passings network.now node port) }
     ensures limits { IfOk result (λ found. All (λ p. IsLinkInLimits p.link) found.items) }
 {
     let mut found = Vec::new(alloc);
     for way in network.departures(node) {
-        push_passing(&mut found, network, node, port, *way)?;
+        push_passing(&mut found, network, known, node, port, *way)?;
     }
     Ok(found)
 }

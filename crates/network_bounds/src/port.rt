@@ -3,8 +3,10 @@ ghost use Rattle.std.specs.Prelude.{◌≡◌, ◌<◌, length, map, option_map,
 ghost use Rattle.std.specs.List.{range_with_len};
 ghost use Rattle.network.specs.Words.{lines_of};
 ghost use Rattle.network_bounds.specs.Mixing.{PORTS, byte_ns_into, leads_to, line_into, port_before};
+ghost use Rattle.network_bounds.specs.Sizes.{all_sizes};
 
 use crate::passing::{Passing, is_end, passings};
+use crate::sizes::FrameSizes;
 use network::{GREATEST_PORTS, Network};
 use std::alloc::{AllocError, Global};
 use std::marker::Model;
@@ -81,14 +83,20 @@ fn bytes_into(alloc: Global, network: &Network, node: usize) -> Result<Vec<Optio
 
 impl Port {
     /// Makes the port before a line.
-    pub fn new(alloc: Global, network: &Network, line: usize) -> Result<Self, AllocError>
-        requires { line < length (lines_of network.now) }
+    pub fn new(
+        alloc: Global,
+        network: &Network,
+        known: &[FrameSizes],
+        line: usize,
+    ) -> Result<Self, AllocError>
+        requires line { line < length (lines_of network.now) }
+        requires known { known.now ≡ all_sizes network.now }
         ensures { IfOk result (λ port. option_map (port_before network.now) (slice_get (lines_of network.now) line) ≡ Some port) }
     {
         let ahead = network.line(line);
         let node = usize::from(ahead.from);
         let before = bytes_into(alloc, network, node)?;
-        let passings = passings(alloc, network, node, ahead.from_port)?;
+        let passings = passings(alloc, network, known, node, ahead.from_port)?;
         Ok(Port {
             is_end: is_end(network, node),
             byte_ns: ahead.byte_ns,

@@ -1,8 +1,9 @@
 //! Which sizes the frames of a virtual link have.
-ghost use Rattle.std.specs.Prelude.{◌≡◌, max, min};
-ghost use Rattle.network_bounds.specs.Sizes.{one_size, sizes_in, sizes_of_stream, with_sizes};
+ghost use Rattle.std.specs.Prelude.{◌≡◌, IfOk, Some, max, min, option_map, slice_get};
+ghost use Rattle.network_bounds.specs.Sizes.{all_sizes, one_size, sizes_in, sizes_of_stream, with_sizes};
 
 use network::{Network, Stream, VirtualLink};
+use std::alloc::{AllocError, Global};
 use vlink::FrameSize;
 
 /// The least and the greatest size of the frames of a virtual link.
@@ -64,7 +65,7 @@ impl FrameSizes {
 }
 
 /// Returns the sizes of the frames that all streams of a virtual link offer.
-pub fn sizes(network: &Network, link: &VirtualLink) -> FrameSizes
+fn sizes(network: &Network, link: &VirtualLink) -> FrameSizes
     ensures { result ≡ sizes_in network.now link.now }
 {
     let mut found = FrameSizes::of(&link.own);
@@ -74,4 +75,33 @@ pub fn sizes(network: &Network, link: &VirtualLink) -> FrameSizes
         }
     }
     found
+}
+
+/// Returns the sizes of the frames of each virtual link, by its place.
+pub fn all_sizes(alloc: Global, network: &Network) -> Result<Vec<FrameSizes>, AllocError>
+    ensures { IfOk result (λ found. found.items ≡ all_sizes network.now) }
+{
+    let mut found = Vec::new(alloc);
+    for vl in 0..network.vl_count() {
+        let link = network.virtual_link(vl);
+        found.push(sizes(network, &link))?;
+    }
+    Ok(found)
+}
+
+/// Returns the sizes of the frames of the virtual link at a place, if all are known.
+pub fn sizes_at(
+    network: &Network,
+    known: &[FrameSizes],
+    vl: usize,
+    link: &VirtualLink,
+) -> FrameSizes
+    requires known { known.now ≡ all_sizes network.now }
+    requires link { option_map (λ vl. vl.link) (slice_get network.now.vls vl) ≡ Some link.now }
+    ensures { result ≡ sizes_in network.now link.now }
+{
+    match known.get(vl) {
+        Some(found) => *found,
+        None => sizes(network, link),
+    }
 }

@@ -5,13 +5,13 @@ ghost use Rattle.trace_segments.specs.declared.fault.OutFault.TheVariants.{Devic
 ghost use Rattle.trace_segments.specs.Words.{Adds, IsBeginning};
 ghost use Rattle.network.specs.Words.{IsLinkInLimits, lines_of};
 ghost use Rattle.network_bounds.specs.Delays.{AreBounds};
-ghost use Rattle.network_bounds.specs.Sizes.{sizes_in};
+ghost use Rattle.network_bounds.specs.Sizes.{all_sizes, sizes_in};
 ghost use Rattle.network_bounds.specs.Text.{IsBoundsText, bounds_text, destination_text, destinations_text, links_text, port_text, ports_text};
 
 use crate::ages::network_ns;
 use crate::delays::PortBound;
 use crate::port::Port;
-use crate::sizes::sizes;
+use crate::sizes::{FrameSizes, all_sizes, sizes_at};
 use crate::text;
 use csv::{Error, Writer};
 use network::{Network, VirtualLink};
@@ -21,12 +21,17 @@ use trace_segments::{OutFault, Sink, write_all};
 use vlink::FrameSize;
 
 /// Returns the bounds of the port before each line.
-fn bounds_of(alloc: Global, network: &Network) -> Result<Vec<PortBound>, AllocError>
+fn bounds_of(
+    alloc: Global,
+    network: &Network,
+    known: &[FrameSizes],
+) -> Result<Vec<PortBound>, AllocError>
+    requires known { known.now ≡ all_sizes network.now }
     ensures { IfOk result (λ bounds. AreBounds network.now (lines_of network.now) bounds.items) }
 {
     let mut bounds = Vec::new(alloc);
     for line in 0..network.line_count() {
-        let port = Port::new(alloc, network, line)?;
+        let port = Port::new(alloc, network, known, line)?;
         bounds.push(PortBound::of(&port))?;
     }
     Ok(bounds)
@@ -77,13 +82,15 @@ fn push_destinations(
 fn push_links(
     out: &mut Writer<Vec<u8>>,
     network: &Network,
+    known: &[FrameSizes],
     bounds: &[PortBound],
 ) -> Result<(), Error>
+    requires known { known.now ≡ all_sizes network.now }
     ensures { OnOk result (Adds out.old out.new (links_text network.now bounds.now)) }
 {
     for vl in 0..network.vl_count() {
         let link = network.virtual_link(vl);
-        let least = sizes(network, &link).least;
+        let least = sizes_at(network, known, vl, &link).least;
         push_destinations(out, network, bounds, &link, least, network.destinations(vl))?;
     }
     Ok(())
@@ -123,20 +130,32 @@ fn push_ports(
 }
 
 /// Appends the lines of the bounds. An error is the library's own.
-fn push_all(out: &mut Writer<Vec<u8>>, network: &Network, bounds: &[PortBound]) -> Result<(), Error>
+fn push_all(
+    out: &mut Writer<Vec<u8>>,
+    network: &Network,
+    known: &[FrameSizes],
+    bounds: &[PortBound],
+) -> Result<(), Error>
+    requires known { known.now ≡ all_sizes network.now }
     ensures { OnOk result (Adds out.old out.new (bounds_text network.now bounds.now)) }
 {
     text::push_head(out)?;
-    push_links(out, network, bounds)?;
+    push_links(out, network, known, bounds)?;
     push_ports(out, network, bounds)
 }
 
 /// Makes the text of the bounds. An error is the library's own.
-fn csv_text(alloc: Global, network: &Network, bounds: &[PortBound]) -> Result<Vec<u8>, Error>
+fn csv_text(
+    alloc: Global,
+    network: &Network,
+    known: &[FrameSizes],
+    bounds: &[PortBound],
+) -> Result<Vec<u8>, Error>
+    requires known { known.now ≡ all_sizes network.now }
     ensures { IfOk result (λ bytes. bytes.items ≡ bounds_text network.now bounds.now) }
 {
     let mut out = empty(alloc);
-    let put = push_all(&mut out, network, bounds);
+    let put = push_all(&mut out, network, known, bounds);
     text_of(out, put)
 }
 
@@ -145,8 +164,9 @@ fn text_in(alloc: Global, network: &Network) -> Result<Vec<u8>, OutFault>
     ensures text { IfOk result (λ bytes. IsBoundsText network.now bytes.items) }
     ensures fault { IfErr result (λ fault. fault ≢ Device) }
 {
-    let bounds = bounds_of(alloc, network)?;
-    Ok(csv_text(alloc, network, bounds.as_slice())?)
+    let known = all_sizes(alloc, network)?;
+    let bounds = bounds_of(alloc, network, known.as_slice())?;
+    Ok(csv_text(alloc, network, known.as_slice(), bounds.as_slice())?)
 }
 
 /// Writes worst-case bounds of a network as comma-separated rows, each with a line feed at its end.
