@@ -30,11 +30,11 @@ pub fn rows(alloc: Global, document: &mut Table) -> Result<Rows, AllocError>
     let until = Time::new(number_at(table::UNTIL_NS, document)).unwrap();
     let seed = number_at(table::SEED, document);
     let has_unknown_key = has_unknown_key(Section::Top, document);
-    let nodes = rows_in::<NodeRow>(alloc, take_list(document, Section::Node))?;
-    let links = rows_in::<LinkRow>(alloc, take_list(document, Section::Link))?;
-    let outages = rows_in::<OutageRow>(alloc, take_list(document, Section::Outage))?;
-    let vls = rows_in::<VlRow>(alloc, take_list(document, Section::Vl))?;
-    let streams = rows_in::<StreamRow>(alloc, take_list(document, Section::Stream))?;
+    let nodes = rows_in::<Nodes>(alloc, take_list(document, Section::Node))?;
+    let links = rows_in::<Links>(alloc, take_list(document, Section::Link))?;
+    let outages = rows_in::<Outages>(alloc, take_list(document, Section::Outage))?;
+    let vls = rows_in::<Vls>(alloc, take_list(document, Section::Vl))?;
+    let streams = rows_in::<Streams>(alloc, take_list(document, Section::Stream))?;
     Ok(Rows {
         until,
         seed,
@@ -48,43 +48,46 @@ pub fn rows(alloc: Global, document: &mut Table) -> Result<Rows, AllocError>
 }
 
 // Makes the rows of a section, which has this value or none.
-fn rows_in<R: ReadRow>(alloc: Global, value: Option<Value>) -> Result<Sequence<R>, AllocError>
+fn rows_in<R: ReadRow>(alloc: Global, value: Option<Value>) -> Result<Sequence<R::Row>, AllocError>
     requires { IsSoundList R.section (option_map view value) }
     ensures { IfOk result (MeansList R.means (option_map view value)) }
 {
     match value {
-        Some(value) => rows_of_list(alloc, value),
+        Some(value) => rows_of_list::<R>(alloc, value),
         None => Ok(Sequence::from_vec(Vec::new(alloc))),
     }
 }
 
 // Makes the rows of a list.
-fn rows_of_list<R: ReadRow>(alloc: Global, value: Value) -> Result<Sequence<R>, AllocError>
+fn rows_of_list<R: ReadRow>(alloc: Global, value: Value) -> Result<Sequence<R::Row>, AllocError>
     requires { IsSoundList R.section (Some (view value)) }
     ensures { IfOk result (MeansList R.means (Some (view value))) }
 {
     match value {
-        Value::Array(rows) => rows_of_values(alloc, rows),
+        Value::Array(rows) => rows_of_values::<R>(alloc, rows),
         _ => unreachable!(),
     }
 }
 
 // Makes the rows of these values.
 #[tactic(auto, using(std::proofs::lemmas::Grind::common_steps, std::proofs::lemmas::Slice::Zip::all_zipped_more))]
-fn rows_of_values<R: ReadRow>(alloc: Global, values: Vec<Value>) -> Result<Sequence<R>, AllocError>
+fn rows_of_values<R: ReadRow>(
+    alloc: Global,
+    values: Vec<Value>,
+) -> Result<Sequence<R::Row>, AllocError>
     requires { All (λ v. IsSoundRow R.section (view v)) values.items }
     ensures { IfOk result (AllZip (λ v row. MeansRow R.means (view v) row) values.items) }
 {
     let mut rows = Vec::with_capacity(alloc, values.len())?;
     for value in values {
-        let row = row_of_value(alloc, value)?;
+        let row = row_of_value::<R>(alloc, value)?;
         rows.push(row)?;
     }
     Ok(Sequence::from_vec(rows))
 }
 
 // Makes the row of a value.
-fn row_of_value<R: ReadRow>(alloc: Global, value: Value) -> Result<R, AllocError>
+fn row_of_value<R: ReadRow>(alloc: Global, value: Value) -> Result<R::Row, AllocError>
     requires { IsSoundRow R.section (view value) }
     ensures { IfOk result (MeansRow R.means (view value)) }
 {
@@ -94,65 +97,89 @@ fn row_of_value<R: ReadRow>(alloc: Global, value: Value) -> Result<R, AllocError
     }
 }
 
-/// A row of a section, which a table represents.
-trait ReadRow: Sized + Drop {
+/// A section, each of whose rows a table represents.
+///
+/// Rows themselves have no such trait, so whoever uses one needs no reader of TOML.
+trait ReadRow {
+    type Row: Drop;
+
     ghost section: { Section };
 
     /// The table represents the row.
-    ghost means: { Members → Self → Type 0 };
+    ghost means: { Members → Self.Row → Type 0 };
 
     /// Makes the row of a table without a fault.
-    fn read(alloc: Global, row: Table) -> Result<Self, AllocError>
+    fn read(alloc: Global, row: Table) -> Result<Self::Row, AllocError>
         requires { IsSoundTable section (table_view row) }
         ensures { IfOk result (means (table_view row)) };
 }
 
-impl ReadRow for NodeRow {
+struct Nodes;
+
+impl ReadRow for Nodes {
+    type Row = NodeRow;
+
     ghost section = { Node };
 
     ghost means = { MeansNode };
 
-    fn read(_alloc: Global, row: Table) -> Result<Self, AllocError> {
+    fn read(_alloc: Global, row: Table) -> Result<Self::Row, AllocError> {
         Ok(node_of(row))
     }
 }
 
-impl ReadRow for LinkRow {
+struct Links;
+
+impl ReadRow for Links {
+    type Row = LinkRow;
+
     ghost section = { Link };
 
     ghost means = { MeansLink };
 
-    fn read(_alloc: Global, row: Table) -> Result<Self, AllocError> {
+    fn read(_alloc: Global, row: Table) -> Result<Self::Row, AllocError> {
         Ok(link_of(row))
     }
 }
 
-impl ReadRow for OutageRow {
+struct Outages;
+
+impl ReadRow for Outages {
+    type Row = OutageRow;
+
     ghost section = { Outage };
 
     ghost means = { MeansOutage };
 
-    fn read(_alloc: Global, row: Table) -> Result<Self, AllocError> {
+    fn read(_alloc: Global, row: Table) -> Result<Self::Row, AllocError> {
         Ok(outage_of(row))
     }
 }
 
-impl ReadRow for VlRow {
+struct Vls;
+
+impl ReadRow for Vls {
+    type Row = VlRow;
+
     ghost section = { Vl };
 
     ghost means = { MeansVl };
 
-    fn read(alloc: Global, row: Table) -> Result<Self, AllocError> {
+    fn read(alloc: Global, row: Table) -> Result<Self::Row, AllocError> {
         vl_of(alloc, row)
     }
 }
 
-impl ReadRow for StreamRow {
+struct Streams;
+
+impl ReadRow for Streams {
+    type Row = StreamRow;
+
     ghost section = { Stream };
 
     ghost means = { MeansStreamRow };
 
-    fn read(_alloc: Global, row: Table) -> Result<Self, AllocError> {
+    fn read(_alloc: Global, row: Table) -> Result<Self::Row, AllocError> {
         Ok(stream_of(row))
     }
 }
