@@ -20,6 +20,7 @@ from afdx.files import program
 from afdx.reckon import network_calculus, output_ports, regulator_waits, whole_frames
 from afdx.reckon.arrival_curves import PARTS
 from afdx.reckon.bounds_rows import BoundsRows
+from afdx.runs import program_bounds
 from tests.places import EXAMPLES, tool_words
 
 MS = 10**6
@@ -551,7 +552,9 @@ class OfProgram(unittest.TestCase):
 class Proved(unittest.TestCase):
     """What the program prints, beside the bounds of the tool."""
 
-    LINES = (model.BOUNDS_HEAD, "bound,1,ES2,27720,0,27720", "port,ES1>SW1,,84,yes,", "port,SW1>ES1,,0,yes,", "port,SW1>ES2,,84,yes,", "port,ES2>SW1,,0,yes,")
+    # What a user has stored with an earlier version, and the columns that later ones print behind these.
+    HEAD, LATER = "kind,of,where,network_ns,wait_ns,bound_ns", ",least_ns,jitter_ns,skew_ns,sure,sure_ns"
+    LINES = (HEAD, "bound,1,ES2,27720,0,27720", "port,ES1>SW1,,84,yes,", "port,SW1>ES1,,0,yes,", "port,SW1>ES2,,84,yes,", "port,ES2>SW1,,0,yes,")
 
     def setUp(self):
         folder = tempfile.TemporaryDirectory()
@@ -579,8 +582,10 @@ class Proved(unittest.TestCase):
             (self.LINES, "27720", "0", "27720", "program"),
             ((self.LINES[0], line, *self.LINES[2:]), "27723", "2", "27721", "program"),
             ((self.LINES[0], "none,1,ES2,rate,,", *self.LINES[2:]), "27720", "0", "27720", "tool"),
-            # Later versions print more columns.
-            ((self.LINES[0] + ",least_ns", line + ",5", *(it + "," for it in self.LINES[2:])), "27723", "2", "27721", "program"),
+            # Later versions print more columns, and may print them in another order.
+            ((self.HEAD + self.LATER, line + ",27720,3,,,", *(it + "," * 5 for it in self.LINES[2:])), "27723", "2", "27721", "program"),
+            ((self.HEAD + self.LATER, "none,1,ES2,size" + "," * 7, *(it + "," * 5 for it in self.LINES[2:])), "27720", "0", "27720", "tool"),
+            (("least_ns," + self.HEAD, "27720," + line, *("," + it for it in self.LINES[2:])), "27723", "2", "27721", "program"),
         ):
             with self.subTest(lines[1]):
                 first, *rest = self.rows(lines)
@@ -617,7 +622,7 @@ class Proved(unittest.TestCase):
         both, page = os.path.join(self.folder, "bounds.csv"), os.path.join(self.folder, "page.html")
         with open(os.path.join(EXAMPLES, "five_links.toml"), encoding="utf-8") as file:
             net = model.Network(os.path.join(EXAMPLES, "five_links.toml"), file.read())
-        lines = [model.BOUNDS_HEAD] + [f"none,{vl},{where},rate,," if vl == 5 else f"bound,{vl},{where},999999,1,1000000" for vl, where in net.destinations]
+        lines = [self.HEAD] + [f"none,{vl},{where},rate,," if vl == 5 else f"bound,{vl},{where},999999,1,1000000" for vl, where in net.destinations]
         self.net = net.path
         self.assertEqual(self.call([*lines, *(f"port,{line},,9,yes," for line in net.mbit)], "-o", both)[0], 0)
         tables = self.net.replace(".toml", ".tables.csv")
@@ -628,6 +633,23 @@ class Proved(unittest.TestCase):
         self.assertIn("It has none for 1 destination, where that of afdx bounds stands with the mark †.", found)
         self.assertIn('"bound":[1000000,1000000,1000000,1000000,134082]', found)
         self.assertIn('"bound_mark":[0,0,0,0,1]', found)
+
+    def test_the_bounds_of_a_contract_are_taken_where_the_program_prints_them(self):
+        """A stand-in prints them by its word --contract, does not know the word, or has it in its help alone."""
+        stand_in, net = os.path.join(self.folder, "stand-in"), model.Network(self.net)
+        lines = "\n".join((self.HEAD + self.LATER, self.LINES[1] + ",27720,0,,,", *(it + "," * 5 for it in self.LINES[2:])))
+        for usage, with_the_word, wanted in (
+            ("bounds NET [--contract]", lines.replace("27720,0,27720", "30000,0,30000"), (27720, 30000)),
+            ("bounds NET", "", (27720, None)),
+            ("bounds NET [--contract]", "", (27720, None)),
+        ):
+            with open(stand_in, "w", encoding="utf-8") as file:
+                file.write(f"#!/bin/sh\ncase \"$*\" in --version) echo afdxsim 9;; *--help) echo 'afdxsim {usage}';; *--contract)\n")
+                file.write(f"test -n '{with_the_word[:1]}' || exit 2; cat <<'E'\n{with_the_word}\nE\n;; *) cat <<'E'\n{lines}\nE\nesac\n")
+            os.chmod(stand_in, 0o755)
+            with self.subTest(usage):
+                found = program_bounds.bounds_of(stand_in, net)
+                self.assertEqual((found.proved.bound(1, "ES2"), found.contract and found.contract.bound(1, "ES2")), wanted)
 
     def test_another_file_is_refused(self):
         for lines, printed in (
@@ -640,6 +662,8 @@ class Proved(unittest.TestCase):
             (self.LINES[:-1], "the file ends without the port before ES2>SW1"),
             ((self.LINES[0], "bounds,1,ES2"), "line 2: is no line of bounds"),
             ((self.LINES[0], "bound,1,ES2,5,6,12"), "line 2: 5 and 6 are not 12, the bound"),
+            ((self.HEAD + self.LATER, self.LINES[1]), "line 2: is no line of bounds"),
+            ((self.HEAD + ",wait_ns", self.LINES[1] + ",0"), "line 1: begins with 'kind,of,where,"),
         ):
             with self.subTest(printed):
                 status, text, errors = self.call(lines)

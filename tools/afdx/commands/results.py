@@ -15,16 +15,15 @@ import tempfile
 from collections.abc import Iterator
 from typing import Any
 
-from afdx import files, model
+from afdx import files
 from afdx.commands.chosen_program import Mistake, chosen, ended, foresee
 from afdx.document.rows_of_links import Document
 from afdx.files import book_edits, csv_edits, program, workbook
 from afdx.files.program import NoProgram
 from afdx.model import Network
 from afdx.page.given import ends_of, tables_of
-from afdx.reckon import bounds_reader, limits, margins, network_calculus, row_results
+from afdx.reckon import bounds_reader, limits, margins, network_calculus, proved_bounds, row_results
 from afdx.reckon.bounds_rows import BoundsRows
-from afdx.reckon.proved_bounds import ProvedBounds
 from afdx.runs import by_rt, program_bounds
 from afdx.runs.by_rt import report
 
@@ -98,9 +97,8 @@ def bounds_of(words: argparse.Namespace, net: Network, path: str | None) -> tupl
         own = network_calculus.Bounds(net)
         rows = BoundsRows(own, printed.proved, printed.contract) if printed else BoundsRows(own)
         return rows, rows.made_by()
-    first = next(files.lines_of(words.bounds), "").rstrip("\n")
-    if first == model.BOUNDS_HEAD:
-        rows = BoundsRows(network_calculus.Bounds(net), ProvedBounds(words.bounds, net))
+    if proved_bounds.is_head(next(files.lines_of(words.bounds), "").rstrip("\n")):
+        rows = BoundsRows(network_calculus.Bounds(net), proved_bounds.ProvedBounds(words.bounds, net))
         return rows, rows.made_by()
     found = bounds_reader.read(words.bounds, net)
     return found, found.made_by or ""

@@ -1,4 +1,5 @@
 """The worst-case bounds that the program prints by `afdxsim bounds NET`: proved to be those of the formula in docs/BOUNDS.md."""
+import operator
 from array import array
 from collections.abc import Iterable
 from typing import NoReturn
@@ -8,13 +9,19 @@ from afdx.files import Fault, cut, program
 from afdx.model import Network
 
 AGAIN = "`afdxsim bounds NET` prints it anew"
-# How many columns of a line are read. Later versions print others behind them.
-READ = model.BOUNDS_HEAD.count(",") + 1
+# The columns that are read, by their names, wherever they stand: each version of the program has these, and later ones have others too.
+READ = ("kind", "of", "where", "network_ns", "wait_ns", "bound_ns")
 # What stands in an array for a number that is none, and for one that was not read.
 NONE, ABSENT = -1, -2
 # Of a destination an array has these numbers one after another: from the release on, in the regulator, and their sum.
 OF_EACH = 3
 KINDS = ("network_ns", "wait_ns", "bound_ns")
+
+
+def is_head(line: str) -> bool:
+    """Whether a line, without its line feed, names the columns of what the program prints."""
+    columns = line.split(",")
+    return all(columns.count(name) == 1 for name in READ)
 
 
 class ProvedBounds:
@@ -43,15 +50,15 @@ class ProvedBounds:
     # ---- reading ----
 
     def judge_head(self, line: str) -> None:
+        if not is_head(line):
+            raise Fault(self.path, 1, f"begins with {cut(line)} in place of {','.join(READ)}: give what `afdxsim bounds NET` prints")
         columns = line.split(",")
-        if columns[:READ] != model.BOUNDS_HEAD.split(","):
-            raise Fault(self.path, 1, f"begins with {cut(line)} in place of {model.BOUNDS_HEAD}: give what `afdxsim bounds NET` prints")
-        self.count = len(columns)
+        self.count, self.read = len(columns), operator.itemgetter(*map(columns.index, READ))
 
     def row(self, i: int, fields: list[str]) -> None:
-        if len(fields) != self.count or fields[0] not in ("bound", "port", "none"):
+        kind, of, where, first, second, whole = self.read(fields) if len(fields) == self.count else [""] * len(READ)
+        if kind not in ("bound", "port", "none"):
             raise Fault(self.path, i, f"is no line of bounds; {AGAIN}")
-        kind, of, where, first, second, whole = fields[:READ]
         if kind == "port" or kind == "none" and not where:
             return self.port(i, of, None if kind == "none" else model.whole_number(self.path, i, "the bytes", first))
         vl = model.whole_number(self.path, i, "the virtual link", of)

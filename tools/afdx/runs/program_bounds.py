@@ -1,5 +1,6 @@
 """The bounds that a program prints of a network, by `afdxsim bounds NET`, and by its word --contract where it has that."""
 import os
+import re
 import subprocess
 import tempfile
 from typing import NamedTuple
@@ -10,6 +11,8 @@ from afdx.reckon.proved_bounds import ProvedBounds
 
 # What the command is called, and its word for bounds that hold whatever other end systems send.
 COMMAND, CONTRACT = "bounds", "--contract"
+# The status of a program that does not know a word.
+WRONG_WORDS = 2
 
 
 class OfProgram(NamedTuple):
@@ -25,7 +28,7 @@ def words_of(path: str) -> set[str] | None:
         run = subprocess.run([path, COMMAND, "--help"], stdin=subprocess.DEVNULL, capture_output=True, text=True, errors="replace")
     except OSError as fault:
         raise Fault(path, None, f"cannot be run: {fault.strerror}") from None
-    return set(run.stdout.replace(",", " ").split()) if run.returncode == 0 and f"afdxsim {COMMAND} " in run.stdout else None
+    return set(re.findall("--[a-z-]+", run.stdout)) if run.returncode == 0 and f"afdxsim {COMMAND} " in run.stdout else None
 
 
 def bounds_of(path: str, net: model.Network) -> OfProgram | None:
@@ -40,14 +43,19 @@ def bounds_of(path: str, net: model.Network) -> OfProgram | None:
         given = os.path.join(folder, "net.toml")
         files.write_whole(given, net.text)
         printed = lambda *more: printed_of(path, net, [given, *more], os.path.join(folder, "bounds.csv"), maker)
-        return OfProgram(printed(), printed(CONTRACT) if CONTRACT in words else None)
+        found = printed()
+        if found is None:
+            raise Fault(path, None, f"refuses the words `{COMMAND} NET`")
+        return OfProgram(found, printed(CONTRACT) if CONTRACT in words else None)
 
 
-def printed_of(path: str, net: model.Network, words: list[str], kept: str, maker: program.Maker) -> ProvedBounds:
-    """What a program prints with these words of `bounds`, which is kept meanwhile in a file."""
+def printed_of(path: str, net: model.Network, words: list[str], kept: str, maker: program.Maker) -> ProvedBounds | None:
+    """What a program prints with these words of `bounds`, which is kept meanwhile in a file; None where it does not know one of them."""
     with open(kept, "wb") as out:
         run = subprocess.run([path, COMMAND, *words], stdin=subprocess.DEVNULL, stdout=out, stderr=subprocess.PIPE)
     command = f"what {files.printable(path)} {' '.join([COMMAND, 'NET', *words[1:]])} printed"
+    if run.returncode == WRONG_WORDS:
+        return None
     if run.returncode:
         said = run.stderr.decode("utf-8", "replace").strip().split("\n")[0]
         why = files.ended_by(-run.returncode) if run.returncode < 0 else said or f"status {run.returncode}"
