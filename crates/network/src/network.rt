@@ -1,5 +1,5 @@
 //! The network of an accepted description.
-ghost use Rattle.std.specs.Prelude.{◌≡◌, ◌*◌, ◌<◌, ◌≤◌, true, All, Some, length, slice_get};
+ghost use Rattle.std.specs.Prelude.{◌≡◌, ◌*◌, ◌<◌, ◌≤◌, true, All, Some, length, map, slice_get};
 ghost use Rattle.std.specs.List.Sorted.{IsStrictlyIncreasing};
 ghost use Rattle.std.specs.Option.{option_map, option_and_then};
 ghost use Rattle.vlink.specs.declared.time.TheConstants.{LATEST_NS};
@@ -11,7 +11,8 @@ ghost use Rattle.network.specs.Wiring.{is_end_system};
 ghost use Rattle.network.specs.Trees.{source_of, destinations_of};
 ghost use Rattle.network.specs.Faults.{process_count};
 ghost use Rattle.network.specs.Lines.{lines_of, node_name, line_name, outages_of, departures_of, arrivals_of, place_of_vl};
-ghost use Rattle.network.specs.Code.Tables.{plan_with};
+ghost use Rattle.network.specs.Plan.{node_plan};
+ghost use Rattle.network.specs.Code.Tables.{plan_with, AreTables};
 
 use crate::plan::{Numbered, VlStream};
 use crate::tables::Tables;
@@ -85,6 +86,30 @@ impl Network {
         ensures { IsAccepted self.now }
     {
         let _fields = &self.numbered;
+    }
+
+    /// Returns the rows of the nodes.
+    pub fn nodes(&self) -> &[NodeRow]
+        ensures { map node_plan result.now ≡ self.now.nodes }
+    {
+        self.nodes.as_slice()
+    }
+
+    /// Returns the contents of the other rows, with numbers in place of names.
+    pub fn numbered(&self) -> &Numbered
+        ensures links { result.now.links.items ≡ self.now.links }
+        ensures outages { result.now.outages.items ≡ self.now.outages }
+        ensures vls { result.now.vls.items ≡ self.now.vls }
+        ensures streams { result.now.streams.items ≡ self.now.streams }
+    {
+        &self.numbered
+    }
+
+    /// Returns the tables that answer questions by number.
+    pub fn tables(&self) -> &Tables
+        ensures { AreTables self.now result.now }
+    {
+        &self.tables
     }
 
     /// Returns the end of a run, which is its last moment.

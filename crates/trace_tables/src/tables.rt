@@ -52,14 +52,14 @@ impl Tables {
     }
 
     /// Returns the latencies at each destination of each virtual link.
-    pub(crate) fn latencies(&self) -> &BTreeMap<Destination, Latencies>
+    pub fn latencies(&self) -> &BTreeMap<Destination, Latencies>
         ensures { result.now.entries ≡ self.now.latencies }
     {
         &self.latencies
     }
 
     /// Returns the count of each loss.
-    pub(crate) fn drops(&self) -> &BTreeMap<Loss, u64>
+    pub fn drops(&self) -> &BTreeMap<Loss, u64>
         ensures { result.now.entries ≡ self.now.drops }
     {
         &self.drops
