@@ -12,7 +12,8 @@ The number of workers is drawn from 1 to 64, the turn from 1 to 256 and the wind
 its powers of two, so that small ones are as frequent as large ones; of groups half of these runs have as many as the program
 gives them, and half 1 to 64. `afdxsim run` must then end with status 0, and its tables and its trace must have the bytes of
 `afdxsim seq`. One run of ten also writes its journal, and `afdxsim replay` of it must print the same tables, and report that
-the run is finished, that nothing was refused and that nothing was not enabled.
+the run is finished, that nothing was refused and that nothing was not enabled. A second opinion of the journal
+(gate/replayed_journal.py) must find the same, and that each message was handled within the window.
 
 Each run with an odd number is over several groups of several members: its network is larger (4 to 12 end systems, 2 to 4
 switches on each network, 8 to 40 virtual links, so 28 processes and more). It has at least two workers, and from two groups
@@ -44,7 +45,7 @@ from afdx.commands import large_network
 from afdx.files import toml_lines
 from afdx.model import GREATEST_FRAME, GREATEST_SEED, LATEST_NS, PROGRAM, text_of_tree, whole
 from afdx.runs.plain_simulator import Simulation
-from gate import stolen_groups, stopped_threads
+from gate import replayed_journal, stolen_groups, stopped_threads
 
 WELL_REPLAYED = re.compile(r"replay: \d+ did, 0 not enabled, 0 refused, gvt \d+, finished\n")
 GROUPS_AND_WORKERS = re.compile(r"^afdxsim: (\d+) groups, (\d+) workers$", re.MULTILINE)
@@ -258,7 +259,10 @@ def hold(program: str, drawn: Drawn, folder: str, seconds: int) -> set[str]:
         same(printed, tables, "the tables of replay")
         if not WELL_REPLAYED.fullmatch(errors.decode(errors="replace")):
             raise Difference(f"replay printed: {errors.decode(errors='replace').strip()}")
-        if has_rolled_back(read(os.path.join(folder, "steps.txt"))):
+        steps = read(os.path.join(folder, "steps.txt"))
+        for fault in replayed_journal.faults(toml_lines.read(drawn.network), steps.decode().splitlines(), drawn.window):
+            raise Difference(f"the journal: {fault}")
+        if has_rolled_back(steps):
             did.add(ROLLED_BACK)
     return did
 

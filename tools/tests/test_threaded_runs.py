@@ -10,11 +10,11 @@ import zlib
 from unittest import mock
 
 from afdx import model
-from afdx.commands import benchmark, large_network
+from afdx.commands import benchmark, large_network, make_journal
 from afdx.files import toml_lines
 from afdx.model import description_faults
 from afdx.runs.plain_simulator import Simulation
-from gate import stolen_groups, stopped_threads, threaded_runs
+from gate import replayed_journal, stolen_groups, stopped_threads, threaded_runs
 from tests.places import TOOLS
 
 # A program whose commands all print the same tables, and do these lines of a test's own before.
@@ -60,7 +60,54 @@ class DrawnRuns(unittest.TestCase):
         self.assertEqual(status, 0, said.getvalue())
 
 
+class JudgedJournals(unittest.TestCase):
+    """What a second opinion of a journal finds."""
+
+    def setUp(self):
+        self.net = toml_lines.read(threaded_runs.Drawn(13).network)
+
+    def test_a_message_beyond_the_window_is_found(self):
+        """A journal whose messages are handled up to 100 us ahead is one of a run with that window, and none of a run with 10 us."""
+        steps = list(make_journal.Journal(self.net).steps(16, 100_000))
+        self.assertEqual(list(replayed_journal.faults(self.net, steps, 100_000)), [])
+        found = list(replayed_journal.faults(self.net, steps, 10_000))
+        self.assertTrue(found)
+        for fault in found:
+            moment, gvt = map(int, re.search(r"^line \d+, R \d+: a message of (\d+) ns is handled at GVT (\d+) ns, so beyond the window of 10000 ns$", fault).groups())
+            self.assertTrue(10_000 <= moment - gvt < 100_000, fault)
+
+    def test_what_is_no_run_is_found(self):
+        for steps, said in (
+            (["G", "R 0"], "line 2, R 0: the step is not enabled"),
+            (["T 0 10000"], "line 1, T 0 10000: the step is not enabled"),
+            (["A 0"], "line 1, A 0: the step is not enabled"),
+            (["C 0"], "line 1, C 0: the step is not enabled"),
+            (["G", "P 0"], "the journal ends before all is committed"),
+        ):
+            self.assertEqual(list(replayed_journal.faults(self.net, steps, 1)), [said])
+
+    def test_an_event_that_was_too_early_is_undone(self):
+        """A process handles its last offer first. The one before it arrives, and undoes it; both are handled, and the journal goes on."""
+        world = replayed_journal.World(self.net)
+        at = next(process for process, letters in enumerate(world.mail) if len(letters) > 1)
+        last = len(world.mail[at]) - 1
+        for step in (["T", at, last], ["A", at], ["R", at]):
+            world.take(step[0], step[1:])
+        process = world.processes[at]
+        (event,), sent = process.done, list(process.outbox)
+        before = process.actor.state()
+        for step in (["T", at, 0], ["A", at]):
+            world.take(step[0], step[1:])
+        self.assertEqual((list(process.done), process.next()), ([], min(process.waiting)))
+        self.assertEqual(process.outbox, sent + [(-1, message) for _, message in reversed(sent)])
+        self.assertNotEqual(before, event.before)
+        self.assertEqual(process.actor.state(), event.before)
+
+
 class ThreadedRuns(unittest.TestCase):
+    # What the second opinion of a journal finds.
+    of_journal: tuple[str, ...] = ()
+
     def ended(self, lines, *arguments):
         """The status and the lines of the tool, over a stand-in with these lines."""
         with tempfile.TemporaryDirectory() as folder:
@@ -69,7 +116,8 @@ class ThreadedRuns(unittest.TestCase):
                 out.write(STAND_IN.format(python=sys.executable, lines=lines))
             os.chmod(program, 0o755)
             out = io.StringIO()
-            with contextlib.redirect_stdout(out):
+            # The journal of the stand-in is none of the network.
+            with contextlib.redirect_stdout(out), mock.patch.object(replayed_journal, "faults", lambda *_: self.of_journal):
                 status = threaded_runs.main(["--program", program, *arguments])
             return status, out.getvalue().splitlines()
 
@@ -129,6 +177,11 @@ class ThreadedRuns(unittest.TestCase):
                 self.assertEqual((status, len(found)), (1, 3))
                 self.assertTrue(found[0].startswith("run 0 (--workers ") and found[0].endswith("): " + said), found[0])
                 self.assertEqual(found[1], "1 runs, 0 came out as seq, 1 did not")
+
+    def test_a_fault_of_the_journal_is_reported(self):
+        self.of_journal = ("line 7, R 3: a message of 9 ns is handled at GVT 1 ns",)
+        status, found = self.ended("", "--runs", "1")
+        self.assertEqual((status, found[0].split("): ")[1]), (1, "the journal: line 7, R 3: a message of 9 ns is handled at GVT 1 ns"))
 
     def test_a_command_that_does_not_end_is_reported(self):
         with self.assertRaises(threaded_runs.Difference) as said:
