@@ -1,3 +1,4 @@
 pub mod Counting
 pub mod Firsts
 pub mod NearAndFar
+pub mod Receivers
