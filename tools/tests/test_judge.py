@@ -18,7 +18,9 @@ from afdx import model
 from afdx.commands import judge, pcap
 from afdx.files.captures import Capture
 from afdx.model.captured_frames import frame_of
+from afdx.reckon.busy_lines import BusyLine
 from afdx.reckon.clock_offsets import ClockOffsets, Offset
+from afdx.reckon.port_fill import Comer, PortFill
 from afdx.reckon.sequence_numbers import SequenceNumbers
 from afdx.runs import second_opinion
 from tests import capture_files
@@ -313,12 +315,44 @@ class Rest(Here):
         for found, verdict, why in (
             (packets, "broken", ""), (sorted(close, key=lambda it: it[1]), "allowed", rf'"?frames come up to [0-9]+ ns too early to {switch}'),
             ([it for it in packets if it[0] != first], "broken", f"by the bounds the account at {switch} may refuse frames: a tap at {first} would show"),
-            ([*(it for it in packets if it[0] != first), (switch, *whole[lost][1:])], "allowed", f"the capture has frames of it at {switch}"),
+            ([*(it for it in packets if it[0] != first), (switch, *whole[lost][1:])], "allowed", f"the capture has 1 of 1 frames at {switch}"),
         ):
             _, rows, _ = self.judged(found, net=net)
             (row,) = [row for row in rows if (row["what"], row["tap"], row["vl"]) == ("lost", later, "103")]
             self.assertEqual(row["verdict"], verdict, why)
             self.assertRegex(row["why"], f"^{why}" if why else "^$")
+
+    def test_lost_frames_that_a_port_may_have_dropped(self):
+        """The port of the recorder's line may be full. It always has room for frames of 200 bytes, and while it is full its line is busy; its
+        switch shows what it lost. Which of two cameras a pause of the line is of may not be known. Without a tap before it, a frame of a
+        camera may be one that the port dropped."""
+        net = os.path.join(EXAMPLES, "saturated_port.toml")
+        for each, tap in (("line", "SW>REC"), ("receiver", "REC")):
+            whole = self.packets("saturated_port", each)
+            for vl in (11, 12, 20, 30):
+                own = [i for i, it in enumerate(whole) if it[0] == tap and it[2][4:6] == vl.to_bytes(2, "big")]
+                for lost in (own[5], own[-5]):
+                    with self.subTest(each, vl=vl, lost=lost):
+                        found = self.broken([*whole[:lost], *whole[lost + 1 :]], net=net)
+                        self.assertIn(("lost", vl, tap), found)
+                        self.assertLessEqual({it for _, it, _ in found}, {11, 12} if vl < 20 else {vl})
+        alone = [it for it in self.packets("saturated_port") if it[0] == "SW>REC"]
+        del alone[len(alone) // 2]
+        _, rows, _ = self.judged(alone, net=net)
+        self.assertEqual({(row["verdict"], row["why"]) for row in rows if row["what"] == "lost"}, {
+            ("allowed", "by the bounds the port before SW>REC may be too small")
+        })
+
+    def test_the_wrong_network_at_an_end_system_of_both(self):
+        """Nothing but the numbers shows it: one lacks on the network by which the frame came, and comes twice on the one that it names."""
+        whole = list(self.packets("displays", "receiver"))
+        net = os.path.join(EXAMPLES, "displays.toml")
+        own = [i for i, it in enumerate(whole) if it[0] == "DU_L" and it[2][4:6] == (101).to_bytes(2, "big")]
+        name, moment, frame = whole[own[20]]
+        whole[own[20]] = name, moment, frame[:11] + bytes([frame[11] ^ 0x60]) + frame[12:]
+        found = self.broken(whole, net=net)
+        self.assertIn(("wrong network", 101, "DU_L"), found)
+        self.assertLessEqual(set(found), {("wrong network", 101, "DU_L"), ("spacing", 101, "DU_L")})
 
     def test_json_and_junit(self):
         packets = list(self.packets("cockpit"))
@@ -373,6 +407,24 @@ class Parts(unittest.TestCase):
         found.take(1, 1, 0)
         found.take(201, 2, 202)
         self.assertEqual(found.counts, {"lost": 199})
+
+    def test_how_long_a_line_is_busy(self):
+        """Of 10 Mbit/s: 80 bytes and the 20 between frames take 80 us. It is not known since when until a pause was seen."""
+        busy, found = BusyLine(800, 1000), []
+        for moment in (0, 80_000, 200_000, 281_000, 361_000, 450_000, 440_000):
+            busy.take(moment, 80)
+            found.append(busy.since)
+        self.assertEqual((found, busy.longest), ([None, None, 120_000, 120_000, 120_000, 370_000, None], 321_000))
+
+    def test_what_always_finds_room_at_a_port(self):
+        """Ten frames of cameras fit, 15,180 of 16,384 bytes, and with them one of each other virtual link, so for frames of up to 804 bytes
+        there is always room. What may come a second too early may fill it."""
+        net = model.Network(os.path.join(EXAMPLES, "saturated_port.toml"))
+        comers = [Comer(vl, vl.priority == "high", vl.sizes, 0) for vl in net.vls.values()]
+        fill = PortFill(net, "SW>REC", comers)
+        self.assertEqual([fill.has_room_for(size) for size in (200, 804, 805, 1518)], [True, True, False, False])
+        early = [Comer(vl, vl.priority == "high", vl.sizes, 10**9) for vl in net.vls.values()]
+        self.assertFalse(PortFill(net, "SW>REC", early).has_room_for(200))
 
     def test_offsets_of_clocks(self):
         """By the way over a third clock too; both ways they are known."""

@@ -37,7 +37,8 @@ examples:
 what it judges (`what`), of each virtual link and network (A, B) at each tap:
   unknown        NET has no such virtual link
   wrong way      NET has it, and not on this link
-  wrong network  the source address names another network than that of the link
+  wrong network  the source address names another network than that of the link. At an end system on both networks, whose numbers
+                 lack on one and come twice on the other
   length         the greatest length in bytes, with the check sequence and without VLAN tags; allowed is smax
   spacing        by how many ns a frame came closer than a BAG, counted from any earlier one. Allowed is the bound of the jitter
                  there, with the transmit jitter that ARINC 664 Part 7 allows the source where that is more. A frame that is
@@ -48,7 +49,8 @@ what it judges (`what`), of each virtual link and network (A, B) at each tap:
   latency        from one tap to a later one; allowed is the sum of the bounds between
   silent         no frame came, though others did on this line
 
-verdicts: broken; not known; allowed, where the description itself lets it happen, as a frame lost in an outage; kept.
+verdicts: broken; not known; allowed, where the description itself lets it happen, as a frame lost in an outage or at a port that
+was full; kept.
 packet is the number of the packet that shows it, as Wireshark has it.
 
 clocks: each interface has its own, unless --one-clock says that all have one. A frame takes at least what the model allows,

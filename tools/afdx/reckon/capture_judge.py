@@ -1,10 +1,12 @@
 """A capture of a bench, held against the model: which taps there are, and which frames belong to them."""
+from collections import Counter
 from collections.abc import Iterator
 
 from afdx.files import Fault
 from afdx.files.captures import Capture, Interface, Packet
-from afdx.model import Network, VirtualLink, lines_of_path
+from afdx.model import BYTES_BETWEEN_FRAMES, Network, VirtualLink, lines_of_path
 from afdx.model.captured_frames import NO_NETWORK, CapturedFrame
+from afdx.reckon.busy_lines import BusyLine
 from afdx.reckon.captured_links import CapturedLink
 from afdx.reckon.captured_pairs import Copies, Pair, Way
 from afdx.reckon.clock_offsets import ClockOffsets
@@ -33,8 +35,8 @@ class CaptureJudge:
         self.links: list[CapturedLink] = []
         self.by_vl: dict[int, list[CapturedLink]] = {}
         self.pairs: list[Pair] = []
-        # The virtual links of interfaces that have the name of a switch.
-        self.named_by_switches: dict[str, set[int]] = {}
+        # Of interfaces that have the name of a node and are no tap: the numbers of the frames of each virtual link and network.
+        self.named_by_nodes: dict[str, dict[tuple[int, str], Counter[int]]] = {}
         self.steps, self.windows = ClockSteps(), ClockWindows(self.taps)
         # The lines of each virtual link by network, and the virtual links of each line.
         self.lines: dict[tuple[int, str], set[str]] = {}
@@ -56,8 +58,15 @@ class CaptureJudge:
             for line in lines:
                 self.tapping.setdefault(line, []).append(interface.name)
             found = self.taps[interface.name] = Tap(interface.name, place, is_second)
+            found.busy = {line: self.busy_line(line, interface) for line in lines if line in self.limits.small}
         found.opens(interface)
         return found
+
+    def busy_line(self, line: str, interface: Interface) -> BusyLine:
+        """A line whose port may be too small. Less than half of what its shortest frame takes is no pause."""
+        shortest = min((self.net.vls[it].sizes[0] for it in self.users.get(line, ())), default=0)
+        byte_ns = self.limits.byte_ns(line)
+        return BusyLine(byte_ns, (shortest + BYTES_BETWEEN_FRAMES) * byte_ns // 2 + 2 * interface.resolution_ns())
 
     def network_of(self, line: str) -> str | None:
         """The network of a line: that of its switch."""
@@ -87,12 +96,16 @@ class CaptureJudge:
             self.windows.pass_on(tap, packet.moment)
         frame = tap.frame(packet)
         if frame is None or tap.place is None:
-            if frame is not None and tap.name in self.net.nodes:
-                self.named_by_switches.setdefault(tap.name, set()).add(frame.vl)
+            if frame is not None and frame.number is not None and tap.name in self.net.nodes:
+                self.named_by_nodes.setdefault(tap.name, {}).setdefault((frame.vl, frame.net), Counter())[frame.number] += 1
             return
         found = tap.of.get((frame.vl, frame.net))
         if found is None:
             found = tap.of[frame.vl, frame.net] = self.belongs(tap, tap.place, frame)
+        if tap.busy and packet.moment is not None:
+            for line, busy in tap.busy.items():
+                if isinstance(found, Stray) or found.line == line:
+                    busy.take(packet.moment, frame.size)
         if isinstance(found, Stray):
             tap.of_no_network += found.what is None
             found.take(packet.number, frame)
@@ -119,7 +132,7 @@ class CaptureJudge:
     def link(self, tap: Tap, vl: VirtualLink, net: str, line: str) -> CapturedLink:
         spacing = self.limits.spacing(vl, line)
         link = CapturedLink(vl, net, tap.name, line, None if spacing is None else spacing + tap.resolution_ns, self.steps)
-        link.steps_back, link.sections = tap.steps_back, tap.sections
+        link.steps_back, link.sections, link.busy = tap.steps_back, tap.sections, tap.busy.get(line)
         if not tap.is_second:
             for other in self.by_vl.setdefault(vl.id, []):
                 self.pair(link, other)

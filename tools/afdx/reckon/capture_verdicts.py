@@ -7,15 +7,18 @@ from afdx.reckon.captured_links import CapturedLink
 from afdx.reckon.captured_pairs import Copies, Way
 from afdx.reckon.lost_frames import verdict_of_losses
 from afdx.reckon.pair_verdicts import NO_BOUND, latency, skew
-from afdx.reckon.sequence_numbers import LOST, TROUBLES
+from afdx.reckon.sequence_numbers import LOST, REPEATED, TROUBLES
 from afdx.reckon.taps import Stray
 
 
 def rows_of(judge: CaptureJudge) -> list[Row]:
     """The rows of a capture that was read, the worst verdicts first."""
-    found = [*strays(judge)]
+    found, told = [*strays(judge)], set[CapturedLink]()
+    for row, links in of_other_network(judge):
+        found.append(row)
+        told |= links
     for link in judge.links:
-        found += [length(link), *spacing(judge, link), *sequence(judge, link)]
+        found += [length(link), *spacing(judge, link), *(() if link in told else sequence(judge, link))]
     offsets = judge.offsets()
     for pair in judge.pairs:
         offset = offsets.of(pair.one.tap, pair.other.tap)
@@ -36,6 +39,25 @@ def strays(judge: CaptureJudge) -> Iterator[Row]:
         for (vl, net), it in tap.of.items():
             if isinstance(it, Stray) and it.what:
                 yield Row(it.what, vl, net, tap.name, where, it.count, it.count, it.greatest, None, BROKEN, it.first)
+
+
+def of_other_network(judge: CaptureJudge) -> Iterator[tuple[Row, set[CapturedLink]]]:
+    """Frames that came to an end system by one network and name the other: their numbers lack at the one and come twice at the other. Each
+    with the taps of which that is all that their numbers show."""
+    for tap in judge.taps.values():
+        for (vl, net), one in tap.of.items():
+            other = tap.of.get((vl, "B" if net == "A" else "A"))
+            if isinstance(one, Stray) or other is None or isinstance(other, Stray):
+                continue
+            moved = one.numbers.lost & other.numbers.repeated
+            if not moved:
+                continue
+            count, twice = moved.total(), other.numbers
+            why = f"numbers that lack on network {net} come twice on {other.net}: a frame of network {net} that names {other.net} looks so"
+            found = Row("wrong network", vl, other.net, tap.name, other.line, other.lengths.count, count, None, None, BROKEN, twice.first[REPEATED], why)
+            is_all = +one.numbers.lost == +twice.repeated and not any(one.numbers.counts.get(it) for it in TROUBLES if it != LOST)
+            is_all = is_all and not any(twice.counts.get(it) for it in TROUBLES if it != REPEATED)
+            yield found, {one, other} if is_all else set()
 
 
 def row(what: str, link: CapturedLink, frames: int, broken: int, value: int | None, allowed: int | None, verdict: str, packet: int | None, why: str = "") -> Row:

@@ -87,6 +87,9 @@ class Pair:
                 ns = moment - found[1] if seen is self.other else found[1] - moment
                 self.note(ns, packet, frame.size)
 
+    def lose(self, seen: CapturedLink, numbers: list[int], moment: int) -> None:
+        """Frames of these numbers were lost before one that came to a tap at this moment."""
+
     def note(self, ns: int, packet: int, size: int) -> None:
         self.count += 1
         if self.least is None or ns < self.least.ns:
@@ -134,6 +137,31 @@ class Way(Pair):
         self.transit = transit
         self.ahead: int | None = None
         self.ahead_in_window: int | None = None
+        # Of each tap the frames that it lacks, by number: when the next one came, and whether the other tap saw them. `only_at_other` counts
+        # those that it did.
+        self.missing: dict[CapturedLink, dict[int, tuple[int, bool]]] = {one: {}, other: {}}
+        self.only_at_other = {one: 0, other: 0}
+
+    def take(self, seen: CapturedLink, packet: int, frame: CapturedFrame, moment: int) -> None:
+        unseen = self.other if seen is self.one else self.one
+        if self.missing[unseen] and frame.number in self.missing[unseen]:
+            since, was_seen = self.missing[unseen][frame.number]
+            if abs(moment - since) < self.within:
+                self.only_at_other[unseen] += not was_seen
+                self.missing[unseen][frame.number] = since, True
+                return
+        if self.missing[seen] and frame.number in self.missing[seen]:
+            since, was_seen = self.missing[seen].pop(frame.number)
+            self.only_at_other[seen] -= was_seen and abs(moment - since) < self.within
+        super().take(seen, packet, frame, moment)
+
+    def lose(self, seen: CapturedLink, numbers: list[int], moment: int) -> None:
+        by = self.other if seen is self.one else self.one
+        for number in numbers:
+            found = self.waiting.get(number)
+            was_seen = found is not None and found[0] is by and abs(moment - found[1]) < self.within
+            self.only_at_other[seen] += was_seen
+            self.missing[seen][number] = moment, was_seen
 
     def note(self, ns: int, packet: int, size: int) -> None:
         ahead = ns - self.transit.least_of(size)

@@ -2,6 +2,7 @@
 
 A source numbers its frames 0 after a reset, then 1 to 255, and 1 again (ARINC 664 Part 7).
 """
+from collections import Counter
 
 LOST, REPEATED, SWAPPED, RESET = "lost", "repeated", "swapped", "reset"
 TROUBLES = (LOST, REPEATED, SWAPPED, RESET)
@@ -20,9 +21,10 @@ def number_after(last: int, steps: int) -> int:
 
 
 class SequenceNumbers:
-    """Takes the numbers in their order. `counts` has how many frames there are of each trouble, `first` the packet of the first."""
+    """Takes the numbers in their order. `counts` has how many frames there are of each trouble, `first` the packet of the first, `lost` and
+    `repeated` how often each number was lost, or came again."""
 
-    __slots__ = ("last", "behind", "missing", "counts", "first")
+    __slots__ = ("last", "behind", "missing", "counts", "first", "lost", "repeated")
 
     def __init__(self) -> None:
         self.last: int | None = None
@@ -31,6 +33,8 @@ class SequenceNumbers:
         self.missing: set[int] = set()
         self.counts: dict[str, int] = {}
         self.first: dict[str, int] = {}
+        self.lost: Counter[int] = Counter()
+        self.repeated: Counter[int] = Counter()
 
     def note(self, what: str, packet: int, count: int = 1) -> None:
         self.counts[what] = self.counts.get(what, 0) + count
@@ -56,25 +60,32 @@ class SequenceNumbers:
                 self.missing.discard(number)
             self.last, self.behind = number, None
         elif steps == 0:
-            self.note(REPEATED, packet)
+            self.repeats(number, packet)
         elif number in self.missing:
             self.missing.discard(number)
             self.counts[LOST] -= 1
+            self.lost[number] -= 1
             if not is_earlier:
                 self.note(SWAPPED, packet)
         elif steps <= MOST_AHEAD or steps <= most:
             self.note(LOST, packet, steps - 1)
-            ahead = {number_after(last, step) for step in range(1, steps)}
-            self.missing = {it for it in self.missing | ahead if steps_from(it, number) <= MOST_LATE}
+            ahead = [number_after(last, step) for step in range(1, steps)]
+            self.lost.update(ahead)
+            self.missing = {it for it in self.missing.union(ahead) if steps_from(it, number) <= MOST_LATE}
             self.last, self.behind = number, None
         elif self.behind is not None and steps_from(self.behind, number) == 1:
             # Two frames one behind the other: the source counts on from there.
             self.counts[REPEATED] -= 1
+            self.repeated[self.behind] -= 1
             self.note(RESET, packet)
             self.go_on(number)
         else:
-            self.note(REPEATED, packet)
+            self.repeats(number, packet)
             self.behind = number
+
+    def repeats(self, number: int, packet: int) -> None:
+        self.note(REPEATED, packet)
+        self.repeated[number] += 1
 
     def go_on(self, number: int | None) -> None:
         """Goes on from a number, or from the next one that comes."""

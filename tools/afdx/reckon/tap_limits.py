@@ -5,6 +5,7 @@ from typing import NamedTuple
 
 from afdx.model import Network, VirtualLink, lines_of_path
 from afdx.reckon import bounds_file, network_calculus, transmit_jitter
+from afdx.reckon.port_fill import Comer, PortFill
 
 # By how much the clock of a source or of a tap may be fast or slow, in parts of a million: Ethernet allows as much.
 CLOCK_PPM = 100
@@ -32,9 +33,9 @@ class TapLimits:
     def __init__(self, net: Network, bounds: Bounds) -> None:
         self.net, self.bounds = net, bounds
         self.transmit = transmit_jitter.TransmitJitter(net)
-        # The ways to the lines of each virtual link that was asked for.
+        # The ways to the lines of each virtual link that was asked for, and what can wait at ports.
         self.ways: dict[int, dict[str, list[str]]] = {}
-        self.out = {it.line for it in net.outages}
+        self.fills: dict[str, PortFill | None] = {}
         self.small = set(bounds.too_small()) if isinstance(bounds, bounds_file.Bounds) else {
             line for line, port in bounds.ports.items() if port.most is None or port.most > port.node.port_bytes
         }
@@ -107,23 +108,52 @@ class TapLimits:
 
     # ---- what the description itself allows ----
 
-    def why_lost(self, vl: VirtualLink, line: str) -> str:
-        """Why the model may lose frames of a virtual link before the end of a line; nothing where it loses none."""
-        way = self.way_to(vl, line)
-        out = [it for it in way if it in self.out]
-        if out:
-            return f"NET has an outage of {out[0]}"
-        if vl.sizes[-1] > vl.smax and len(way) > 1:
-            return "NET has frames above smax, which the first switch drops"
-        small = [it for it in way if it in self.small]
-        return f"by the bounds the port before {small[0]} may be too small" if small else ""
+    def most_in_outages(self, vl: VirtualLink, lines: list[str]) -> tuple[int, int | None]:
+        """How many outages lines have, and how many frames of a virtual link these lose at most, None where that has no bound."""
+        found = [it for it in self.net.outages if it.line in lines]
+        early = [self.spacing(vl, it.line) for it in found]
+        if None in early:
+            return len(found), None
+        return len(found), sum((it.to_ns - it.from_ns + (ns or 0)) // (vl.bag_ns - vl.bag_ns * CLOCK_PPM // 10**6) + 1 for it, ns in zip(found, early))
 
-    def refusing(self, vl: VirtualLink, line: str) -> list[tuple[str, str]]:
-        """The switches before the end of a line whose account may refuse frames of a virtual link by the bounds, each with the line by
-        which they come to it."""
-        way = self.way_to(vl, line)
-        found = [(later.split(">")[0], before) for before, later in zip(way, way[1:])]
-        return [(switch, before) for switch, before in found if self.may_refuse(vl, switch)]
+    def is_dropped_as_too_long(self, vl: VirtualLink, way: list[str]) -> bool:
+        """Whether NET has frames of a virtual link above Smax, and the first switch on this part of its way, which drops them."""
+        return vl.sizes[-1] > vl.smax and any(len(self.way_to(vl, it)) == 2 for it in way)
+
+    def full_ports(self, vl: VirtualLink, way: list[str]) -> list[str]:
+        """The lines of a part of its way whose port may have no room for a frame of a virtual link by the bounds."""
+        return [line for line in way if line in self.small and not self.has_room(vl, line)]
+
+    def has_room(self, vl: VirtualLink, line: str) -> bool:
+        """Whether the port before a line, though it may be too small, has room for each frame of a virtual link."""
+        if line not in self.fills:
+            self.fills[line] = self.fill(line)
+        fill = self.fills[line]
+        return fill is not None and fill.has_room_for(self.sizes_at(vl, line)[-1])
+
+    def sizes_at(self, vl: VirtualLink, line: str) -> tuple[int, ...]:
+        """The sizes of its frames that come to the port before a line: the first switch drops those above Smax."""
+        return tuple(size for size in vl.sizes if size <= vl.smax) if len(self.way_to(vl, line)) > 1 else vl.sizes
+
+    def fill(self, line: str) -> PortFill | None:
+        """What can wait at the port before a line; None where the bounds do not limit what comes."""
+        here = line.split(">")[0]
+        is_switch = self.net.nodes[here].kind == "switch"
+        comers = []
+        for vl in self.net.vls.values():
+            sizes = self.sizes_at(vl, line) if line in vl.lines else ()
+            early = self.known(lambda: self.bounds.of_kind("jitter", vl.id, here)) if is_switch else 0
+            if sizes and early is None:
+                return None
+            if sizes:
+                comers.append(Comer(vl, is_switch and vl.priority == "high", sizes, early or 0))
+        return PortFill(self.net, line, comers)
+
+    def refusing(self, vl: VirtualLink, way: list[str]) -> list[tuple[str, str]]:
+        """The switches on a part of its way whose account may refuse frames of a virtual link by the bounds, each with the line by which
+        they come to it."""
+        found = [(line.split(">")[0], self.way_to(vl, line)[-2:-1]) for line in way]
+        return [(switch, before[0]) for switch, before in found if before and self.may_refuse(vl, switch)]
 
     def skew(self, vl: VirtualLink, where: str) -> int | None:
         """The longest time between the copies of a frame at a destination in the worst case, or None."""

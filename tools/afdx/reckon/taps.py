@@ -3,6 +3,7 @@ import zlib
 
 from afdx.files.captures import Interface, Packet
 from afdx.model.captured_frames import CHECK_BYTES, CapturedFrame, frame_of
+from afdx.reckon.busy_lines import BusyLine
 from afdx.reckon.captured_links import CapturedLink
 from afdx.reckon.clock_steps import MOST_STEPS
 from afdx.reckon.tap_places import Place
@@ -35,6 +36,8 @@ class Tap:
         # How many bytes of a check sequence its packets end with; None as long as it is not known.
         self.check_bytes: int | None = None
         self.of: dict[tuple[int, str], CapturedLink | Stray] = {}
+        # Of its lines those whose port may be too small.
+        self.busy: dict[str, BusyLine] = {}
         self.latest: int | None = None
         self.steps_back = self.furthest_back = self.first_back = 0
         # How many sections of the capture have it, and at which packet one begins earlier than the one before it ended.
