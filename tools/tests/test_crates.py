@@ -4,10 +4,10 @@ import re
 import tempfile
 import unittest
 
-from gate import cited_lemmas
+from afdx.files import Fault
+from gate import cited_lemmas, crates_page
 
 FOR_TESTS = "For tests alone"
-MAP = "Each crate, with the files to open after its `src/lib.rt`:"
 DOCUMENTS = ["README.md", *(f"docs/{name}.md" for name in ("ARCHITECTURE", "DECISIONS", "PROMISES", "PROOFS", "TIME-WARP", "TRAFFIC"))]
 ITEM = re.compile(r"^- (`.*)$", re.MULTILINE)
 
@@ -40,30 +40,60 @@ class Lists(unittest.TestCase):
         folders = sorted(os.listdir(os.path.join(cited_lemmas.TOP, "crates")))
         self.assertEqual(sorted(self.all), folders)
 
-    def test_the_map_has_each_crate_under_its_heading(self):
-        text = between(document("docs/ARCHITECTURE.md"), MAP, "## 2. The way of a frame")
-        parts = re.split(r"^\*\*(.*)\*\*$", text, flags=re.MULTILINE)[1:]
-        found = {heading: [name for item in ITEM.findall(items) for name in named(item)] for heading, items in zip(parts[::2], parts[1::2])}
-        self.assertEqual({it: sorted(names) for it, names in found.items()}, {it: sorted(names) for it, names in self.headings.items()})
+    def test_the_page_of_crates_and_the_table_of_the_read_me_are_not_stale(self):
+        says = "python3 -m gate.crates_page --write, in tools/, puts it right"
+        self.assertEqual(document("docs/CRATES.md"), crates_page.page(), says)
+        text = document("README.md")
+        self.assertEqual([text.count(mark) for mark in crates_page.MARKS], [1, 1])
+        self.assertEqual(crates_page.between_marks(text), crates_page.table(), says)
 
-    def test_the_map_names_files_that_are_there(self):
-        text = between(document("docs/ARCHITECTURE.md"), MAP, "## 2. The way of a frame")
-        for item in ITEM.findall(text):
-            folder = os.path.join(cited_lemmas.TOP, "crates", named(item)[0])
-            for name in re.findall(r"`((?:src/|specs/)?[\w/]+\.(?:rt|antt))`", item):
-                part = "" if name.startswith(("src/", "specs/")) else "src" if name.endswith(".rt") else "specs"
-                with self.subTest(crate=named(item)[0], name=name):
-                    self.assertTrue(os.path.isfile(os.path.join(folder, part, name)))
+    def test_the_table_has_each_crate_once_in_few_words(self):
+        rows = [re.findall(r"[^|]+", line) for line in crates_page.table().splitlines()[2:]]
+        found = {names[0]: row[1].split() for row in rows if (names := re.findall(r"`(\w+)`", row[0]))}
+        self.assertEqual(list(found), self.all)
+        self.assertEqual({name: words for name, words in found.items() if not 0 < len(words) <= crates_page.MOST_WORDS}, {})
 
-    def test_the_read_me_names_each_crate_once(self):
-        items = ITEM.findall(between(document("README.md"), "## What is proved", "## Who checked it, and how you can"))
-        self.assertEqual(sorted(name for item in items for name in named(item)), sorted(self.all))
+    def test_entries_are_of_crates_and_of_files_that_are_there(self):
+        known = crates_page.entries()
+        self.assertEqual(sorted(set(known) - set(self.all)), [])
+        for name, entry in known.items():
+            for path in entry.open:
+                with self.subTest(crate=name, path=path):
+                    self.assertTrue(os.path.isfile(os.path.join(cited_lemmas.TOP, "crates", name, path)))
+
+    def test_a_crate_without_an_entry(self):
+        """Its head is cut where it has more than 15 words, and its laws are its contract; a name that is not there is refused."""
+        sources = {
+            "crates.txt": "# Low\nlow: core\n",
+            "tools/gate/crates_page.toml": "",
+            "crates/low/src/lib.rt": "//! What is low, by its name: of all the numbers that there are it has the least one at each moment. More.\n",
+            "crates/low/src/laws.rt": "pub fn low_law()\n    ensures least { a }\n    ensures {\n        b }\n    ensures last { c }\n{}\n",
+            "crates/low/must-fail/wrong.edit": "",
+        }
+        with tempfile.TemporaryDirectory() as top:
+            for name, text in sources.items():
+                os.makedirs(os.path.dirname(os.path.join(top, name)), exist_ok=True)
+                with open(os.path.join(top, name), "w", encoding="utf-8") as out:
+                    out.write(text)
+            page, table = crates_page.page(top), crates_page.table(top)
+            with self.assertRaisesRegex(Fault, "low has no public function or type high"):
+                crates_page.contract_of("low", "high", top)
+        self.assertTrue(page.endswith("""## Low
+
+### `low`
+
+What is low, by its name: of all the numbers that there are it has the least one at each moment.
+
+- proves: What is low, by its name: `low_law` (`src/laws.rt`: `least`, `last`)
+- uses: `core`
+- must-fail: `wrong`
+"""), page)
+        self.assertEqual(table.splitlines()[-1], "| `low` | What is low, by its name | `low_law` |")
 
     def test_what_is_proved_stands_for_each_crate_of_the_product(self):
         items = ITEM.findall(between(document("docs/PROOFS.md"), "## 2. What each crate proves", "## 3. The files that say what is promised"))
         product = set(self.all) - set(self.headings[FOR_TESTS])
         self.assertEqual(sorted(name for item in items for name in named(item)), sorted(product))
-
 
     def test_what_documents_name_by_its_crate_is_of_a_crate(self):
         for name in DOCUMENTS:
