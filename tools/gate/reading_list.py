@@ -119,7 +119,7 @@ class Tree:
 
     def home(self, crate: str, path: str) -> File:
         """The crate and the file that a `use` line names: it may name a type in it too, or a module that is passed on."""
-        if crate not in self.order or path.startswith("declared."):
+        if crate not in self.order or path.startswith(("declared.", "contracts.")):
             return crate, path
         for other, module, *_ in USE.findall(self.text(crate, "specs/Lib.antt")):
             if path.split(".")[0] == module:
@@ -148,7 +148,7 @@ class Tree:
                 if line.startswith(("pub use ", "unfoldable pub use ")):
                     ((crate, home, names, _),) = USE.findall(line.removeprefix("unfoldable "))
                     if source.name in map(str.strip, names.split(",")):
-                        return self.passed_on(Source(crate, home, source.name))
+                        return self.passed_on(Source(*self.home(crate, home), source.name))
         return source
 
     def imported(self, names: Iterable[Name], imports: dict[str, Source]) -> Iterator[Source]:
@@ -212,28 +212,39 @@ class Tree:
         yield from self.imported(names_in("\n".join(clauses)), self.imports_of(text))
         yield from self.types_of(crate, module, names_in(re.split(r"\n +(?:requires|ensures)", found)[0]))
 
-    def rests_on(self, contracts: Iterable[tuple[str, str, str]]) -> tuple[set[File], set[str]]:
-        """The files that these contracts rest on, as pairs of a crate and a path in it; and the libraries that they name."""
+    def reached(self, contracts: Iterable[tuple[str, str, str]]) -> set[Source]:
+        """The names that these contracts rest on."""
         waiting = [source for contract in contracts for source in self.by_contract(*contract)]
         seen: set[Source] = set()
-        files: set[File] = set()
-        libraries: set[str] = set()
         while waiting:
             source = waiting.pop()
-            if source in seen:
-                continue
-            seen.add(source)
-            parts = source.path.split(".")
-            if source.crate not in self.order:
-                libraries.add(source.crate)
-            elif parts[0] != "declared":
-                files.add((source.crate, "specs/" + "/".join(parts) + ".antt"))
-                waiting += self.by_definition(source)
-            else:
-                module = "/".join(part for part in parts[1:] if part[0].islower())
-                files.add((source.crate, f"src/{module}.rt"))
-                waiting += self.by_type(source.crate, module, next(part for part in parts[1:] if part[0].isupper()))
-        return files, libraries
+            if source not in seen:
+                seen.add(source)
+                waiting += self.by_name(source)
+        return seen
+
+    def by_name(self, source: Source) -> Iterable[Source]:
+        """The sources of the names that a name rests on; none of a library."""
+        if source.crate not in self.order:
+            return ()
+        if not source.path.startswith("declared."):
+            return self.by_definition(source)
+        return self.by_type(source.crate, self.module_of(source), next(part for part in source.path.split(".")[1:] if part[0].isupper()))
+
+    def module_of(self, source: Source) -> str:
+        """The file in src/ of a name of a type."""
+        return "/".join(part for part in source.path.split(".")[1:] if part[0].islower())
+
+    def file_of(self, source: Source) -> File:
+        """The crate and the file that a name stands in."""
+        if source.path.startswith("declared."):
+            return source.crate, f"src/{self.module_of(source)}.rt"
+        return source.crate, "specs/" + source.path.replace(".", "/") + ".antt"
+
+    def rests_on(self, contracts: Iterable[tuple[str, str, str]]) -> tuple[set[File], set[str]]:
+        """The files that these contracts rest on, as pairs of a crate and a path in it; and the libraries that they name."""
+        seen = self.reached(contracts)
+        return {self.file_of(it) for it in seen if it.crate in self.order}, {it.crate for it in seen} - set(self.order)
 
     def head_of(self, crate: str, path: str) -> str:
         """What a file says of itself: the first sentence of its first comment."""

@@ -1,9 +1,10 @@
 """Tests of the lists of files in docs/PROOFS.md, and of tools/gate/reading_list.py, which makes them of what files import."""
 import os
+import re
 import tempfile
 import unittest
 
-from gate import reading_list
+from gate import book, reading_list
 
 # A repository of two crates: the contract of `promise` needs `IsKept`, which needs `grown` of the other crate and the type
 # `Pair`, and it takes a `Store`, which clauses see as a `Shelf`.
@@ -130,6 +131,27 @@ class Lists(unittest.TestCase):
                 self.assertIn(("virtual_time", "specs/Safe.antt"), files)
                 self.assertIn(("nodes", "specs/rules/Simulation.antt"), files)
                 self.assertEqual([path for _, path in files if path.startswith(("specs/laws/", "specs/Code/"))], [])
+
+    def test_the_book_has_each_definition_once_behind_what_it_uses(self):
+        tree = reading_list.Tree()
+        for chapters in (list(book.CHAPTERS), ["bounds"]):
+            whole = book.Book(tree, chapters)
+            text, order = whole.text(), whole.in_order()
+            heads = re.findall(r"^== (\S+) \((.*)\)$", text, re.MULTILINE)
+            wanted = {it: tree.rests_on(book.CHAPTERS[it])[0] for it in chapters}
+            self.assertEqual(sorted(heads), sorted(
+                ("/".join(file), ", ".join(it for it in chapters if file in wanted[it])) for file in set().union(*wanted.values())
+            ))
+            places = {file: place for place, file in enumerate(order)}
+            for crate, path in order:
+                for source in tree.imports_of(tree.text(crate, path)).values():
+                    before = tree.file_of(source) if source.crate in tree.order else None
+                    if before in places and before[1].startswith("specs/") and path.startswith("specs/"):
+                        self.assertLessEqual(places[before], places[crate, path], (before, path))
+            self.assertEqual(re.findall(r"^ *(?:pub |unfoldable |ghost )*use .*$", text, re.MULTILINE), [])
+            for chapter in chapters:
+                for crate, module, _ in book.CHAPTERS[chapter]:
+                    self.assertEqual(text.count(f"== {crate}/src/{module}.rt: the contract of `{chapter}`"), 1)
 
 
 if __name__ == "__main__":

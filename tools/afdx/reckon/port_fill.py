@@ -40,7 +40,7 @@ class PortFill:
     def most_at_once(self) -> list[int] | None:
         """How many frames of each can wait at once, or None. A wait limits how many, and these how long a wait is."""
         on_the_line = max(it.sizes[-1] for it in self.comers) + BYTES_BETWEEN_FRAMES
-        waits = self.wait_behind(on_the_line), None
+        waits: tuple[int | None, int | None] = self.wait_behind(on_the_line), None
         counts = [self.holds // it.sizes[0] for it in self.comers]
         for _ in range(MOST_ROUNDS):
             before = waits
