@@ -113,12 +113,11 @@ impl<R: Actor> Hand<R> {
             return Ok(());
         }
         let first = self.letters.first();
-        let oldest = self.letters.count_early(&self.done, moment, &first);
         match self
             .letters
-            .commit_first(&mut self.done, &mut self.rows, oldest)
+            .commit_early(&mut self.done, &mut self.rows, moment, &first)
         {
-            Ok(()) => Ok(()),
+            Ok(_count) => Ok(()),
             Err(_fault) => Err(HandFault::OutOfMemory),
         }
     }

@@ -1,5 +1,5 @@
 //! Commits the oldest done events of a group.
-ghost use Rattle.std.specs.Prelude.{◌≡◌, ◌+◌, ◌<◌, ◌≤◌, ◌⊎◌, ◌++◌, true, false, All, IfSome, Some, OnOk, OnErr, length, take, drop, slice_get, vec_len, vec_capacity};
+ghost use Rattle.std.specs.Prelude.{◌≡◌, ◌+◌, ◌<◌, ◌≤◌, ◌⊎◌, ◌++◌, true, false, All, IfOk, IfSome, Some, OnOk, OnErr, length, take, drop, slice_get, vec_len, vec_capacity};
 ghost use Rattle.vlink.specs.Order.{message_order};
 ghost use Rattle.vlink.specs.declared.message.Message.{Message};
 ghost use Rattle.group_queues.specs.DoneEvents.{messages_of, noted_in, sent_in};
@@ -17,12 +17,12 @@ use vlink::{Message, Row, Time, order_law};
 
 /// The oldest done events, as many as can be committed.
 #[derive(Clone, Copy)]
-pub struct Oldest {
-    pub count: usize,
+struct Oldest {
+    count: usize,
     /// How many messages they sent in all.
-    pub sent: usize,
+    sent: usize,
     /// How many rows they gave.
-    pub noted: usize,
+    noted: usize,
 }
 
 impl<K: Copy> DoneEvents<K> {
@@ -64,8 +64,33 @@ impl Letters {
         self.extra.is_zero(message)
     }
 
+    /// Commits the oldest done events, one after another, up to one that cannot be committed below the moment, in ns. They are forgotten, and
+    /// their rows go to the end of `sealed`. `first` is the first message of the queue, if any. Returns how many it committed. A refusal
+    /// changes nothing.
+    pub fn commit_early<K: Copy>(
+        &mut self,
+        done: &mut DoneEvents<K>,
+        sealed: &mut Rows,
+        moment: Time,
+        first: &Option<Message>,
+    ) -> Result<usize, AllocError>
+        requires { IsFirst first.now self.old.queue }
+        ensures early { IfOk result (λ count. All (CanCommit moment self.old) (take count (messages_of done.old.events))) }
+        ensures left { IfOk result (λ count. IfSome (slice_get (messages_of done.old.events) count) (Stays moment self.old)) }
+        ensures events { IfOk result (λ count. done.new.events ≡ drop count done.old.events) }
+        ensures rows { IfOk result (λ count. sealed.new ≡ record sealed.old { all = sealed.old.all ++ rows_in (take count done.old.events) }) }
+        ensures told { IfOk result (λ count. self.new ≡ record self.old { words = self.old.words ++ words_of (take count done.old.events); room = self.new.room }) }
+        ensures events_stay { OnErr result (done.new.events ≡ done.old.events) }
+        ensures rows_stay { OnErr result (sealed.new ≡ sealed.old) }
+        ensures letters_stay { OnErr result (self.new ≡ record self.old { room = self.new.room }) }
+    {
+        let oldest = self.count_early(done, moment, first);
+        self.commit_first(done, sealed, oldest)?;
+        Ok(oldest.count)
+    }
+
     /// Returns the oldest done events that can be committed below the moment, one after another.
-    pub fn count_early<K: Copy>(
+    fn count_early<K: Copy>(
         &self,
         done: &DoneEvents<K>,
         moment: Time,
@@ -100,7 +125,7 @@ impl Letters {
     }
 
     /// Commits the oldest done events: they are forgotten, and their rows go to the end of `sealed`. A refusal changes nothing.
-    pub fn commit_first<K: Copy>(
+    fn commit_first<K: Copy>(
         &mut self,
         done: &mut DoneEvents<K>,
         sealed: &mut Rows,

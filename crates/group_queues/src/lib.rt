@@ -18,7 +18,6 @@ mod trail;
 mod tray;
 
 pub use block::{Word, Words};
-pub use committing::Oldest;
 pub use done_events::{DoneEvents, Event};
 pub use letters::Letters;
 pub use rows::Rows;

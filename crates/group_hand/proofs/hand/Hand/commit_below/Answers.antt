@@ -20,8 +20,8 @@ use Rattle.group_hand.proofs.hand.Hand.commit_below.Given.{Over}
 use Rattle.group_hand.proofs.hand.Hand.commit_below.Goals.{After-first-first, in-Ok, in-Err}
 use Rattle.group_hand.proofs.hand.Hand.commit_below.Goals as goal
 
-pub count_early-oldest-requires : goal.count_early-oldest-requires
-count_early-oldest-requires g c =
+pub commit_early-requires : goal.commit_early-requires
+commit_early-requires g c =
     subst (λ (z : Flow). IsFirst c.first-first.result z.queue) (sym c.first-first.ensures.unchanged)
     (is-first c.first-first.result c.self.inside.letters.queue c.first-first.ensures.among c.first-first.ensures.first c.first-first.ensures.none)
 
@@ -74,46 +74,46 @@ pub returns-clause-did : goal.returns-clause-did
 returns-clause-did g c =
     let r = rules_of g.R.Reversible.plain in
     let V = g.R.Reversible.is_value in
-    let n = c.count_early-oldest.result.count in
     let events = c.self.inside.done.events in
     let mid = held c.self.inside.members.items events c.self.inside.rows c.first-first.new.self in
-    let new = held c.self.inside.members.items c.commit_first.new.done.events c.commit_first.new.sealed c.commit_first.new.self in
+    let new = held c.self.inside.members.items c.commit_early.new.done.events c.commit_early.new.sealed c.commit_early.new.self in
     let at = (goal.at.returns-clause-did g c).After-first-first in
-    elim c.match-commit_first.branch [
+    elim c.match-commit_early.branch [
       | in-Ok w ↦
           commits-both r V c.args.moment c.args.self.now mid new
           (commits-nothing g.R.Reversible.plain V c.actor_rules_law.ensures.order c.actor_rules_law.ensures.undoes c.args.moment c.args.self.now mid (looked g at))
-          (commits-many g.R.Reversible.plain V c.actor_rules_law.ensures.order c.actor_rules_law.ensures.undoes c.args.moment (take n events) mid new (drop n events) refl (sym (take-append-drop n events))
+          (commits-many g.R.Reversible.plain V c.actor_rules_law.ensures.order c.actor_rules_law.ensures.undoes c.args.moment (take w.in-Ok._count events) mid new (drop w.in-Ok._count events) refl
+          (sym (take-append-drop w.in-Ok._count events))
           w.in-Ok.ensures.events w.in-Ok.ensures.rows w.in-Ok.ensures.told
-          (of-messages (CanCommit c.args.moment c.first-first.new.self) n events c.count_early-oldest.ensures.early))
+          (of-messages (CanCommit c.args.moment c.first-first.new.self) w.in-Ok._count events w.in-Ok.ensures.early))
       | in-Err w ↦
           commits-nothing g.R.Reversible.plain V c.actor_rules_law.ensures.order c.actor_rules_law.ensures.undoes c.args.moment c.args.self.now new
-          (refused g at c.commit_first.new.done.events c.commit_first.new.sealed c.commit_first.new.self w.in-Err.ensures.events_stay w.in-Err.ensures.rows_stay w.in-Err.ensures.letters_stay)
+          (refused g at c.commit_early.new.done.events c.commit_early.new.sealed c.commit_early.new.self w.in-Err.ensures.events_stay w.in-Err.ensures.rows_stay w.in-Err.ensures.letters_stay)
     ]
 
 pub returns-clause-unchanged : goal.returns-clause-unchanged
 returns-clause-unchanged g c =
     let at = (goal.at.returns-clause-unchanged g c).After-first-first in
-    elim c.match-commit_first.branch [
+    elim c.match-commit_early.branch [
       | in-Ok w ↦ no-err _ _ _ w.result-is
-      | in-Err w ↦ on-err _ _ (refused g at c.commit_first.new.done.events c.commit_first.new.sealed c.commit_first.new.self w.in-Err.ensures.events_stay w.in-Err.ensures.rows_stay w.in-Err.ensures.letters_stay)
+      | in-Err w ↦ on-err _ _ (refused g at c.commit_early.new.done.events c.commit_early.new.sealed c.commit_early.new.self w.in-Err.ensures.events_stay w.in-Err.ensures.rows_stay w.in-Err.ensures.letters_stay)
     ]
 
 pub returns-clause-left : goal.returns-clause-left
 returns-clause-left g c =
-    elim c.match-commit_first.branch [
+    elim c.match-commit_early.branch [
       | in-Ok w ↦ where-ok _ _ w.result-is
-          (subst (λ ds. IfSome (slice_get (messages_of ds) 0) (Stays c.args.moment c.commit_first.new.self)) (sym w.in-Ok.ensures.events)
-          (subst (λ f. IfSome (slice_get (messages_of (drop c.count_early-oldest.result.count c.self.inside.done.events)) 0) (Stays c.args.moment f)) (sym w.in-Ok.ensures.told)
-          (oldest-then (Stays c.args.moment c.first-first.new.self) c.count_early-oldest.result.count c.self.inside.done.events c.count_early-oldest.ensures.left)))
+          (subst (λ ds. IfSome (slice_get (messages_of ds) 0) (Stays c.args.moment c.commit_early.new.self)) (sym w.in-Ok.ensures.events)
+          (subst (λ f. IfSome (slice_get (messages_of (drop w.in-Ok._count c.self.inside.done.events)) 0) (Stays c.args.moment f)) (sym w.in-Ok.ensures.told)
+          (oldest-then (Stays c.args.moment c.first-first.new.self) w.in-Ok._count c.self.inside.done.events w.in-Ok.ensures.left)))
       | in-Err w ↦ no-ok _ _ _ w.result-is
     ]
 
 pub invariant_of-self : goal.invariant_of-self
 invariant_of-self g c = (
-  elim c.match-commit_first.branch [
+  elim c.match-commit_early.branch [
     | in-Ok w ↦ subst (λ ds. (p : ℕ) → CameTo (rules_of g.R.Reversible.plain) g.R.Reversible.is_value c.self.inside.members.items ds p) (sym w.in-Ok.ensures.events)
-        (dropped-came (rules_of g.R.Reversible.plain) c.actor_rules_law.ensures.order g.R.Reversible.is_value c.self.inside.members.items c.count_early-oldest.result.count c.self.inside.done.events c.self.invariant.0)
+        (dropped-came (rules_of g.R.Reversible.plain) c.actor_rules_law.ensures.order g.R.Reversible.is_value c.self.inside.members.items w.in-Ok._count c.self.inside.done.events c.self.invariant.0)
     | in-Err w ↦ subst (λ ds. (p : ℕ) → CameTo (rules_of g.R.Reversible.plain) g.R.Reversible.is_value c.self.inside.members.items ds p) (sym w.in-Err.ensures.events_stay) c.self.invariant.0
   ],
   c.self.invariant.1,
@@ -122,16 +122,14 @@ invariant_of-self g c = (
 
 pub returns-clause-sealed : goal.returns-clause-sealed
 returns-clause-sealed g c =
-    let n = c.count_early-oldest.result.count in
     let events = c.self.inside.done.events in
-    let early : All (λ m. m.time < c.args.moment) (take n (messages_of events)) =
-    All-weaker (CanCommit c.args.moment c.first-first.new.self) (λ m. m.time < c.args.moment) (λ m k. k.early) (take n (messages_of events)) c.count_early-oldest.ensures.early in
-    elim c.match-commit_first.branch [
+    elim c.match-commit_early.branch [
       | in-Ok w ↦ where-ok _ _ w.result-is (
-        take n events,
-        ap (λ h. h.done) (sym c.self.view_is) ∙ (sym (take-append-drop n events) ∙ ap (λ ds. take n events ++ ds) (sym w.in-Ok.ensures.events)),
-        w.in-Ok.ensures.rows ∙ ap (λ h. record h.rows { all = h.rows.all ++ rows_in (take n events) }) c.self.view_is,
-        subst (λ ms. All (λ m. m.time < c.args.moment) ms) (take-map (λ d. d.message) n events) early,
+        take w.in-Ok._count events,
+        ap (λ h. h.done) (sym c.self.view_is) ∙ (sym (take-append-drop w.in-Ok._count events) ∙ ap (λ ds. take w.in-Ok._count events ++ ds) (sym w.in-Ok.ensures.events)),
+        w.in-Ok.ensures.rows ∙ ap (λ h. record h.rows { all = h.rows.all ++ rows_in (take w.in-Ok._count events) }) c.self.view_is,
+        subst (λ ms. All (λ m. m.time < c.args.moment) ms) (take-map (λ d. d.message) w.in-Ok._count events)
+            (All-weaker (CanCommit c.args.moment c.first-first.new.self) (λ m. m.time < c.args.moment) (λ m k. k.early) (take w.in-Ok._count (messages_of events)) w.in-Ok.ensures.early),
       )
       | in-Err w ↦ no-ok _ _ _ w.result-is
     ]
@@ -139,16 +137,16 @@ returns-clause-sealed g c =
 pub returns-clause-flow : goal.returns-clause-flow
 returns-clause-flow g c =
     let at = (goal.at.returns-clause-flow g c).After-first-first in
-    elim c.match-commit_first.branch [
-      | in-Ok w ↦ changed g at c.commit_first.new.self _ w.in-Ok.ensures.told
-      | in-Err w ↦ changed g at c.commit_first.new.self c.first-first.new.self.words w.in-Err.ensures.letters_stay
+    elim c.match-commit_early.branch [
+      | in-Ok w ↦ changed g at c.commit_early.new.self _ w.in-Ok.ensures.told
+      | in-Err w ↦ changed g at c.commit_early.new.self c.first-first.new.self.words w.in-Err.ensures.letters_stay
     ]
 
 pub returns-clause-words : goal.returns-clause-words
 returns-clause-words g c =
     let before = ap (λ h. h.flow.words) (looked g (goal.at.returns-clause-words g c).After-first-first) in
-    elim c.match-commit_first.branch [
-      | in-Ok w ↦ adds-commits c.args.self.now.flow.words c.first-first.new.self.words c.commit_first.new.self.words (take c.count_early-oldest.result.count c.self.inside.done.events) before
+    elim c.match-commit_early.branch [
+      | in-Ok w ↦ adds-commits c.args.self.now.flow.words c.first-first.new.self.words c.commit_early.new.self.words (take w.in-Ok._count c.self.inside.done.events) before
           (ap (λ (z : Flow). z.words) w.in-Ok.ensures.told)
       | in-Err w ↦ adds-no-commit _ _ (ap (λ (z : Flow). z.words) w.in-Err.ensures.letters_stay ∙ before)
     ]
