@@ -14,3 +14,15 @@ os.environ["PYTHONPATH"] = TOOLS
 def tool_words(name):
     """The words that run the tool of a command of `afdx` in a process of its own. No program is chosen for it."""
     return [sys.executable, "-m", OF_TOOLS[name].module]
+
+
+def read_terminal(master):
+    """All that was printed at the other end of a pseudoterminal, which is closed. It comes in pieces, if the machine is busy."""
+    pieces = []
+    try:
+        while piece := os.read(master, 65536):
+            pieces.append(piece)
+    except OSError:
+        pass
+    os.close(master)
+    return b"".join(pieces)

@@ -22,7 +22,7 @@ from afdx.commands import campaign, report
 from afdx.reckon import latency_counts
 from afdx.runs.merged import Merged
 from afdx.runs.plain_simulator import CAUSES, Simulation
-from tests.places import EXAMPLES, TOOLS, tool_words
+from tests.places import EXAMPLES, TOOLS, read_terminal, tool_words
 
 COCKPIT, SATURATED, FAILING, N1 = (
     os.path.join(EXAMPLES, name + ".toml") for name in ("cockpit", "saturated_port", "link_outage", "n1")
@@ -415,8 +415,7 @@ class WithAStandIn(Here):
         terminal, end = pty.openpty()
         run = subprocess.run(command, stdout=subprocess.PIPE, stderr=end)
         os.close(end)
-        shown = os.read(terminal, 65536)
-        os.close(terminal)
+        shown = read_terminal(terminal)
         self.assertEqual(run.returncode, 0)
         self.assertRegex(shown, rb"3 of 3 runs, \d+ s, 0 s to go; greatest 27,720 ns: VL 1 at ES2, seed 42")
         self.assertTrue(shown.endswith(b"\r\x1b[K"))
@@ -430,8 +429,7 @@ class WithAStandIn(Here):
             terminal, end = pty.openpty()
             run = subprocess.run([*command, "--program", self.program], stdout=subprocess.PIPE, stderr=end)
             os.close(end)
-            shown = os.read(terminal, 65536)
-            os.close(terminal)
+            shown = read_terminal(terminal)
             self.assertEqual(run.returncode, status)
             self.assertRegex(shown, rb"0 of 1 runs, \d+ s; seed 42 at 1 of 2 ms, 50 %, 1 s left")
             self.assertEqual(b"out of memory" in shown, status == 1)

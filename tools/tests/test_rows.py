@@ -11,6 +11,7 @@ from typing import NamedTuple
 
 from afdx.model import BOUNDS_HEAD, PROGRAM, TABLES_HEAD, TRACE_HEAD
 from gate.refuse_memory import library_in
+from tests.places import read_terminal
 from tests.row_files import blocks, changed, lines_of, network, repeated, rows
 
 # Each write to a file or a stream takes one byte, until as many are taken as TAKEN says. The next one fails; where ONCE is set,
@@ -298,10 +299,9 @@ class Paced(Ends):
         try:
             tty.setraw(slave)
             found = self.ended(words, net, env=env, errors=slave)
-            return found._replace(errors=os.read(master, 65536))
         finally:
             os.close(slave)
-            os.close(master)
+        return found._replace(errors=read_terminal(master))
 
     def test_progress_shows_how_fast_a_run_is(self):
         for row in rows("paced"):

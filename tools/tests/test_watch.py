@@ -8,7 +8,7 @@ import threading
 import time
 import unittest
 
-from tests.places import EXAMPLES, tool_words
+from tests.places import EXAMPLES, read_terminal, tool_words
 
 N1 = os.path.join(EXAMPLES, "n1.toml")
 
@@ -26,14 +26,7 @@ class OnATerminal(unittest.TestCase):
         os.close(end)
         while_it_runs()
         printed = run.communicate(timeout=120)[0]
-        shown = b""
-        try:
-            while found := os.read(terminal, 65536):
-                shown += found
-        except OSError:
-            pass
-        os.close(terminal)
-        return shown, run.returncode, printed.decode()
+        return read_terminal(terminal), run.returncode, printed.decode()
 
     def test_a_tool_that_waits_for_its_input(self):
         """The line is there after two seconds, and gone before anything is said."""
