@@ -7,6 +7,7 @@
 It takes the order, the headings and what each crate uses from crates.txt, the sentence of a crate from the head of its src/lib.rt, names
 of clauses from its contracts, and edits from must-fail/. tools/gate/crates_page.toml has the rest: what the crate proves in at most 15
 words, the names whose contracts state it, and the files to open. A crate that has no entry there is listed by its head and its laws.
+tools/gate/crate_seconds.txt has what crates cost in one gate.
 
 tools/tests/test_crates.py compares both with what is in the tree.
 """
@@ -29,8 +30,8 @@ HEAD = """# The crates
 
 `python3 -m gate.crates_page --write`, in `tools/`, writes this page; [ARCHITECTURE.md](ARCHITECTURE.md) is the map, and [PROOFS.md](PROOFS.md),
 section 2, states at length what each crate proves. A crate may use those that stand before it in its list of *uses*, and no others. Names of
-clauses stand behind the function whose contract they are of; a name ending in `_law` is a theorem. `must-fail` lists wrong bodies that the
-prover refuses."""
+clauses stand behind the function whose contract they are of; a name ending in `_law` is a theorem. *Cost* is in seconds of a processor, in one
+gate beside other work. `must-fail` lists wrong bodies that the prover refuses."""
 # A public function of a name, up to its body; the name of a clause; and a type.
 FUNCTION = r"^ *pub fn {}\b.*?^ *\{{\}}?$"
 CLAUSE = re.compile(r"^ +ensures (\w+)\b", re.MULTILINE)
@@ -130,6 +131,13 @@ def uses_of(top: str = TOP) -> dict[str, list[str]]:
     return {name: rest.split() for name, _, rest in (line.partition(":") for line in lines if line and not line.startswith("#"))}
 
 
+def seconds(top: str = TOP) -> dict[str, tuple[str, str]]:
+    """What crates cost in one gate, in seconds of a processor: of the proof, and of edits or tests. Empty without the file."""
+    path = os.path.join(top, "tools", "gate", "crate_seconds.txt")
+    lines = text_of(path).splitlines() if os.path.exists(path) else []
+    return {name: (proof, more) for name, proof, more in (line.split() for line in lines if not line.startswith("#"))}
+
+
 # ---- the two texts ----
 
 
@@ -147,6 +155,9 @@ def section(crate: str, entry: Entry, uses: list[str], top: str = TOP) -> Iterat
         yield "- uses: " + ", ".join(f"`{it}`" for it in uses)
     if entry.open:
         yield "- open: " + ", ".join(f"`{it}`" for it in entry.open)
+    if crate in (cost := seconds(top)):
+        proof, more = cost[crate]
+        yield f"- cost: proof {proof} s" + (f", edits or tests {more} s" if more != "0" else "")
     edits = edits_of(crate, top)
     if edits:
         yield "- must-fail: " + ", ".join(f"`{it}`" for it in edits)
