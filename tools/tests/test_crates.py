@@ -5,7 +5,7 @@ import tempfile
 import unittest
 
 from afdx.files import Fault
-from gate import cited_lemmas, crates_page
+from gate import cited_lemmas, crates_page, words
 
 FOR_TESTS = "For tests alone"
 DOCUMENTS = ["README.md", *(f"docs/{name}.md" for name in ("ARCHITECTURE", "DECISIONS", "PROMISES", "PROOFS", "TIME-WARP", "TRAFFIC"))]
@@ -99,6 +99,15 @@ What is low, by its name: of all the numbers that there are it has the least one
         for name in DOCUMENTS:
             heads = re.findall(r"`([a-z]\w*)::", document(name)) + re.findall(r"\bcrates/([a-z]\w*)", document(name))
             self.assertEqual(sorted(set(heads) - set(self.all) - {"crate", "usize"}), [], name)
+
+
+class Words(unittest.TestCase):
+    def test_what_tools_write_is_not_counted(self):
+        begin, end = crates_page.MARKS
+        self.assertEqual(words.words_of(f"one two {begin}three | four{end} five\n"), 3)
+        names = list(words.documents())
+        self.assertEqual([it for it in words.LIMITS if it not in names], [])
+        self.assertNotIn("docs/CRATES.md", names)
 
 
 class Lemmas(unittest.TestCase):

@@ -30,50 +30,59 @@ def verdict_of_losses(judge: CaptureJudge, link: CapturedLink) -> Verdict:
 
 def on_the_way(judge: CaptureJudge, link: CapturedLink, part: list[str], lost: int, before: CapturedLink | None) -> Verdict:
     """Of so many frames that were lost on these lines or at the nodes between them. A tap of the first line saw them, where there is one: it
-    may be at the near end of it."""
+    may be at the near end of it. What nodes show that afdx pcap names needs no other reason."""
     way = part[1:]
-    verdict, refuted = of_outages(judge, link, part, lost)
-    if verdict == ALLOWED:
-        return verdict, refuted
     if judge.limits.is_dropped_as_too_long(link.vl, way):
         return ALLOWED, "NET has frames above smax, which the first switch drops"
-    verdict, why = of_nodes(judge, link, way, lost, before)
-    return verdict, why or refuted
+    full, refusing = judge.limits.full_ports(link.vl, way), judge.limits.refusing(link.vl, way)
+    shown = shown_at_nodes(judge, link, way) if full or refusing else None
+    rest, times, says = lost, link.losses, ""
+    if shown is not None:
+        nodes, numbers = shown
+        count = (link.numbers.lost & numbers).total()
+        rest, times = lost - count, runs_of(link.numbers.lost, link.numbers.lost - numbers)
+        says = f"the capture has {count} of {lost} frames at {nodes}, where afdx pcap writes those that are lost"
+        if rest <= 0:
+            return ALLOWED, says
+    verdict, why = of_outages(judge, link, part, rest, times)
+    if verdict == ALLOWED or shown is not None:
+        return verdict, why if verdict == ALLOWED else says
+    at_accounts = of_accounts(judge, link, refusing)
+    if at_accounts[0] == ALLOWED or not full:
+        return at_accounts[0], at_accounts[1] or why
+    if full == [link.line] and not why:
+        return of_port(judge, link, before)
+    return ALLOWED, f"by the bounds the port before {full[0]} may be too small"
 
 
-def of_outages(judge: CaptureJudge, link: CapturedLink, lines: list[str], lost: int) -> Verdict:
-    """An outage loses frames that follow one another. Where NET has an outage of the tapped line itself, and no later tap saw any of its
+def runs_of(lost: Counter[int], wanted: Counter[int]) -> int:
+    """How many runs of numbers that follow one another have one of the wanted ones."""
+    found, is_counted, before = 0, False, None
+    for number in sorted(+lost):
+        is_counted = is_counted and number - 1 == before
+        if number in wanted and not is_counted:
+            found, is_counted = found + 1, True
+        before = number
+    return found
+
+
+def of_outages(judge: CaptureJudge, link: CapturedLink, lines: list[str], lost: int, times: int) -> Verdict:
+    """An outage loses frames that follow one another: so many were lost so often. Where NET has an outage of the tapped line itself, and no later tap saw any of its
     frames, the capture has those that afdx pcap shows as lost there, and no others."""
     count, most = judge.limits.most_in_outages(link.vl, lines)
     if not count:
         return BROKEN, ""
     says = "NET has an outage" if count == 1 else f"NET has {count} outages"
     if not (judge.limits.most_in_outages(link.vl, [link.line])[0] and all(not it.count for it in link.pairs if isinstance(it, Way))):
-        if link.losses > count:
-            return BROKEN, f"{says} on the way, and frames are lost {link.losses} times"
+        if times > count:
+            return BROKEN, f"{says} on the way, and frames are lost {times} times"
         if most is not None and lost > most:
             return BROKEN, f"{says} on the way, which loses at most {most} frames"
     return ALLOWED, f"{says} on the way"
 
 
-def of_nodes(judge: CaptureJudge, link: CapturedLink, way: list[str], lost: int, before: CapturedLink | None) -> Verdict:
-    """Of frames that accounts or ports before these lines may have dropped."""
-    full = judge.limits.full_ports(link.vl, way)
-    shown = shown_at_nodes(judge, link, way)
-    if shown is not None and (full or judge.limits.refusing(link.vl, way)):
-        node, count = shown
-        says = f"the capture has {count} of {lost} frames at {node}, where afdx pcap writes those that are lost"
-        return (ALLOWED if count >= lost else BROKEN), says
-    at_accounts = of_accounts(judge, link, way)
-    if at_accounts[0] == ALLOWED or not full:
-        return at_accounts
-    if full == [link.line]:
-        return of_port(judge, link, before)
-    return ALLOWED, f"by the bounds the port before {full[0]} may be too small"
-
-
-def shown_at_nodes(judge: CaptureJudge, link: CapturedLink, way: list[str]) -> tuple[str, int] | None:
-    """The nodes on a part of the way by which interfaces are named, and how many of the lost frames these have; None without one."""
+def shown_at_nodes(judge: CaptureJudge, link: CapturedLink, way: list[str]) -> tuple[str, Counter[int]] | None:
+    """The nodes on a part of the way by which interfaces are named, and the numbers that these have; None without one."""
     nodes = [line.split(">")[0] for line in way]
     named = [it for it in nodes if it in judge.named_by_nodes]
     if not named:
@@ -81,16 +90,16 @@ def shown_at_nodes(judge: CaptureJudge, link: CapturedLink, way: list[str]) -> t
     shown: Counter[int] = Counter()
     for it in named:
         shown += judge.named_by_nodes[it].get((link.vl.id, link.net), Counter())
-    return " and ".join(named), (link.numbers.lost & shown).total()
+    return " and ".join(named), shown
 
 
 # ---- accounts ----
 
 
-def of_accounts(judge: CaptureJudge, link: CapturedLink, way: list[str]) -> Verdict:
+def of_accounts(judge: CaptureJudge, link: CapturedLink, refusing: list[tuple[str, str]]) -> Verdict:
     """An account that by the bounds may refuse frames is no reason where a tap before it shows that they do not come too close."""
     open_at = []
-    for switch, line in judge.limits.refusing(link.vl, way):
+    for switch, line in refusing:
         before = tapped(judge, link, line)
         if before is None:
             open_at.append((switch, line))
