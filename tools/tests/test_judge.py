@@ -12,12 +12,14 @@ import tempfile
 import unittest
 import xml.etree.ElementTree as xml
 import zlib
+from collections import Counter
 
 import afdx
 from afdx import model
 from afdx.commands import judge, pcap
 from afdx.files.captures import Capture
 from afdx.model.captured_frames import frame_of
+from afdx.reckon import lost_frames
 from afdx.reckon.busy_lines import BusyLine
 from afdx.reckon.clock_offsets import ClockOffsets, Offset
 from afdx.reckon.port_fill import Comer, PortFill
@@ -343,6 +345,17 @@ class Rest(Here):
             ("allowed", "by the bounds the port before SW>REC may be too small")
         })
 
+    def test_lost_frames_that_an_outage_may_have_lost(self):
+        """NET has two outages, and two times frames of virtual link 2 are lost. One lost apart from them is none of theirs; nor is one that a
+        later tap saw."""
+        net = os.path.join(EXAMPLES, "link_outage.toml")
+        for each, tap, place in (("receiver", "ACT", 12), ("line", "SWA>ACT", 12), ("line", "FCC>SWA", 3)):
+            whole = self.packets("link_outage", each)
+            own = [i for i, it in enumerate(whole) if it[0] == tap and it[2][4:6] == (2).to_bytes(2, "big")]
+            with self.subTest(each, tap=tap):
+                self.assertEqual(self.broken(whole, net=net), [])
+                self.assertEqual(self.broken([*whole[: own[place]], *whole[own[place] + 1 :]], net=net), [("lost", 2, tap)])
+
     def test_the_wrong_network_at_an_end_system_of_both(self):
         """Nothing but the numbers shows it: one lacks on the network by which the frame came, and comes twice on the one that it names."""
         whole = list(self.packets("displays", "receiver"))
@@ -407,6 +420,12 @@ class Parts(unittest.TestCase):
         found.take(1, 1, 0)
         found.take(201, 2, 202)
         self.assertEqual(found.counts, {"lost": 199})
+
+    def test_runs_of_lost_numbers(self):
+        """Of 1, and of 3 to 5: those that have a number that no node shows."""
+        lost = Counter([1, 3, 4, 5])
+        for wanted, count in (([], 0), ([4, 5], 1), ([3, 5], 1), ([1, 5], 2), ([1], 1)):
+            self.assertEqual(lost_frames.runs_of(lost, Counter(wanted)), count, wanted)
 
     def test_how_long_a_line_is_busy(self):
         """Of 10 Mbit/s: 80 bytes and the 20 between frames take 80 us. It is not known since when until a pause was seen."""
