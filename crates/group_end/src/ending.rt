@@ -5,7 +5,7 @@ ghost use Rattle.reverse.specs.Rules.{rules_of};
 ghost use Rattle.reverse.specs.Setting.{simulation_of};
 ghost use Rattle.group_exchange.specs.Views.{world_after};
 ghost use Rattle.journal.specs.declared.fault.PoolFault.TheVariants.{Exhausted, JournalFull, OutOfMemory};
-ghost use Rattle.group_exchange.specs.Effects.{Publishes};
+ghost use Rattle.group_exchange.specs.Effects.{CanDoMore, Publishes};
 ghost use Rattle.group_end.specs.Together.{AreInPlace, AreOver, IsPublished, IsRefusal, UsesUp};
 
 use crate::leaving::RowsLeave;
@@ -19,6 +19,7 @@ use vlink::Time;
 fn set_gvt<R: Actor, J: GroupRun<R>>(exchange: &mut GroupExchange<R, J>) -> Result<Time, PoolFault>
     ensures ok { IfOk result (λ gvt. Publishes (simulation_of (rules_of R.plain) J.setting) J.owners exchange.old exchange.new gvt) }
     ensures unchanged { OnErr result (exchange.new ≡ exchange.old) }
+    ensures long { result ≡ Err JournalFull → CanDoMore (simulation_of (rules_of R.plain) J.setting) exchange.old.limit }
     ensures faults { IfErr result (λ fault. (fault ≡ OutOfMemory) ⊎ (fault ≡ JournalFull)) }
 {
     publish(exchange)
@@ -46,6 +47,7 @@ fn raise<R: Actor, J: GroupRun<R>, G: Gate, L: RowsLeave<R, J>>(
     ensures rises { IfOk result (λ new. gvt < new) }
     ensures published { IfOk result (λ new. IsPublished (simulation_of (rules_of R.plain) J.setting) exchange.new.steps new) }
     ensures used_up { result ≡ Err Exhausted → UsesUp (simulation_of (rules_of R.plain) J.setting) J.owners }
+    ensures long { result ≡ Err JournalFull → CanDoMore (simulation_of (rules_of R.plain) J.setting) exchange.old.limit }
     ensures faults { IfErr result IsRefusal }
 {
     loop {
@@ -64,7 +66,7 @@ fn raise<R: Actor, J: GroupRun<R>, G: Gate, L: RowsLeave<R, J>>(
 /// Its loops do finitely many rounds. What a round takes is not promised: rows that leave may wait for a lock.
 ///
 /// The groups are all groups of the run, each at the place of its number. A refusal comes between two calls, and leaves what was done
-/// before. `OutOfMemory`: memory was refused. `JournalFull`: the steps would pass the limit of the journal. `Exhausted`: a process lacks
+/// before. `OutOfMemory`: memory was refused. `JournalFull`: the steps would pass the limit of the journal, so that more can be done. `Exhausted`: a process lacks
 /// numbers for what its next message can send.
 pub fn end<R: Actor, J: GroupRun<R>, G: Gate, L: RowsLeave<R, J>>(
     exchange: &mut GroupExchange<R, J>,
@@ -86,6 +88,7 @@ pub fn end<R: Actor, J: GroupRun<R>, G: Gate, L: RowsLeave<R, J>>(
     ensures over { OnOk result (AreOver J.setting.until groups.new) }
     ensures finished { OnOk result (IsFinished (simulation_of (rules_of R.plain) J.setting) (world_after (simulation_of (rules_of R.plain) J.setting) exchange.new.steps)) }
     ensures used_up { result ≡ Err Exhausted → UsesUp (simulation_of (rules_of R.plain) J.setting) J.owners }
+    ensures long { result ≡ Err JournalFull → CanDoMore (simulation_of (rules_of R.plain) J.setting) exchange.old.limit }
     ensures faults { IfErr result IsRefusal }
 {
     let mut gvt = set_gvt(exchange)?;

@@ -5,8 +5,8 @@ ghost use Rattle.virtual_time.specs.Law.{Laws};
 ghost use Rattle.reverse.specs.Rules.{rules_of};
 ghost use Rattle.reverse.specs.Setting.{simulation_of};
 ghost use Rattle.group_exchange.specs.Views.{is_of, world_after};
-ghost use Rattle.group_exchange.specs.Effects.{Works};
-ghost use Rattle.journal.specs.declared.fault.PoolFault.TheVariants.{Exhausted, OutOfMemory};
+ghost use Rattle.group_exchange.specs.Effects.{CanDoMore, Works};
+ghost use Rattle.journal.specs.declared.fault.PoolFault.TheVariants.{Exhausted, JournalFull, OutOfMemory};
 ghost use Rattle.group_end.specs.Together.{AreInPlace, HasRested, HaveRested, IsRefusal, TookRound, TookTurn, UsesUp};
 
 use crate::leaving::RowsLeave;
@@ -52,6 +52,7 @@ fn give_turn<R: Actor, J: GroupRun<R>, G: Gate, L: RowsLeave<R, J>>(
     ensures rested { OnOk result (HasRested message_order J.setting.until (world_after (simulation_of (rules_of R.plain) J.setting) exchange.old.steps).gvt group.new) }
     ensures turn { OnOk result (TookTurn (simulation_of (rules_of R.plain) J.setting) (is_of J.owners group.old.number) exchange.old.steps exchange.new.steps) }
     ensures used_up { result ≡ Err Exhausted → UsesUp (simulation_of (rules_of R.plain) J.setting) J.owners }
+    ensures long { result ≡ Err JournalFull → CanDoMore (simulation_of (rules_of R.plain) J.setting) exchange.old.limit }
     ensures faults { IfErr result IsRefusal }
 {
     group.stands_law();
@@ -82,6 +83,7 @@ pub(crate) fn take_turns<R: Actor, J: GroupRun<R>, G: Gate, L: RowsLeave<R, J>>(
     ensures rested { OnOk result (HaveRested message_order J.setting.until (world_after (simulation_of (rules_of R.plain) J.setting) exchange.old.steps).gvt (length groups.new) groups.new) }
     ensures round { OnOk result (TookRound (simulation_of (rules_of R.plain) J.setting) exchange.old.steps exchange.new.steps) }
     ensures used_up { result ≡ Err Exhausted → UsesUp (simulation_of (rules_of R.plain) J.setting) J.owners }
+    ensures long { result ≡ Err JournalFull → CanDoMore (simulation_of (rules_of R.plain) J.setting) exchange.old.limit }
     ensures faults { IfErr result IsRefusal }
 {
     let _groups = exchange.groups();

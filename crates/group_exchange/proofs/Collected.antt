@@ -40,6 +40,16 @@ module _ {S K : Type 0} {r : Rules Message S K Note} {number end : S → ℕ} {i
       (All-weaker (λ l. is_of owners g (r.order.receiver l.message) ≡ true) (λ l. r.order.receiver l.message < x.processes) (λ l e. of-process k.grouped g (r.order.receiver l.message) e) ls (k.home g within))
       (λ p e. k.mail_is g p e))
 
+  -- each step can be done where it stands
+  pub collected-done : AreDone (simulation_of r x) steps' (start (simulation_of r x))
+  collected-done =
+      let f = simulation_of r x in
+      let ls = box_of mail.boxes g in
+      subst (λ ss. AreDone f ss (start f)) (sym more) (done-then f steps (takes_of r.order ls) (start f) k.enabled
+      (takes-done f (is_of owners g) ls (world_after f steps) (k.home g within)
+      (All-weaker (λ l. is_of owners g (r.order.receiver l.message) ≡ true) (λ l. r.order.receiver l.message < x.processes) (λ l e. of-process k.grouped g (r.order.receiver l.message) e) ls (k.home g within))
+      (λ p e. k.mail_is g p e)))
+
   -- other groups stay
   others-stay : (h : ℕ) → (h ≡ g → ⊥) → AreAsIn (is_of owners h) (world_after (simulation_of r x) steps) (world_after (simulation_of r x) steps')
   others-stay h n =
@@ -105,10 +115,7 @@ module _ {S K : Type 0} {r : Rules Message S K Note} {number end : S → ℕ} {i
           })
         ];
         gvt_is = k.gvt_is ∙ sym taken.gvt;
-        enabled = subst (λ ss. AreDone f ss (start f)) (sym more) (done-then f steps (takes_of r.order (box_of mail.boxes g)) (start f) k.enabled
-            (takes-done f (is_of owners g) (box_of mail.boxes g) w (k.home g within)
-            (All-weaker (λ l. is_of owners g (r.order.receiver l.message) ≡ true) (λ l. r.order.receiver l.message < x.processes) (λ l e. of-process k.grouped g (r.order.receiver l.message) e)
-            (box_of mail.boxes g) (k.home g within)) (λ p e. k.mail_is g p e)));
+        enabled = collected-done;
         marked = marks-set k.marked steps' g others-stay now last place (omega arith) standings' told;
       }
 

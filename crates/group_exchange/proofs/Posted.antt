@@ -98,6 +98,14 @@ module _ {S K : Type 0} {r : Rules Message S K Note} {number end : S → ℕ} {i
   mail-grows q =
       posted.mail q ∙ ap (λ ls. (world_after (simulation_of r x) steps).mail q ++ ls) (old.stands.mail q ∙ ap (received_by r.order q) (append-nil h.flow.abroad))
 
+  -- each step can be done where it stands
+  pub posted-done : AreDone (simulation_of r x) steps' (start (simulation_of r x))
+  posted-done =
+      let f = simulation_of r x in
+      let w = world_after f steps in
+      subst (λ ss. AreDone f ss (start f)) (sym more) (done-then f steps (map (behind (waiting_in f w)) (steps_told h.flow.words)) (start f) k.enabled
+      (block-done f (is_of owners g) s.seen (steps_told h.flow.words) (world_after f (last_in s)) w m.same (let a = m.seen_low in let b = k.gvt_is in omega arith) old.by old.enabled))
+
   -- letters to others go to processes, and are not after the end
   pub abroad-lawful : Laws (simulation_of r x) → All (λ l. (r.order.receiver l.message < x.processes) × (r.order.time l.message ≤ x.until)) h.flow.abroad
   abroad-lawful L =
@@ -127,7 +135,6 @@ module _ {S K : Type 0} {r : Rules Message S K Note} {number end : S → ℕ} {i
       IsRecorded r number end is_placed x owners groups steps' mail' floors' gvt standings'
   kept-posted L mail' owners-is count grows floors' floor_count until d least here others now last place sees standings' told =
       let f = simulation_of r x in
-      let w = world_after f steps in
       record {
         laid = k.laid;
         grouped = k.grouped;
@@ -163,8 +170,7 @@ module _ {S K : Type 0} {r : Rules Message S K Note} {number end : S → ℕ} {i
           })
         ];
         gvt_is = k.gvt_is ∙ sym posted.gvt;
-        enabled = subst (λ ss. AreDone f ss (start f)) (sym more) (done-then f steps (map (behind (waiting_in f w)) (steps_told h.flow.words)) (start f) k.enabled
-            (block-done f (is_of owners g) s.seen (steps_told h.flow.words) (world_after f (last_in s)) w m.same (let a = m.seen_low in let b = k.gvt_is in omega arith) old.by old.enabled));
+        enabled = posted-done;
         marked = marks-set k.marked steps' g others-stay now last place (let a = m.seen_low in omega arith) standings' told;
       }
 

@@ -4,7 +4,7 @@ use Rattle.vlink.specs.declared.message.Message.{Message}
 use Rattle.vlink.specs.declared.note.Note.{Note}
 use Rattle.vlink.specs.Numbering.{greatest_number}
 use Rattle.vlink.specs.Letters.{Letter}
-use Rattle.virtual_time.specs.Law.{Order, Simulation, Part, World, next_of, received_by, gvt_over, AreBy, AreDone, behind, done_by, waiting_in}
+use Rattle.virtual_time.specs.Law.{Order, Simulation, Part, World, next_of, received_by, gvt_over, AreBy, AreDone, behind, done_by, start, waiting_in}
 use Rattle.virtual_time.specs.declared.step.Step.{Step}
 use Rattle.virtual_time.specs.declared.step.Step.TheVariants.{Take, Arrive, Run, Post, Gvt, Commit}
 use Rattle.journal.specs.declared.fault.PoolFault.{PoolFault}
@@ -39,6 +39,12 @@ CountsDone old new =
     new ≡ record old { held = record old.held { flow = record old.held.flow { queue = new.held.flow.queue; extra = new.held.flow.extra; room = new.held.flow.room } } }
 
 module _ {S K : Type 0} (f : Simulation Message S K Note) where
+  -- more than so many steps can be done, one after another
+  pub record CanDoMore (most : ℕ) : Type 0 where
+    pub steps : List Step
+    pub enabled : AreDone f steps (start f)
+    pub many : most < length steps
+
   -- a step that handles a message handles one that is earlier than the limit, and before which none of these processes has one to handle, where no
   -- letter waits to arrive at them
   abbrev pub IsTimely : ℕ → (ℕ → Bool) → Step → World Message S → Type 0

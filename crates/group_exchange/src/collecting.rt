@@ -10,7 +10,7 @@ ghost use Rattle.reverse.specs.Setting.{Setting, simulation_of};
 ghost use Rattle.journal.specs.declared.fault.PoolFault.TheVariants.{OutOfMemory, JournalFull};
 ghost use Rattle.group_hand.specs.Hands.{IsAsBefore, StandsForGroup, is_ours};
 ghost use Rattle.group_exchange.specs.Views.{mark_at, with_letters, world_after};
-ghost use Rattle.group_exchange.specs.Effects.{AreWaiting, Collects, IsGroupAsBefore, TookLetters};
+ghost use Rattle.group_exchange.specs.Effects.{AreWaiting, CanDoMore, Collects, IsGroupAsBefore, TookLetters};
 
 use crate::group::Group;
 use crate::groups::GroupExchange;
@@ -30,6 +30,7 @@ const SPARE: usize = 64;
 /// journal then, and the GVT of the exchange. Returns how many letters were taken.
 ///
 /// Any refusal leaves both as they were. `JournalFull`: exactly where the steps would pass the limit, which is looked at before any growth.
+/// So more steps can be done than the limit allows.
 pub fn collect<R: Actor, J: GroupRun<R>>(
     group: &mut Group<R, J>,
     exchange: &mut GroupExchange<R, J>,
@@ -41,6 +42,7 @@ pub fn collect<R: Actor, J: GroupRun<R>>(
         × AreWaiting (simulation_of (rules_of R.plain) J.setting) J.owners exchange.old group.old letters × (exchange.old.limit < length exchange.old.steps + length letters) }
     ensures limited { (result ≡ Err JournalFull → ⊥) → (letters : List Letter)
         × AreWaiting (simulation_of (rules_of R.plain) J.setting) J.owners exchange.old group.old letters × (length exchange.old.steps + length letters ≤ exchange.old.limit) }
+    ensures long { result ≡ Err JournalFull → CanDoMore (simulation_of (rules_of R.plain) J.setting) exchange.old.limit }
     ensures faults { IfErr result (λ fault. (fault ≡ OutOfMemory) ⊎ (fault ≡ JournalFull)) }
 {
     actor_law::<R>();

@@ -11,7 +11,7 @@ ghost use Rattle.group_queues.specs.DoneEvents.{messages_of};
 ghost use Rattle.group_hand.specs.Hands.{FirstWaits, StandsForGroup};
 ghost use Rattle.group_boxes.specs.Boxing.{HasRoom, box_of, for_group, waiting_for};
 ghost use Rattle.group_exchange.specs.Views.{block_of};
-ghost use Rattle.group_exchange.specs.Effects.{CountsDone, Posts};
+ghost use Rattle.group_exchange.specs.Effects.{CanDoMore, CountsDone, Posts};
 
 use crate::group::Group;
 use crate::groups::GroupExchange;
@@ -28,6 +28,7 @@ use std::alloc::Global;
 /// has left. If the block is empty it changes nothing.
 ///
 /// Any refusal leaves both as they were. `JournalFull`: exactly where the steps would pass the limit, which is looked at before any growth.
+/// So more steps can be done than the limit allows.
 pub fn post<R: Actor, J: GroupRun<R>>(
     group: &mut Group<R, J>,
     exchange: &mut GroupExchange<R, J>,
@@ -36,6 +37,7 @@ pub fn post<R: Actor, J: GroupRun<R>>(
     ensures unchanged { OnErr result ((exchange.new ≡ exchange.old) × CountsDone group.old group.new) }
     ensures full { result ≡ Err JournalFull → (0 < length (block_of group.old)) × (exchange.old.limit < length exchange.old.steps + length (block_of group.old)) }
     ensures limited { exchange.old.limit < length exchange.old.steps + length (block_of group.old) → 0 < length (block_of group.old) → result ≡ Err JournalFull }
+    ensures long { result ≡ Err JournalFull → CanDoMore (simulation_of (rules_of R.plain) J.setting) exchange.old.limit }
     ensures faults { IfErr result (λ fault. (fault ≡ OutOfMemory) ⊎ (fault ≡ JournalFull)) }
 {
     actor_law::<R>();

@@ -3,7 +3,7 @@ ghost use Rattle.std.specs.Prelude.{◌≡◌, ◌<◌, ◌≤◌, ◌⊎◌, �
 ghost use Rattle.reverse.specs.Rules.{rules_of};
 ghost use Rattle.reverse.specs.Setting.{simulation_of};
 ghost use Rattle.journal.specs.declared.fault.PoolFault.TheVariants.{OutOfMemory, JournalFull};
-ghost use Rattle.group_exchange.specs.Effects.{Publishes, IsHeldBack};
+ghost use Rattle.group_exchange.specs.Effects.{CanDoMore, Publishes, IsHeldBack};
 
 use crate::groups::GroupExchange;
 use crate::run_of::GroupRun;
@@ -16,7 +16,7 @@ use vlink::Time;
 /// step is added. Returns GVT, in ns.
 ///
 /// Any refusal leaves the exchange as it was. `JournalFull`: exactly where the steps would pass the limit, which is looked at before any
-/// growth.
+/// growth. So more steps can be done than the limit allows.
 pub fn publish<R: Actor, J: GroupRun<R>>(
     exchange: &mut GroupExchange<R, J>,
 ) -> Result<Time, PoolFault>
@@ -24,6 +24,7 @@ pub fn publish<R: Actor, J: GroupRun<R>>(
     ensures unchanged { OnErr result (exchange.new ≡ exchange.old) }
     ensures full { result ≡ Err JournalFull → IsHeldBack (simulation_of (rules_of R.plain) J.setting) J.owners exchange.old × (exchange.old.limit ≤ length exchange.old.steps) }
     ensures limited { IsHeldBack (simulation_of (rules_of R.plain) J.setting) J.owners exchange.old → exchange.old.limit ≤ length exchange.old.steps → result ≡ Err JournalFull }
+    ensures long { result ≡ Err JournalFull → CanDoMore (simulation_of (rules_of R.plain) J.setting) exchange.old.limit }
     ensures faults { IfErr result (λ fault. (fault ≡ OutOfMemory) ⊎ (fault ≡ JournalFull)) }
 {
     actor_law::<R>();

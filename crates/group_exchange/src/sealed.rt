@@ -16,16 +16,6 @@ use row_times::rows_in_time;
 use vlink::{Row, Time};
 
 impl<R: Actor, J: GroupRun<R>> Group<R, J> {
-    /// Whether each done event of its processes is committed.
-    pub fn all_committed(&self) -> bool
-        ensures all { IsTrue result ↔ (self.now.held.done ≡ []) }
-        ensures each { result ≡ true → (p : ℕ) → is_of J.owners self.now.number p ≡ true →
-            ((in_group (simulation_of (rules_of R.plain) J.setting) self.now).parts p).done ≡ [] }
-    {
-        actor_law::<R>();
-        self.hand.all_committed()
-    }
-
     /// Whether its events before a moment, in ns, are all committed and can no longer change: the moment is not later than the GVT that it
     /// saw, and no done event is earlier.
     pub fn is_committed_before(&self, moment: Time) -> bool

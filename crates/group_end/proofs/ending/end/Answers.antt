@@ -1,9 +1,11 @@
-use Rattle.std.proofs.Common.{◌≡◌, ◌<◌, false, is_le, nat_cmp, sym, ◌∙◌, arith}
+use Rattle.std.proofs.Common.{◌≡◌, ◌<◌, Err, false, is_le, nat_cmp, ap, refl, subst, sym, ◌∙◌, arith}
 use Rattle.std.proofs.lemmas.Bool.Decides.{nat_tests}
 use Rattle.std.proofs.lemmas.Result.{on_ok_weaker}
 use Rattle.vlink.specs.Order.{message_order}
 use Rattle.reverse.specs.Rules.{rules_of}
 use Rattle.reverse.specs.Setting.{simulation_of}
+use Rattle.group_exchange.specs.Effects.{CanDoMore}
+use Rattle.group_end.proofs.Longer.{passed}
 use Rattle.group_end.proofs.Places.{all-over}
 use Rattle.group_end.proofs.Rounds.{finished, now-published, publish-limit}
 use Rattle.group_end.proofs.ending.end.Goals as goal
@@ -41,3 +43,15 @@ loop-until-preserved g c = record {
   limit = c.raise.ensures.limit ∙ c.loop-until.invariant.limit;
   published = c.in_ok-gvt-2.ensures.published;
 }
+
+-- more steps can be done than the limit allows, which no round changes
+pub returns-in_err-gvt-clause-long : goal.returns-in_err-gvt-clause-long
+returns-in_err-gvt-clause-long g c =
+    passed (simulation_of (rules_of g.R.Reversible.plain) g.J.GroupRun.setting) _ _ refl _ c.from_residual.result c.from_residual.ensures.1 (λ e. c.in_err-gvt.ensures.long (ap (λ z. Err z) e))
+
+pub returns-in_err-gvt-2-clause-long : goal.returns-in_err-gvt-2-clause-long
+returns-in_err-gvt-2-clause-long g c =
+    passed (simulation_of (rules_of g.R.Reversible.plain) g.J.GroupRun.setting) _ _ c.loop-until.invariant.limit _ c.from_residual-in_err-gvt-2.result c.from_residual-in_err-gvt-2.ensures.1 (λ e. c.in_err-gvt-2.ensures.long (ap (λ z. Err z) e))
+
+pub returns-clause-long : goal.returns-clause-long
+returns-clause-long g c = λ e. subst (CanDoMore (simulation_of (rules_of g.R.Reversible.plain) g.J.GroupRun.setting)) c.loop-until.invariant.limit (c.take_turns.ensures.long e)

@@ -1,10 +1,11 @@
-use Rattle.std.proofs.Common.{◌≡◌, ◌<◌, ◌≤◌, false, is_lt, nat_cmp, sym, ◌∙◌, subst, arith}
+use Rattle.std.proofs.Common.{◌≡◌, ◌<◌, ◌≤◌, Err, false, is_lt, nat_cmp, ap, sym, ◌∙◌, subst, arith}
 use Rattle.std.proofs.lemmas.Bool.Decides.{nat_tests}
 use Rattle.virtual_time.specs.Law.{run, start}
 use Rattle.ends.specs.Left.{rank}
 use Rattle.reverse.specs.Rules.{rules_of}
 use Rattle.reverse.specs.Setting.{simulation_of}
 use Rattle.group_end.specs.Together.{IsPublished}
+use Rattle.group_end.proofs.Longer.{passed}
 use Rattle.group_end.proofs.Rounds.{now-published, publish-limit, round-falls}
 use Rattle.group_end.proofs.ending.raise.Given.{Over}
 use Rattle.group_end.proofs.ending.raise.Goals.{Else-lt}
@@ -36,3 +37,13 @@ loop-exchange-preserved g c = record {
   published = subst (λ x. IsPublished (simulation_of (rules_of g.R.Reversible.plain) g.J.GroupRun.setting) c.set_gvt.new.exchange.steps x) (fallen g c).0
       (now-published (simulation_of (rules_of g.R.Reversible.plain) g.J.GroupRun.setting) c.requires.laws g.J.GroupRun.owners c.take_turns.new.exchange c.set_gvt.new.exchange c.in_ok-new.new c.in_ok-new.ensures.ok);
 }
+
+-- more steps can be done than the limit allows, which no round changes
+pub returns-in_err-take_turns-clause-long : goal.returns-in_err-take_turns-clause-long
+returns-in_err-take_turns-clause-long g c =
+    passed (simulation_of (rules_of g.R.Reversible.plain) g.J.GroupRun.setting) _ _ c.loop-exchange.invariant.limit _ c.from_residual.result c.from_residual.ensures.1 (λ e. c.in_err-take_turns.ensures.long (ap (λ z. Err z) e))
+
+pub returns-in_err-new-clause-long : goal.returns-in_err-new-clause-long
+returns-in_err-new-clause-long g c =
+    passed (simulation_of (rules_of g.R.Reversible.plain) g.J.GroupRun.setting) _ _ (c.take_turns.ensures.limit ∙ c.loop-exchange.invariant.limit) _
+    c.from_residual-in_err-new.result c.from_residual-in_err-new.ensures.1 (λ e. c.in_err-new.ensures.long (ap (λ z. Err z) e))

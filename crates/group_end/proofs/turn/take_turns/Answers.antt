@@ -1,10 +1,11 @@
-use Rattle.std.proofs.Common.{length, sym, ap, ◌∙◌, subst, arith}
+use Rattle.std.proofs.Common.{Err, length, sym, ap, ◌∙◌, subst, arith}
 use Rattle.std.proofs.lemmas.Option.{slice_get_read}
 use Rattle.vlink.specs.Order.{message_order}
 use Rattle.reverse.specs.Rules.{rules_of}
 use Rattle.reverse.specs.Setting.{simulation_of}
 use Rattle.group_exchange.specs.Views.{GroupState, is_of}
 use Rattle.group_end.specs.Together.{HasRested, TookTurn}
+use Rattle.group_end.proofs.Longer.{passed}
 use Rattle.group_end.proofs.Places.{places-set, rested-set}
 use Rattle.group_end.proofs.Rounds.{Took, took-gvt, took-more, took-round}
 use Rattle.group_end.proofs.turn.take_turns.Goals as goal
@@ -31,3 +32,7 @@ returns-clause-round g c =
     let f = simulation_of (rules_of g.R.Reversible.plain) g.J.GroupRun.setting in
     took-round f g.J.GroupRun.owners c.groups-groups.result c.args.exchange.now.steps c.loop-place.exchange.steps c.groups-groups.ensures.grouped
     (subst (λ n. Took f g.J.GroupRun.owners n c.args.exchange.now.steps c.loop-place.exchange.steps) (omega arith) c.loop-place.invariant.took)
+
+pub returns-in_err-give_turn-clause-long : goal.returns-in_err-give_turn-clause-long
+returns-in_err-give_turn-clause-long g c =
+    passed (simulation_of (rules_of g.R.Reversible.plain) g.J.GroupRun.setting) _ _ c.loop-place.invariant.limit _ c.from_residual.result c.from_residual.ensures.1 (λ e. c.in_err-give_turn.ensures.long (ap (λ z. Err z) e))

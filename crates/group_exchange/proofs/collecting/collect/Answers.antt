@@ -16,7 +16,7 @@ use Rattle.group_exchange.specs.Views.{box_of, is_of, last_in, marks_in, with_le
 use Rattle.group_exchange.specs.Keeps.{Holds, IsMarked}
 use Rattle.group_exchange.specs.Effects.{AreWaiting, IsGroupAsBefore, TookLetters, takes_of}
 use Rattle.group_exchange.proofs.Again.{group-as-before}
-use Rattle.group_exchange.proofs.Collected.{kept-collected, holds-collected}
+use Rattle.group_exchange.proofs.Collected.{collected-done, kept-collected, holds-collected}
 use Rattle.group_exchange.proofs.Gathers.{collects-none, collects-shown, kept-none, holds-none, waiting}
 use Rattle.group_exchange.proofs.Going.{not-full}
 use Rattle.group_exchange.proofs.Halves.{marked-by, recorded-as}
@@ -190,6 +190,9 @@ returns-then-count-eq0-clause-limited g c =
       omega (arith, ap (λ z. z.limit) c.exchange.view_is, ap (λ z. length z.steps) c.exchange.view_is, ap length c.letters-count.ensures, c.if-count-eq0.true, c.exchange.invariant.0),
     )
 
+pub returns-then-count-eq0-clause-long : goal.returns-then-count-eq0-clause-long
+returns-then-count-eq0-clause-long g c = λ e. not-ok _ _ _ refl e
+
 pub returns-then-count-eq0-clause-faults : goal.returns-then-count-eq0-clause-faults
 returns-then-count-eq0-clause-faults g c = tt
 
@@ -206,6 +209,25 @@ returns-then-exchange-len-clause-full g c =
       there g (goal.at.returns-then-exchange-len-clause-full g c).After-join_law,
       omega (arith, ap (λ z. z.limit) c.exchange.view_is, ap (λ z. length z.steps) c.exchange.view_is, ap length c.letters-count.ensures, c.if-exchange-len.true, c.len.ensures, c.exchange.invariant.0),
     )
+
+pub returns-then-exchange-len-clause-long : goal.returns-then-exchange-len-clause-long
+returns-then-exchange-len-clause-long g c =
+    let steps = c.exchange.inside.journal.steps in
+    let box = box_of c.exchange.inside.boxes.boxes c.group.inside.number in
+    λ _. record {
+      steps = steps ++ takes_of message_order box;
+      enabled = collected-done c.exchange.invariant.3 c.group.inside.number c.group.invariant.0.number_is _ refl;
+      many = omega (
+        arith,
+        length-append steps (takes_of message_order box),
+        length-map box (λ (l : Letter). Take l.message.receiver 0),
+        ap length c.letters-count.ensures,
+        c.if-exchange-len.true,
+        c.len.ensures,
+        c.exchange.invariant.0,
+        ap (λ z. z.limit) c.exchange.view_is,
+      );
+    }
 
 pub returns-then-exchange-len-clause-limited : goal.returns-then-exchange-len-clause-limited
 returns-then-exchange-len-clause-limited g c = λ other. absurd (other refl)
@@ -246,6 +268,9 @@ returns-in-Err-clause-limited g c =
       omega (arith, ap (λ z. z.limit) c.exchange.view_is, ap (λ z. length z.steps) c.exchange.view_is, ap length c.letters-count.ensures, c.if-exchange-len.false, c.len.ensures, c.exchange.invariant.0),
     )
 
+pub returns-in-Err-clause-long : goal.returns-in-Err-clause-long
+returns-in-Err-clause-long g c = not-full c.in-Err.fault _ c.in-Err.ensures.memory refl
+
 pub returns-in-Err-clause-faults : goal.returns-in-Err-clause-faults
 returns-in-Err-clause-faults g c = inl c.in-Err.ensures.memory
 
@@ -262,6 +287,9 @@ returns-clause-limited g c =
       there g (goal.at.returns-clause-limited g c).After-join_law,
       omega (arith, ap (λ z. z.limit) c.exchange.view_is, ap (λ z. length z.steps) c.exchange.view_is, ap length c.letters-count.ensures, c.if-exchange-len.false, c.len.ensures, c.exchange.invariant.0),
     )
+
+pub returns-clause-long : goal.returns-clause-long
+returns-clause-long g c = λ e. not-ok _ _ _ refl e
 
 pub returns-clause-faults : goal.returns-clause-faults
 returns-clause-faults g c = tt

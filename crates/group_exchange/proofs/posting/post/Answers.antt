@@ -19,7 +19,7 @@ use Rattle.group_exchange.proofs.Gathers.{posts-shown}
 use Rattle.group_exchange.proofs.Going.{not-full}
 use Rattle.group_exchange.proofs.Halves.{marked-by, recorded-as}
 use Rattle.group_exchange.proofs.Holding.{holds-again, holds-as}
-use Rattle.group_exchange.proofs.Posted.{abroad-lawful, kept-posted, holds-posted}
+use Rattle.group_exchange.proofs.Posted.{abroad-lawful, kept-posted, holds-posted, posted-done}
 use Rattle.group_exchange.proofs.RowsKept.{rows-again}
 use Rattle.group_exchange.proofs.Waiting.{behind-waiting, recorded-mail}
 use Rattle.group_exchange.proofs.Words.{length_behind}
@@ -187,6 +187,9 @@ returns-then-count-eq0-clause-unchanged g c = tt
 pub returns-then-count-eq0-clause-full : goal.returns-then-count-eq0-clause-full
 returns-then-count-eq0-clause-full g c = λ e. not-ok _ _ _ refl e
 
+pub returns-then-count-eq0-clause-long : goal.returns-then-count-eq0-clause-long
+returns-then-count-eq0-clause-long g c = λ e. not-ok _ _ _ refl e
+
 pub returns-then-count-eq0-clause-faults : goal.returns-then-count-eq0-clause-faults
 returns-then-count-eq0-clause-faults g c = tt
 
@@ -204,6 +207,29 @@ returns-then-exchange-len-clause-full g c =
       omega (arith, c.if-count-eq0.false, c.steps-count.ensures, words, block),
       omega (arith, c.if-exchange-len.true, c.len.ensures, c.steps-count.ensures, words, c.exchange.invariant.0, ap (λ z. z.limit) c.exchange.view_is, ap (λ z. length z.steps) c.exchange.view_is, block),
     )
+
+pub returns-then-exchange-len-clause-long : goal.returns-then-exchange-len-clause-long
+returns-then-exchange-len-clause-long g c =
+    let f = simulation_of (rules_of g.R.Reversible.plain) g.J.GroupRun.setting in
+    let steps = c.exchange.inside.journal.steps in
+    let waiting = waiting_in f (world_after f steps) in
+    let block = steps_told c.group.inside.hand.flow.words in
+    let words = ap (λ ws. length (steps_told ws)) c.block.ensures.words in
+    λ _. record {
+      steps = steps ++ map (behind waiting) block;
+      enabled = posted-done c.exchange.invariant.3 c.group.inside.number (marked g (goal.at.returns-then-exchange-len-clause-long g c).After-join_law) c.group.invariant.0 _ refl;
+      many = omega (
+        arith,
+        length-append steps (map (behind waiting) block),
+        length_behind waiting block,
+        c.if-exchange-len.true,
+        c.len.ensures,
+        c.steps-count.ensures,
+        words,
+        c.exchange.invariant.0,
+        ap (λ z. z.limit) c.exchange.view_is,
+      );
+    }
 
 pub returns-then-exchange-len-clause-limited : goal.returns-then-exchange-len-clause-limited
 returns-then-exchange-len-clause-limited g c = λ _ _. refl
@@ -230,6 +256,9 @@ returns-in-Err-clause-limited g c =
     let words = ap (λ ws. length (steps_told ws)) c.block.ensures.words in
     λ over some. absurd (omega (arith, over, c.if-exchange-len.false, c.len.ensures, c.steps-count.ensures, words, ap (λ z. z.limit) c.exchange.view_is, ap (λ z. length z.steps) c.exchange.view_is, ap (λ z. length (block_of z)) c.group.view_is))
 
+pub returns-in-Err-clause-long : goal.returns-in-Err-clause-long
+returns-in-Err-clause-long g c = not-full c.in-Err.fault _ c.in-Err.ensures.memory refl
+
 pub returns-in-Err-clause-faults : goal.returns-in-Err-clause-faults
 returns-in-Err-clause-faults g c = inl c.in-Err.ensures.memory
 
@@ -243,6 +272,9 @@ pub returns-clause-limited : goal.returns-clause-limited
 returns-clause-limited g c =
     let words = ap (λ ws. length (steps_told ws)) c.block.ensures.words in
     λ over some. absurd (omega (arith, over, c.if-exchange-len.false, c.len.ensures, c.steps-count.ensures, words, ap (λ z. z.limit) c.exchange.view_is, ap (λ z. length z.steps) c.exchange.view_is, ap (λ z. length (block_of z)) c.group.view_is))
+
+pub returns-clause-long : goal.returns-clause-long
+returns-clause-long g c = λ e. not-ok _ _ _ refl e
 
 pub returns-clause-faults : goal.returns-clause-faults
 returns-clause-faults g c = tt

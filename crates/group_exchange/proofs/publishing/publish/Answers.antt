@@ -1,7 +1,7 @@
 use Rattle.std.proofs.Common.{◌≡◌, ◌+◌, ◌==◌, inl, inr, List, [], ◌∷◌, ◌++◌, map, flat_map, length, refl, sym, ap, ◌∙◌, arith, eq-eqb, eqb-true, length-append}
 use Rattle.std.proofs.lemmas.Bool.{false≢true}
 use Rattle.vlink.specs.Order.{message_order}
-use Rattle.virtual_time.specs.Law.{gvt_over, lowest, times_of}
+use Rattle.virtual_time.specs.Law.{gvt_over, lowest, start, times_of}
 use Rattle.virtual_time.specs.declared.step.Step.{Step}
 use Rattle.virtual_time.specs.declared.step.Step.TheVariants.{Gvt}
 use Rattle.reverse.specs.Rules.{rules_of}
@@ -10,6 +10,7 @@ use Rattle.halves.specs.declared.LeftHalf.{LeftHalf}
 use Rattle.journal.proofs.Refused.{not-ok}
 use Rattle.group_exchange.specs.declared.mark.Standing.{Standing}
 use Rattle.group_exchange.specs.Views.{marks_in, world_after}
+use Rattle.group_exchange.proofs.Enabled.{done-then, gvt-done}
 use Rattle.group_exchange.proofs.Going.{not-full}
 use Rattle.group_exchange.proofs.Halves.{recorded-as}
 use Rattle.group_exchange.proofs.Least.{gvt-told}
@@ -89,11 +90,24 @@ returns-then-eq-clause-unchanged g c = tt
 pub returns-then-eq-clause-full : goal.returns-then-eq-clause-full
 returns-then-eq-clause-full g c = λ e. not-ok _ _ _ refl e
 
+pub returns-then-eq-clause-long : goal.returns-then-eq-clause-long
+returns-then-eq-clause-long g c = λ e. not-ok _ _ _ refl e
+
 pub returns-then-eq-clause-faults : goal.returns-then-eq-clause-faults
 returns-then-eq-clause-faults g c = tt
 
 pub returns-then-len-exchange-clause-ok : goal.returns-then-len-exchange-clause-ok
 returns-then-len-exchange-clause-ok g c = tt
+
+pub returns-then-len-exchange-clause-long : goal.returns-then-len-exchange-clause-long
+returns-then-len-exchange-clause-long g c =
+    let f = simulation_of (rules_of g.R.Reversible.plain) g.J.GroupRun.setting in
+    let steps = c.exchange.inside.journal.steps in
+    λ _. record {
+      steps = steps ++ Gvt ∷ [];
+      enabled = done-then f steps (Gvt ∷ []) (start f) c.exchange.invariant.3.enabled (gvt-done f (world_after f steps));
+      many = omega (arith, length-append steps (Gvt ∷ []), c.if-len-exchange.true, c.len.ensures, ap (λ z. z.limit) c.exchange.view_is);
+    }
 
 pub returns-then-len-exchange-clause-unchanged : goal.returns-then-len-exchange-clause-unchanged
 returns-then-len-exchange-clause-unchanged g c = rw (sym c.exchange.view_is) refl
@@ -118,6 +132,9 @@ returns-in-Err-clause-full g c = not-full c.in-Err.fault _ c.in-Err.ensures.memo
 pub returns-in-Err-clause-limited : goal.returns-in-Err-clause-limited
 returns-in-Err-clause-limited g c = λ back over. absurd (omega (arith, over, c.if-len-exchange.false, c.len.ensures, ap (λ z. z.limit) c.exchange.view_is, ap (λ z. length z.steps) c.exchange.view_is))
 
+pub returns-in-Err-clause-long : goal.returns-in-Err-clause-long
+returns-in-Err-clause-long g c = not-full c.in-Err.fault _ c.in-Err.ensures.memory refl
+
 pub returns-in-Err-clause-faults : goal.returns-in-Err-clause-faults
 returns-in-Err-clause-faults g c = inl c.in-Err.ensures.memory
 
@@ -129,6 +146,9 @@ returns-clause-full g c = λ e. not-ok _ _ _ refl e
 
 pub returns-clause-limited : goal.returns-clause-limited
 returns-clause-limited g c = λ back over. absurd (omega (arith, over, c.if-len-exchange.false, c.len.ensures, ap (λ z. z.limit) c.exchange.view_is, ap (λ z. length z.steps) c.exchange.view_is))
+
+pub returns-clause-long : goal.returns-clause-long
+returns-clause-long g c = λ e. not-ok _ _ _ refl e
 
 pub returns-clause-faults : goal.returns-clause-faults
 returns-clause-faults g c = tt
