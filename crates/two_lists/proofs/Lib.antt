@@ -1,4 +1,3 @@
 pub mod Counting
 pub mod Firsts
 pub mod NearAndFar
-pub mod Receivers
