@@ -49,6 +49,24 @@ print("\\n".join(simulation.tables()))
 """
 
 
+def pcg32(seed, stream, count):
+    """The first words of PCG XSH RR 64/32, as pcg32_srandom_r and pcg32_random_r of its author's C library make them."""
+    state, increment, found = 0, stream << 1 | 1, []
+
+    def step():
+        nonlocal state
+        before, state = state, (state * 6364136223846793005 + increment) % 2**64
+        shifted, rotation = ((before >> 18) ^ before) >> 27 & 0xFFFFFFFF, before >> 59
+        return (shifted >> rotation | shifted << (-rotation & 31)) & 0xFFFFFFFF
+
+    step()
+    state = (state + seed) % 2**64
+    step()
+    for _ in range(count):
+        found.append(step())
+    return found
+
+
 def us(ns):
     return f"{ns / 1000:g} us" if ns < 10**6 else f"{ns / 1000:.3f} us"
 
@@ -161,7 +179,9 @@ class WithTheProgram(Here):
             with open(path, "rb") as file:
                 net = tomllib.load(file)
             offsets += [vl["offset_ns"] for vl in net["vl"]]
-            self.assertTrue(all(0 <= vl["offset_ns"] < vl["period_ns"] for vl in net["vl"]))
+            for vl in net["vl"]:
+                low, high = pcg32(seed, 2**32 + vl["id"], 2)
+                self.assertEqual(vl["offset_ns"], (low + 2**32 * high) % vl["period_ns"])
             for vl, before in zip(net["vl"], given["vl"]):
                 self.assertEqual(vl | {"offset_ns": 0}, before | {"offset_ns": 0})
             self.assertEqual(net | {"vl": 0}, given | {"vl": 0, "seed": seed})
@@ -370,12 +390,19 @@ class WithAStandIn(Here):
             self.assertEqual(self.call(COCKPIT, "--seeds", "3", *words)[0], 0)
             printed = json.loads(read(os.path.join(self.output, "campaign.json")))
             self.assertEqual(printed["description"], model.checksum(read(COCKPIT)))
-            wanted = (512_000_000, 5 if words else 7, 3, bool(words), ["--seeds", "3"] + words[:1])
-            self.assertEqual(tuple(printed[name] for name in ("until_ns", "first_seed", "seeds", "offsets", "words")), wanted)
+            wanted = (512_000_000, 5 if words else 7, 3, bool(words), "pcg32" if words else None, ["--seeds", "3"] + words[:1])
+            self.assertEqual(tuple(printed[name] for name in ("until_ns", "first_seed", "seeds", "offsets", "offset_rule", "words")), wanted)
             self.assertEqual(report.main([COCKPIT, self.output, "-o", page]), 0)
             self.assertIn('data-name="lost end to end"', read(page))
             self.assertNotIn('data-name="under way too long"', read(page))
             self.assertRegex(read(page), r'<a class="tile good" data-name="lost end to end".*?<b>0 frames</b>')
+        # Offsets of version 0.2.0 are drawn otherwise, so the offers cannot be drawn again.
+        del printed["offset_rule"]
+        self.file(os.path.join(self.output, "campaign.json"), json.dumps(printed))
+        said = io.StringIO()
+        with contextlib.redirect_stderr(said):
+            self.assertEqual(report.main([COCKPIT, self.output, "-o", page]), 2)
+        self.assertIn("campaign.json: its offsets are drawn by the rule 'python', and this version draws others. Run the campaign anew", said.getvalue())
         merged = self.file("alone.csv", read(os.path.join(self.folder, "campaign0", "merged.csv")))
         self.assertEqual(report.main([COCKPIT, merged, "--seeds", "6", "-o", page]), 0)
         self.assertRegex(read(page), r'<a class="tile bad" data-name="under way too long"')

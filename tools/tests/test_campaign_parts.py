@@ -68,14 +68,15 @@ class Parts(Here):
         shorter = self.part("2/2", "--until", "30000000", to="shorter")
         whole = os.path.join(self.folder, "whole")
         self.assertEqual(self.run_by(self.net, "--seeds", "2", "--program", self.program, to="whole")[0], 0)
-        changed = {name: os.path.join(self.folder, name) for name in ("edited", "unfinished", "other", "plain", "lost")}
+        changed = {name: os.path.join(self.folder, name) for name in ("edited", "unfinished", "other", "plain", "earlier", "lost")}
         for path in changed.values():
             shutil.copytree(two, path)
         with open(os.path.join(changed["edited"], "greatest.csv"), "a", encoding="utf-8") as out:
             out.write("1,REC,1,1,1,1,1,1\n")
         os.unlink(os.path.join(changed["lost"], "campaign.json"))
         record = json.loads(read(os.path.join(two, "campaign.json")))
-        for name, more in (("unfinished", {"seeds": 1}), ("other", {"program": record["program"] | {"sha256": "0" * 64}}), ("plain", {"offsets": False})):
+        other, earlier = record["program"] | {"sha256": "0" * 64}, {"offset_rule": "python"}
+        for name, more in (("unfinished", {"seeds": 1}), ("other", {"program": other}), ("plain", {"offsets": False}), ("earlier", earlier)):
             self.file(f"{name}/campaign.json", json.dumps(record | more))
         another = self.file("another.toml", read(self.net).replace("seed = 1", "seed = 2"))
         for net, folders, said in (
@@ -91,6 +92,7 @@ class Parts(Here):
             (self.net, [one, changed["unfinished"]], "has 1 seeds from 4 on, and part 2/2 has 4 from 4 on: run it anew"),
             (self.net, [one, changed["other"]], f"(SHA-256 {'0' * 64}), and those of "),
             (self.net, [one, changed["plain"]], "its offsets are those of the description, and those of "),
+            (self.net, [one, changed["earlier"]], "its offsets are drawn by the rule 'python', and those of "),
             (another, [one, two], "is of another description: its checksum is "),
         ):
             with self.subTest(said):

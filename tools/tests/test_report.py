@@ -1086,8 +1086,7 @@ class WithoutABrowser(unittest.TestCase):
         for words, draws in (([], False), (["--offsets"], True)):
             merged, offered, missing = {}, Counter(), Counter()
             for seed in range(11, 14):
-                draw = random.Random(seed).random
-                vls = [vl | {"offset_ns": int(draw() * vl["period_ns"])} if draws else vl for vl in net["vl"]]
+                vls = [vl | {"offset_ns": model.drawn_offset(seed, vl["id"], vl["period_ns"])} if draws else vl for vl in net["vl"]]
                 _, tables, _, run = simulated(net | {"seed": seed, "vl": vls}, self.folder)
                 for line in read(tables).splitlines()[1:]:
                     *key, count, least, greatest, total = line.split(",")

@@ -117,8 +117,8 @@ def write_record(words: argparse.Namespace, net: CampaignNetwork, seeds: range) 
     own += [word for it in words.set or () for word in ("--set", it.text)] + [word for vl in words.aim or () for word in ("--aim", str(vl))]
     own += [name for name, is_given in (("--offsets", words.offsets), ("--histograms", words.histograms)) if is_given]
     found = campaign_record.Record(
-        model.checksum(net.text), words.maker, net.until_ns, seeds[0] if seeds else net.seed, len(seeds), words.offsets, own,
-        dict(sorted(words.folder.sums.items())),
+        model.checksum(net.text), words.maker, net.until_ns, seeds[0] if seeds else net.seed, len(seeds), words.offsets,
+        campaign_record.rule_of(words.offsets), own, dict(sorted(words.folder.sums.items())),
     )
     words.folder.write(campaign_record.NAME, found.text())
     words.folder.close()

@@ -24,7 +24,9 @@ def merged_of(words: argparse.Namespace) -> tuple[Campaign, Record]:
     files.ready([words.junit] if words.junit else [])
     words.folder, words.histograms = Folder(words.output, words.replace), folders[0].has_counts()
     own = folders[0].words()
-    return campaign, Record(model.checksum(net.text), first.program, net.until_ns, all_seeds.start, len(all_seeds), first.offsets, own, {})
+    return campaign, Record(
+        model.checksum(net.text), first.program, net.until_ns, all_seeds.start, len(all_seeds), first.offsets, first.offset_rule, own, {}
+    )
 
 
 def write_record(folder: Folder, record: Record) -> None:

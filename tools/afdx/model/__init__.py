@@ -12,7 +12,7 @@ from afdx.files import Fault, is_same_file, text_of  # noqa: F401
 from afdx.files.program import PROGRAM  # noqa: F401
 from afdx.model.csv_lines import BOUNDS_HEAD, TABLES_HEAD, TRACE_HEAD, lines_of, read_lines  # noqa: F401
 from afdx.model.description import Description, Place, checksum, line_of_refusal, place_text, text_of_tree, written  # noqa: F401
-from afdx.model.drawn_offers import Offer, Stream, count_of_offers, offers, stream_of, streams_of, words  # noqa: F401
+from afdx.model.drawn_offers import Offer, Stream, count_of_offers, drawn_offset, offers, stream_of, streams_of, words  # noqa: F401
 from afdx.model.keys import (  # noqa: F401
     BAGS_MS, COUNTED, GREATEST_FRAME, GREATEST_SEED, KEYS, LATEST_NS, LEAST_FRAME, MOST_DESTINATIONS, MOST_NODES_OF_A_PATH, MOST_OUTAGES,
     MOST_PORTS, MOST_PROCESSES, MOST_STREAMS, SECTIONS, STREAM_KEYS, Key,

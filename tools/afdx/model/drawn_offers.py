@@ -97,6 +97,18 @@ def words(seed: int, stream: int, first: int = 0) -> Iterator[int]:
         state = (state * 6364136223846793005 + increment) & mask
 
 
+# The generators of offers have numbers below this one.
+FIRST_OFFSET = 2**32
+
+
+def drawn_offset(seed: int, number: int, period_ns: int) -> int:
+    """The offset that a seed draws for the stream with this number: the first two words of the generator of its own, as one number
+    of 64 bits, modulo the period."""
+    drawn = words(seed, FIRST_OFFSET + number)
+    low, high = next(drawn), next(drawn)
+    return (low + (high << 32)) % period_ns
+
+
 def bursts(seed: int, stream: Stream, until_ns: int) -> Iterator[tuple[int, int]]:
     """The bursts of a stream: each with its number and its moment. One that is later than the end is left out. Of a periodic stream
     what is drawn makes one burst late, of a sporadic one all that follow too."""

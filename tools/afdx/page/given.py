@@ -89,7 +89,7 @@ def runs_of(words: argparse.Namespace, tables: Tables, found: campaign_record.Re
             raise files.Fault(tables.path, None, "these are the tables of one run, and --seeds means a campaign")
         return Runs([net.seed], False)
     if found:
-        runs = Runs(found.all_seeds(), found.offsets)
+        runs = Runs(found.all_seeds(), found.draws_offsets(os.path.join(os.path.dirname(tables.path), campaign_record.NAME)))
         said = words.seeds in (None, found.seeds) and first in (None, found.first_seed)
         if not said or words.seeds and words.offsets != found.offsets:
             had = f"{found.seeds} seeds from {found.first_seed} on, {'with' if found.offsets else 'without'} drawn offsets"

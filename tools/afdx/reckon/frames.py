@@ -7,7 +7,6 @@ are under way at the end, or are missing. What was offered is drawn anew; tables
 from __future__ import annotations
 
 import functools
-import random
 from bisect import bisect_left
 from collections import Counter, deque
 from collections.abc import Callable, Iterable, Iterator, Sequence
@@ -15,7 +14,7 @@ from typing import Any, NamedTuple, NoReturn
 
 from afdx import model
 from afdx.files.page_text import counted
-from afdx.model import Fault, Latency, Loss, Network, Offer, Tables, VirtualLink
+from afdx.model import Fault, Latency, Loss, Network, Offer, Tables, VirtualLink, drawn_offset
 from afdx.model.traces import Trace
 from afdx.reckon import many_seeds
 
@@ -371,7 +370,5 @@ def hold(tables: Tables) -> None:
 
 def drawn_offsets(net: Network, seed: int) -> dict[int, int]:
     """The offsets that afdx campaign draws for the run of a seed, of each stream by its number."""
-    draw = random.Random(seed).random
-    further = sorted((it.number, it) for vl in net.vls.values() for it in vl.streams[1:])
-    streams = [*(vl.own for vl in net.vls.values()), *(it for _, it in further)]
-    return {it.number: int(draw() * it.period_ns) for it in streams}
+    streams = (it for vl in net.vls.values() for it in vl.streams)
+    return {it.number: drawn_offset(seed, it.number, it.period_ns) for it in streams}

@@ -1,6 +1,5 @@
 """The network of a campaign, whose description is written anew for each run: with another seed, and with other offsets."""
 import os
-import random
 import subprocess
 import tempfile
 from typing import Any
@@ -58,9 +57,8 @@ class CampaignNetwork(model.Network):
         """The text of the description with another seed, and with drawn offsets if they are asked for."""
         lines = [f"seed = {seed}", *self.lines]
         if drawn:
-            draw = random.Random(seed).random
-            for place, period, _ in self.offsets:
-                lines[place + 1] = f"offset_ns = {int(draw() * period)}"
+            for place, period, number in self.offsets:
+                lines[place + 1] = f"offset_ns = {model.drawn_offset(seed, number, period)}"
         return "\n".join(lines) + "\n"
 
     def with_offsets(self, seed: int, offsets: dict[int, int]) -> str:

@@ -19,13 +19,16 @@ MOST_LOST_HEAD = "vl,where,cause,most,seed"
 GREATEST_HEAD = "vl,where,runs,least_greatest_ns,mean_greatest_ns,greatest_ns,sum_greatest_ns,seed"
 # The percentiles of the frames of all runs, where each latency was counted.
 PERCENTS = [50, 95, 99]
+# How offsets are drawn: as docs/TOOLS.md states, section 9. Records of versions up to 0.2.0 name no rule.
+OFFSET_RULE = "pcg32"
+EARLIER_RULE = "python"
 COUNTED_HEAD = GREATEST_HEAD + "".join(f",percent_{percent}_ns" for percent in PERCENTS)
 
 
 class Record(NamedTuple):
     """Of a campaign: the checksum of its description; who made its runs, as tools/afdx/files/program.py knows it; the end of its runs, the
-    first of its seeds and how many of them were run, and whether offsets were drawn; its words as far as what comes of it depends
-    on them; and the SHA-256 of each other file that it has written into its folder."""
+    first of its seeds and how many of them were run, whether offsets were drawn, and by which rule; its words as far as what comes
+    of it depends on them; and the SHA-256 of each other file that it has written into its folder."""
 
     description: str
     program: program.Maker
@@ -33,6 +36,7 @@ class Record(NamedTuple):
     first_seed: int
     seeds: int
     offsets: bool
+    offset_rule: str | None
     words: list[str]
     files: dict[str, str]
 
@@ -41,6 +45,12 @@ class Record(NamedTuple):
 
     def all_seeds(self) -> range:
         return range(self.first_seed, self.first_seed + self.seeds)
+
+    def draws_offsets(self, path: str) -> bool:
+        """Whether the offsets of its runs were drawn, and so can be drawn again; `path` is that of the record."""
+        if self.offset_rule not in (None, OFFSET_RULE):
+            raise Fault(path, None, f"its offsets are drawn by the rule {cut(str(self.offset_rule))}, and this version draws others. Run the campaign anew")
+        return self.offsets
 
 
 TYPES: dict[str, type] = {
@@ -66,9 +76,18 @@ def read(path: str) -> Record:
     maker = maker_of(found["program"])
     if maker is None:
         raise Fault(path, None, f"is no record of a campaign: program is {cut(repr(found['program']))}")
+    rule = found.get("offset_rule", EARLIER_RULE) if found["offsets"] else None
+    if not isinstance(rule, (str, type(None))) or found["offsets"] and not rule:
+        raise Fault(path, None, f"is no record of a campaign: offset_rule is {cut(repr(rule))}")
     return Record(
-        found["description"], maker, found["until_ns"], found["first_seed"], found["seeds"], found["offsets"], found["words"], found["files"]
+        found["description"], maker, found["until_ns"], found["first_seed"], found["seeds"], found["offsets"], rule, found["words"],
+        found["files"],
     )
+
+
+def rule_of(draws_offsets: bool) -> str | None:
+    """The rule by which a campaign of this version draws offsets, if it draws them."""
+    return OFFSET_RULE if draws_offsets else None
 
 
 def maker_of(found: dict[str, Any]) -> program.Maker | None:

@@ -84,6 +84,9 @@ def judge(it: Folder, first: Folder) -> None:
     if own.offsets != other.offsets:
         drawn = ["are drawn" if one.offsets else "are those of the description" for one in (own, other)]
         raise Fault(it.name(), None, f"its offsets {drawn[0]}, and those of {first.name()} {drawn[1]}")
+    if own.offset_rule != other.offset_rule:
+        rules = [cut(str(one.offset_rule)) for one in (own, other)]
+        raise Fault(it.name(), None, f"its offsets are drawn by the rule {rules[0]}, and those of {first.name()} by {rules[1]}")
     if own.until_ns != other.until_ns:
         raise Fault(it.name(), None, f"its runs end at {own.until_ns} ns, and those of {first.name()} at {other.until_ns} ns")
     if (it.part.of, it.all_seeds) != (first.part.of, first.all_seeds):
