@@ -7,6 +7,7 @@ line that says what is wrong. For each this makes a copy of the sources, applies
 
   - the tests of `turn_rows` and of `pool_rows`, before any proof (`rt try --test`)
   - drawn runs by workers (gate.threaded_runs), of the program that is built of the copy
+  - rows of whole runs of that program, and runs of which a thread stands still (tests.test_rows, tests.test_standing_still)
 
 and it stops at the first that fails. The last result stands in docs/PROOFS.md. This is no part of ./test, which only tries that each
 patch applies to the sources.
@@ -27,6 +28,7 @@ from afdx.model import whole
 TOP = Path(__file__).resolve().parents[2]
 BODIES = Path(__file__).with_name("living")
 ROWS = ("turn_rows", "pool_rows")
+OF_THE_PROGRAM = {"rows of the program": "tests.test_rows", "a run that stands still": "tests.test_standing_still"}
 
 EXAMPLES = """
 examples, in tools/:
@@ -63,8 +65,9 @@ def does_apply(patch: Path, tree: Path = TOP, *words: str) -> bool:
 
 
 def copied(tree: Path) -> None:
-    """Copies the sources of all crates, and nothing that was built."""
-    shutil.copytree(TOP / "crates", tree / "crates", ignore=shutil.ignore_patterns("out"))
+    """Copies the sources of all crates, the tools with their tests and the examples, and nothing that was built."""
+    for name in ("crates", "tools", "examples", "docs"):
+        shutil.copytree(TOP / name, tree / name, ignore=shutil.ignore_patterns("out", "__pycache__"))
     for name in ("crates.txt", "HANDLES"):
         shutil.copy(TOP / name, tree / name)
 
@@ -78,7 +81,7 @@ def built(tree: Path, build: str | None) -> Path | None:
     program = tree / "crates" / "afdxsim" / "out" / "afdxsim"
     command, folder = ["rt", "run"], tree / "crates" / "afdxsim"
     if build is not None:
-        program = tree / "afdxsim"
+        program.parent.mkdir()
         command, folder = [*shlex.split(build), str(tree), str(program)], tree
     subprocess.run(command, cwd=folder, stdin=subprocess.DEVNULL, stdout=subprocess.DEVNULL, stderr=subprocess.DEVNULL)
     return program if program.is_file() else None
@@ -93,8 +96,12 @@ def seen_by(tree: Path, runs: int, build: str | None) -> Iterator[str]:
         program = built(tree, build)
         if program is None:
             yield "nothing: its program could not be built"
-        elif is_failed([sys.executable, "-m", "gate.threaded_runs", "--runs", str(runs), "--program", str(program)], TOP / "tools"):
+            return
+        if is_failed([sys.executable, "-m", "gate.threaded_runs", "--runs", str(runs), "--program", str(program)], TOP / "tools"):
             yield "drawn runs"
+        for what, test in OF_THE_PROGRAM.items():
+            if is_failed([sys.executable, "-m", "unittest", "-f", test], tree / "tools"):
+                yield what
 
 
 def tried(patch: Path, runs: int, build: str | None) -> tuple[str, bool]:

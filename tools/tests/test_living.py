@@ -38,7 +38,9 @@ class Living(unittest.TestCase):
         for failing, runs, said in (
             ({"turn_rows", "pool_rows"}, 0, "seen by turn_rows"),
             ({"pool_rows", "tools"}, 3, "seen by pool_rows"),
-            ({"tools"}, 3, "seen by drawn runs"),
+            ({"gate.threaded_runs", "tests.test_rows"}, 3, "seen by drawn runs"),
+            ({"tests.test_rows"}, 3, "seen by rows of the program"),
+            ({"tests.test_standing_still"}, 3, "seen by a run that stands still"),
             (set(), 3, f"nothing sees it: {living.wrong_of(patch)}"),
         ):
             out = io.StringIO()
@@ -47,7 +49,7 @@ class Living(unittest.TestCase):
                 mock.patch.object(living, "copied", lambda tree: None),
                 mock.patch.object(living, "does_apply", lambda *_: True),
                 mock.patch.object(living, "built", lambda tree, build: tree),
-                mock.patch.object(living, "is_failed", lambda command, folder: folder.name in failing),
+                mock.patch.object(living, "is_failed", lambda command, folder: bool(failing & {folder.name, *command})),
                 contextlib.redirect_stdout(out),
             ):
                 self.assertEqual(living.main([name, "--runs", str(runs)]), 0)
