@@ -73,7 +73,7 @@ impl<J: NetworkRun> Shared<J> {
     {
         match collect(group, &mut self.inner) {
             Ok(_letters) => Ok(()),
-            Err(fault) => Err(RunFault::other(fault)),
+            Err(fault) => Err(RunFault::new(fault)),
         }
     }
 
@@ -92,7 +92,7 @@ impl<J: NetworkRun> Shared<J> {
     {
         match post(group, &mut self.inner) {
             Ok(()) => Ok(()),
-            Err(fault) => Err(RunFault::other(fault)),
+            Err(fault) => Err(RunFault::new(fault)),
         }
     }
 
@@ -104,7 +104,7 @@ impl<J: NetworkRun> Shared<J> {
     {
         match publish(&mut self.inner) {
             Ok(gvt) => Ok(gvt),
-            Err(fault) => Err(RunFault::other(fault)),
+            Err(fault) => Err(RunFault::new(fault)),
         }
     }
 
@@ -127,6 +127,7 @@ impl<J: NetworkRun> Shared<J> {
     pub fn fault_of(&self, group: &NetworkGroup<J>, fault: PoolFault) -> RunFault<J>
         requires numbers { fault ≡ Exhausted → LackNumbers J.plan J.owners group.now }
         requires no_torn { fault ≢ Torn }
+        requires few { fault ≢ JournalFull }
         ensures { result ≡ fault }
     {
         let _groups = self.inner.groups();

@@ -4,6 +4,7 @@ use Rattle.journal.specs.Faults.{fault_number}
 use Rattle.journal.specs.declared.fault.PoolFault.{PoolFault}
 use Rattle.journal.specs.declared.fault.PoolFault.TheVariants.{OutOfMemory, Spawn}
 use Rattle.turn_words.specs.Outcomes.{IsToldByWorkers}
+pub use Rattle.group_turns.specs.Limit.{TakesMany}
 pub use Rattle.group_turns.specs.Numbers.{UsesUpNumbers}
 
 -- there are workers to be started: some are asked for, and there is a process

@@ -1,5 +1,5 @@
 //! The end of a run: one thread holds everything, and gives turns until all is committed.
-ghost use Rattle.std.specs.Prelude.{◌≡◌, ◌≢◌, ℕ, true, length, slice_get, Some, IfErr, OnOk};
+ghost use Rattle.std.specs.Prelude.{◌≡◌, ◌≢◌, ℕ, true, false, length, slice_get, Some, IfErr, OnOk};
 ghost use Rattle.virtual_time.specs.Law.{IsFinished, Laws};
 ghost use Rattle.network.specs.Words.{process_count};
 ghost use Rattle.nodes.specs.Words.{NodeState, simulation_of};
@@ -128,7 +128,8 @@ impl<J: NetworkRun> Unlocked<'_, J> {
     /// Whether all rows that have left a group are of moments before its own, in ns, if one is listed, and otherwise before `end`. None has
     /// left if that is 0.
     pub(crate) fn have_gone_by(&self, own: &[Time], end: Time) -> bool
-        ensures { result ≡ true → HaveGoneBy own.now end self.now.groups.items }
+        ensures by { result ≡ true → HaveGoneBy own.now end self.now.groups.items }
+        ensures later { result ≡ false → HaveGoneBy own.now end self.now.groups.items → ⊥ }
     {
         for place in 0..self.groups.len() {
             let group = &self.groups[place];

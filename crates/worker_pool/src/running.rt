@@ -1,10 +1,10 @@
 //! The run of a network by workers.
 ghost use Rattle.std.specs.Prelude.{◌≡◌, ◌≢◌, ◌<◌, true, [], length, min, IfOk, IfErr};
 ghost use Rattle.network.specs.Words.{process_count};
-ghost use Rattle.journal.specs.declared.fault.PoolFault.TheVariants.{Exhausted, Spawn, Torn};
+ghost use Rattle.journal.specs.declared.fault.PoolFault.TheVariants.{Exhausted, JournalFull, Spawn, Torn};
 ghost use Rattle.trace_tables.specs.Tables.{tables_of};
 ghost use Rattle.seqsim.specs.Networks.{AreRowsOf};
-ghost use Rattle.worker_pool.specs.Outcomes.{CanWantWorkers, HandsOnFaults, UsesUpNumbers};
+ghost use Rattle.worker_pool.specs.Outcomes.{CanWantWorkers, HandsOnFaults, TakesMany, UsesUpNumbers};
 ghost use Rattle.worker_pool.specs.Paces.{pace_in, pace_of};
 ghost use Rattle.worker_pool.specs.Runs.{IsEnded, IsJournalOf, HaveGoneBy};
 ghost use Rattle.worker_pool.specs.Starts.{BeginsRun};
@@ -173,6 +173,7 @@ fn run_named<J: NetworkRun + Send + Sync, G: Gate + Sync, T: Threads + Wait + Sy
     ensures tables { IfOk result (λ o. o.tables ≡ tables_of J.plan o.rows.items) }
     ensures finished { IfOk result (λ o. IsJournalOf J.plan o.journal.items) }
     ensures exhausted { IfErr result (λ fault. fault ≡ Exhausted → UsesUpNumbers J.plan) }
+    ensures full { IfErr result (λ fault. fault ≡ JournalFull → TakesMany J.plan J.keeps) }
     ensures no_torn { IfErr result (λ fault. fault ≢ Torn) }
     ensures spawn { IfErr result (λ fault. fault ≡ Spawn → CanWantWorkers start.entry.pace.workers (process_count J.plan)) }
 {
@@ -194,7 +195,7 @@ fn run_named<J: NetworkRun + Send + Sync, G: Gate + Sync, T: Threads + Wait + Sy
 /// run waits for its threads, or that they end.
 ///
 /// `OutOfMemory`: memory was refused. `Exhausted`: a process did not have enough numbers left for what its next message can send, so that
-/// some run of the network uses up numbers. `JournalFull`: the run takes more than 2^26 steps. `Spawn`: a worker could not be started, so
+/// some run of the network uses up numbers. `JournalFull`: the network can take more than 2^26 steps. `Spawn`: a worker could not be started, so
 /// it comes only if there are workers and a process. `Torn` does not come. One worker's refusal ends the others at their next turn; of
 /// several faults the one with the least number is returned. Of a run that is refused nothing is left.
 pub fn run<G: Gate + Sync, T: Threads + Wait + Sync>(
@@ -208,6 +209,7 @@ pub fn run<G: Gate + Sync, T: Threads + Wait + Sync>(
     ensures tables { IfOk result (λ o. o.tables ≡ tables_of network.now o.rows.items) }
     ensures finished { IfOk result (λ o. IsJournalOf network.now o.journal.items) }
     ensures exhausted { IfErr result (λ fault. fault ≡ Exhausted → UsesUpNumbers network.now) }
+    ensures full { IfErr result (λ fault. fault ≡ JournalFull → TakesMany network.now true) }
     ensures no_torn { IfErr result (λ fault. fault ≢ Torn) }
     ensures spawn { IfErr result (λ fault. fault ≡ Spawn → CanWantWorkers pace.workers (process_count network.now)) }
 {

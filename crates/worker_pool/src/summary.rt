@@ -2,12 +2,12 @@
 ghost use Rattle.std.specs.Prelude.{◌≡◌, ◌⊎◌, List, Err, length, min, IfOk, IfErr, IfNone};
 ghost use Rattle.vlink.specs.Letters.{Row};
 ghost use Rattle.network.specs.Words.{process_count};
-ghost use Rattle.journal.specs.declared.fault.PoolFault.TheVariants.{OutOfMemory, Exhausted, Spawn, Torn};
+ghost use Rattle.journal.specs.declared.fault.PoolFault.TheVariants.{OutOfMemory, Exhausted, JournalFull, Spawn, Torn};
 ghost use Rattle.trace_tables.specs.Tables.{tables_of};
 ghost use Rattle.seqsim.specs.Networks.{AreRowsOf};
-ghost use Rattle.worker_pool.specs.Outcomes.{CanWantWorkers, HandsOnFaults, UsesUpNumbers};
+ghost use Rattle.worker_pool.specs.Outcomes.{CanWantWorkers, HandsOnFaults, TakesMany, UsesUpNumbers};
 ghost use Rattle.worker_pool.specs.Paces.{actual_pace, pace_in, pace_of};
-ghost use Rattle.worker_pool.specs.Runs.{IsEnded, IsJournalAsked, IsSummaryOf};
+ghost use Rattle.worker_pool.specs.Runs.{HaveGoneBy, IsEnded, IsJournalAsked, IsSummaryOf};
 ghost use Rattle.worker_pool.specs.Starts.{BeginsRun};
 
 use crate::actual_pace::ActualPace;
@@ -52,6 +52,7 @@ impl<J: NetworkRun> Unlocked<'_, J> {
         ensures found { IfOk result (λ s. IsSummaryOf J.plan J.keeps s.tables s.journal.items) }
         ensures pace { IfOk result (λ s. s.pace ≡ pace_of self.now.speed (length self.now.groups.items)) }
         ensures refused { IfNone counted.tables (result ≡ Err OutOfMemory) }
+        ensures torn { result ≡ Err Torn → HaveGoneBy counted.own.items counted.end self.now.groups.items → ⊥ }
         ensures faults { IfErr result (λ fault. (fault ≡ OutOfMemory) ⊎ (fault ≡ Torn)) }
     {
         if counted.tables.is_none() {
@@ -101,6 +102,7 @@ pub(crate) fn summary_of<J: NetworkRun>(
     requires keeps { with_steps ≡ J.keeps }
     ensures found { IfOk result (λ s. IsSummaryOf J.plan J.keeps s.tables s.journal.items) }
     ensures pace { IfOk result (λ s. s.pace ≡ pace_of ended.entry.speed (length ended.entry.groups.items)) }
+    ensures torn { result ≡ Err Torn → HaveGoneBy counted.own.items counted.end ended.entry.groups.items → ⊥ }
     ensures faults { IfErr result (λ fault. (fault ≡ OutOfMemory) ⊎ (fault ≡ Torn)) }
 {
     let found = ended.summary(alloc, counted, with_steps);
@@ -121,6 +123,7 @@ fn summary_named<J: NetworkRun + Send + Sync, G: Gate + Sync, T: Threads + Wait 
     ensures pace { IfOk result (λ s. s.pace ≡ pace_in start.entry.grouping.groups start.entry.pace) }
     ensures told { HandsOnFaults (min start.entry.grouping.groups start.entry.pace.workers) result }
     ensures exhausted { IfErr result (λ fault. fault ≡ Exhausted → UsesUpNumbers J.plan) }
+    ensures full { IfErr result (λ fault. fault ≡ JournalFull → TakesMany J.plan J.keeps) }
     ensures spawn { IfErr result (λ fault. fault ≡ Spawn → CanWantWorkers start.entry.pace.workers (process_count J.plan)) }
     ensures watched { W.becomes watch.old watch.new }
 {
@@ -151,6 +154,7 @@ pub fn run_summary<G: Gate + Sync, T: Threads + Wait + Sync, W: Watch>(
     ensures pace { IfOk result (λ s. s.pace ≡ actual_pace (process_count network.now) pace) }
     ensures told { HandsOnFaults (actual_pace (process_count network.now) pace).workers result }
     ensures exhausted { IfErr result (λ fault. fault ≡ Exhausted → UsesUpNumbers network.now) }
+    ensures full { IfErr result (λ fault. fault ≡ JournalFull → TakesMany network.now with_steps) }
     ensures spawn { IfErr result (λ fault. fault ≡ Spawn → CanWantWorkers pace.workers (process_count network.now)) }
     ensures watched { W.becomes watch.old watch.new }
 {

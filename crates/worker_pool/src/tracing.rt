@@ -3,13 +3,13 @@ ghost use Rattle.std.specs.Prelude.{◌≡◌, ◌≢◌, ◌+◌, Err, List, le
 ghost use Rattle.std.specs.Io.KnownBytes.{append_known};
 ghost use Rattle.vlink.specs.Letters.{Row};
 ghost use Rattle.network.specs.Words.{process_count};
-ghost use Rattle.journal.specs.declared.fault.PoolFault.TheVariants.{Exhausted};
+ghost use Rattle.journal.specs.declared.fault.PoolFault.TheVariants.{Exhausted, JournalFull};
 ghost use Rattle.trace_segments.specs.declared.fault.OutFault.TheVariants.{Device};
 ghost use Rattle.trace_segments.specs.declared.trace_fault.TraceFault.TheVariants.{Out};
 ghost use Rattle.trace_segments.specs.Words.{IsBeginning, trace_text};
 ghost use Rattle.trace_tables.specs.Tables.{tables_of};
 ghost use Rattle.seqsim.specs.Networks.{AreRowsOf};
-ghost use Rattle.worker_pool.specs.Outcomes.{HandsOnFaults, UsesUpNumbers};
+ghost use Rattle.worker_pool.specs.Outcomes.{HandsOnFaults, TakesMany, UsesUpNumbers};
 ghost use Rattle.worker_pool.specs.Paces.{actual_pace, pace_in, pace_of};
 ghost use Rattle.worker_pool.specs.Runs.{IsEnded, IsJournalAsked, IsSummaryOf};
 ghost use Rattle.worker_pool.specs.Starts.{BeginsRun};
@@ -89,6 +89,7 @@ fn summary_told<J: NetworkRun>(
     ensures pace { IfOk result (λ s. IsOkAnd ended.entry (λ r. s.pace ≡ pace_of r.speed (length r.groups.items))) }
     ensures told { IfErr ended.entry (λ fault. result ≡ Err fault) }
     ensures exhausted { IfErr result (λ fault. fault ≡ Exhausted → UsesUpNumbers J.plan) }
+    ensures full { IfErr result (λ fault. fault ≡ JournalFull → TakesMany J.plan J.keeps) }
 {
     match ended {
         Ok(ended) => summary_of(alloc, ended, counted, with_steps),
@@ -108,11 +109,13 @@ fn traced_of<'a, J: NetworkRun, K: TraceRun, S: Sink + Drop>(
     requires found { IfOk summary (λ s. IsSummaryOf J.plan J.keeps s.tables s.journal.items) }
     requires fault { IfSome fault IsPlaceFault }
     requires exhausted { IfErr summary (λ fault. fault ≡ Exhausted → UsesUpNumbers J.plan) }
+    requires full { IfErr summary (λ fault. fault ≡ JournalFull → TakesMany J.plan J.keeps) }
     ensures found { IfOk result (λ t. IsSummaryOf J.plan J.keeps t.outcome.tables t.outcome.journal.items) }
     ensures pace { IfOk result (λ t. IsOkAnd summary (λ s. t.outcome.pace ≡ s.pace)) }
     ensures told { IfErr summary (λ fault. result ≡ Err fault) }
     ensures written { IfOk result (λ t. IsWritten J.plan K.taken K.failures t.written (S.taken t.sink) (S.failures t.sink)) }
     ensures exhausted { IfErr result (λ fault. fault ≡ Exhausted → UsesUpNumbers J.plan) }
+    ensures full { IfErr result (λ fault. fault ≡ JournalFull → TakesMany J.plan J.keeps) }
 {
     match summary {
         Ok(outcome) => {
@@ -153,6 +156,7 @@ fn run_beside<
     ensures told { HandsOnFaults (min start.entry.grouping.groups start.entry.pace.workers) result.0 }
     ensures written { IfOk result.0 (λ t. IsWritten J.plan K.taken K.failures t.written (S.taken t.sink) (S.failures t.sink)) }
     ensures exhausted { IfErr result.0 (λ fault. fault ≡ Exhausted → UsesUpNumbers J.plan) }
+    ensures full { IfErr result.0 (λ fault. fault ≡ JournalFull → TakesMany J.plan J.keeps) }
     ensures watched { W.becomes watch result.1 }
 {
     let mut watch = watch;
@@ -211,6 +215,7 @@ fn traced_named<
     ensures told { HandsOnFaults (min start.entry.grouping.groups start.entry.pace.workers) result.0 }
     ensures written { IfOk result.0 (λ t. IsWritten J.plan K.taken K.failures t.written (S.taken t.sink) (S.failures t.sink)) }
     ensures exhausted { IfErr result.0 (λ fault. fault ≡ Exhausted → UsesUpNumbers J.plan) }
+    ensures full { IfErr result.0 (λ fault. fault ≡ JournalFull → TakesMany J.plan J.keeps) }
     ensures watched { W.becomes watch result.1 }
 {
     let start: StartOf<J> = StartOf::of(start);
@@ -231,6 +236,7 @@ fn traced_named<
             ensures told { HandsOnFaults (min start.entry.grouping.groups start.entry.pace.workers) result.0 }
             ensures written { IfOk result.0 (λ t. IsWritten J.plan K.taken K.failures t.written (S.taken t.sink) (S.failures t.sink)) }
             ensures exhausted { IfErr result.0 (λ fault. fault ≡ Exhausted → UsesUpNumbers J.plan) }
+            ensures full { IfErr result.0 (λ fault. fault ≡ JournalFull → TakesMany J.plan J.keeps) }
             ensures watched { W.becomes watch result.1 }
         {
             match scope.spawn(move || write_batches(rt, network, writing, counted, batches)) {
@@ -287,6 +293,7 @@ pub fn run_traced<S: Sink + Drop + Send, G: Gate + Sync, T: Threads + Wait + Syn
     ensures went_well { IfOk result (λ t. OnOk t.written (S.failures t.sink ≡ S.failures sink)) }
     ensures fault { IfOk result (λ t. IfErr t.written IsFaultOfTrace) }
     ensures exhausted { IfErr result (λ fault. fault ≡ Exhausted → UsesUpNumbers network.now) }
+    ensures full { IfErr result (λ fault. fault ≡ JournalFull → TakesMany network.now with_steps) }
     ensures watched { W.becomes watch.old watch.new }
 {
     let Ok((grouping, pairs)) = marked_groups(alloc, network, pace.groups) else {

@@ -10,7 +10,7 @@ loop-place-preserved g c =
     let at = read-at items c.loop-place.place group (omega arith) c.index-group.ensures in
     below-more (HasGoneBy c.args.own.now c.args.end) items c.loop-place.place group at (omega arith) c.loop-place.invariant
 
-pub returns : goal.returns
-returns g c = λ yes.
+pub returns-clause-by : goal.returns-clause-by
+returns-clause-by g c = λ yes.
     let items = c.args.self.now.groups.items in
     below-all (HasGoneBy c.args.own.now c.args.end) items c.loop-place.place (omega arith) c.loop-place.invariant

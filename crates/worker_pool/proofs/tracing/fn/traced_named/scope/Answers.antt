@@ -32,4 +32,4 @@ spawn-requires-send-T g c κs within = param_send 2 _ (given-send g κs (search 
 
 -- where no thread could be started, the watch was shown nothing
 pub returns : goal.returns
-returns g c = record { found = tt; pace = tt; told = before-start _; written = tt; exhausted = λ e. absurd (cc); watched = g.met.W.Watch.stays c.captures.watch }
+returns g c = record { found = tt; pace = tt; told = before-start _; written = tt; exhausted = λ e. absurd (cc); full = λ e. absurd (cc); watched = g.met.W.Watch.stays c.captures.watch }
