@@ -4,6 +4,9 @@ import sys
 
 from afdx.commands.help_texts import OF_TOOLS
 
+# How many seconds a test waits for what ends by itself, whatever else the machine does. It fails by this only if something hangs.
+PATIENCE = 900
+
 TOOLS = os.path.dirname(os.path.dirname(os.path.abspath(__file__)))
 TOP = os.path.dirname(TOOLS)
 EXAMPLES = os.path.join(TOP, "examples")

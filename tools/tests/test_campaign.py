@@ -22,7 +22,7 @@ from afdx.commands import campaign, report
 from afdx.reckon import latency_counts
 from afdx.runs.merged import Merged
 from afdx.runs.plain_simulator import CAUSES, Simulation
-from tests.places import EXAMPLES, TOOLS, read_terminal, tool_words
+from tests.places import EXAMPLES, PATIENCE, TOOLS, read_terminal, tool_words
 
 COCKPIT, SATURATED, FAILING, N1 = (
     os.path.join(EXAMPLES, name + ".toml") for name in ("cockpit", "saturated_port", "link_outage", "n1")
@@ -265,14 +265,14 @@ class WithAStandIn(Here):
                 "if seed == 9: sys.exit('later')\nif seed == 8: time.sleep(1)\nif seed > 9: sys.exit('no')",
                 "later (status 1)",
             ),
-            ("if seed == 9: sys.exit('here')\nif seed > 9: time.sleep(100)", "here (status 1)"),
+            (f"if seed == 9: sys.exit('here')\nif seed > 9: time.sleep({2 * PATIENCE})", "here (status 1)"),
         ):
             for jobs in ("1", "4"):
                 with self.subTest(lines, jobs=jobs):
                     self.stand_in(lines)
                     begin = time.monotonic()
                     status, out, printed = self.call(net, "--seeds", "9", "--jobs", jobs)
-                    self.assertLess(time.monotonic() - begin, 90)
+                    self.assertLess(time.monotonic() - begin, PATIENCE)
                     self.assertEqual((status, printed), (1, f"afdx campaign: seed 9: {said}\n"))
                     self.assertIn("2 runs merged, seeds 7 to 8, in", out)
                     self.assertEqual(read(self.merged), merged)
@@ -303,7 +303,7 @@ class WithAStandIn(Here):
         """Interrupts a campaign once a run has begun that writes a file. Of its own files it leaves none."""
         kept = os.path.join(self.folder, "kept-" + os.path.basename(began))
         os.mkdir(kept)
-        self.stand_in(f"if seed == 44:\n    open({began!r}, 'w').close()\n    time.sleep(100)")
+        self.stand_in(f"if seed == 44:\n    open({began!r}, 'w').close()\n    time.sleep({2 * PATIENCE})")
         command = [*tool_words("campaign"), N1, "--seeds", "9", "--jobs", "1"]
         command += ["--program", self.program, "-o", self.output, "--replace"]
         before = signal.signal(signal.SIGINT, outside)
@@ -319,11 +319,11 @@ class WithAStandIn(Here):
         finally:
             signal.signal(signal.SIGINT, before)
         begin = time.monotonic()
-        while not os.path.exists(began) and time.monotonic() < begin + 30:
+        while not os.path.exists(began) and time.monotonic() < begin + PATIENCE:
             time.sleep(0.05)
         time.sleep(0.5)
         run.send_signal(sent)
-        out, printed = run.communicate(timeout=30)
+        out, printed = run.communicate(timeout=PATIENCE)
         self.assertEqual(run.returncode, status)
         self.assertEqual(printed, f"afdx campaign: {said}, before the run of the seed 44 was merged\n")
         self.assertEqual(os.listdir(kept), [])
@@ -416,14 +416,16 @@ class WithAStandIn(Here):
         self.assertEqual(read(os.path.join(self.output, "histograms.csv")), "vl,where,from_ns,to_ns,count\n")
 
     def test_jobs_are_side_by_side(self):
-        """As many as asked, and no more: each run writes a file when it begins and when it ends."""
-        self.stand_in(
-            f"path = os.path.join({self.folder!r}, 'runs')\n"
-            "with open(path, 'a') as out: out.write('+')\n"
-            "time.sleep(0.4)\n"
-            "with open(path, 'a') as out: out.write('-')\n"
-        )
+        """As many as asked, and no more: each run writes a file when it begins and when it ends. It waits until as many have begun as
+        are asked, however slowly the machine starts them, and then a little for one too many."""
         for jobs in (1, 3):
+            self.stand_in(
+                f"path, end = os.path.join({self.folder!r}, 'runs'), time.monotonic() + {PATIENCE}\n"
+                "with open(path, 'a') as out: out.write('+')\n"
+                f"while open(path).read().count('+') < {jobs} and time.monotonic() < end: time.sleep(0.05)\n"
+                "time.sleep(0.4)\n"
+                "with open(path, 'a') as out: out.write('-')\n"
+            )
             runs = self.file("runs", "")
             self.assertEqual(self.call(N1, "--seeds", "7", "--jobs", str(jobs))[0], 0)
             count, most = 0, 0
@@ -449,7 +451,7 @@ class WithAStandIn(Here):
 
     def test_a_long_run_is_watched(self):
         """On a terminal the line shows how far a run is; what else it says is its fault. Elsewhere no run is asked."""
-        far = "if '--progress' in sys.argv:\n    sys.stderr.write('afdxsim: 1 of 2 ms, 50 %, 1 s left\\n'); sys.stderr.flush(); time.sleep(0.3)\n"
+        far = "if '--progress' in sys.argv:\n    sys.stderr.write('afdxsim: 1 of 2 ms, 50 %, 1 s left\\n'); sys.stderr.flush(); time.sleep(3)\n"
         command = [*tool_words("campaign"), N1, "--seeds", "1", "-o", self.output, "--replace"]
         for fails, status in ("", 0), ("sys.exit('afdxsim: out of memory')\n", 1):
             self.stand_in(far + fails)

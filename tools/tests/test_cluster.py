@@ -13,7 +13,7 @@ from unittest import mock
 from afdx import model
 from afdx.runs import cluster
 from tests.test_campaign import COCKPIT, Here, N1, read
-from tests.places import tool_words
+from tests.places import PATIENCE, tool_words
 
 # Writes a file for each run, which names its process, and takes a while.
 SLOW = """
@@ -62,7 +62,7 @@ class WithACluster(Here):
     def wait_until(self, holds):
         begin = time.monotonic()
         while not holds():
-            self.assertLess(time.monotonic(), begin + 600, "it takes too long")
+            self.assertLess(time.monotonic(), begin + PATIENCE, "it takes too long")
             time.sleep(0.05)
 
     def begun(self):
@@ -94,7 +94,7 @@ class WithACluster(Here):
         # Both have done a run, and the one has begun another.
         self.wait_until(lambda: sorted(worker for _, worker in self.begun()).count(lost.pid) > 1)
         lost.kill()
-        out, said = run.communicate(timeout=600)
+        out, said = run.communicate(timeout=PATIENCE)
         self.assertEqual((run.returncode, said), (0, ""))
         self.assertIn("12 runs merged, seeds 7 to 18, in", out)
         together = {name: read(os.path.join(self.output, name)) for name in os.listdir(self.output)}
@@ -113,7 +113,7 @@ class WithACluster(Here):
     def a_run_fails(self):
         self.stand_in("if seed == 44: sys.exit('afdxsim: out of memory')")
         run = self.campaign(N1, "--seeds", "9", "--dask", self.address)
-        out, said = run.communicate(timeout=600)
+        out, said = run.communicate(timeout=PATIENCE)
         self.assertEqual((run.returncode, said), (1, "afdx campaign: seed 44: afdxsim: out of memory (status 1)\n"))
         self.assertIn("2 runs merged, seeds 42 to 43, in", out)
 
@@ -124,7 +124,7 @@ class WithACluster(Here):
         os.chmod(other, 0o755)
         self.start_worker(AFDXSIM=other)
         run = self.campaign(N1, "--seeds", "2", "--dask", self.address)
-        out, said = run.communicate(timeout=600)
+        out, said = run.communicate(timeout=PATIENCE)
         self.assertEqual((run.returncode, out), (1, "no run was merged, and nothing is written\n"))
         sums = [hashlib.sha256(read(path).encode()).hexdigest()[:16] for path in (other, self.program)]
         printed = f"is another program: its SHA-256 is {sums[0]}.., and here it is {sums[1]}..; AFDXSIM in the environment of a worker names its program"

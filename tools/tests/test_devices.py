@@ -9,6 +9,7 @@ import unittest
 
 from gate import refuse_memory
 from gate.refuse_memory import PROGRAM, STEPS, TABLES, TRACE
+from tests.places import PATIENCE
 
 # Each write takes one byte of those that it is given.
 CUTS = r"""
@@ -108,7 +109,7 @@ class Devices(unittest.TestCase):
 
     def ended(self, words, env=None, **streams):
         streams = {"stdout": subprocess.PIPE, "stderr": subprocess.PIPE} | streams
-        return subprocess.run([PROGRAM, *words], cwd=self.folder, env=env, text=True, timeout=60, **streams)
+        return subprocess.run([PROGRAM, *words], cwd=self.folder, env=env, text=True, timeout=PATIENCE, **streams)
 
     def are_reported(self, env=None):
         """Each row comes to what it says, and where it is well its files are whole."""
@@ -144,7 +145,7 @@ class Devices(unittest.TestCase):
         for name in ("one", "other"):
             os.mkdir(self.path(name))
         words = ["unshare", "--map-root-user", "--mount", "sh", "-c", TWO_DEVICES, PROGRAM]
-        run = subprocess.run(words, cwd=self.folder, capture_output=True, text=True, timeout=60)
+        run = subprocess.run(words, cwd=self.folder, capture_output=True, text=True, timeout=PATIENCE)
         if run.returncode == 77 or run.stderr.startswith("unshare: "):
             self.skipTest("no file system can be made here")
         self.assertEqual((run.returncode, run.stdout, run.stderr), (0, TABLES + TRACE, ""))

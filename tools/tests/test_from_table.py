@@ -17,7 +17,7 @@ from afdx.commands import from_table
 from afdx.files import toml_lines, workbook
 from afdx.model import description_faults
 from afdx.runs.plain_simulator import Simulation
-from tests.places import EXAMPLES, tool_words
+from tests.places import EXAMPLES, PATIENCE, tool_words
 
 
 NODES = "name,net\nSWA,A\nSWB,B\n\n"
@@ -569,7 +569,7 @@ class Workbooks(Here):
                 path = self.of_rows(*rows, more=more)
                 little = lambda: resource.setrlimit(resource.RLIMIT_AS, (500_000_000, 500_000_000))
                 command = [*tool_words("table"), path, "-o", self.output]
-                run = subprocess.run(command, capture_output=True, text=True, preexec_fn=little, timeout=60)
+                run = subprocess.run(command, capture_output=True, text=True, preexec_fn=little, timeout=PATIENCE)
                 self.assertEqual((run.returncode, RECEIPT.sub("", run.stderr)), (status, f"afdx table: {said.format(path)}\n"))
 
     def test_what_is_hidden_is_noted(self):

@@ -53,7 +53,7 @@ TWIN = """
         def test_both(self):
             print("{mine} begins", flush=True)
             open("{folder}/{mine}", "w").close()
-            end = time.monotonic() + 20
+            end = time.monotonic() + 900
             while not os.path.exists("{folder}/{other}") and time.monotonic() < end:
                 time.sleep(0.1)
             self.assertTrue(os.path.exists("{folder}/{other}"))
@@ -66,7 +66,7 @@ WORKS = """
         (cd crates/low; {python} -c 'import time
     begin = time.process_time()
     while time.process_time() - begin < 1.2: pass
-    time.sleep(2.5)' build --crate-name low $kind)
+    time.sleep(6)' build --crate-name low $kind)
     done
     echo "51 passed, 0 failed"
 """
@@ -261,7 +261,7 @@ class Gate(unittest.TestCase):
         of_all = "test: cost without the unit itself: N s of processors, N units; the tests of the tools, of these: N s of processors, N units"
         self.assertEqual(said, [one, one, of_all])
         took = [float(line.split()[8]) for line in lines if "the unit of cost" in line]
-        self.assertTrue(all(0.4 < it < 5 for it in took), took)
+        self.assertTrue(all(0.4 < it < 60 for it in took), took)
         # What is there, what is listed, how many processes may prove it, and the last line of its text.
         asked = [[word.strip() for word in line.split("=")] for line in self.text("asked.log").splitlines()]
         there = ["low", "heap_message low", "afdxsim command_line heap_message low", "heap_message low"]
@@ -289,7 +289,7 @@ class Gate(unittest.TestCase):
         lines, last, status = self.ended(GOOD)
         self.assertEqual((last, status), ("55 passed, 0 failed", 0))
         for name in ("one", "two"):
-            at = next(place for place, line in enumerate(lines) if re.match(rf"test: tools: file \d of 3, test_{name}.py, \d s$", line))
+            at = next(place for place, line in enumerate(lines) if re.match(rf"test: tools: file \d of 3, test_{name}.py, \d+ s$", line))
             piece = "\n".join(lines[at : at + 8])
             self.assertRegex(piece, rf"{name} begins\n(\.\n)?{name} ends\n[^t]*Ran 1 test in [0-9.]+s\n\nOK")
 
@@ -307,7 +307,7 @@ class Gate(unittest.TestCase):
         self.sources()
         self.write("tools/gate/proofs_and_tests.py", self.text("tools/gate/proofs_and_tests.py").replace("\nEACH = 60\n", "\nEACH = 2\n"))
         lines = self.ended(WORKS.replace("{python}", sys.executable))[0]
-        said = [line for line in lines if re.match(r"test: crate 0 of 2, .*; low( \(tests\))? since \d s$", line)]
+        said = [line for line in lines if re.match(r"test: crate 0 of 2, .*; low( \(tests\))? since \d+ s$", line)]
         self.assertTrue(said, lines)
 
     def test_the_program_gets_a_record_where_all_was_proved(self):

@@ -9,6 +9,7 @@ import unittest
 from collections import deque
 
 from gate.refuse_memory import program_of
+from tests.places import PATIENCE
 
 PLAYER = program_of("sample_actor", "sample_actor_tests")
 END = 10**15
@@ -221,7 +222,7 @@ def play(player, scripts):
         input="".join(script + "\n" for script in scripts),
         capture_output=True,
         text=True,
-        timeout=120,
+        timeout=PATIENCE,
     )
     return run
 

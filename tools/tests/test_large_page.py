@@ -85,8 +85,8 @@ class Large(unittest.TestCase):
         self.assertEqual(packed, plain)
 
     def test_size_and_memory(self):
-        """4,000 virtual links with 24,000 lines of latencies, and their bounds: the page has less than 4 MB and takes less than
-        120 MB; so that of 65,536 has less than 30 MB and takes less than 1 GB."""
+        """4,000 virtual links with 24,000 lines of latencies, and their bounds: the page has some 3 MB and takes some 100 MB, and
+        fails at twice as much; so that of 65,536 has less than 120 MB and takes less than 4 GB."""
         net = large_network(self.file("net.toml"), "--virtual-links", "4000", "--until", "5000000")
         tables, bounds, page = (self.file(name) for name in ("tables.csv", "bounds.csv", "page.html"))
         with open(tables, "w", encoding="ascii") as out:
@@ -96,8 +96,8 @@ class Large(unittest.TestCase):
         _, status, used = os.wait4(run.pid, 0)
         run.returncode = os.waitstatus_to_exitcode(status)
         self.assertEqual(run.returncode, 0)
-        self.assertLess(os.path.getsize(page), 4_000_000)
-        self.assertLess(used.ru_maxrss * 1024, 120_000_000)
+        self.assertLess(os.path.getsize(page), 8_000_000)
+        self.assertLess(used.ru_maxrss * 1024, 240_000_000)
         data = packed_of(read(page))
         self.assertGreater(sum(len(block[0]) for block in data["ends"]["blocks"]), 23_000)
 

@@ -16,7 +16,7 @@ from unittest import mock
 
 from afdx import files
 from tests.test_campaign import STAND_IN
-from tests.places import EXAMPLES, TOOLS, tool_words
+from tests.places import EXAMPLES, PATIENCE, TOOLS, tool_words
 
 N1 = os.path.join(EXAMPLES, "n1.toml")
 
@@ -451,7 +451,7 @@ class Ends(Rows):
                     run = self.started(*words.split(), preexec_fn=heed_signals)
                     with open(self.path("pipe"), "w"):
                         run.send_signal(number)
-                        out, printed = run.communicate(timeout=60)
+                        out, printed = run.communicate(timeout=PATIENCE)
                     self.assertEqual((run.returncode, out, printed), (status, "", f"afdx {words.split()[0]}: {said}\n"))
                     self.assertEqual(os.listdir(self.path("tmp")), [])
                     os.rmdir(self.path("tmp"))
@@ -465,7 +465,7 @@ class Ends(Rows):
             run.send_signal(signal.SIGHUP)
             with open(self.path("net.toml")) as file:
                 out.write(file.read())
-        self.assertEqual(run.communicate(timeout=60), ("pipe: accepted\n", ""))
+        self.assertEqual(run.communicate(timeout=PATIENCE), ("pipe: accepted\n", ""))
         self.assertEqual(run.returncode, 0)
 
     def test_a_file_that_finds_no_room(self):
@@ -479,7 +479,7 @@ class Ends(Rows):
         for name in ("page.html", "also.html", "none.html"):
             run = self.started("report", "net.toml", "tables.csv", "-o", name, preexec_fn=small)
             printed = f"afdx report: {name}: cannot be written: File too large\n"
-            self.assertEqual((*run.communicate(timeout=60), run.returncode), ("", printed, 2))
+            self.assertEqual((*run.communicate(timeout=PATIENCE), run.returncode), ("", printed, 2))
             os.rmdir(self.path("tmp"))
             self.assertEqual(tree_of(self.folder), before)
 
@@ -490,7 +490,7 @@ class Ends(Rows):
         little = lambda: resource.setrlimit(resource.RLIMIT_AS, (400_000_000, 400_000_000))
         for words in ("report large tables.csv -o page.html", "bounds large", "explain large", "table large", "report net.toml tables.csv --trace large -o page.html"):
             run = self.started(*words.split(), preexec_fn=little)
-            self.assertEqual((*run.communicate(timeout=60), run.returncode), ("", f"afdx {words.split()[0]}: out of memory\n", 2))
+            self.assertEqual((*run.communicate(timeout=PATIENCE), run.returncode), ("", f"afdx {words.split()[0]}: out of memory\n", 2))
 
     def test_a_closed_pipe(self):
         """What comes behind `head` is reported in one line."""

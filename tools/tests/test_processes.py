@@ -10,6 +10,7 @@ import unittest
 from collections import deque
 
 from gate.refuse_memory import program_of
+from tests.places import PATIENCE
 
 PLAYER = program_of("sample_actor", "sample_actor_tests")
 END = 10**15
@@ -249,7 +250,7 @@ class Processes(unittest.TestCase):
             input="".join(script + "\n" for script in scripts),
             capture_output=True,
             text=True,
-            timeout=120,
+            timeout=PATIENCE,
         )
         self.assertEqual(run.returncode, 0, run.stderr)
         lines = run.stdout.splitlines()

@@ -14,6 +14,7 @@ from afdx.model import traces
 from afdx.reckon import latency_counts
 from afdx.runs import reading_processes
 from afdx.runs.side_by_side import Failure, Printed, Run
+from tests.places import PATIENCE
 from tests.test_campaign import Here, N1, read
 
 
@@ -74,7 +75,14 @@ def fails():
 
 
 def takes_long():
-    time.sleep(60)
+    time.sleep(2 * PATIENCE)
+
+
+def interrupts():
+    """Sends a signal to who waits for the answer, once that one has had time to read the answer before."""
+    time.sleep(5)
+    os.kill(os.getppid(), signal.SIGALRM)
+    takes_long()
 
 
 def answers_much():
@@ -86,13 +94,17 @@ def is_ended():
 
 
 class WhatIsAnswered(unittest.TestCase):
-    def answered(self, keys, jobs, ended=None):
-        """The answers of runs with these keys, and what ended them; of processes and files nothing is left."""
+    def answered(self, keys, jobs, ended=None, after=None):
+        """The answers of runs with these keys, and what ended them, once the answer of this number was there; of processes and files
+        nothing is left."""
 
         def runs():
             for number, key in enumerate(keys):
                 yield key, Run(f"run {number}", ""), Printed("tables", None)
             if ended:
+                begin = time.monotonic()
+                while after is not None and not os.path.exists(os.path.join(folder, f"{after}.answer")) and time.monotonic() < begin + PATIENCE:
+                    time.sleep(0.05)
                 raise ended
 
         found = []
@@ -114,7 +126,7 @@ class WhatIsAnswered(unittest.TestCase):
     def test_what_was_made_before_the_end_is_answered(self):
         """Where a run fails, or a signal comes while the next one is made."""
         for ended in (Failure("the next one"), ValueError("a fault"), Interrupted(signal.SIGTERM), Interrupted(signal.SIGINT)):
-            with self.subTest(ended):
+            with self.subTest(ended), mock.patch.object(reading_processes, "PATIENCE", PATIENCE):
                 self.assertEqual(self.answered(range(2), 2, ended), ([0, 1], str(ended)))
 
     def test_a_run_that_cannot_be_read(self):
@@ -123,9 +135,9 @@ class WhatIsAnswered(unittest.TestCase):
     def test_a_signal_while_runs_are_read(self):
         """It waits a while for them."""
         begin = time.monotonic()
-        with mock.patch.object(reading_processes, "PATIENCE", 1):
-            self.assertEqual(self.answered([0, takes_long, takes_long], 2, Interrupted(signal.SIGTERM)), ([0], "ended by SIGTERM"))
-        self.assertLess(time.monotonic() - begin, 40)
+        with mock.patch.object(reading_processes, "PATIENCE", 2):
+            self.assertEqual(self.answered([0, takes_long, takes_long], 2, Interrupted(signal.SIGTERM), after=0), ([0], "ended by SIGTERM"))
+        self.assertLess(time.monotonic() - begin, PATIENCE)
 
     def test_a_signal_while_the_last_run_is_read(self):
         """It does not wait for that."""
@@ -135,12 +147,10 @@ class WhatIsAnswered(unittest.TestCase):
 
         begin, before = time.monotonic(), signal.signal(signal.SIGALRM, interrupted)
         try:
-            signal.setitimer(signal.ITIMER_REAL, 5)
-            self.assertEqual(self.answered([0, takes_long], 1), ([0], "ended by SIGALRM"))
+            self.assertEqual(self.answered([0, interrupts], 1), ([0], "ended by SIGALRM"))
         finally:
-            signal.setitimer(signal.ITIMER_REAL, 0)
             signal.signal(signal.SIGALRM, before)
-        self.assertLess(time.monotonic() - begin, 40)
+        self.assertLess(time.monotonic() - begin, PATIENCE)
 
     def test_a_signal_while_much_is_answered(self):
         """Nobody waits for the rest of an answer whose process is ended."""
@@ -148,7 +158,7 @@ class WhatIsAnswered(unittest.TestCase):
         with mock.patch.object(reading_processes, "PATIENCE", 0):
             for _ in range(5):
                 self.assertEqual(self.answered([answers_much] * 8, 4, Interrupted(signal.SIGINT))[1], "interrupted")
-        self.assertLess(time.monotonic() - begin, 60)
+        self.assertLess(time.monotonic() - begin, PATIENCE)
 
     def test_a_process_that_is_ended(self):
         """As by a system that is out of memory."""

@@ -11,7 +11,7 @@ from typing import NamedTuple
 
 from afdx.model import BOUNDS_HEAD, PROGRAM, TABLES_HEAD, TRACE_HEAD
 from gate.refuse_memory import library_in
-from tests.places import read_terminal
+from tests.places import PATIENCE, read_terminal
 from tests.row_files import blocks, changed, lines_of, network, repeated, rows
 
 # Each write to a file or a stream takes one byte, until as many are taken as TAKEN says. The next one fails; where ONCE is set,
@@ -107,7 +107,7 @@ class Ends(unittest.TestCase):
             stdin=subprocess.DEVNULL,
             stdout=subprocess.PIPE,
             stderr=errors,
-            timeout=120,
+            timeout=PATIENCE,
         )
         return Ended(run.returncode, run.stdout, run.stderr, self.file("trace.csv"), self.file("journal.txt"))
 

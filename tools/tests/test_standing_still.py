@@ -4,7 +4,7 @@ built program, at crates/afdxsim/out/afdxsim, where `rt ci` leaves it, and a sys
 A worker that stands still may have the lock of a group, so that GVT stands too: after 10 s of this the run gives its workers up,
 and one thread brings it to its end. Where it has none, the others serve its groups. Which of these it is, is for the system; so one
 run has a worker that stands still from its birth, and others have one that is stopped at its work. In each of them the other worker
-has ended after 30 s, and none has given up after 1 s. Only if the thread that stands still has the lock of the exchange does the other
+ends while the one stands still, and none has given up after 1 s. A machine that is busy with other work gets the time for it. Only if the thread that stands still has the lock of the exchange does the other
 worker wait for it too, which is seldom: such a run is made again.
 """
 import os
@@ -16,11 +16,12 @@ import unittest
 from afdx.commands import large_network
 from afdx.model import PROGRAM
 from gate import stopped_threads
+from tests.places import PATIENCE
 
-# How long a worker stands still, in s, and how long a run may take in all.
-STILL, LONGEST = 30, 300
-# A run whose GVT stands still so long, in s, keeps its workers.
-SOON = 1
+# How long a worker stands still at least and at most, in s; it is let go once the other one has ended.
+STILL, LONGEST_STILL = 30, 240
+# A run whose GVT stands still so long, in s, keeps its workers. Where more than the other time has gone by, nothing is asked.
+SOON, TOO_LATE = 1, 5
 # How often a run is made again where the other worker waits for the one that stands still.
 TRIES = 3
 # Some 4 s of work for one thread, so that a worker is at its work when it is stopped, and the other one a second later.
@@ -63,30 +64,42 @@ class StandingStill(unittest.TestCase):
             run.communicate()
 
     def at_work(self, after):
-        """A run of which a worker is stopped after so many s."""
+        """A run of which a worker is stopped after so many s. One that has ended by then is made again."""
+        for _ in range(TRIES):
+            run, thread = self.stopped(after)
+            if thread is not None:
+                return run, thread
+        self.fail("the run has ended")
+
+    def stopped(self, after):
+        """A run of which a worker is stopped after so many s, or None in its place where the run has ended."""
         run = subprocess.Popen(self.words(), cwd=self.folder, stdout=subprocess.PIPE, stderr=subprocess.PIPE)
         self.addCleanup(self.end, run)
         while len(stopped_threads.threads_of(run)) < 2:
-            self.assertIsNone(run.poll(), "the run has ended")
+            if run.poll() is not None:
+                return run, None
             time.sleep(0.001)
         time.sleep(after)
         threads = stopped_threads.threads_of(run)
-        self.assertTrue(threads and stopped_threads.stop(threads[-1]), "the run has ended")
-        return run, threads[-1]
+        self.since = time.monotonic()
+        return run, threads[-1] if threads and stopped_threads.stop(threads[-1]) else None
 
     def stands_alone(self, runs):
         """Lets the threads that stand still go on after a while. The answer is whether each was alone then: the other workers had ended."""
         begin = time.monotonic()
+        are_alone = lambda: all(stopped_threads.threads_of(run) == [thread] for run, thread in runs)
         try:
             time.sleep(SOON)
-            for run, _ in runs[1:]:
-                self.assertEqual(len(stopped_threads.threads_of(run)), 2, "a worker gave up too soon")
-            time.sleep(max(0, begin + STILL - time.monotonic()))
+            # Of the run that was stopped last.
+            workers = len(stopped_threads.threads_of(runs[-1][0]))
+            self.assertTrue(workers == 2 or time.monotonic() > self.since + TOO_LATE, "a worker gave up too soon")
+            while time.monotonic() < begin + STILL or time.monotonic() < begin + LONGEST_STILL and not are_alone():
+                time.sleep(0.1)
             for run, thread in runs:
                 # The run waits for the thread, whatever the others did.
                 self.assertIsNone(run.poll())
                 self.assertIn(thread, stopped_threads.threads_of(run))
-            return all(stopped_threads.threads_of(run) == [thread] for run, thread in runs)
+            return are_alone()
         finally:
             for _, thread in runs:
                 stopped_threads.go_on(thread)
@@ -97,7 +110,7 @@ class StandingStill(unittest.TestCase):
             runs = [self.from_birth(), self.at_work(0.1), self.at_work(0.3)]
             is_alone = self.stands_alone(runs)
             for run, _ in runs:
-                printed, said = run.communicate(timeout=LONGEST)
+                printed, said = run.communicate(timeout=PATIENCE)
                 self.assertEqual((run.returncode, said.decode()), (0, ""))
                 self.assertEqual(printed, self.tables)
             if is_alone:

@@ -15,7 +15,7 @@ from afdx.files import toml_lines
 from afdx.model import description_faults
 from afdx.runs.plain_simulator import Simulation
 from gate import replayed_journal, stolen_groups, stopped_threads, threaded_runs
-from tests.places import TOOLS
+from tests.places import PATIENCE, TOOLS
 
 # A program whose commands all print the same tables, and do these lines of a test's own before.
 STAND_IN = """#!{python}
@@ -53,10 +53,14 @@ class DrawnRuns(unittest.TestCase):
     def test_runs_by_workers_come_out_as_those_of_one_thread(self):
         if not os.path.isfile(model.PROGRAM):
             self.fail(f"there is no program at {model.PROGRAM}: `rt ci` at the top builds it")
-        said = io.StringIO()
-        with contextlib.redirect_stdout(said):
-            status = threaded_runs.main(["--runs", "60"])
-        sys.stderr.write(said.getvalue())
+        # What no run of 60 did, as on a machine that is busy with other work, is looked for in further ones.
+        for first in range(0, 5 * 60, 60):
+            said = io.StringIO()
+            with contextlib.redirect_stdout(said):
+                status = threaded_runs.main(["--runs", "60", "--first", str(first), "--seconds", str(PATIENCE)])
+            sys.stderr.write(said.getvalue())
+            if status == 0 or "60 came out as seq" not in said.getvalue():
+                break
         self.assertEqual(status, 0, said.getvalue())
 
 

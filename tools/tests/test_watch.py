@@ -8,7 +8,7 @@ import threading
 import time
 import unittest
 
-from tests.places import EXAMPLES, read_terminal, tool_words
+from tests.places import EXAMPLES, PATIENCE, read_terminal, tool_words
 
 N1 = os.path.join(EXAMPLES, "n1.toml")
 
@@ -25,7 +25,7 @@ class OnATerminal(unittest.TestCase):
         run = subprocess.Popen(command, stdout=subprocess.PIPE, stderr=end, stdin=subprocess.DEVNULL, cwd=self.folder)
         os.close(end)
         while_it_runs()
-        printed = run.communicate(timeout=120)[0]
+        printed = run.communicate(timeout=PATIENCE)[0]
         return read_terminal(terminal), run.returncode, printed.decode()
 
     def test_a_tool_that_waits_for_its_input(self):
@@ -35,7 +35,7 @@ class OnATerminal(unittest.TestCase):
 
         def give():
             with open(os.path.join(self.folder, "pipe"), "w") as out, open(N1) as file:
-                time.sleep(3.5)
+                time.sleep(8)
                 out.write(file.read())
 
         for words, printed in ((["explain", "pipe"], "pipe: accepted\n"), (["bounds", "pipe", "-o", "bounds.csv"], "")):
@@ -51,10 +51,10 @@ class OnATerminal(unittest.TestCase):
     def test_a_quick_tool_and_one_without_a_terminal(self):
         """They say nothing."""
         script = "import time; from afdx import files; from afdx.files import watch\nwatch.PATIENCE, watch.EACH = %s, 0.1\n" \
-            "@files.tool('x')\ndef main(_): watch.stage('counts'); time.sleep(0.6); files.report('x', 'found'); time.sleep(0.3)\nmain()"
-        self.assertEqual(self.shown(sys.executable, "-c", script % 30)[0], b"x: found\r\n")
+            "@files.tool('x')\ndef main(_): watch.stage('counts'); time.sleep(3); files.report('x', 'found'); time.sleep(0.3)\nmain()"
+        self.assertEqual(self.shown(sys.executable, "-c", script % 900)[0], b"x: found\r\n")
         shown = self.shown(sys.executable, "-c", script % 0.2)[0]
-        self.assertRegex(shown, rb"^(\r\x1b\[K[^:]*: counts, [01] s)+\r\x1b\[Kx: found\r\n(\r\x1b\[K[^:]*: counts, \d s)*\r\x1b\[K$")
+        self.assertRegex(shown, rb"^(\r\x1b\[K[^:]*: counts, \d+ s)+\r\x1b\[Kx: found\r\n(\r\x1b\[K[^:]*: counts, \d+ s)*\r\x1b\[K$")
         run = subprocess.run([sys.executable, "-c", script % 0.2], capture_output=True)
         self.assertEqual(run.stderr, b"x: found\n")
 
