@@ -75,6 +75,9 @@ ROWS = [
     ("report net.toml tables.csv -o DIR", 2, "DIR: cannot be written: Is a directory"),
     ("report net.toml tables.csv -o none/page.html", 2, "none/page.html: cannot be written: No such file or directory"),
     ("report net.toml tables.csv -o /dev/full", 2, "/dev/full: cannot be written: No space left on device"),
+    ("explain /dev/zero", 2, "/dev/zero: cannot be read: it is a device and no file"),
+    ("report net.toml tables.csv --trace /dev/full -o page.html", 2, "/dev/full: cannot be read: it is a device and no file"),
+    ("explain - -", 2, "-: is standard input, which can be read once, and was read before: name a file"),
     ("bounds net.toml -o /dev/full", 2, "/dev/full: cannot be written: No space left on device"),
     ("bounds net.toml >> /dev/full", 2, "standard output: cannot be written: No space left on device"),
     ("explain net.toml >> /dev/full", 2, "standard output: cannot be written: No space left on device"),
@@ -296,7 +299,7 @@ class Rows(unittest.TestCase):
         closes = (lambda: os.close(1)) if out == "&-" else None
         with contextlib.ExitStack() as stack:
             to = stack.enter_context(open(os.path.join(self.folder, out[2:]), "ab")) if out.startswith("> ") else subprocess.PIPE
-            run = subprocess.run(command, cwd=self.folder, stdout=to, stderr=subprocess.PIPE, preexec_fn=closes)
+            run = subprocess.run(command, cwd=self.folder, stdin=subprocess.DEVNULL, stdout=to, stderr=subprocess.PIPE, preexec_fn=closes)
         return run.returncode, (run.stdout or b"").decode(), run.stderr.decode()
 
     def test_rows(self):
@@ -324,6 +327,7 @@ class OfTheCommand(Rows):
         ("page net.toml -o page.html --trace trace.csv", 2, "page: error: --trace is of tables that are there already, and the page makes its own: name TABLES behind NET"),
         ("page net.toml -o page.html --made-by me", 2, "page: error: --made-by is of tables that are there already, and the page makes its own: name TABLES behind NET"),
         ("page net.toml -o page.html --limits net.toml --by second-opinion", 2, "afdx: net.toml: has no limits\n"),
+        ("large-network --seed ٣", 2, "argument --seed: invalid whole number value: '٣'"),
         ("page net.toml -o page.html --by nobody", 2, "--by is proved, try or second-opinion, and not 'nobody'"),
         ("check net.toml same.toml --by second-opinion", 0, "net.toml: ok: "), ("check net.toml same.toml --by second-opinion", 0, "same.toml: ok: "),
         ("check net.toml lacks.toml --by second-opinion", 4, "lacks.toml: afdxsim: cannot read lacks.toml"),

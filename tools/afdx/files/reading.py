@@ -1,6 +1,7 @@
 """Reads files of text: whole, or line by line."""
 import contextlib
 import os
+import stat
 import sys
 from collections.abc import Iterator
 from typing import IO
@@ -10,15 +11,30 @@ from afdx.files.faults import Fault, printable
 from afdx.files.identities import KNOWN
 
 
+# The standard input that was read.
+READ: list[object] = []
+
+
+def refuse_endless(path: str, file: IO[bytes]) -> None:
+    """Refuses a device that is read for ever, as /dev/zero. A terminal has an end, and so has /dev/null."""
+    found = os.fstat(file.fileno())
+    if stat.S_ISCHR(found.st_mode) and not file.isatty() and found.st_rdev != os.stat(os.devnull).st_rdev:
+        raise Fault(path, None, "cannot be read: it is a device and no file")
+
+
 @contextlib.contextmanager
 def opened(path: str) -> Iterator[IO[bytes]]:
     """A file to read, or standard input by the name -."""
     if path != "-":
         with open(path, "rb") as file:
+            refuse_endless(path, file)
             yield file
     elif sys.stdin is None:
         raise Fault(path, None, "is standard input, which is closed")
+    elif READ and READ[-1] is sys.stdin:
+        raise Fault(path, None, "is standard input, which can be read once, and was read before: name a file")
     else:
+        READ.append(sys.stdin)
         yield sys.stdin.buffer
 
 

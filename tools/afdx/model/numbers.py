@@ -6,6 +6,8 @@ from collections.abc import Callable
 from afdx.files import Fault, cut
 
 NUMBER = re.compile(r"0|[1-9][0-9]*")
+# A number of the command line, which may have _ between its digits, as in a description.
+OF_A_WORD = re.compile(r"-?[0-9]+(_[0-9]+)*")
 # More digits has no number of a file: counts and sums of any campaign have some thirty.
 MOST_DIGITS = 100
 
@@ -23,6 +25,8 @@ def whole(least: int, greatest: int) -> Callable[[str], int]:
     """The type of a word of the command line: a whole number within these limits."""
 
     def read(text: str) -> int:
+        if not OF_A_WORD.fullmatch(text):
+            raise ValueError
         number = int(text)
         if not least <= number <= greatest:
             raise argparse.ArgumentTypeError(f"{number} is not from {least} to {greatest}")
