@@ -77,6 +77,7 @@ ROWS = [
     ("report net.toml tables.csv -o /dev/full", 2, "/dev/full: cannot be written: No space left on device"),
     ("explain /dev/zero", 2, "/dev/zero: cannot be read: it is a device and no file"),
     ("report net.toml tables.csv --trace /dev/full -o page.html", 2, "/dev/full: cannot be read: it is a device and no file"),
+    ("report net.toml tables.csv --limits  -o page.html", 2, "'': is no name and no value: a word is empty, as where a variable of the shell is not set"),
     ("explain - -", 2, "-: is standard input, which can be read once, and was read before: name a file"),
     ("bounds net.toml -o /dev/full", 2, "/dev/full: cannot be written: No space left on device"),
     ("bounds net.toml >> /dev/full", 2, "standard output: cannot be written: No space left on device"),
@@ -358,6 +359,23 @@ class OfTheCommand(Rows):
                 self.assertIn(said, run.stdout + run.stderr)
                 self.assertNotIn("Traceback", run.stderr)
                 self.assertEqual(tree_of(self.folder), before)
+
+    def test_streams_that_are_closed_or_full(self):
+        """What error output does not take is lost, and nothing else; what standard output does not take is reported."""
+        campaign = ["campaign", "net.toml", "--seeds", "1", "--program", "./afdxsim", "-o", "NEW"]
+        check = ["check", "net.toml", "--by", "second-opinion"]
+        closed, full = "afdx: standard output: cannot be written: it is closed\n", "afdx: standard output: cannot be written: No space left on device\n"
+        with open("/dev/full", "wb") as device:
+            for words, stream, status, said in (
+                (campaign, {"preexec_fn": lambda: os.close(2)}, 0, ""), (check, {"preexec_fn": lambda: os.close(1)}, 2, closed),
+                ([*check, "net.toml"], {"preexec_fn": lambda: os.close(1)}, 2, closed), ([*check, "net.toml"], {"stdout": device}, 2, full),
+            ):
+                with self.subTest(words, stream=stream):
+                    more = {"stdout": subprocess.PIPE, "stderr": subprocess.PIPE, "stdin": subprocess.DEVNULL} | stream
+                    run = subprocess.run([sys.executable, "-m", "afdx", *words], cwd=self.folder, **more)
+                    self.assertEqual(run.returncode, status, run.stderr)
+                    self.assertTrue(run.stderr.decode().endswith(said), run.stderr)
+                    self.assertNotIn(b"Traceback", run.stderr)
 
     def test_outages_have_a_help_of_their_own(self):
         said = subprocess.run([sys.executable, "-m", "afdx", "outages", "--help"], capture_output=True, text=True).stdout

@@ -4,7 +4,6 @@ import json
 import os
 import re
 import subprocess
-import sys
 import tempfile
 from collections.abc import Callable, Iterator
 from typing import NamedTuple
@@ -63,9 +62,10 @@ def check_all(words: list[str], judge: Judge) -> int:
         files.write_out("[\n" + ",\n".join(objects) + "\n]\n")
     else:
         for name, answer in found:
-            out = sys.stdout if answer.status == 0 else sys.stderr
-            out.flush()
-            print(f"{files.printable(name)}: {answer.text()}", file=out, flush=True)
+            if answer.status == 0:
+                files.say(f"{files.printable(name)}: {answer.text()}")
+            else:
+                files.report(files.printable(name), answer.text())
     return max(answer.status for _, answer in found)
 
 

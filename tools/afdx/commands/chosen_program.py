@@ -1,11 +1,15 @@
 """Which program a command runs, by the words --by and --program, and how it is run."""
+import contextlib
 import os
 import subprocess
+import sys
 from typing import Any, TextIO
 
 from afdx import files, model
 from afdx.files import program
+from afdx.files.identities import STANDARD_OUTPUT
 from afdx.files.program import NoProgram
+from afdx.files.streams import output
 from afdx.reckon import output_sizes
 from afdx.runs.by_rt import report
 
@@ -111,7 +115,13 @@ def foresee(path: str, other: str) -> None:
         raise output_sizes.refused(f"the tables of {path}", size, f"{other}`afdx build` builds the proved program")
 
 
-def write(stream: TextIO, found: bytes) -> None:
-    stream.flush()
-    stream.buffer.write(found)
-    stream.buffer.flush()
+def write(stream: TextIO | None, found: bytes) -> None:
+    """Writes to standard output, which may be closed, or to error output."""
+    if not found:
+        return
+    if stream is None:
+        raise files.Fault(STANDARD_OUTPUT, None, "cannot be written: it is closed")
+    with output() if stream is sys.stdout else contextlib.suppress(OSError):
+        stream.flush()
+        stream.buffer.write(found)
+        stream.buffer.flush()

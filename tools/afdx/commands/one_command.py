@@ -10,6 +10,7 @@ from afdx.commands.chosen_program import Mistake, asks_for_help, chosen, for_bou
 from afdx.commands.page_command import explained, page
 from afdx.commands.program_commands import by_program
 from afdx.files import program
+from afdx.files.ending import refuse_empty
 from afdx.files.program import NoProgram
 from afdx.runs import by_rt
 from afdx.runs.by_rt import report
@@ -143,7 +144,9 @@ def main(words: list[str] | None = None) -> int:
     try:
         with files.signals_taken():
             files.settle_streams()
-            status = answer(list(sys.argv[1:] if words is None else words))
+            words = sys.argv[1:] if words is None else words
+            refuse_empty(words)
+            status = answer(list(words))
         # A shell reports so what a signal ended.
         return status if status >= 0 else files.BEHIND_A_SIGNAL - status
     except (Mistake, NoProgram) as fault:

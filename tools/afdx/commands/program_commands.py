@@ -82,7 +82,10 @@ def check_by_opinion(words: list[str], read: list[int]) -> int:
     if rest := [word for i, word in enumerate(words) if i not in read and word != "--"]:
         raise Mistake(f"check has no option {rest[0]}: {check_command.USAGE}")
     answer = check_command.by_opinion(words[read[0]])
-    print(answer.text(), file=sys.stderr if answer.status else sys.stdout)
+    if answer.status:
+        print(answer.text(), file=sys.stderr)
+    else:
+        files.say(answer.text())
     return answer.status
 
 

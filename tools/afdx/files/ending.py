@@ -2,7 +2,7 @@
 import functools
 import signal
 import sys
-from collections.abc import Callable
+from collections.abc import Callable, Sequence
 from typing import Any
 
 from afdx.files import watch
@@ -54,10 +54,17 @@ def why(ended: BaseException) -> tuple[int, str]:
     return BAD, f"{printable(name)}: {said}" if name else said
 
 
+def refuse_empty(words: Sequence[str]) -> None:
+    """Refuses an empty word. A file that an empty name names would be passed over: limits, say."""
+    if "" in words:
+        raise Fault("''", None, "is no name and no value: a word is empty, as where a variable of the shell is not set")
+
+
 def status_of(main: Callable[[Any], int | None], arguments: Any) -> tuple[int, str | None]:
     """The status of a tool, and why it ended if that is to be printed."""
     try:
         settle_streams()
+        refuse_empty(sys.argv[1:] if arguments is None else arguments)
         status = main(arguments)
         if sys.stdout is not None:
             with output():

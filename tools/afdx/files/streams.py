@@ -16,6 +16,9 @@ def settle_streams() -> None:
     while opened <= 2:
         opened = os.open(os.devnull, os.O_RDWR)
     os.close(opened)
+    if sys.stderr is None:
+        # What is said is lost, and nothing else.
+        sys.stderr = open(os.devnull, "w", encoding="utf-8")
     if sys.stdout is sys.__stdout__ and hasattr(sys.stdout, "reconfigure"):
         sys.stdout.reconfigure(encoding="utf-8", errors="backslashreplace")
 

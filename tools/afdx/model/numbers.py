@@ -26,7 +26,9 @@ def whole(least: int, greatest: int) -> Callable[[str], int]:
 
     def read(text: str) -> int:
         if not OF_A_WORD.fullmatch(text):
-            raise ValueError
+            raise argparse.ArgumentTypeError(f"invalid whole number value: {cut(text)}")
+        if len(text) > MOST_DIGITS:
+            raise argparse.ArgumentTypeError(f"a number of {len(text):,} digits is not from {least} to {greatest}")
         number = int(text)
         if not least <= number <= greatest:
             raise argparse.ArgumentTypeError(f"{number} is not from {least} to {greatest}")
