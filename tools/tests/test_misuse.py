@@ -360,23 +360,6 @@ class OfTheCommand(Rows):
                 self.assertNotIn("Traceback", run.stderr)
                 self.assertEqual(tree_of(self.folder), before)
 
-    def test_streams_that_are_closed_or_full(self):
-        """What error output does not take is lost, and nothing else; what standard output does not take is reported."""
-        campaign = ["campaign", "net.toml", "--seeds", "1", "--program", "./afdxsim", "-o", "NEW"]
-        check = ["check", "net.toml", "--by", "second-opinion"]
-        closed, full = "afdx: standard output: cannot be written: it is closed\n", "afdx: standard output: cannot be written: No space left on device\n"
-        with open("/dev/full", "wb") as device:
-            for words, stream, status, said in (
-                (campaign, {"preexec_fn": lambda: os.close(2)}, 0, ""), (check, {"preexec_fn": lambda: os.close(1)}, 2, closed),
-                ([*check, "net.toml"], {"preexec_fn": lambda: os.close(1)}, 2, closed), ([*check, "net.toml"], {"stdout": device}, 2, full),
-            ):
-                with self.subTest(words, stream=stream):
-                    more = {"stdout": subprocess.PIPE, "stderr": subprocess.PIPE, "stdin": subprocess.DEVNULL} | stream
-                    run = subprocess.run([sys.executable, "-m", "afdx", *words], cwd=self.folder, **more)
-                    self.assertEqual(run.returncode, status, run.stderr)
-                    self.assertTrue(run.stderr.decode().endswith(said), run.stderr)
-                    self.assertNotIn(b"Traceback", run.stderr)
-
     def test_outages_have_a_help_of_their_own(self):
         said = subprocess.run([sys.executable, "-m", "afdx", "outages", "--help"], capture_output=True, text=True).stdout
         self.assertNotIn("--set", said)
