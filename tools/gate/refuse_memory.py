@@ -132,6 +132,7 @@ COMMANDS = (
         (NO_MEMORY,),
     ),
     Command("bounds n1.toml", BOUNDS, "", {}, (NO_MEMORY,)),
+    Command("bounds n1.toml --contract", BOUNDS, "", {}, (NO_MEMORY,)),
     Command("run n1.toml --workers 2", TABLES, "", {}, (NO_MEMORY, NO_WORKER)),
     # One group has one worker.
     Command("run n1.toml --groups 1", TABLES, "", {}, (NO_MEMORY, NO_WORKER)),

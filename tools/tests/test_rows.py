@@ -195,6 +195,13 @@ class Rows(Ends):
                 bounds = f"{BOUNDS_HEAD}\n{lines_of(said.replace(' ', ''))}"
                 self.says(self.ended("bounds net.toml", net), 0, bounds, "")
 
+    def test_bounds_by_contract_are_those_worked_out_by_hand(self):
+        for row in blocks("contract"):
+            with self.subTest(row):
+                net, said = changed(row)
+                bounds = f"{BOUNDS_HEAD}\n{lines_of(said.replace(' ', ''))}"
+                self.says(self.ended("bounds net.toml --contract", net), 0, bounds, "")
+
     def test_a_journal_is_done_or_its_fault_is_printed(self):
         for row in rows("journals"):
             with self.subTest(row[:200]):

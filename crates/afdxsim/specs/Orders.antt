@@ -5,7 +5,7 @@ use Rattle.command_line.specs.declared.orders.Order.TheVariants as ordered
 use Rattle.network.specs.Words.{Plan}
 use Rattle.commands.specs.declared.fault.Fault.{Fault}
 use Rattle.commands.specs.declared.fault.Fault.TheVariants.{CannotWrite}
-use Rattle.commands.specs.Bounding.{ShowsBounds}
+use Rattle.commands.specs.Bounding.{ShowsBounds, senders_of}
 use Rattle.commands.specs.Checking.{check_text}
 use Rattle.commands.specs.Files.{LacksOutput, LacksSeq, LeavesSeq, ShowsAlone, TellsAlone}
 use Rattle.commands.specs.Naming.{NamesApart, NamesTwice, TellsTwice, net_of}
@@ -47,7 +47,7 @@ module _ {S F O E : Type 0} (outside : Outside S F O E) (old new : S) where
       LeavesRun outside (option_map string_bytes o.journal) (option_map string_bytes o.trace) (heard_host outside old o.progress (outside.errors new)) new plan ×
       IsHeard outside old o.progress (IsRunLine o plan) (outside.errors new)
   DoneOn plan (ordered.Replay o) = ShowsReplay outside old new plan (string_bytes o.steps)
-  DoneOn plan (ordered.Bounds o) = ShowsBounds outside old new plan × ShowsAlone outside old new × IsQuiet outside old new
+  DoneOn plan (ordered.Bounds o) = ShowsBounds outside old new (senders_of o) plan × ShowsAlone outside old new × IsQuiet outside old new
 
   -- why the order was not done on this network, and what is left: the host is `new` once the fault was met
   abbrev pub IsFaultOn : Plan → Order → Fault → Type 0

@@ -47,8 +47,8 @@ fn done_on<'a, H: Host, T: Threads + Wait + Clock + Sync>(
             done
         }
         Order::Replay(order) => replay(alloc, network, order, host),
-        Order::Bounds(_) => {
-            let done = bounds(alloc, &network, host);
+        Order::Bounds(order) => {
+            let done = bounds(alloc, &network, order, host);
             drop(network);
             done
         }

@@ -97,8 +97,8 @@ each_gives word = (
             (λ rows none. (requires_two (is_given (codes "NET") rows) (is_given (codes "STEPS") rows) _ none).0)
             (λ rows none is. (requires_two (is_given (codes "NET") rows) (is_given (codes "STEPS") rows) _ none).1),
         (
-          λ no_help_called answers. gives _ (is_set limits_of _ _ refl refl refl, (help_keeps _ _ _ refl, tt))
-              (plain _ refl, (plain _ refl, tt)) (inr (inr (inr (inr refl))))
+          λ no_help_called answers. gives _ (is_set limits_of _ _ refl refl refl, (flag_keeps limits_of _ _ _ refl refl refl refl refl, (help_keeps _ _ _ refl, tt)))
+              (plain _ refl, (flag_default limits_of _ _ refl refl, (plain _ refl, tt))) (inr (inr (inr (inr refl))))
               (λ rows none. requires_one (is_given (codes "NET") rows) _ none)
               (λ rows none is. absurd (not_replay is)),
           (λ no_help_called answers. absurd (no_help word no_help_called answers), tt),

@@ -65,6 +65,7 @@ pub record NamesReplay (rows : List Row) (o : Replay) : Type 0 where
 
 pub record NamesBounds (rows : List Row) (o : Bounds) : Type 0 where
   pub net : first_of (codes "NET") rows ≡ Some (string_bytes o.net)
+  pub contract : IsNamed rows (codes "contract") o.contract
 
 -- each value of the order is the one that the words name for it
 abbrev pub Names : List Row → Order → Type 0

@@ -55,9 +55,9 @@ run_app = with_outputs (with_rule (with_paces (network_app (codes "run"))) (file
 abbrev pub replay_app : App
 replay_app = with_rule (network_app (codes "replay")) (path_rule (codes "STEPS"))
 
--- `bounds NET`
+-- `bounds NET [--contract]`
 abbrev pub bounds_app : App
-bounds_app = network_app (codes "bounds")
+bounds_app = with_rule (network_app (codes "bounds")) (flag_rule (codes "contract"))
 
 -- the program without its commands: a command has to be named, the program's own name is not among the words, and `--version` asks for its version
 abbrev pub bare_program : App

@@ -113,5 +113,8 @@ fn bounds_of(alloc: Global, values: &ArgMatches<'_>) -> Result<Bounds, AllocErro
     ensures names { IfOk result (NamesBounds (rows_of (found_of values.now))) }
 {
     let net = given_text_of(alloc, values, "NET")?;
-    Ok(Bounds { net })
+    Ok(Bounds {
+        net,
+        contract: is_named(values, "contract"),
+    })
 }

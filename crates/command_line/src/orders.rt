@@ -11,7 +11,7 @@ pub enum Order {
     Run(Run),
     /// `replay NET STEPS`.
     Replay(Replay),
-    /// `bounds NET`.
+    /// `bounds NET [--contract]`.
     Bounds(Bounds),
 }
 
@@ -68,4 +68,6 @@ pub struct Replay {
 pub struct Bounds {
     /// The path of the network's description.
     pub net: String,
+    /// Whether they hold whatever other end systems send.
+    pub contract: bool,
 }

@@ -14,8 +14,11 @@ const VERSION: &str = "0.2.0";
 const PROGRESS: &str =
     "Prints to error output, at most four times a second, how far the run is and how long it may still take";
 
+const CONTRACT: &str =
+    "Prints bounds that hold whatever other end systems send: of their virtual links it counts any frame that policing lets pass";
+
 const BOUNDS: &str =
-    "Example: afdxsim bounds examples/n1.toml\n\nLines of the output:\n  bound,VL,NAME,NETWORK_NS,WAIT_NS,BOUND_NS  from its release a frame of VL takes NETWORK_NS at most to NAME;\n                                             from its offer BOUND_NS, WAIT_NS of these in the regulator\n  port,LINE,,BYTES,HOLDS,                    BYTES wait at most before LINE; HOLDS is yes if the port has room for so many\n  none,VL,NAME,WHY,,  or  none,LINE,,WHY,,   no bound. WHY is rate: more may come to a port than its line sends. Or bytes:\n                                             policing counts bytes, and frames are shorter than smax\n\nThe bounds hold for any seed, end, outages, offsets, periods and jitters; WAIT_NS for the stated period and jitter.\ndocs/BOUNDS.md has the formula, and an example worked by hand.";
+    "Examples:\n  afdxsim bounds examples/n1.toml\n  afdxsim bounds examples/n1.toml --contract\n\nLines of the output:\n  bound,VL,NAME,NETWORK_NS,WAIT_NS,BOUND_NS  from its release a frame of VL takes NETWORK_NS at most to NAME;\n                                             from its offer BOUND_NS, WAIT_NS of these in the regulator\n  port,LINE,,BYTES,HOLDS,                    BYTES wait at most before LINE; HOLDS is yes if the port has room for so many\n  none,VL,NAME,WHY,,  or  none,LINE,,WHY,,   no bound. WHY is rate: more may come to a port than its line sends.\n\nThe bounds hold for any seed, end, outages, offsets, periods and jitters; WAIT_NS for the stated period and jitter.\ndocs/BOUNDS.md has the formula, and an example worked by hand.";
 
 const EXAMPLES: &str =
     "Examples:\n  afdxsim check examples/n1.toml\n  afdxsim seq examples/n1.toml --trace t.csv\n  afdxsim run examples/n1.toml --workers 8 --journal steps.txt\n  afdxsim replay examples/n1.toml steps.txt\n  afdxsim bounds examples/n1.toml\n\nThe program prints the first fault of a description; afdx explain prints all of them at once, each with its line.";
@@ -124,12 +127,13 @@ fn replay<'a>(alloc: Global) -> Result<Command<'a>, AllocError>
 fn bounds<'a>(alloc: Global) -> Result<Command<'a>, AllocError>
     ensures { IfOk result (λ command. Knows command bounds_app) }
 {
-    of_network(
+    let command = of_network(
         alloc,
         "bounds",
         "Prints how long a frame takes at most to each destination, in any run of the network, and how many bytes wait at most at each port, as CSV",
         BOUNDS,
-    )
+    );
+    with_arg(command, flag(alloc, "contract", CONTRACT))
 }
 
 /// A command that requires the path of a network's description.

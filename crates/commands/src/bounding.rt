@@ -1,18 +1,19 @@
-//! `bounds NET`: writes how long frames take at most, and how many bytes wait at most, in any run of a network.
+//! `bounds NET [--contract]`: writes how long frames take at most, and how many bytes wait at most, in any run of a network.
 ghost use Rattle.std.specs.Prelude.{◌≡◌, ◌≢◌, ℕ, true, List, IfErr, OnOk};
 ghost use Rattle.network_bounds.specs.Text.{IsBoundsText};
 ghost use Rattle.plan_bounds.specs.Latencies.{AreLatencyBounds};
 ghost use Rattle.plan_bounds.specs.Rooms.{AreRoomsEnough};
 ghost use Rattle.commands.specs.declared.fault.Fault.TheVariants.{CannotWrite};
-ghost use Rattle.commands.specs.Bounding.{ShowsBounds};
+ghost use Rattle.commands.specs.Bounding.{ShowsBounds, senders_of};
 ghost use Rattle.commands.specs.Ending.{Took, IsFaultOfOutput};
 ghost use Rattle.commands.specs.Files.{LacksOutput, ShowsAlone};
 ghost use Rattle.commands.specs.Streams.{IsQuiet};
 
 use crate::fault::Fault;
 use crate::host::Host;
+use command_line::Bounds;
 use network::Network;
-use network_bounds::write_bounds;
+use network_bounds::{Senders, write_bounds};
 use plan_bounds::bounds_law;
 use std::alloc::Global;
 use trace_tables::{OutFault, Sink};
@@ -21,13 +22,14 @@ use trace_tables::{OutFault, Sink};
 fn show_bounds<O: Sink>(
     alloc: Global,
     network: &Network,
+    senders: Senders,
     output: &mut O,
 ) -> Result<(), Fault<'static>>
-    ensures text { OnOk result ((text : List ℕ) × IsBoundsText network.now text × Took O.taken output.old output.new text) }
+    ensures text { OnOk result ((text : List ℕ) × IsBoundsText senders network.now text × Took O.taken output.old output.new text) }
     ensures fault { IfErr result (IsFaultOfOutput true O.failures output.old output.new) }
     ensures kept { IfErr result (λ fault. fault ≢ CannotWrite → output.new ≡ output.old) }
 {
-    match write_bounds(alloc, network, output) {
+    match write_bounds(alloc, network, senders, output) {
         Ok(()) => Ok(()),
         Err(OutFault::Device) => Err(Fault::CannotWrite),
         Err(OutFault::Layout) => Err(Fault::Layout),
@@ -35,19 +37,35 @@ fn show_bounds<O: Sink>(
     }
 }
 
+/// Returns which frames of other end systems count.
+fn senders_of(order: &Bounds) -> Senders
+    ensures { result ≡ senders_of order.now }
+{
+    if order.contract {
+        Senders::ByContract
+    } else {
+        Senders::AsStated
+    }
+}
+
 /// Writes bounds of the network to standard output. It runs nothing, and makes no offers.
 ///
 /// - `latencies`: in the one-thread run of the network no frame is delivered later after its offer than these bounds say.
 /// - `rooms`: a node drops no frame because a port is full, if these bounds fit the bytes of each of its ports.
-pub fn bounds<H: Host>(alloc: Global, network: &Network, host: &mut H) -> Result<(), Fault<'static>>
+pub fn bounds<H: Host>(
+    alloc: Global,
+    network: &Network,
+    order: &Bounds,
+    host: &mut H,
+) -> Result<(), Fault<'static>>
     ensures latencies { AreLatencyBounds network.now }
     ensures rooms { AreRoomsEnough network.now }
-    ensures text { OnOk result (ShowsBounds H.outside host.old host.new network.now) }
+    ensures text { OnOk result (ShowsBounds H.outside host.old host.new (senders_of order.now) network.now) }
     ensures left { OnOk result (ShowsAlone H.outside host.old host.new) }
     ensures fault { IfErr result (LacksOutput H.outside true host.old host.new) }
     ensures kept { IfErr result (λ fault. fault ≢ CannotWrite → H.outside.output host.new ≡ H.outside.output host.old) }
     ensures quiet { IsQuiet H.outside host.old host.new }
 {
     bounds_law(network);
-    show_bounds(alloc, network, host.output())
+    show_bounds(alloc, network, senders_of(order), host.output())
 }

@@ -43,10 +43,11 @@ use Rattle.port_turns.specs.SwitchPuts.{IsBrought, transit_of}
 use Rattle.port_turns.proofs.PortRuns.{are_ports_served}
 use Rattle.port_turns.proofs.Releasing.{source-traces-paced}
 use Rattle.port_turns.proofs.SerialPuts.{traces-serial}
-use Rattle.port_turns.proofs.Traces.{traces-paced}
-use Rattle.frame_ages.specs.Ports.{AreApartBy, AreGroups, IsByLine, IsCurve, IsFlow, IsGroup, IsHighBound, IsLowBound, trace_at}
+use Rattle.port_turns.proofs.Traces.{traces-metered, traces-paced}
+use Rattle.frame_ages.specs.Ports.{AreApartBy, AreGroups, CostsAtMost, HasAtMost, IsByLine, IsCurve, IsFlow, IsGroup, IsHighBound, IsLowBound, IsMeteredFlow, IsPacedFlow, trace_at}
 use Rattle.frame_ages.specs.Ports.IsCurve.{ByBag, ByGap}
 use Rattle.frame_ages.specs.Sizes.{HaveEmptyRegulators, IsSized, OpensEmpty, Sizes}
+use Rattle.frame_ages.proofs.MeterLemmas.{IsOwnCost, metered}
 use Rattle.frame_ages.proofs.PutLemmas.{IsPutFit, puts-fit}
 use Rattle.frame_ages.proofs.SizeLemmas.{IsFit, all-fit, idle-at}
 
@@ -120,8 +121,19 @@ module _ (x : Setting NodeState) (L : Laws (simulation_of (rules_of node) x)) (N
   busier : (a b : ℕ) → a ≤ b → busy_for a byte_ns ≤ busy_for b byte_ns
   busier a b h = mul-le (a + 20) byte_ns (b + 20) byte_ns (omega arith) (omega arith)
 
-  pub cost-at-most : (r : Priority) (put : PutFrame) → Fit r put → put.cost ≤ busy_for (size (link_of put)).greatest byte_ns
-  cost-at-most r put h = let most = busier put.frame.size (size (link_of put)).greatest h.sized.1 in let cost = h.cost in omega arith
+  -- it has no more bytes than its streams offer, or its account lets pass
+  pub cost-at-most : (r : Priority) (put : PutFrame) → Fit r put → (bytes : ℕ) → HasAtMost (x.opening p).equipment size (link_of put) bytes → put.cost ≤ busy_for bytes byte_ns
+  cost-at-most r put h bytes most =
+      let small : put.frame.size ≤ bytes = elim most [
+        | inl offered ↦ (let k = h.sized.1 in omega (arith, k, offered))
+        | inr passed ↦ (let k = h.passed passed.0 passed.1 in let le = passed.2 in omega (arith, k, le))
+      ] in
+      let busy = busier put.frame.size bytes small in
+      let cost = h.cost in
+      omega (arith, busy, cost)
+
+  pub costs-within : (r : Priority) (put : PutFrame) → Fit r put → (most : ℕ) → CostsAtMost (x.opening p).equipment size byte_ns (link_of put) most → put.cost ≤ most
+  costs-within r put h most c = let all = cost-at-most r put h c.greatest c.at_most in let le = c.cost in omega (arith, all, le)
 
   pub cost-at-least : (r : Priority) (put : PutFrame) → Fit r put → busy_for (size (link_of put)).least byte_ns ≤ put.cost
   cost-at-least r put h = let least = busier (size (link_of put)).least put.frame.size h.sized.0 in let cost = h.cost in omega arith
@@ -146,29 +158,46 @@ module _ (x : Setting NodeState) (L : Laws (simulation_of (rules_of node) x)) (N
     link-paced v bag slack (Line s) is empty h = absurd h
 
     module _ (scale whole : ℕ) where
-      flow-within : (flow : Flow) → IsFlow (x.opening p).equipment size byte_ns scale flow → IsClassWithin scale flow.burst flow.rate (is_of_link flow.link) (puts r)
-      flow-within flow h = by h.curve
+      paced-within : (flow : Flow) → IsPacedFlow (x.opening p).equipment size byte_ns scale flow → IsClassWithin scale flow.burst flow.rate (is_of_link flow.link) (puts r)
+      paced-within flow h = by h.curve
         where
           pace : IsPaced h.bag h.slack (moments_at (is_of_link flow.link) (puts r))
           pace = link-paced flow.link h.bag h.slack (x.opening p).equipment refl (O.regulators p inside) h.apart
 
-          one : (put : PutFrame) → Fit r put → is_of_link flow.link put ≡ true → put.cost ≤ busy_for (size flow.link).greatest byte_ns
-          one put k e =
-              subst (λ z. put.cost ≤ busy_for (size z).greatest byte_ns) (eqb-true (link_of put) flow.link e) (cost-at-most r put k)
+          one : (put : PutFrame) → Fit r put → is_of_link flow.link put ≡ true → put.cost ≤ busy_for h.greatest byte_ns
+          one put k e = cost-at-most r put k h.greatest (subst (λ z. HasAtMost (x.opening p).equipment size z h.greatest) (sym (eqb-true (link_of put) flow.link e)) h.at_most)
 
-          few : IsEachAtMost (busy_for (size flow.link).greatest byte_ns) (is_of_link flow.link) (puts r)
-          few = at-most (busy_for (size flow.link).greatest byte_ns) (is_of_link flow.link) (puts r)
-              (every-weaker (Fit r) (λ put. is_of_link flow.link put ≡ true → put.cost ≤ busy_for (size flow.link).greatest byte_ns) (λ put k e. one put k e) (puts r) (fits r))
+          few : IsEachAtMost (busy_for h.greatest byte_ns) (is_of_link flow.link) (puts r)
+          few = at-most (busy_for h.greatest byte_ns) (is_of_link flow.link) (puts r)
+              (every-weaker (Fit r) (λ put. is_of_link flow.link put ≡ true → put.cost ≤ busy_for h.greatest byte_ns) (λ put k e. one put k e) (puts r) (fits r))
 
-          by : IsCurve h.parts h.bag h.slack scale (busy_for (size flow.link).greatest byte_ns) flow → IsClassWithin scale flow.burst flow.rate (is_of_link flow.link) (puts r)
+          by : IsCurve h.parts h.bag h.slack scale (busy_for h.greatest byte_ns) flow → IsClassWithin scale flow.burst flow.rate (is_of_link flow.link) (puts r)
           by (ByBag burst rate) =
               subst (λ k. IsClassWithin k flow.burst flow.rate (is_of_link flow.link) (puts r)) h.units
               (subst (λ k. IsClassWithin (h.parts * h.bag) k flow.rate (is_of_link flow.link) (puts r)) (sym burst)
-              (subst (λ k. IsClassWithin (h.parts * h.bag) ((h.parts * busy_for (size flow.link).greatest byte_ns) * (h.bag + h.slack)) k (is_of_link flow.link) (puts r)) (sym rate)
-              (paced h.parts h.bag h.slack (busy_for (size flow.link).greatest byte_ns) (is_of_link flow.link) (puts r) pace few)))
+              (subst (λ k. IsClassWithin (h.parts * h.bag) ((h.parts * busy_for h.greatest byte_ns) * (h.bag + h.slack)) k (is_of_link flow.link) (puts r)) (sym rate)
+              (paced h.parts h.bag h.slack (busy_for h.greatest byte_ns) (is_of_link flow.link) (puts r) pace few)))
           by (ByGap burst rate) =
               subst (λ k. IsClassWithin scale k flow.rate (is_of_link flow.link) (puts r)) (sym burst)
-              (spaced scale flow.rate h.bag h.slack (busy_for (size flow.link).greatest byte_ns) (is_of_link flow.link) (puts r) pace few rate)
+              (spaced scale flow.rate h.bag h.slack (busy_for h.greatest byte_ns) (is_of_link flow.link) (puts r) pace few rate)
+
+      metered-within : (flow : Flow) → IsMeteredFlow (x.opening p).equipment size byte_ns scale flow → IsClassWithin scale flow.burst flow.rate (is_of_link flow.link) (puts r)
+      metered-within flow h =
+          let bag = h.transit.account.bag in
+          let jitter = h.transit.account.jitter in
+          subst (λ k. IsClassWithin k flow.burst flow.rate (is_of_link flow.link) (puts r)) h.units
+          (subst (λ k. IsClassWithin (h.parts * bag) k flow.rate (is_of_link flow.link) (puts r)) (sym h.burst)
+          (subst (λ k. IsClassWithin (h.parts * bag) ((h.parts * h.cost) * (bag + jitter)) k (is_of_link flow.link) (puts r)) (sym h.rate)
+          (metered flow.link h.least byte_ns h.parts h.transit.account.smax bag jitter h.cost (puts r) h.some
+          (traces-metered byte_ns q flow.link x L N p inside h.transit h.is h.bytes outlet.port r n)
+          (every-weaker (Fit r) (IsOwnCost flow.link h.least byte_ns) (λ put k e. (k.cost, own put k e)) (puts r) (fits r)) h.enough)))
+        where
+          own : (put : PutFrame) → Fit r put → link_of put ≡ flow.link → h.least ≤ put.frame.size
+          own put k e = let long : (size flow.link).least ≤ put.frame.size = subst (λ z. (size z).least ≤ put.frame.size) e k.sized.0 in let least = h.shorter in omega (arith, long, least)
+
+      flow-within : (flow : Flow) → IsFlow (x.opening p).equipment size byte_ns scale flow → IsClassWithin scale flow.burst flow.rate (is_of_link flow.link) (puts r)
+      flow-within flow (inl h) = paced-within flow h
+      flow-within flow (inr h) = metered-within flow h
 
       flows-within : (flows : List Flow) → Every (IsFlow (x.opening p).equipment size byte_ns scale) flows → AreFlowsWithin scale flows (puts r)
       flows-within [] h = tt
@@ -188,9 +217,7 @@ module _ (x : Setting NodeState) (L : Laws (simulation_of (rules_of node) x)) (N
         where
           one : (put : PutFrame) → Fit r put → (put.line ≡ g.line → IsAmong (link_of put) (links_of g.flows)) → is_by_line g.line put ≡ true → put.cost ≤ h.most
           one put k i e =
-              let most : busy_for (size (link_of put)).greatest byte_ns ≤ h.most = link-among (λ v. busy_for (size v).greatest byte_ns ≤ h.most) g.flows (link_of put) h.costs (i (eqb-true put.line g.line e)) in
-              let cost = cost-at-most r put k in
-              omega arith
+              costs-within r put k h.most (link-among (λ v. CostsAtMost (x.opening p).equipment size byte_ns v h.most) g.flows (link_of put) h.costs (i (eqb-true put.line g.line e)))
 
           both : (xs : List PutFrame) → Every (Fit r) xs → Every (λ put. put.line ≡ g.line → IsAmong (link_of put) (links_of g.flows)) xs → Every (λ put. is_by_line g.line put ≡ true → put.cost ≤ h.most) xs
           both [] a b = tt
@@ -234,7 +261,7 @@ module _ (x : Setting NodeState) (L : Laws (simulation_of (rules_of node) x)) (N
       (λ s k. sent-by (h.whole * h.scale) (groups_burst h.whole h.high + (h.whole * h.scale) * h.most) delay (s.at + s.put.cost) s.put.at k h.within)
       (high_starts idle (trace_at x p q outlet n))
       (high.bounded (h.whole * h.scale) (groups_burst h.whole h.high) (groups_rate h.whole h.high) h.most (trace_at x p q outlet n) h.rate served (all-within x L N size O p q outlet inside n High h.scale h.whole h.high h.high_are)
-      (every-weaker (Fit x L N size O p q outlet inside n Low) (λ put. put.cost ≤ h.most) (λ put k. let low = h.low_costs (link_of put) put.line k.through in let cost = cost-at-most x L N size O p q outlet inside n Low put k in omega arith) (puts x L N size O p q outlet inside n Low) (fits x L N size O p q outlet inside n Low)))
+      (every-weaker (Fit x L N size O p q outlet inside n Low) (λ put. put.cost ≤ h.most) (λ put k. costs-within x L N size O p q outlet inside n Low put k h.most (h.low_costs (link_of put) put.line k.through)) (puts x L N size O p q outlet inside n Low) (fits x L N size O p q outlet inside n Low)))
 
   pub lows-in-time : (v delay : ℕ) → IsLowBound x size p q outlet v delay → Every (λ s. link_of s.put ≡ v → s.at + s.put.cost ≤ (s.put.at + delay) + busy_for (size v).least outlet.ahead.byte_ns) (low_starts idle (trace_at x p q outlet n))
   lows-in-time v delay h =

@@ -4,6 +4,7 @@ pub mod EndFrames
 pub mod SwitchFrames
 pub mod SizeLemmas
 pub mod PutLemmas
+pub mod MeterLemmas
 pub mod GivenLemmas
 pub mod AgeLemmas
 pub mod NoteLemmas

@@ -1,9 +1,9 @@
 -- Each frame that is put to a port is of a virtual link that goes out there, and costs what that virtual link's frames cost.
-use Rattle.std.proofs.Common.{◌≡◌, ℕ, ◌<◌, ◌==◌, ◌&&◌, inl, inr, Bool, true, false, cond, List, [], ◌∷◌, ◌++◌, All, Option, Some, None, option_map, refl, sym, ap, ◌∙◌, subst, eqb-true}
+use Rattle.std.proofs.Common.{◌≡◌, ℕ, ◌<◌, ◌≤◌, ◌==◌, ◌&&◌, inl, inr, Bool, true, false, cond, List, [], ◌∷◌, ◌++◌, All, Option, Some, None, option_map, refl, sym, ap, ◌∙◌, subst, eqb-true}
 use Rattle.std.specs.Prelude.{⊤, slice_set}
 use Rattle.std.specs.Option.{option_map_or}
 use Rattle.std.proofs.lemmas.Bool.{cases_eq}
-use Rattle.std.proofs.lemmas.Option.{same_Some}
+use Rattle.std.proofs.lemmas.Option.{none-some, same_Some}
 use Rattle.std.proofs.lemmas.List.Elements.{All-head, All-tail}
 use Rattle.vlink.specs.Wire.{busy_for}
 use Rattle.vlink.specs.declared.frame.Frame.{Frame}
@@ -43,6 +43,7 @@ use Rattle.nodes.specs.rules.Node.{NodeState, after, handled}
 use Rattle.nodes.specs.undoing.Node.{node}
 use Rattle.nodes.specs.laws.EndSystemSending.{end_system-cases}
 use Rattle.port_turns.specs.Nodes.{IsOfNodes}
+use Rattle.port_turns.specs.SwitchPuts.{transit_of}
 use Rattle.port_turns.specs.PortEvents.{asks, copy_asks, end_system_asks, or_else, regulated_asks, switch_asks}
 use Rattle.port_turns.specs.PortRuns.{asked_at, input_of, port_events}
 use Rattle.port_turns.proofs.Found.{found-other, found-set}
@@ -145,6 +146,7 @@ module _ (x : Setting NodeState) (L : Laws (simulation_of (rules_of node) x)) (N
       pub fresh : IsFresh (x.opening p).equipment put
       pub through : IsThrough (x.opening p).equipment q (link_of put) put.line r
       pub sized : IsWithin (size (link_of put)) put.frame.size
+      pub passed : (transit : Transit) → transit_of (x.opening p).equipment (link_of put) ≡ Some transit → put.frame.size ≤ transit.smax
       pub cost : put.cost ≡ busy_for put.frame.size byte_ns
 
     -- and so is what a message asks for
@@ -171,11 +173,12 @@ module _ (x : Setting NodeState) (L : Laws (simulation_of (rules_of node) x)) (N
           fresh = subst (λ e. IsFresh e (put_at byte_ns t 0 frame)) (sym is) (ap (λ (z : Frame). z.released) put.2);
           through = subst (λ e. IsThrough e q frame.vl.0 0 r) (sym is) (subst (λ z. IsSentBy w q z 0 r) (sym link) sent);
           sized = subst (λ k. IsWithin (size k) frame.size) (sym link) (subst (IsWithin (size v)) (sym (ap (λ (z : Frame). z.size) put.2)) put.1.1);
+          passed = λ transit there. absurd (none-some transit (subst (λ e. transit_of e frame.vl.0 ≡ Some transit) is there));
           cost = refl;
         }
 
     switch-asks : (t : ℕ) (b : Body) (s w : SwitchState) → (x.opening p).equipment ≡ Switch w → AllTransits (SameAs w) (same-as-stays w) s → IsSized size b →
-        ((k : ℕ) (frame : Frame) → b ≡ body.Enqueue k frame → GoesOut (x.opening p).equipment k frame.vl.0) → AskFits t (input_of b (Switch s)) (switch_asks q b s)
+        ((k : ℕ) (frame : Frame) → b ≡ body.Enqueue k frame → GoesOut (x.opening p).equipment k frame) → AskFits t (input_of b (Switch s)) (switch_asks q b s)
     switch-asks t (body.PortFree k) s w is same sized out = go (k == q)
       where
         go : (b : Bool) → AskFits t 0 (cond b (Some Free) None)
@@ -188,7 +191,7 @@ module _ (x : Setting NodeState) (L : Laws (simulation_of (rules_of node) x)) (N
         go true e None here = tt
         go true e (Some found) here =
             let was = same frame.vl found here in
-            let goes = subst (λ z. GoesOut z k frame.vl.0) is (out k frame refl) in
+            let goes = subst (λ z. GoesOut z k frame) is (out k frame refl) in
             let one : goes.0 ≡ was.0 = same_Some goes.0 was.0 (sym goes.1 ∙ was.1) in
             record {
               fresh = subst (λ z. IsFresh z (put_at byte_ns t found.entry.input frame)) (sym is) tt;
@@ -200,6 +203,7 @@ module _ (x : Setting NodeState) (L : Laws (simulation_of (rules_of node) x)) (N
                 priority_is = ap (λ (z : Transit). z.priority) was.2;
               });
               sized = sized;
+              passed = λ transit there. subst (λ z. frame.size ≤ z.smax) (same_Some goes.0 transit (sym goes.1 ∙ subst (λ z. transit_of z frame.vl.0 ≡ Some transit) is there)) goes.3;
               cost = refl;
             }
         go false e o here = tt
@@ -211,8 +215,8 @@ module _ (x : Setting NodeState) (L : Laws (simulation_of (rules_of node) x)) (N
         end-asks m.time (subject m.body) k.1 (end_system_asks q m.time m.body s) k.2 (end-sent q k.1 m.time m.body s k.3) keeps.put
     node-asks-fit m (Switch s) to fit k = switch-asks m.time m.body s k.0 k.1 k.2 fit.0 (λ i frame e. goes i frame e)
       where
-        goes : (i : ℕ) (frame : Frame) → m.body ≡ body.Enqueue i frame → GoesOut (x.opening p).equipment i frame.vl.0
-        goes i frame e = subst (λ z. GoesOut (x.opening z).equipment i frame.vl.0) to (subst (λ b. IsOut x L N size O m.receiver b) e fit.1)
+        goes : (i : ℕ) (frame : Frame) → m.body ≡ body.Enqueue i frame → GoesOut (x.opening p).equipment i frame
+        goes i frame e = subst (λ z. GoesOut (x.opening z).equipment i frame) to (subst (λ b. IsOut x L N size O m.receiver b) e fit.1)
     node-asks-fit m (Line s) to fit k = tt
 
     known-stays : (n : ℕ) (m : Message) (e : Equipment) → IsFit x L N size O m → Known e → Known (handled n m e).equipment

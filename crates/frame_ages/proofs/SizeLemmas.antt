@@ -1,5 +1,5 @@
 -- Why each message that brings a frame brings one of its virtual link's size, and why one that puts a frame to an output of a switch does so by an output of its virtual link.
-use Rattle.std.proofs.Common.{◌≡◌, ℕ, ◌+◌, true, List, [], ◌∷◌, All, IfSome, Option, Some, None, option_map, refl, sym, ap, subst}
+use Rattle.std.proofs.Common.{◌≡◌, ℕ, ◌+◌, ◌≤◌, true, List, [], ◌∷◌, All, IfSome, Option, Some, None, option_map, refl, sym, ap, subst}
 use Rattle.std.specs.Prelude.{⊤}
 use Rattle.std.proofs.lemmas.Option.{none-some}
 use Rattle.std.proofs.lemmas.List.Elements.{All-cons, All-head, All-nil, All-tail, All-weaker}
@@ -43,10 +43,10 @@ use Rattle.frame_ages.proofs.SwitchFrames.{switch-ports, switch-sends}
 use Rattle.port_turns.proofs.Transits.{AllTransits, transits-stay}
 use Rattle.frame_ages.proofs.Invariants.{IsInvariant, all-events, all-handled}
 
--- virtual link v goes out by output q of this equipment
-abbrev pub GoesOut : Equipment → ℕ → ℕ → Type 0
-GoesOut (Switch s) q v = (transit : Transit) × (transit_of (Switch s) v ≡ Some transit) × IsAmong q (outputs_of transit)
-GoesOut _ q v = ⊥
+-- the frame goes out by output q of this equipment: its virtual link does, and it is not longer than Smax
+abbrev pub GoesOut : Equipment → ℕ → Frame → Type 0
+GoesOut (Switch s) q frame = (transit : Transit) × (transit_of (Switch s) frame.vl.0 ≡ Some transit) × IsAmong q (outputs_of transit) × (frame.size ≤ transit.smax)
+GoesOut _ q frame = ⊥
 
 -- the virtual link as it goes through the switch at first, but for the account
 abbrev pub SameAs : SwitchState → ℕ → Transit → Type 0
@@ -86,7 +86,7 @@ module _ (x : Setting NodeState) (L : Laws (simulation_of (rules_of node) x)) (N
   f = simulation_of (rules_of node) x
 
   abbrev pub IsOut : ℕ → Body → Type 0
-  IsOut r (Enqueue q frame) = GoesOut (x.opening r).equipment q frame.vl.0
+  IsOut r (Enqueue q frame) = GoesOut (x.opening r).equipment q frame
   IsOut r _ = ⊤
 
   -- the frame of a message has the size of its virtual link, and goes out by one of its outputs
@@ -110,21 +110,22 @@ module _ (x : Setting NodeState) (L : Laws (simulation_of (rules_of node) x)) (N
       go _ k = absurd k
 
   puts-fit : (p n t : ℕ) (s w : SwitchState) → n ≡ p → (x.opening p).equipment ≡ Switch w → AllTransits (SameAs w) (same-as-stays w) s →
-      (frame : Frame) (found : Found Transit) (q : ℕ) → transit_at s frame.vl ≡ Some found → IsSizedFrame size frame → IsAmong q (outputs_of found.entry) →
+      (frame : Frame) (found : Found Transit) (q : ℕ) → transit_at s frame.vl ≡ Some found → IsSizedFrame size frame → frame.size ≤ found.entry.smax → IsAmong q (outputs_of found.entry) →
       IsFitWish (record { time = t; receiver = n; body = Enqueue q frame })
-  puts-fit p n t s w e is same frame found q here f i =
+  puts-fit p n t s w e is same frame found q here f small i =
       let was = same frame.vl found here in
-      (f, subst (λ z. GoesOut (x.opening z).equipment q frame.vl.0) (sym e) (subst (λ z. GoesOut z q frame.vl.0) (sym is) (was.0, was.1, subst (IsAmong q) (ap outputs_of was.2) i)))
+      (f, subst (λ z. GoesOut (x.opening z).equipment q frame) (sym e) (subst (λ z. GoesOut z q frame) (sym is)
+      (was.0, was.1, subst (IsAmong q) (ap outputs_of was.2) i, subst (λ k. frame.size ≤ k) (ap (λ (z : Transit). z.smax) was.2) small)))
 
   handled-sends : (p n : ℕ) (m : Message) (e : Equipment) → n ≡ p → State p e → IsFit m → All IsFitWish (handled n m e).reply.wishes
   handled-sends p n m (EndSystem s) k h q = end-sends size IsFitWish by-port (λ t r vl. (tt, tt)) n m.time m.body s q.0 h
-  handled-sends p n m (Switch s) k h q = switch-sends size n IsFitWish by-port m.time m.body s (λ frame found c here f i. puts-fit p n (m.time + s.latency) s h.1 k h.2 h.3 frame found c here f i) q.0 h.0
+  handled-sends p n m (Switch s) k h q = switch-sends size n IsFitWish by-port m.time m.body s (λ frame found c here f small i. puts-fit p n (m.time + s.latency) s h.1 k h.2 h.3 frame found c here f small i) q.0 h.0
   handled-sends p n m (Line l) k h q = line-all IsFitWish m.time m.body l (λ frame is. (subst (IsSized size) is q.0, tt))
 
   handled-state : (p n : ℕ) (m : Message) (e : Equipment) → n ≡ p → State p e → IsFit m → State p (handled n m e).equipment
   handled-state p n m (EndSystem s) k h q = end-state size IsFitWish by-port (λ t r vl. (tt, tt)) n m.time m.body s q.0 h
   handled-state p n m (Switch s) k h q = (
-    switch-ports size n IsFitWish by-port m.time m.body s (λ frame found c here f i. puts-fit p n (m.time + s.latency) s h.1 k h.2 h.3 frame found c here f i) q.0 h.0,
+    switch-ports size n IsFitWish by-port m.time m.body s (λ frame found c here f small i. puts-fit p n (m.time + s.latency) s h.1 k h.2 h.3 frame found c here f small i) q.0 h.0,
     h.1,
     h.2,
     transits-stay (SameAs h.1) (same-as-stays h.1) n m.time m.body s h.3,

@@ -1,5 +1,6 @@
 -- At a switch each frame that is sent came there, and goes out by an output of its virtual link.
-use Rattle.std.proofs.Common.{◌≡◌, ℕ, ◌+◌, ◌==◌, inl, inr, Bool, true, false, cond, nat_lt, List, [], ◌∷◌, All, Option, Some, None, refl}
+use Rattle.std.proofs.Common.{◌≡◌, ℕ, ◌+◌, ◌≤◌, ◌==◌, inl, inr, Bool, true, false, cond, nat_lt, List, [], ◌∷◌, All, Option, Some, None, refl, arith}
+use Rattle.std.proofs.lemmas.Bool.Decides.{nat_tests}
 use Rattle.std.proofs.lemmas.List.Elements.{All-cons, All-map, All-nil, All-weaker}
 use Rattle.vlink.specs.declared.frame.Frame.{Frame}
 use Rattle.vlink.specs.declared.message.Body.{Body}
@@ -36,7 +37,7 @@ module _ (size : ℕ → Sizes) (n : ℕ) (P : Wish → Type 0) (by-port : (w : 
 
     -- P holds of each frame that is put to an output
     abbrev PutsFit : SwitchState → Type 0
-    PutsFit s = (frame : Frame) (found : Found Transit) (q : ℕ) → transit_at s frame.vl ≡ Some found → IsSizedFrame size frame → IsAmong q (outputs_of found.entry) → P (wish_to n (t + s.latency) frame q)
+    PutsFit s = (frame : Frame) (found : Found Transit) (q : ℕ) → transit_at s frame.vl ≡ Some found → IsSizedFrame size frame → frame.size ≤ found.entry.smax → IsAmong q (outputs_of found.entry) → P (wish_to n (t + s.latency) frame q)
 
     port-step : (q : ℕ) (e : PortEvent) (s : SwitchState) → OfPut (IsSizedFrame size) e → AllWaitAtPorts (IsSizedFrame size) s.ports → Step (at_port n t q e s)
     port-step q e s f h = record {
@@ -44,12 +45,15 @@ module _ (size : ℕ → Sizes) (n : ℕ) (P : Wish → Type 0) (by-port : (w : 
       sends = All-weaker (IsPortWish (IsSizedFrame size)) P by-port _ (reply-keeps (IsSizedFrame size) n t q e s.ports h f);
     }
 
-    entered-all : (delay q : ℕ) (frame : Frame) (x : Transit) → ((k : ℕ) → IsAmong k (outputs_of x) → P (wish_to n (t + delay) frame k)) → All P (entered_reply n t delay q frame x).wishes
-    entered-all delay q frame x puts = go (x.input == q) (nat_lt x.smax frame.size) (account.out x.account (record { at = t; size = frame.size }))
+    entered-all : (delay q : ℕ) (frame : Frame) (x : Transit) → ((k : ℕ) → frame.size ≤ x.smax → IsAmong k (outputs_of x) → P (wish_to n (t + delay) frame k)) → All P (entered_reply n t delay q frame x).wishes
+    entered-all delay q frame x puts = go (x.input == q) (nat_lt x.smax frame.size) refl (account.out x.account (record { at = t; size = frame.size }))
       where
-        go : (b c : Bool) (v : Verdict) → All P (cond b (cond c (loss TooLong frame) (judged n (t + delay) frame (outputs_of x) v)) (loss Unknown frame)).wishes
-        go true false verdict.Passed = All-map P (wish_to n (t + delay) frame) (outputs_of x) (All-weaker (λ k. IsAmong k (outputs_of x)) (λ k. P (wish_to n (t + delay) frame k)) puts (outputs_of x) (all-among (outputs_of x)))
-        go _ _ _ = All-nil P
+        small : nat_lt x.smax frame.size ≡ false → frame.size ≤ x.smax
+        small h = grind (arith, nat_tests)
+
+        go : (b c : Bool) → nat_lt x.smax frame.size ≡ c → (v : Verdict) → All P (cond b (cond c (loss TooLong frame) (judged n (t + delay) frame (outputs_of x) v)) (loss Unknown frame)).wishes
+        go true false e verdict.Passed = All-map P (wish_to n (t + delay) frame) (outputs_of x) (All-weaker (λ k. IsAmong k (outputs_of x)) (λ k. P (wish_to n (t + delay) frame k)) (λ k among. puts k (small e) among) (outputs_of x) (all-among (outputs_of x)))
+        go _ _ _ _ = All-nil P
 
     switch-step : (b : Body) (s : SwitchState) → PutsFit s → IsSized size b → AllWaitAtPorts (IsSizedFrame size) s.ports → Step (switch n t b s)
     switch-step (PortFree q) s fit f h = port-step q Free s tt h
@@ -57,7 +61,7 @@ module _ (size : ℕ → Sizes) (n : ℕ) (P : Wish → Type 0) (by-port : (w : 
       where
         go : (b : Bool) (o : Option (Found Transit)) → transit_at s frame.vl ≡ o → Step (cond b (sw.taken_in n t q frame s o) (sw.unmoved s))
         go true None is = record { ports = h; sends = All-nil P }
-        go true (Some found) is = record { ports = h; sends = entered-all s.latency q frame found.entry (λ k i. fit frame found k is f i) }
+        go true (Some found) is = record { ports = h; sends = entered-all s.latency q frame found.entry (λ k small i. fit frame found k is f small i) }
         go false o is = record { ports = h; sends = All-nil P }
     switch-step (Enqueue q frame) s fit f h = go (exists s.ports q) (transit_at s frame.vl)
       where

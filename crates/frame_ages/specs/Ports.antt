@@ -3,6 +3,7 @@ use Rattle.std.specs.Prelude.{◌≡◌, ℕ, ◌+◌, ◌-◌, ◌*◌, ◌<◌
 use Rattle.vlink.specs.Wire.{busy_for}
 use Rattle.vlink.specs.declared.frame.Net.TheVariants.{A, B}
 use Rattle.bag_regulator.specs.Regulator.{Regulator}
+use Rattle.policer.specs.declared.account.Measure.TheVariants.{Bytes}
 use Rattle.output_port.specs.declared.event.Priority.{Priority}
 use Rattle.output_port.specs.declared.event.Priority.TheVariants.{High, Low}
 use Rattle.reverse.specs.Rules.{rules_of}
@@ -69,20 +70,51 @@ AreApartBy (EndSystem s) v bytes bag slack = (g : Regulator) × (regulator_in (E
 AreApartBy (Switch s) v bytes bag slack = (transit : Transit) × (transit_of (Switch s) v ≡ Some transit) × IsCounting transit.account bytes × (transit.account.bag ≡ bag) × (transit.account.jitter ≡ slack)
 AreApartBy (Line s) v bytes bag slack = ⊥
 
+-- no frame of virtual link v that is put to a port there has more bytes: none that is offered has, or its account lets none pass that has
+abbrev pub HasAtMost : Equipment → (ℕ → Sizes) → ℕ → ℕ → Type 0
+HasAtMost e size v bytes = ((size v).greatest ≤ bytes) ⊎ ((transit : Transit) × (transit_of e v ≡ Some transit) × (transit.smax ≤ bytes))
+
+-- none of them costs more
+pub record CostsAtMost (e : Equipment) (size : ℕ → Sizes) (byte_ns v most : ℕ) : Type 0 where
+  pub greatest : ℕ
+  pub at_most : HasAtMost e size v greatest
+  pub cost : busy_for greatest byte_ns ≤ most
+
 -- the curve of frames that cost so much, in units of which a ns has `scale`. By the BAG: one frame, what the slack adds, and then a frame in
 -- each BAG. By the gap that the slack leaves of a BAG: one frame, and then one in each gap
 pub data IsCurve (parts bag slack scale cost : ℕ) (flow : Flow) : Type 0 where
   ByBag : flow.burst ≡ (parts * cost) * (bag + slack) → flow.rate ≡ parts * cost → IsCurve parts bag slack scale cost flow
   ByGap : flow.burst ≡ scale * cost → scale * cost ≤ flow.rate * (bag - slack) → IsCurve parts bag slack scale cost flow
 
--- the burst and the rate of a virtual link
-pub record IsFlow (e : Equipment) (size : ℕ → Sizes) (byte_ns scale : ℕ) (flow : Flow) : Type 0 where
+-- the burst and the rate of a virtual link, by how far apart its frames come
+pub record IsPacedFlow (e : Equipment) (size : ℕ → Sizes) (byte_ns scale : ℕ) (flow : Flow) : Type 0 where
   pub parts : ℕ
   pub bag : ℕ
   pub slack : ℕ
   pub apart : AreApartBy e flow.link (size flow.link).least bag slack
   pub units : parts * bag ≡ scale
-  pub curve : IsCurve parts bag slack scale (busy_for (size flow.link).greatest byte_ns) flow
+  pub greatest : ℕ
+  pub at_most : HasAtMost e size flow.link greatest
+  pub curve : IsCurve parts bag slack scale (busy_for greatest byte_ns) flow
+
+-- or, where its account counts bytes, by how many it lets pass: Smax for each BAG of one BAG, the jitter and the time. Of all frames the least cost
+-- the most for a byte
+pub record IsMeteredFlow (e : Equipment) (size : ℕ → Sizes) (byte_ns scale : ℕ) (flow : Flow) : Type 0 where
+  pub parts : ℕ
+  pub transit : Transit
+  pub is : transit_of e flow.link ≡ Some transit
+  pub bytes : transit.account.measure ≡ Bytes
+  pub units : parts * transit.account.bag ≡ scale
+  pub least : ℕ
+  pub some : 1 ≤ least
+  pub shorter : least ≤ (size flow.link).least
+  pub cost : ℕ
+  pub enough : transit.account.smax * busy_for least byte_ns ≤ cost * least
+  pub burst : flow.burst ≡ (parts * cost) * (transit.account.bag + transit.account.jitter)
+  pub rate : flow.rate ≡ parts * cost
+
+abbrev pub IsFlow : Equipment → (ℕ → Sizes) → ℕ → ℕ → Flow → Type 0
+IsFlow e size byte_ns scale flow = IsPacedFlow e size byte_ns scale flow ⊎ IsMeteredFlow e size byte_ns scale flow
 
 -- the burst and the rate of a line by which frames come to node p, and which is no faster than the port's own
 pub record IsByLine (x : Setting NodeState) (p : ℕ) (size : ℕ → Sizes) (byte_ns scale : ℕ) (g : Group) : Type 0 where
@@ -98,7 +130,7 @@ pub record IsByLine (x : Setting NodeState) (p : ℕ) (size : ℕ → Sizes) (by
   pub way : IsWay x from from_port by p g.line outlet line
   pub slower : byte_ns ≤ outlet.ahead.byte_ns
   pub most : ℕ
-  pub costs : Every (λ flow. busy_for (size flow.link).greatest byte_ns ≤ most) g.flows
+  pub costs : Every (λ flow. CostsAtMost (x.opening p).equipment size byte_ns flow.link most) g.flows
   pub burst : g.burst ≡ scale * most
   pub rate : g.rate ≡ scale
 
@@ -128,7 +160,7 @@ pub record IsHighBound (x : Setting NodeState) (size : ℕ → Sizes) (p q : ℕ
   pub high_are : AreGroups x size p q outlet scale whole High high
   -- no low frame costs more
   pub most : ℕ
-  pub low_costs : (v line : ℕ) → IsThrough (x.opening p).equipment q v line Low → busy_for (size v).greatest outlet.ahead.byte_ns ≤ most
+  pub low_costs : (v line : ℕ) → IsThrough (x.opening p).equipment q v line Low → CostsAtMost (x.opening p).equipment size outlet.ahead.byte_ns v most
   pub rate : groups_rate whole high ≤ whole * scale
   pub within : groups_burst whole high + (whole * scale) * most < (whole * scale) * (delay + 1)
 

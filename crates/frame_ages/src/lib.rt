@@ -13,8 +13,9 @@ pub fn sizes_law()
 {}
 
 /// In the one-thread run frames wait no longer at an output port than its numbers state, if these pass the check. They count each virtual
-/// link that goes out there with its BAG, with the jitter of its account at a switch, and with the size of its frames. They count each line
-/// by which frames come with the greatest of these sizes.
+/// link that goes out there with its BAG, with the jitter of its account at a switch, and with the size of its frames: the greatest that is offered,
+/// or at a switch Smax, as its account lets none pass that is longer. If the account counts bytes, they may count the bytes that it lets pass. They
+/// count each line by which frames come with the greatest of these sizes.
 pub fn ports_law()
     ensures high { AreHighsInTime }
     ensures low { AreLowsInTime }

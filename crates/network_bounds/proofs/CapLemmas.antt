@@ -36,17 +36,17 @@ pub mixed-more : (w line flows rest : ℕ) → capped (capped (mixed WHOLE w (ca
 mixed-more w line flows rest =
     ap (λ a. capped (a + capped rest)) (cap-mixed w line flows) ∙ cap-add (mixed WHOLE w line flows) rest
 
-abbrev mixture_with : ℕ → ℕ → ℕ → Bool → Mixture
-mixture_with a b m k = record { burst = a; rate = b; greatest = m; is_loose = k }
+abbrev mixture_with : ℕ → ℕ → ℕ → Mixture
+mixture_with a b m = record { burst = a; rate = b; greatest = m }
 
-made : (a b c d m : ℕ) (k : Bool) → a ≡ b → c ≡ d → mixture_with a c m k ≡ mixture_with b d m k
-made a b c d m k one two = cc
+made : (a b c d m : ℕ) → a ≡ b → c ≡ d → mixture_with a c m ≡ mixture_with b d m
+made a b c d m one two = cc
 
 -- a line more
 pub share-more : (port : PortPlan) (choice : Choice) (high : Bool) (j : ℕ) →
     with_share (mixed_below port choice high j) (weight_of choice j (share_at port (gaps_in choice) j high)) (share_at port (gaps_in choice) j high) ≡ mixed_below port choice high (suc j)
 share-more port choice high j =
     let weight = weight_of choice j (share_at port (gaps_in choice) j high) in
-    made _ _ _ _ _ _
+    made _ _ _ _ _
     (mixed-more weight (line_burst_at port (gaps_in choice) j high) (flows_burst (flows_at port (gaps_in choice) j high)) (groups_burst WHOLE (groups_below port choice high j)))
     (mixed-more weight (line_rate_at port (gaps_in choice) j high) (flows_rate (flows_at port (gaps_in choice) j high)) (groups_rate WHOLE (groups_below port choice high j)))

@@ -1,12 +1,12 @@
 -- What comes to a port by a line, one virtual link after another.
-use Rattle.std.proofs.Common.{◌≡◌, ℕ, ◌+◌, ◌||◌, Bool, true, false, if◌then◌else◌, max, List, [], ◌∷◌, refl, sym, ap, ◌∙◌, arith}
+use Rattle.std.proofs.Common.{◌≡◌, ℕ, ◌+◌, Bool, true, false, if◌then◌else◌, max, List, [], ◌∷◌, refl, sym, ap, ◌∙◌, arith}
 use Rattle.port_bounds.specs.Mixtures.{flows_burst, flows_rate}
 use Rattle.network_bounds.specs.declared.passing.Passing.{Passing}
 use Rattle.network_bounds.specs.declared.share.Share.{Share}
 use Rattle.network_bounds.specs.Numbers.{capped}
-use Rattle.network_bounds.specs.Curves.{cost_of, flow_of, is_loose}
+use Rattle.network_bounds.specs.Curves.{cost_of, flow_of}
 use Rattle.network_bounds.specs.Passing.{comes}
-use Rattle.network_bounds.specs.Mixing.{PortPlan, any_by, any_loose_at, flows_at, flows_by, flows_share, greatest_at, greatest_by, with_link}
+use Rattle.network_bounds.specs.Mixing.{PortPlan, flows_at, flows_by, flows_share, greatest_at, greatest_by, with_link}
 
 -- a share, and what comes besides, are together all that comes
 pub record AreTogether (port : PortPlan) (by_gap : Bool) (j : ℕ) (high : Bool) (share : Share) (rest : List Passing) : Type 0 where
@@ -18,11 +18,6 @@ pub record AreTogether (port : PortPlan) (by_gap : Bool) (j : ℕ) (high : Bool)
   pub burst : capped (share.burst + flows_burst (flows_by (comes port.is_end j high) (flow_of port.is_end by_gap port.byte_ns) rest)) ≡ capped (flows_burst (flows_at port by_gap j high))
   pub rate : capped (share.rate + flows_rate (flows_by (comes port.is_end j high) (flow_of port.is_end by_gap port.byte_ns) rest)) ≡ capped (flows_rate (flows_at port by_gap j high))
   pub greatest : max share.greatest (greatest_by (comes port.is_end j high) (cost_of port.byte_ns) rest) ≡ greatest_at port j high
-  pub loose : (share.is_loose || any_by (comes port.is_end j high) (is_loose port.is_end) rest) ≡ any_loose_at port j high
-
-or-assoc : (a b c : Bool) → ((a || b) || c) ≡ (a || (b || c))
-or-assoc true b c = refl
-or-assoc false b c = refl
 
 cap-three : (a b f : ℕ) → capped (capped (a + b) + f) ≡ capped (a + (b + f))
 cap-three a b f = omega arith
@@ -40,13 +35,10 @@ with-one port by_gap j high share p rest is all =
     let test = comes port.is_end j high in
     let flow = flow_of port.is_end by_gap port.byte_ns in
     let cost = cost_of port.byte_ns in
-    let loose = is_loose port.is_end in
     let flows : flows_by test flow (p ∷ rest) ≡ flow p ∷ flows_by test flow rest =
     ap (λ (b : Bool). if b then flow p ∷ flows_by test flow rest else flows_by test flow rest) is in
     let costs : greatest_by test cost (p ∷ rest) ≡ max (cost p) (greatest_by test cost rest) =
     ap (λ (b : Bool). if b then max (cost p) (greatest_by test cost rest) else greatest_by test cost rest) is in
-    let any : any_by test loose (p ∷ rest) ≡ (loose p || any_by test loose rest) =
-    ap (λ (b : Bool). if b then loose p || any_by test loose rest else any_by test loose rest) is in
     record {
       no_bound = all.no_bound;
       no_burst = all.no_burst;
@@ -56,7 +48,6 @@ with-one port by_gap j high share p rest is all =
       burst = cap-three share.burst (flow p).burst (flows_burst (flows_by test flow rest)) ∙ ap (λ fs. capped (share.burst + flows_burst fs)) (sym flows) ∙ all.burst;
       rate = cap-three share.rate (flow p).rate (flows_rate (flows_by test flow rest)) ∙ ap (λ fs. capped (share.rate + flows_rate fs)) (sym flows) ∙ all.rate;
       greatest = max-three share.greatest (cost p) (greatest_by test cost rest) ∙ ap (λ n. max share.greatest n) (sym costs) ∙ all.greatest;
-      loose = or-assoc share.is_loose (loose p) (any_by test loose rest) ∙ ap (λ b. share.is_loose || b) (sym any) ∙ all.loose;
     }
 
 -- one that does not
@@ -66,13 +57,10 @@ without-one port by_gap j high share p rest is all =
     let test = comes port.is_end j high in
     let flow = flow_of port.is_end by_gap port.byte_ns in
     let cost = cost_of port.byte_ns in
-    let loose = is_loose port.is_end in
     let flows : flows_by test flow (p ∷ rest) ≡ flows_by test flow rest =
     ap (λ (b : Bool). if b then flow p ∷ flows_by test flow rest else flows_by test flow rest) is in
     let costs : greatest_by test cost (p ∷ rest) ≡ greatest_by test cost rest =
     ap (λ (b : Bool). if b then max (cost p) (greatest_by test cost rest) else greatest_by test cost rest) is in
-    let any : any_by test loose (p ∷ rest) ≡ any_by test loose rest =
-    ap (λ (b : Bool). if b then loose p || any_by test loose rest else any_by test loose rest) is in
     record {
       no_bound = all.no_bound;
       no_burst = all.no_burst;
@@ -82,18 +70,13 @@ without-one port by_gap j high share p rest is all =
       burst = ap (λ fs. capped (share.burst + flows_burst fs)) (sym flows) ∙ all.burst;
       rate = ap (λ fs. capped (share.rate + flows_rate fs)) (sym flows) ∙ all.rate;
       greatest = ap (λ n. max share.greatest n) (sym costs) ∙ all.greatest;
-      loose = ap (λ b. share.is_loose || b) (sym any) ∙ all.loose;
     }
 
-or-none : (a : Bool) → (a || false) ≡ a
-or-none true = refl
-or-none false = refl
+abbrev share_with : Bool → ℕ → ℕ → ℕ → ℕ → ℕ → Share
+share_with i a b c d e = record { is_bounding = i; line_burst = a; line_rate = b; burst = c; rate = d; greatest = e }
 
-abbrev share_with : Bool → ℕ → ℕ → ℕ → ℕ → ℕ → Bool → Share
-share_with i a b c d e k = record { is_bounding = i; line_burst = a; line_rate = b; burst = c; rate = d; greatest = e; is_loose = k }
-
-made : (i j : Bool) (a b c d e f g h m n : ℕ) (k l : Bool) → i ≡ j → a ≡ b → c ≡ d → e ≡ f → g ≡ h → m ≡ n → k ≡ l → share_with i a c e g m k ≡ share_with j b d f h n l
-made i j a b c d e f g h m n k l zero one two three four five six = cc
+made : (i j : Bool) (a b c d e f g h m n : ℕ) → i ≡ j → a ≡ b → c ≡ d → e ≡ f → g ≡ h → m ≡ n → share_with i a c e g m ≡ share_with j b d f h n
+made i j a b c d e f g h m n zero one two three four five = cc
 
 -- once none is left
 pub all-there : (port : PortPlan) (by_gap : Bool) (j : ℕ) (high : Bool) (share : Share) → AreTogether port by_gap j high share [] → share ≡ flows_share port by_gap j high
@@ -101,5 +84,4 @@ all-there port by_gap j high share all =
     let burst : share.burst ≡ capped (flows_burst (flows_at port by_gap j high)) = omega (arith, all.held_burst, all.burst) in
     let rate : share.rate ≡ capped (flows_rate (flows_at port by_gap j high)) = omega (arith, all.held_rate, all.rate) in
     let greatest : share.greatest ≡ greatest_at port j high = omega (arith, all.greatest) in
-    let loose : share.is_loose ≡ any_loose_at port j high = sym (or-none share.is_loose) ∙ all.loose in
-    made _ _ _ _ _ _ _ _ _ _ _ _ _ _ all.no_bound all.no_burst all.no_rate burst rate greatest loose
+    made _ _ _ _ _ _ _ _ _ _ _ _ all.no_bound all.no_burst all.no_rate burst rate greatest

@@ -12,6 +12,7 @@ use Rattle.std.proofs.lemmas.Option.{slice_get_past}
 use Rattle.network.specs.declared.wiring.LinePlan.{LinePlan}
 use Rattle.network.specs.Words.{lines_of}
 use Rattle.network_bounds.specs.declared.reason.Reason.{Reason}
+use Rattle.network_bounds.specs.declared.sizes.LinkSizes.{LinkSizes}
 use Rattle.network_bounds.specs.Ages.{network_ns_of}
 use Rattle.network_bounds.specs.Delays.{AreBounds, IsBound}
 use Rattle.network_bounds.specs.Mixing.{PortPlan, port_before}
@@ -65,29 +66,30 @@ ports-more plan done bounds k bound below is =
     ∙ ap (λ (b : PortBound). done ++ (port_text plan k b ++ ports_from plan (k + 1) (drop (k + 1) bounds))) (sym is)
     ∙ ap (λ bs. done ++ ports_from plan k bs) (sym (drop_more bounds k bound below))
 
--- one bound more
-bounds-snoc : (plan : Plan) (lines : List LinePlan) (line : LinePlan) (bounds : List PortBound) (bound : PortBound) → AreBounds plan lines bounds →
-    IsBound (port_before plan line) bound → AreBounds plan (lines ++ line ∷ []) (bounds ++ bound ∷ [])
-bounds-snoc plan [] line [] bound are is = (is, tt)
-bounds-snoc plan [] line (b ∷ bs) bound are is = absurd are
-bounds-snoc plan (l ∷ ls) line [] bound are is = absurd are
-bounds-snoc plan (l ∷ ls) line (b ∷ bs) bound are is = (are.0, bounds-snoc plan ls line bs bound are.1 is)
+module _ (known : ℕ → LinkSizes) (plan : Plan) where
+  -- one bound more
+  bounds-snoc : (lines : List LinePlan) (line : LinePlan) (bounds : List PortBound) (bound : PortBound) → AreBounds known plan lines bounds →
+      IsBound (port_before known plan line) bound → AreBounds known plan (lines ++ line ∷ []) (bounds ++ bound ∷ [])
+  bounds-snoc [] line [] bound are is = (is, tt)
+  bounds-snoc [] line (b ∷ bs) bound are is = absurd are
+  bounds-snoc (l ∷ ls) line [] bound are is = absurd are
+  bounds-snoc (l ∷ ls) line (b ∷ bs) bound are is = (are.0, bounds-snoc ls line bs bound are.1 is)
 
-pub bounds-more : (plan : Plan) (k : ℕ) (line : LinePlan) (bounds : List PortBound) (bound : PortBound) → slice_get (lines_of plan) k ≡ Some line →
-    AreBounds plan (take k (lines_of plan)) bounds → IsBound (port_before plan line) bound → AreBounds plan (take (k + 1) (lines_of plan)) (bounds ++ bound ∷ [])
-bounds-more plan k line bounds bound at are is =
-    let there = read (lines_of plan) k line at in
-    subst (λ ls. AreBounds plan ls (bounds ++ bound ∷ [])) (sym (take-read (lines_of plan) k line there.0 there.1)) (bounds-snoc plan (take k (lines_of plan)) line bounds bound are is)
+  pub bounds-more : (k : ℕ) (line : LinePlan) (bounds : List PortBound) (bound : PortBound) → slice_get (lines_of plan) k ≡ Some line →
+      AreBounds known plan (take k (lines_of plan)) bounds → IsBound (port_before known plan line) bound → AreBounds known plan (take (k + 1) (lines_of plan)) (bounds ++ bound ∷ [])
+  bounds-more k line bounds bound at are is =
+      let there = read (lines_of plan) k line at in
+      subst (λ ls. AreBounds known plan ls (bounds ++ bound ∷ [])) (sym (take-read (lines_of plan) k line there.0 there.1)) (bounds-snoc (take k (lines_of plan)) line bounds bound are is)
 
--- the port that an option of a line gives
-pub port-there : (plan : Plan) (k : ℕ) (port : PortPlan) → option_map (port_before plan) (slice_get (lines_of plan) k) ≡ Some port →
-    (line : LinePlan) × (slice_get (lines_of plan) k ≡ Some line) × (port_before plan line ≡ port)
-port-there plan k port e = go (slice_get (lines_of plan) k) refl e
-  where
-    go : (o : Option LinePlan) → slice_get (lines_of plan) k ≡ o → option_map (port_before plan) o ≡ Some port →
-        (line : LinePlan) × (slice_get (lines_of plan) k ≡ Some line) × (port_before plan line ≡ port)
-    go None at e = absurd (cc)
-    go (Some line) at e = (line, at, (let same : port_before plan line ≡ port = cc in same))
+  -- the port that an option of a line gives
+  pub port-there : (k : ℕ) (port : PortPlan) → option_map (port_before known plan) (slice_get (lines_of plan) k) ≡ Some port →
+      (line : LinePlan) × (slice_get (lines_of plan) k ≡ Some line) × (port_before known plan line ≡ port)
+  port-there k port e = go (slice_get (lines_of plan) k) refl e
+    where
+      go : (o : Option LinePlan) → slice_get (lines_of plan) k ≡ o → option_map (port_before known plan) o ≡ Some port →
+          (line : LinePlan) × (slice_get (lines_of plan) k ≡ Some line) × (port_before known plan line ≡ port)
+      go None at e = absurd (cc)
+      go (Some line) at e = (line, at, (let same : port_before known plan line ≡ port = cc in same))
 
 -- what stands in a list does not depend on what would stand behind its end
 pub any-end : {X : Type 0} (xs : List X) (i : ℕ) (d e : X) → i < length xs → get_or xs i d ≡ get_or xs i e

@@ -1,17 +1,18 @@
 -- How long a frame takes from a port to the end of its last bit, and how much waits there, or why that has no bound.
-use Rattle.std.specs.Prelude.{◌≡◌, ℕ, ◌+◌, ◌-◌, ◌*◌, ◌/◌, ◌^◌, ◌&&◌, ◌||◌, Bool, true, false, if◌then◌else◌, nat_le, nat_lt, List, [], ◌∷◌, ⊤, Result, Ok, Err}
+use Rattle.std.specs.Prelude.{◌≡◌, ℕ, ◌+◌, ◌-◌, ◌*◌, ◌/◌, ◌^◌, ◌&&◌, Bool, true, false, if◌then◌else◌, nat_le, nat_lt, List, [], ◌∷◌, ⊤, Result, Ok, Err}
 use Rattle.vlink.specs.Wire.{busy_for, last_bit_after}
 use Rattle.network.specs.declared.wiring.LinePlan.{LinePlan}
 use Rattle.network.specs.Words.{Plan}
 use Rattle.row_types.specs.declared.rows.VirtualLink.{VirtualLink}
 use Rattle.network_bounds.specs.declared.reason.Reason.{Reason}
-use Rattle.network_bounds.specs.declared.reason.Reason.TheVariants.{Bytes, Number, Rate}
+use Rattle.network_bounds.specs.declared.reason.Reason.TheVariants.{Number, Rate}
 use Rattle.network_bounds.specs.declared.mixing.Mixture.{Mixture}
 use Rattle.network_bounds.specs.declared.mixing.Choice.{Choice}
 use Rattle.network_bounds.specs.declared.mixing.Choice.TheVariants.{Least, By}
 use Rattle.network_bounds.specs.declared.delays.Weights.{Weights}
 use Rattle.network_bounds.specs.declared.delays.Later.{Later}
 use Rattle.network_bounds.specs.declared.delays.PortBound.{PortBound}
+use Rattle.network_bounds.specs.declared.sizes.LinkSizes.{LinkSizes}
 use Rattle.network_bounds.specs.Numbers.{UNITS, capped}
 use Rattle.network_bounds.specs.Curves.{is_first}
 use Rattle.network_bounds.specs.Mixing.{PortPlan, mixed_at, port_before}
@@ -32,9 +33,7 @@ first_mixed port w = let by = mixed_at port (By w.first) true in if fits_first b
 
 abbrev pub first_of : ℕ → Mixture → ℕ → Result ℕ Reason
 first_of byte_ns high greatest =
-    if high.is_loose
-    then Err Bytes
-    else (if fits_first high then only_if (nat_lt high.burst (2 ^ 128 - 1)) (capped (high.burst / UNITS + greatest) - 12 * byte_ns) Number else Err Rate)
+    if fits_first high then only_if (nat_lt high.burst (2 ^ 128 - 1)) (capped (high.burst / UNITS + greatest) - 12 * byte_ns) Number else Err Rate
 
 -- ---- low frames: they wait for both bursts at what high frames leave of the line
 
@@ -53,9 +52,7 @@ later_by port high low = fits_later (mixed_at port high true) (mixed_at port low
 
 abbrev pub later_of : Mixture → Mixture → Result Later Reason
 later_of high low =
-    if high.is_loose || low.is_loose
-    then Err Bytes
-    else (if fits_later high low then only_if (nat_lt (both_burst high low) (2 ^ 128 - 1)) (record { burst = both_burst high low; left = UNITS - high.rate }) Number else Err Rate)
+    if fits_later high low then only_if (nat_lt (both_burst high low) (2 ^ 128 - 1)) (record { burst = both_burst high low; left = UNITS - high.rate }) Number else Err Rate
 
 abbrev pub later_bound : PortPlan → Weights → Result Later Reason
 later_bound port w =
@@ -67,9 +64,7 @@ later_bound port w =
 
 abbrev pub waiting_of : ℕ → Mixture → Mixture → Result ℕ Reason
 waiting_of byte_ns high low =
-    if high.is_loose || low.is_loose
-    then Err Bytes
-    else (if fits_both high low then only_if (nat_lt (both_burst high low) (2 ^ 128 - 1)) (both_burst high low / UNITS / byte_ns) Number else Err Rate)
+    if fits_both high low then only_if (nat_lt (both_burst high low) (2 ^ 128 - 1)) (both_burst high low / UNITS / byte_ns) Number else Err Rate
 
 abbrev pub waiting_bound : PortPlan → Weights → Result ℕ Reason
 waiting_bound port w =
@@ -90,12 +85,12 @@ bound_by port w = record {
 abbrev pub IsBound : PortPlan → PortBound → Type 0
 IsBound port bound = (w : Weights) × (bound ≡ bound_by port w)
 
--- a bound of the port before each line
-abbrev pub AreBounds : Plan → List LinePlan → List PortBound → Type 0
-AreBounds plan [] [] = ⊤
-AreBounds plan (line ∷ lines) (bound ∷ bounds) = IsBound (port_before plan line) bound × AreBounds plan lines bounds
-AreBounds plan [] (bound ∷ bounds) = ⊥
-AreBounds plan (line ∷ lines) [] = ⊥
+-- a bound of the port before each line, where the frames of each virtual link have these sizes
+abbrev pub AreBounds : (ℕ → LinkSizes) → Plan → List LinePlan → List PortBound → Type 0
+AreBounds known plan [] [] = ⊤
+AreBounds known plan (line ∷ lines) (bound ∷ bounds) = IsBound (port_before known plan line) bound × AreBounds known plan lines bounds
+AreBounds known plan [] (bound ∷ bounds) = ⊥
+AreBounds known plan (line ∷ lines) [] = ⊥
 
 -- what follows a number, where there is one
 abbrev pub after : {X : Type 0} → Result X Reason → (X → Result ℕ Reason) → Result ℕ Reason

@@ -12,7 +12,8 @@ use Rattle.network_bounds.specs.declared.mixing.Choice.{Choice}
 use Rattle.network_bounds.specs.declared.mixing.Choice.TheVariants.{Least, By}
 use Rattle.network_bounds.specs.declared.share.Share.{Share}
 use Rattle.network_bounds.specs.Numbers.{SCALE, WHOLE, capped}
-use Rattle.network_bounds.specs.Curves.{burst_of, cost_of, flow_of, is_loose, rate_of}
+use Rattle.network_bounds.specs.declared.sizes.LinkSizes.{LinkSizes}
+use Rattle.network_bounds.specs.Curves.{burst_of, cost_of, flow_of, rate_of}
 use Rattle.network_bounds.specs.Passing.{comes, passings}
 
 -- no node has more ports
@@ -41,11 +42,12 @@ line_into plan n j = line_below plan n j (length (lines_of plan))
 abbrev pub byte_ns_into : Plan → ℕ → ℕ → Option ℕ
 byte_ns_into plan n j = option_map_or (λ k. option_map (λ line. line.byte_ns) (slice_get (lines_of plan) k)) (line_into plan n j) None
 
-abbrev pub port_before : Plan → LinePlan → PortPlan
-port_before plan line = record {
+-- where the frames of each virtual link have these sizes
+abbrev pub port_before : (ℕ → LinkSizes) → Plan → LinePlan → PortPlan
+port_before known plan line = record {
   is_end = is_end_system plan.nodes line.from;
   byte_ns = line.byte_ns;
-  passings = passings plan line.from line.from_port;
+  passings = passings known plan line.from line.from_port;
   before = map (byte_ns_into plan line.from) (range_with_len 0 PORTS);
 }
 
@@ -59,19 +61,12 @@ abbrev pub greatest_by : (Passing → Bool) → (Passing → ℕ) → List Passi
 greatest_by test cost [] = 0
 greatest_by test cost (p ∷ ps) = if test p then max (cost p) (greatest_by test cost ps) else greatest_by test cost ps
 
-abbrev pub any_by : (Passing → Bool) → (Passing → Bool) → List Passing → Bool
-any_by test wide [] = false
-any_by test wide (p ∷ ps) = if test p then wide p || any_by test wide ps else any_by test wide ps
-
 -- by their gaps, or by their BAGs
 abbrev pub flows_at : PortPlan → Bool → ℕ → Bool → List Flow
 flows_at port by_gap j high = flows_by (comes port.is_end j high) (flow_of port.is_end by_gap port.byte_ns) port.passings
 
 abbrev pub greatest_at : PortPlan → ℕ → Bool → ℕ
 greatest_at port j high = greatest_by (comes port.is_end j high) (cost_of port.byte_ns) port.passings
-
-abbrev pub any_loose_at : PortPlan → ℕ → Bool → Bool
-any_loose_at port j high = any_by (comes port.is_end j high) (is_loose port.is_end) port.passings
 
 -- a line bounds what comes where it is no faster than the line ahead; an end system's own frames come by none
 abbrev pub is_bounding : PortPlan → ℕ → Bool
@@ -89,7 +84,6 @@ with_link share is_end by_gap byte_ns p = record share {
   burst = capped (share.burst + burst_of is_end by_gap byte_ns p);
   rate = capped (share.rate + rate_of is_end by_gap byte_ns p);
   greatest = max share.greatest (cost_of byte_ns p);
-  is_loose = share.is_loose || is_loose is_end p;
 }
 
 -- that, in numbers of 128 bits; without what the line bounds, and with it
@@ -101,7 +95,6 @@ flows_share port by_gap j high = record {
   burst = capped (flows_burst (flows_at port by_gap j high));
   rate = capped (flows_rate (flows_at port by_gap j high));
   greatest = greatest_at port j high;
-  is_loose = any_loose_at port j high;
 }
 
 abbrev pub share_at : PortPlan → Bool → ℕ → Bool → Share
@@ -112,7 +105,6 @@ share_at port by_gap j high = record {
   burst = capped (flows_burst (flows_at port by_gap j high));
   rate = capped (flows_rate (flows_at port by_gap j high));
   greatest = greatest_at port j high;
-  is_loose = any_loose_at port j high;
 }
 
 -- ---- weights: whatever they are, the mixture is a bound
@@ -148,10 +140,6 @@ abbrev pub greatest_below : PortPlan → Bool → ℕ → ℕ
 greatest_below port high zero = 0
 greatest_below port high (suc j) = max (greatest_at port j high) (greatest_below port high j)
 
-abbrev pub any_loose_below : PortPlan → Bool → ℕ → Bool
-any_loose_below port high zero = false
-any_loose_below port high (suc j) = any_loose_at port j high || any_loose_below port high j
-
 abbrev pub groups_at : PortPlan → Choice → Bool → List Group
 groups_at port choice high = groups_below port choice high PORTS
 
@@ -161,7 +149,6 @@ mixed_below port choice high j = record {
   burst = capped (groups_burst WHOLE (groups_below port choice high j));
   rate = capped (groups_rate WHOLE (groups_below port choice high j));
   greatest = greatest_below port high j;
-  is_loose = any_loose_below port high j;
 }
 
 -- all that comes, with what comes by one line more, in numbers of 128 bits
@@ -170,7 +157,6 @@ with_share all weight share = record {
   burst = capped (capped (mixed WHOLE weight share.line_burst share.burst) + all.burst);
   rate = capped (capped (mixed WHOLE weight share.line_rate share.rate) + all.rate);
   greatest = max share.greatest all.greatest;
-  is_loose = share.is_loose || all.is_loose;
 }
 
 unfoldable pub mixed_at : PortPlan → Choice → Bool → Mixture

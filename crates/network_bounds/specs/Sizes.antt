@@ -1,10 +1,18 @@
 -- Which sizes the frames of a virtual link have: from the least to the greatest that its streams offer.
-use Rattle.std.specs.Prelude.{ℕ, ◌==◌, if◌then◌else◌, min, max, nat_le, List, [], ◌∷◌, map, unwrap_or}
+use Rattle.std.specs.Prelude.{◌≡◌, ℕ, ◌==◌, if◌then◌else◌, min, max, nat_le, List, [], ◌∷◌, map, slice_index_or, unwrap_or}
+use Rattle.std.specs.Option.{option_map_or}
 use Rattle.row_types.specs.declared.rows.Stream.{Stream}
 use Rattle.row_types.specs.declared.rows.VirtualLink.{VirtualLink}
 use Rattle.network.specs.declared.plan.VlStream.{VlStream}
-use Rattle.network.specs.Words.{Plan}
+use Rattle.network.specs.Words.{Plan, place_of_vl}
 use Rattle.network_bounds.specs.declared.sizes.FrameSizes.{FrameSizes}
+use Rattle.network_bounds.specs.declared.sizes.LinkSizes.{LinkSizes}
+use Rattle.network_bounds.specs.declared.sizes.Senders.{Senders}
+use Rattle.network_bounds.specs.declared.sizes.Senders.TheVariants.{AsStated, ByContract}
+
+-- no frame is shorter
+abbrev pub LEAST : ℕ
+LEAST = 64
 
 abbrev pub one_size : ℕ → FrameSizes
 one_size bytes = record { least = bytes; greatest = bytes }
@@ -28,6 +36,26 @@ sizes_with id found (row ∷ rows) = sizes_with id (if row.vl.0 == id then with_
 abbrev pub sizes_in : Plan → VirtualLink → FrameSizes
 sizes_in plan link = sizes_with link.id.0 (sizes_of_stream link.own) plan.streams
 
+-- what bounds count of a virtual link: the sizes that its streams offer; or, whatever other end systems send, any that an account passes, and on the line of
+-- its end system none that is longer than Smax or than what is offered
+abbrev pub link_sizes : Senders → Plan → VirtualLink → LinkSizes
+link_sizes AsStated plan link = record { sent = sizes_in plan link; passed = sizes_in plan link }
+link_sizes ByContract plan link = record {
+  sent = record { least = (sizes_in plan link).least; greatest = max link.smax (sizes_in plan link).greatest };
+  passed = record { least = LEAST; greatest = link.smax };
+}
+
 -- those of each virtual link
-abbrev pub all_sizes : Plan → List FrameSizes
-all_sizes plan = map (λ vl. sizes_in plan vl.link) plan.vls
+abbrev pub all_sizes : Senders → Plan → List LinkSizes
+all_sizes senders plan = map (λ vl. link_sizes senders plan vl.link) plan.vls
+
+-- of these by place, those of the virtual link with a number
+abbrev pub sizes_by : Plan → List LinkSizes → ℕ → LinkSizes
+sizes_by plan all id = option_map_or (λ place. slice_index_or all place (record { sent = one_size LEAST; passed = one_size LEAST })) (place_of_vl plan.vls id) (record { sent = one_size LEAST; passed = one_size LEAST })
+
+abbrev pub known_sizes : Senders → Plan → ℕ → LinkSizes
+known_sizes senders plan = sizes_by plan (all_sizes senders plan)
+
+-- the least that each sends is the least that its streams offer
+abbrev pub AreLeast : Plan → List LinkSizes → Type 0
+AreLeast plan all = map (λ sizes. sizes.sent.least) all ≡ map (λ vl. (sizes_in plan vl.link).least) plan.vls

@@ -5,16 +5,17 @@ use Rattle.network.specs.Words.{Plan, VlPlan, destinations_of, line_name, lines_
 use Rattle.row_types.specs.declared.rows.VirtualLink.{VirtualLink}
 use Rattle.trace_segments.specs.Words.{line, place_name}
 use Rattle.network_bounds.specs.declared.reason.Reason.{Reason}
-use Rattle.network_bounds.specs.declared.reason.Reason.TheVariants.{Bytes, Number, Rate, Way}
+use Rattle.network_bounds.specs.declared.reason.Reason.TheVariants.{Number, Rate, Way}
 use Rattle.network_bounds.specs.declared.delays.PortBound.{PortBound}
 use Rattle.network_bounds.specs.Numbers.{capped}
 use Rattle.network_bounds.specs.Delays.{AreBounds}
 use Rattle.network_bounds.specs.Ages.{network_ns_of, wait_of}
+use Rattle.network_bounds.specs.declared.sizes.Senders.{Senders}
+use Rattle.network_bounds.specs.Sizes.{known_sizes}
 
 -- how a reason is written
 abbrev pub reason_name : Reason → List ℕ
 reason_name Rate = codes "rate"
-reason_name Bytes = codes "bytes"
 reason_name Way = codes "way"
 reason_name Number = codes "number"
 
@@ -75,5 +76,5 @@ abbrev pub bounds_text : Plan → List PortBound → List ℕ
 bounds_text plan bounds = bounds_head ++ (links_text plan bounds ++ ports_text plan bounds)
 
 -- this is the text of bounds of the network, by some weights for each port
-abbrev pub IsBoundsText : Plan → List ℕ → Type 0
-IsBoundsText plan text = (bounds : List PortBound) × AreBounds plan (lines_of plan) bounds × (text ≡ bounds_text plan bounds)
+abbrev pub IsBoundsText : Senders → Plan → List ℕ → Type 0
+IsBoundsText senders plan text = (bounds : List PortBound) × AreBounds (known_sizes senders plan) plan (lines_of plan) bounds × (text ≡ bounds_text plan bounds)

@@ -87,9 +87,7 @@ fn held(burst: u128, number: u128) -> Result<u128, Reason>
 fn first_of(byte_ns: u16, high: &Mixture, greatest: u64) -> Result<u128, Reason>
     ensures { result ≡ first_of byte_ns high.now greatest }
 {
-    if high.is_loose {
-        Err(Reason::Bytes)
-    } else if fits_first(high) {
+    if fits_first(high) {
         held(high.burst, first_ns(byte_ns, high.burst, greatest))
     } else {
         Err(Reason::Rate)
@@ -128,9 +126,7 @@ fn later_of(high: &Mixture, low: &Mixture) -> Result<Later, Reason>
     ensures { result ≡ later_of high.now low.now }
 {
     let burst = high.burst.saturating_add(low.burst);
-    if high.is_loose || low.is_loose {
-        Err(Reason::Bytes)
-    } else if fits_later(high, low) {
+    if fits_later(high, low) {
         if burst < u128::MAX {
             let left = UNITS.saturating_sub(high.rate);
             Ok(Later { burst, left })
@@ -163,9 +159,7 @@ fn waiting_of(byte_ns: u16, high: &Mixture, low: &Mixture) -> Result<u128, Reaso
     ensures { result ≡ waiting_of byte_ns high.now low.now }
 {
     let burst = high.burst.saturating_add(low.burst);
-    if high.is_loose || low.is_loose {
-        Err(Reason::Bytes)
-    } else if fits_both(high, low) {
+    if fits_both(high, low) {
         held(burst, burst / UNITS / u128::from(byte_ns))
     } else {
         Err(Reason::Rate)

@@ -18,4 +18,5 @@ mod write;
 
 pub use delays::PortBound;
 pub use reason::Reason;
+pub use sizes::Senders;
 pub use write::write_bounds;

@@ -15,8 +15,6 @@ pub struct Mixture {
     pub rate: u128,
     /// The greatest cost of a frame, in ns.
     pub greatest: u64,
-    /// Whether an account lets more pass than its BAGs allow.
-    pub is_loose: bool,
 }
 
 /// How a mixture is made: how many parts of WHOLE are taken from what a line bounds, by port, and how virtual links count.
@@ -80,7 +78,6 @@ fn with_share(all: Mixture, weight: u32, share: &Share) -> Mixture
         burst: mixed(weight, share.line_burst, share.burst).saturating_add(all.burst),
         rate: mixed(weight, share.line_rate, share.rate).saturating_add(all.rate),
         greatest: share.greatest.max(all.greatest),
-        is_loose: share.is_loose || all.is_loose,
     }
 }
 
@@ -92,7 +89,6 @@ pub fn mixed_at(port: &Port, choice: Choice, is_high: bool) -> Mixture
         burst: 0,
         rate: 0,
         greatest: 0,
-        is_loose: false,
     };
     for input in 0..GREATEST_PORTS {
         let share = share_at(port, choice.by_gap(), input as u16, is_high);

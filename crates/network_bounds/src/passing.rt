@@ -2,11 +2,11 @@
 ghost use Rattle.std.specs.Prelude.{◌≡◌, ◌<◌, ◌++◌, All, length, IfOk, OnOk};
 ghost use Rattle.network.specs.Words.{IsLinkInLimits, is_end_system};
 ghost use Rattle.network_bounds.specs.Curves.{is_first};
-ghost use Rattle.network_bounds.specs.Sizes.{all_sizes};
-ghost use Rattle.network_bounds.specs.Passing.{comes, first_port_of, input_of, passing_at, passings};
+ghost use Rattle.network_bounds.specs.Sizes.{sizes_by};
+ghost use Rattle.network_bounds.specs.Passing.{comes, first_port_of, input_of, passing_at, passings, sizes_at};
 
 use crate::curves::is_first;
-use crate::sizes::{FrameSizes, sizes_at};
+use crate::sizes::{FrameSizes, LinkSizes, sizes_at};
 use network::{Network, NodeKind, VirtualLink, Way};
 use std::alloc::{AllocError, Global};
 use vlink::VlId;
@@ -56,19 +56,25 @@ pub fn input_of(network: &Network, node: usize, id: VlId) -> u16
     }
 }
 
+/// Returns the sizes that count at a node: those that its end system sends, or those that an account passes.
+fn counted(is_end: bool, sizes: LinkSizes) -> FrameSizes
+    ensures { result ≡ sizes_at is_end sizes }
+{
+    if is_end { sizes.sent } else { sizes.passed }
+}
+
 /// Appends the virtual link of this way, if it leaves a node by this port.
 fn push_passing(
     found: &mut Vec<Passing>,
     network: &Network,
-    known: &[FrameSizes],
+    known: &[LinkSizes],
     node: usize,
     port: u16,
     way: Way,
 ) -> Result<(), AllocError>
     requires node { node < length network.now.nodes }
-    requires known { known.now ≡ all_sizes network.now }
     requires limits { All (λ p. IsLinkInLimits p.link) found.old.items }
-    ensures passing { OnOk result (found.new.items ≡ found.old.items ++ passing_at network.now node port way) }
+    ensures passing { OnOk result (found.new.items ≡ found.old.items ++ passing_at (sizes_by network.now known.now) network.now node port way) }
     ensures limits { OnOk result (All (λ p. IsLinkInLimits p.link) found.new.items) }
 {
     if way.port != port {
@@ -80,7 +86,7 @@ fn push_passing(
     let link = network.virtual_link(vl);
     found.push(Passing {
         link,
-        sizes: sizes_at(network, known, vl, &link),
+        sizes: counted(is_end(network, node), sizes_at(known, vl)),
         input: input_of(network, node, way.vl),
     })?;
     Ok(())
@@ -90,13 +96,12 @@ fn push_passing(
 pub fn passings(
     alloc: Global,
     network: &Network,
-    known: &[FrameSizes],
+    known: &[LinkSizes],
     node: usize,
     port: u16,
 ) -> Result<Vec<Passing>, AllocError>
     requires node { node < length network.now.nodes }
-    requires known { known.now ≡ all_sizes network.now }
-    ensures passings { IfOk result (λ found. found.items ≡ passings network.now node port) }
+    ensures passings { IfOk result (λ found. found.items ≡ passings (sizes_by network.now known.now) network.now node port) }
     ensures limits { IfOk result (λ found. All (λ p. IsLinkInLimits p.link) found.items) }
 {
     let mut found = Vec::new(alloc);

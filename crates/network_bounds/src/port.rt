@@ -3,10 +3,10 @@ ghost use Rattle.std.specs.Prelude.{◌≡◌, ◌<◌, length, map, option_map,
 ghost use Rattle.std.specs.List.{range_with_len};
 ghost use Rattle.network.specs.Words.{lines_of};
 ghost use Rattle.network_bounds.specs.Mixing.{PORTS, byte_ns_into, leads_to, line_into, port_before};
-ghost use Rattle.network_bounds.specs.Sizes.{all_sizes};
+ghost use Rattle.network_bounds.specs.Sizes.{sizes_by};
 
 use crate::passing::{Passing, is_end, passings};
-use crate::sizes::FrameSizes;
+use crate::sizes::LinkSizes;
 use network::{GREATEST_PORTS, Network};
 use std::alloc::{AllocError, Global};
 use std::marker::Model;
@@ -82,16 +82,15 @@ fn bytes_into(alloc: Global, network: &Network, node: usize) -> Result<Vec<Optio
 }
 
 impl Port {
-    /// Makes the port before a line.
+    /// Makes the port before a line, where the frames of each virtual link have these sizes.
     pub fn new(
         alloc: Global,
         network: &Network,
-        known: &[FrameSizes],
+        known: &[LinkSizes],
         line: usize,
     ) -> Result<Self, AllocError>
-        requires line { line < length (lines_of network.now) }
-        requires known { known.now ≡ all_sizes network.now }
-        ensures { IfOk result (λ port. option_map (port_before network.now) (slice_get (lines_of network.now) line) ≡ Some port) }
+        requires { line < length (lines_of network.now) }
+        ensures { IfOk result (λ port. option_map (port_before (sizes_by network.now known.now) network.now) (slice_get (lines_of network.now) line) ≡ Some port) }
     {
         let ahead = network.line(line);
         let node = usize::from(ahead.from);

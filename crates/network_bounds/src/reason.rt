@@ -7,8 +7,6 @@ ghost use Rattle.network_bounds.specs.Text.{reason_name};
 pub enum Reason {
     /// More may come to a port than its line can send.
     Rate,
-    /// A switch counts bytes, and frames are shorter than Smax: it lets more of them pass than their BAGs allow.
-    Bytes,
     /// The virtual link does not come there.
     Way,
     /// A number exceeds 128 bits.
@@ -21,7 +19,6 @@ pub(crate) fn reason_name<'a>(reason: Reason) -> &'a str
 {
     match reason {
         Reason::Rate => "rate",
-        Reason::Bytes => "bytes",
         Reason::Way => "way",
         Reason::Number => "number",
     }

@@ -3,7 +3,7 @@ ghost use Rattle.std.specs.Prelude.{◌≡◌};
 ghost use Rattle.network.specs.Words.{IsLinkInLimits};
 ghost use Rattle.network_bounds.specs.Mixing.{flows_share, is_bounding, share_at, with_link};
 
-use crate::curves::{SCALE, burst, cost, is_loose, rate};
+use crate::curves::{SCALE, burst, cost, rate};
 use crate::passing::Passing;
 use crate::port::Port;
 
@@ -20,8 +20,6 @@ pub struct Share {
     pub rate: u128,
     /// The greatest cost of a frame, in ns.
     pub greatest: u64,
-    /// Whether an account lets more pass than its BAGs allow.
-    pub is_loose: bool,
 }
 
 /// Adds one virtual link to what comes.
@@ -40,7 +38,6 @@ fn with_link(share: Share, port: &Port, by_gap: bool, passing: &Passing) -> Shar
             passing,
         ))),
         greatest: share.greatest.max(u64::from(cost(port.byte_ns, passing))),
-        is_loose: share.is_loose || is_loose(port.is_end, passing),
         ..share
     }
 }
@@ -56,7 +53,6 @@ fn flows_at(port: &Port, by_gap: bool, input: u16, is_high: bool) -> Share
         burst: 0,
         rate: 0,
         greatest: 0,
-        is_loose: false,
     };
     for passing in &port.passings {
         if passing.comes(port.is_end, input, is_high) {

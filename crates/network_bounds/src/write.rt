@@ -5,13 +5,13 @@ ghost use Rattle.trace_segments.specs.declared.fault.OutFault.TheVariants.{Devic
 ghost use Rattle.trace_segments.specs.Words.{Adds, IsBeginning};
 ghost use Rattle.network.specs.Words.{IsLinkInLimits, lines_of};
 ghost use Rattle.network_bounds.specs.Delays.{AreBounds};
-ghost use Rattle.network_bounds.specs.Sizes.{all_sizes, sizes_in};
+ghost use Rattle.network_bounds.specs.Sizes.{AreLeast, sizes_by, sizes_in};
 ghost use Rattle.network_bounds.specs.Text.{IsBoundsText, bounds_text, destination_text, destinations_text, links_text, port_text, ports_text};
 
 use crate::ages::network_ns;
 use crate::delays::PortBound;
 use crate::port::Port;
-use crate::sizes::{FrameSizes, all_sizes, sizes_at};
+use crate::sizes::{LinkSizes, Senders, all_sizes, least_at};
 use crate::text;
 use csv::{Error, Writer};
 use network::{Network, VirtualLink};
@@ -20,14 +20,13 @@ use trace_segments::line::{empty, text_of};
 use trace_segments::{OutFault, Sink, write_all};
 use vlink::FrameSize;
 
-/// Returns the bounds of the port before each line.
+/// Returns the bounds of the port before each line, where the frames of each virtual link have these sizes.
 fn bounds_of(
     alloc: Global,
     network: &Network,
-    known: &[FrameSizes],
+    known: &[LinkSizes],
 ) -> Result<Vec<PortBound>, AllocError>
-    requires known { known.now ≡ all_sizes network.now }
-    ensures { IfOk result (λ bounds. AreBounds network.now (lines_of network.now) bounds.items) }
+    ensures { IfOk result (λ bounds. AreBounds (sizes_by network.now known.now) network.now (lines_of network.now) bounds.items) }
 {
     let mut bounds = Vec::new(alloc);
     for line in 0..network.line_count() {
@@ -82,15 +81,15 @@ fn push_destinations(
 fn push_links(
     out: &mut Writer<Vec<u8>>,
     network: &Network,
-    known: &[FrameSizes],
+    known: &[LinkSizes],
     bounds: &[PortBound],
 ) -> Result<(), Error>
-    requires known { known.now ≡ all_sizes network.now }
+    requires known { AreLeast network.now known.now }
     ensures { OnOk result (Adds out.old out.new (links_text network.now bounds.now)) }
 {
     for vl in 0..network.vl_count() {
         let link = network.virtual_link(vl);
-        let least = sizes_at(network, known, vl, &link).least;
+        let least = least_at(network, known, vl, &link);
         push_destinations(out, network, bounds, &link, least, network.destinations(vl))?;
     }
     Ok(())
@@ -133,10 +132,10 @@ fn push_ports(
 fn push_all(
     out: &mut Writer<Vec<u8>>,
     network: &Network,
-    known: &[FrameSizes],
+    known: &[LinkSizes],
     bounds: &[PortBound],
 ) -> Result<(), Error>
-    requires known { known.now ≡ all_sizes network.now }
+    requires known { AreLeast network.now known.now }
     ensures { OnOk result (Adds out.old out.new (bounds_text network.now bounds.now)) }
 {
     text::push_head(out)?;
@@ -148,10 +147,10 @@ fn push_all(
 fn csv_text(
     alloc: Global,
     network: &Network,
-    known: &[FrameSizes],
+    known: &[LinkSizes],
     bounds: &[PortBound],
 ) -> Result<Vec<u8>, Error>
-    requires known { known.now ≡ all_sizes network.now }
+    requires known { AreLeast network.now known.now }
     ensures { IfOk result (λ bytes. bytes.items ≡ bounds_text network.now bounds.now) }
 {
     let mut out = empty(alloc);
@@ -160,16 +159,17 @@ fn csv_text(
 }
 
 /// Makes the same text, by weights that the program chooses.
-fn text_in(alloc: Global, network: &Network) -> Result<Vec<u8>, OutFault>
-    ensures text { IfOk result (λ bytes. IsBoundsText network.now bytes.items) }
+fn text_in(alloc: Global, network: &Network, senders: Senders) -> Result<Vec<u8>, OutFault>
+    ensures text { IfOk result (λ bytes. IsBoundsText senders network.now bytes.items) }
     ensures fault { IfErr result (λ fault. fault ≢ Device) }
 {
-    let known = all_sizes(alloc, network)?;
+    let known = all_sizes(alloc, network, senders)?;
     let bounds = bounds_of(alloc, network, known.as_slice())?;
     Ok(csv_text(alloc, network, known.as_slice(), bounds.as_slice())?)
 }
 
-/// Writes worst-case bounds of a network as comma-separated rows, each with a line feed at its end.
+/// Writes worst-case bounds of a network as comma-separated rows, each with a line feed at its end: with the frames that it states, or whatever
+/// other end systems send.
 ///
 /// The first line is `kind,of,where,network_ns,wait_ns,bound_ns`. Then each virtual link and each of its destinations, by number, gives
 /// `bound,VL,NAME,NETWORK_NS,WAIT_NS,BOUND_NS`: the greatest age of a frame from its release on, how long the regulator holds it at most,
@@ -179,14 +179,19 @@ fn text_in(alloc: Global, network: &Network) -> Result<Vec<u8>, OutFault>
 /// The text is made whole before its first byte is written. `Device` comes only if the sink failed; what was written is a beginning of the
 /// text. `OutOfMemory` comes only if memory was refused, and `Layout` only if the library that lays out rows failed otherwise; then nothing
 /// was written.
-pub fn write_bounds<S: Sink>(alloc: Global, network: &Network, sink: &mut S) -> Result<(), OutFault>
-    ensures text { OnOk result ((text : List ℕ) × IsBoundsText network.now text × (S.taken sink.new ≡ append_known (S.taken sink.old) text)) }
+pub fn write_bounds<S: Sink>(
+    alloc: Global,
+    network: &Network,
+    senders: Senders,
+    sink: &mut S,
+) -> Result<(), OutFault>
+    ensures text { OnOk result ((text : List ℕ) × IsBoundsText senders network.now text × (S.taken sink.new ≡ append_known (S.taken sink.old) text)) }
     ensures went_well { OnOk result (S.failures sink.new ≡ S.failures sink.old) }
-    ensures device { IfErr result (λ fault. fault ≡ Device → (text : List ℕ) × IsBoundsText network.now text × IsBeginning (S.taken sink.old) (S.taken sink.new) text) }
+    ensures device { IfErr result (λ fault. fault ≡ Device → (text : List ℕ) × IsBoundsText senders network.now text × IsBeginning (S.taken sink.old) (S.taken sink.new) text) }
     ensures failed { IfErr result (λ fault. fault ≡ Device → S.failures sink.new ≡ S.failures sink.old + 1) }
     ensures kept { IfErr result (λ fault. fault ≢ Device → sink.new ≡ sink.old) }
 {
-    let bytes = text_in(alloc, network)?;
+    let bytes = text_in(alloc, network, senders)?;
     match write_all(sink, bytes.as_slice()) {
         Ok(()) => Ok(()),
         Err(_) => Err(OutFault::Device),

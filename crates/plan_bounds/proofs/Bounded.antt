@@ -1,14 +1,15 @@
 -- Each bound of a network holds in its one-thread run, where its regulators hold frames no longer than they may.
-use Rattle.std.proofs.Common.{List, ◌≤◌, ◌≡◌, ℕ, ◌-◌, ◌*◌, ◌<◌, ◌==◌, ◌&&◌, ◌||◌, ◌⊎◌, not, Bool, true, false, cond, min, nat_le, nat_lt, ltb-true, get_or, Option, Some, None, All, IfSome, inl, inr, refl, ap, sym, ◌∙◌, subst, arith, slice_get, option_and_then, eqb-true, leb-true}
+use Rattle.std.proofs.Common.{Contains, List, length, Ok, ◌≤◌, ◌≡◌, ℕ, ◌+◌, ◌-◌, ◌*◌, ◌<◌, ◌==◌, ◌&&◌, ◌||◌, ◌⊎◌, not, Bool, true, false, cond, min, nat_le, nat_lt, ltb-true, get_or, Option, Some, None, All, IfSome, inl, inr, refl, ap, sym, ◌∙◌, subst, arith, slice_get, option_and_then, eqb-true, leb-true}
 use Rattle.std.specs.List.{list_any}
 use Rattle.std.proofs.lemmas.Bool.{cases_lt, false≢true}
 use Rattle.std.proofs.lemmas.Option.{slice_get-get_or}
-use Rattle.std.proofs.lemmas.List.Elements.{All-contains}
+use Rattle.std.proofs.lemmas.List.Elements.{All-contains, All-weaker}
 use Rattle.virtual_time.specs.Law.{Laws}
 use Rattle.reverse.specs.Rules.{rules_of}
 use Rattle.reverse.specs.Setting.{simulation_of}
 use Rattle.port_bounds.specs.Port.{idle}
 use Rattle.element_bounds.specs.PortTrace.{IsSamePort}
+use Rattle.network.specs.declared.wiring.LinePlan.{LinePlan}
 use Rattle.network.specs.Words.{IsAccepted, lines_of, Plan, VlPlan, destinations_of, process_count}
 use Rattle.network.proofs.SourceLemmas.{HasSource, all-have, end-system-below}
 use Rattle.network_faults.proofs.MemberLemmas.{has-from_contains}
@@ -21,14 +22,22 @@ use Rattle.nodes.specs.undoing.Node.{node}
 use Rattle.port_turns.specs.Nodes.{IsOfNodes, is_offer}
 use Rattle.port_turns.specs.PortEvents.{outlet_in}
 use Rattle.seqsim.specs.Networks.{setting_of}
-use Rattle.plan_bounds.proofs.Sizes.{offers-sized, sizes_of}
+use Rattle.plan_bounds.proofs.Sizes.{offers-sized, sizes-are, sizes_of}
+use Rattle.plan_bounds.proofs.Counted.{AreSized}
+use Rattle.plan_ports.specs.Links.{LeavesBy}
+use Rattle.traffic.specs.Offers.{offers_of}
+use Rattle.vlink.specs.declared.message.Message.{Message}
+use Rattle.vlink.specs.declared.message.Body.{Body}
+use Rattle.vlink.specs.declared.message.Body.TheVariants as body
+use Rattle.network_bounds.specs.declared.sizes.LinkSizes.{LinkSizes}
+use Rattle.network_bounds.specs.Sizes.{sizes_in}
 use Rattle.plan_ports.proofs.Linked.{all-empty}
 use Rattle.plan_ports.proofs.Offered.{all-offered}
 use Rattle.plan_ports.proofs.Ways.{all-lead}
-use Rattle.network_bounds.specs.Ages.{is_steady, late_in, steady_wait, wait_of}
+use Rattle.network_bounds.specs.Ages.{age_to, is_steady, late_in, steady_wait, wait_of}
 use Rattle.network_bounds.specs.Curves.{bag_of}
 use Rattle.frame_ages.specs.Latencies.{AreLatenciesBounded, IsHeldWithin}
-use Rattle.frame_ages.specs.Sizes.{HaveEmptyRegulators, HaveIdlePorts, OpensEmpty}
+use Rattle.frame_ages.specs.Sizes.{HaveEmptyRegulators, HaveIdlePorts, IsSized, OpensEmpty, Sizes}
 use Rattle.plan_waits.specs.Held.{AreListsHeld, ArePeriodsHeld, IsSent, IsSteady}
 use Rattle.network_bounds.specs.declared.delays.PortBound.{PortBound}
 use Rattle.network_bounds.specs.Delays.{AreBounds}
@@ -36,10 +45,10 @@ use Rattle.frame_ages.specs.Ports.{IsWaitingBound}
 use Rattle.frame_ages.specs.Rooms.{AreFramesKept, HasRoomAt}
 use Rattle.nodes.specs.declared.ports.LineAhead.{LineAhead}
 use Rattle.plan_ports.specs.Outlets.{LeadsInto}
-use Rattle.plan_bounds.specs.Rooms.{AreRoomsEnough, Holds}
+use Rattle.plan_bounds.specs.Rooms.{DropsNoneFull, Holds}
 use Rattle.plan_bounds.proofs.Routes.{bound-at}
 use Rattle.plan_bounds.proofs.Waiting.{waiting-bound}
-use Rattle.plan_bounds.specs.Latencies.{AreLatencyBounds}
+use Rattle.plan_bounds.specs.Latencies.{IsLatencyBound}
 use Rattle.plan_bounds.proofs.Destinations.{arriving, comes-within, sent}
 use Rattle.plan_bounds.proofs.Sources.{destination-end}
 
@@ -82,6 +91,24 @@ module _ (plan : Plan) (accepted : IsAccepted plan) where
     offers = offers-sized plan accepted;
   }
 
+  -- the sizes of frames, where no fewer bytes count than are sent
+  abbrev pub counted : (ℕ → LinkSizes) → ℕ → Sizes
+  counted known v = record { least = min (known v).sent.least (sizes_of plan v).least; greatest = (sizes_of plan v).greatest }
+
+  wider : (known : ℕ → LinkSizes) (b : Body) → IsSized (sizes_of plan) b → IsSized (counted known) b
+  wider known (body.Offer vl bytes sub) h = let low = h.0 in (omega (arith, low), h.1)
+  wider known (body.Arrive p frame) h = let low = h.0 in (omega (arith, low), h.1)
+  wider known (body.Enqueue p frame) h = let low = h.0 in (omega (arith, low), h.1)
+  wider known (body.Carry frame) h = let low = h.0 in (omega (arith, low), h.1)
+  wider known _ h = tt
+
+  opens-counted : (known : ℕ → LinkSizes) → OpensEmpty (setting_of plan) (counted known)
+  opens-counted known = record {
+    regulators = opens-empty.regulators;
+    ports = opens-empty.ports;
+    offers = All-weaker (λ (m : Message). IsSized (sizes_of plan) m.body) (λ (m : Message). IsSized (counted known) m.body) (λ m h. wider known m.body h) (offers_of plan) opens-empty.offers;
+  }
+
   of-nodes : IsOfNodes (setting_of plan)
   of-nodes = record { number = λ p lt. refl; until = λ p lt. refl; offered = all-offered plan (λ m. is_offer m.body ≡ true) (λ s n of. refl) }
 
@@ -121,12 +148,18 @@ module _ (plan : Plan) (accepted : IsAccepted plan) where
         go false e = by_list
         go true e = lesser (vl.link.depth * vl.link.sub * bag_of vl.link) (steady_wait vl.link) by_list (periods laws of-nodes (sizes_of plan) opens-empty p vl simple (late_in vl.link.own) (steady e))
 
-    pub are-bounds : AreLatencyBounds plan
-    are-bounds bounds are vl is_vl n there network_ns e =
+    -- the age that bounds by these sizes give is such a bound
+    pub bounded : (known : ℕ → LinkSizes) (bounds : List PortBound) → AreBounds known plan (lines_of plan) bounds → (vl : VlPlan) → Contains plan.vls vl → ((p q : ℕ) → LeavesBy plan p q vl → AreSized plan known (counted known) p) →
+        (known vl.link.id.0).sent.least ≤ (sizes_in plan vl.link).least → (n : ℕ) → Contains (destinations_of vl) n → (network_ns : ℕ) → age_to plan bounds vl.link (known vl.link.id.0).sent.least n ≡ Ok network_ns →
+        IsLatencyBound plan vl n (network_ns + wait_of plan vl.link)
+    bounded known bounds are vl is_vl all shorter n there network_ns e =
         let has = All-contains (HasSource plan.nodes) plan.vls vl (all-have plan accepted) is_vl in
-        let arrival = arriving plan accepted vl is_vl bounds are has.node has.is n network_ns e in
+        let least = (known vl.link.id.0).sent.least in
+        let own : (sizes_of plan vl.link.id.0).least ≡ (sizes_in plan vl.link).least = ap (λ (z : Sizes). z.least) (sizes-are plan accepted vl is_vl) in
+        let least_is : min least (sizes_of plan vl.link.id.0).least ≡ least = omega (arith, own, shorter) in
+        let arrival = arriving plan accepted vl is_vl known (counted known) all least least_is bounds are has.node has.is n network_ns e in
         let end = destination-end plan accepted vl is_vl n (has-from_contains (destinations_of vl) n there) in
-        let (line, age, c) = sent plan accepted vl is_vl bounds are has.node has.is n network_ns arrival in
+        let (line, age, c) = sent plan accepted vl is_vl known (counted known) all least least_is bounds are has.node has.is n network_ns arrival in
         let source_below : has.node < process_count plan = (let lt = end-system-below plan.nodes has.node has.end_system in omega (arith, lt)) in
         let below : n < process_count plan = (let lt = end-system-below plan.nodes n end in omega (arith, lt)) in
         let simple : IsSent plan has.node vl = record {
@@ -138,27 +171,29 @@ module _ (plan : Plan) (accepted : IsAccepted plan) where
           is = c.end_system.is;
         } in
         λ events row found place latency note.
-        (let le = latencies (setting_of plan) laws of-nodes (sizes_of plan) opens-empty vl.link.id.0 has.node n (wait_of plan vl.link) network_ns below (held has.node vl simple)
-        (comes-within plan accepted vl is_vl bounds are has.node has.is n network_ns end arrival) events row found place vl.link.id latency refl note in
+        (let le = latencies (setting_of plan) laws of-nodes (counted known) (opens-counted known) vl.link.id.0 has.node n (wait_of plan vl.link) network_ns below (held has.node vl simple)
+        (comes-within plan accepted vl is_vl known (counted known) all least least_is bounds are has.node has.is n network_ns end arrival) events row found place vl.link.id latency refl note in
         omega (arith, le))
 
   -- ---- ports that have room
 
   module _ (laws : Laws (simulation_of (rules_of node) (setting_of plan))) (kept : AreFramesKept) where
-    room-at : (bounds : List PortBound) → AreBounds plan (lines_of plan) bounds → (p q : ℕ) (outlet : Outlet) (leads : LeadsInto plan p q outlet) → Holds plan bounds p leads.k → HasRoomAt (setting_of plan) (sizes_of plan) p q outlet
-    room-at bounds are p q outlet leads holds =
-        let (w, is) = bound-at plan (lines_of plan) bounds are leads.k leads.line holds.bound leads.read holds.read in
+    room-at : (known : ℕ → LinkSizes) (bounds : List PortBound) → AreBounds known plan (lines_of plan) bounds → (p q : ℕ) → AreSized plan known (counted known) p → (outlet : Outlet) (leads : LeadsInto plan p q outlet) → Holds plan bounds p leads.k →
+        HasRoomAt (setting_of plan) (counted known) p q outlet
+    room-at known bounds are p q all outlet leads holds =
+        let (w, is) = bound-at known plan (lines_of plan) bounds are leads.k leads.line holds.bound leads.read holds.read in
         let byte : outlet.ahead.byte_ns ≡ leads.line.byte_ns = ap (λ (a : LineAhead). a.byte_ns) leads.ahead in
-        let bound = waiting-bound plan accepted leads.k leads.line leads.read w outlet byte holds.bytes (ap (λ (b : PortBound). b.waiting) (sym is) ∙ holds.waiting) in
+        let bound = waiting-bound known (counted known) plan accepted leads.k leads.line leads.read (subst (AreSized plan known (counted known)) (sym leads.from) all) w outlet byte holds.bytes (ap (λ (b : PortBound). b.waiting) (sym is) ∙ holds.waiting) in
         record {
           bytes = holds.bytes;
-          bound = subst (λ n. IsWaitingBound (setting_of plan) (sizes_of plan) n q outlet holds.bytes) leads.from (subst (λ j. IsWaitingBound (setting_of plan) (sizes_of plan) leads.line.from j outlet holds.bytes) leads.from_port bound);
+          bound = subst (λ n. IsWaitingBound (setting_of plan) (counted known) n q outlet holds.bytes) leads.from (subst (λ j. IsWaitingBound (setting_of plan) (counted known) leads.line.from j outlet holds.bytes) leads.from_port bound);
           room = subst (λ n. holds.bytes ≤ n) (sym leads.room) holds.room;
         }
 
-    pub are-rooms : AreRoomsEnough plan
-    are-rooms bounds are p lt each =
+    pub roomy : (known : ℕ → LinkSizes) (bounds : List PortBound) → AreBounds known plan (lines_of plan) bounds → (p : ℕ) → p < length plan.nodes → AreSized plan known (counted known) p →
+        ((k : ℕ) (line : LinePlan) → slice_get (lines_of plan) k ≡ Some line → line.from ≡ p → Holds plan bounds p k) → DropsNoneFull plan p
+    roomy known bounds are p lt all each =
         let inside : p < process_count plan = omega (arith, lt) in
         λ events row found place vl bytes note.
-        kept (setting_of plan) laws of-nodes (sizes_of plan) opens-empty p inside
-        (λ q outlet there. (let leads = all-lead plan p q outlet there in room-at bounds are p q outlet leads (each leads.k leads.line leads.read leads.from))) events row found place vl bytes note
+        kept (setting_of plan) laws of-nodes (counted known) (opens-counted known) p inside
+        (λ q outlet there. (let leads = all-lead plan p q outlet there in room-at known bounds are p q all outlet leads (each leads.k leads.line leads.read leads.from))) events row found place vl bytes note

@@ -18,7 +18,9 @@ use Rattle.nodes.specs.rules.Opening.{line_opening}
 use Rattle.nodes.proofs.WayLemmas.{ways-within}
 use Rattle.seqsim.specs.Networks.{setting_of}
 use Rattle.port_turns.specs.Arrivals.{IsWay}
-use Rattle.plan_bounds.proofs.Sizes.{sizes_of}
+use Rattle.plan_bounds.proofs.Counted.{AreSized}
+use Rattle.frame_ages.specs.Sizes.{Sizes}
+use Rattle.network_bounds.specs.declared.sizes.LinkSizes.{LinkSizes}
 use Rattle.plan_ports.specs.Outlets.{line_process}
 use Rattle.plan_ports.proofs.OwnPorts.{own-ports}
 use Rattle.plan_ports.proofs.Ways.{line-way}
@@ -27,13 +29,13 @@ use Rattle.network_bounds.specs.declared.mixing.Choice.{Choice}
 use Rattle.network_bounds.specs.declared.mixing.Choice.TheVariants.{By, Least}
 use Rattle.network_bounds.specs.declared.share.Share.{Share}
 use Rattle.network_bounds.specs.Curves.{is_first}
-use Rattle.network_bounds.specs.Mixing.{PORTS, PortPlan, any_loose_at, any_loose_below, byte_ns_into, flows_at, gaps_in, greatest_at, group_at, groups_below, is_bounding, port_before, share_at, weight_by, weight_of}
+use Rattle.network_bounds.specs.Mixing.{PORTS, PortPlan, byte_ns_into, flows_at, gaps_in, greatest_at, group_at, groups_below, is_bounding, port_before, share_at, weight_by, weight_of}
 use Rattle.network_bounds.specs.Numbers.{SCALE, WHOLE}
 use Rattle.network_bounds.specs.Passing.{are_same, comes, first_port_of, input_of, passings}
 use Rattle.port_bounds.specs.Mixtures.{IsAmong, lines_of as group_lines, links_of}
 use Rattle.port_bounds.specs.Sublists.{Every}
 use Rattle.frame_ages.specs.Ports.{AreGroups, IsByLine, IsGroup}
-use Rattle.plan_bounds.proofs.Groups.{IsCounted, counted, costs-are, flow-among, flows-are, is_high_put, or-left, or-right}
+use Rattle.plan_bounds.proofs.Groups.{IsCounted, counted, costs-are, flow-among, flows-are, is_high_put}
 use Rattle.plan_bounds.proofs.Lines.{IsSlower, slower-is}
 use Rattle.plan_bounds.proofs.NodeKinds.{IsSwitchAt, node-kind}
 use Rattle.plan_bounds.proofs.Passed.{leaves-passed, passed}
@@ -68,9 +70,6 @@ within-first id (way ∷ ways) all = go (way.vl.0 == id) (within-first id ways a
     go false later = later
 
 module _ (plan : Plan) (accepted : IsAccepted plan) (k : ℕ) (line : LinePlan) (read : slice_get (lines_of plan) k ≡ Some line) where
-  abbrev port : PortPlan
-  port = port_before plan line
-
   from-node : line.from < length plan.nodes
   from-node = (line-read plan k line accepted read).0
 
@@ -80,6 +79,13 @@ module _ (plan : Plan) (accepted : IsAccepted plan) (k : ℕ) (line : LinePlan) 
       go : (b : Bool) → cond b 0 (first_port_of (arrivals_of plan line.from) id) < PORTS
       go true = omega arith
       go false = within-first id (arrivals_of plan line.from) (recursion_from_All (λ way. way.port < GREATEST_PORTS) (arrivals_of plan line.from) (ways-within plan line.from In accepted))
+
+module _ (known : ℕ → LinkSizes) (size : ℕ → Sizes) (plan : Plan) (accepted : IsAccepted plan) (k : ℕ) (line : LinePlan) (read : slice_get (lines_of plan) k ≡ Some line) (all : AreSized plan known size line.from) where
+  abbrev port : PortPlan
+  port = port_before known plan line
+
+  from-there : line.from < length plan.nodes
+  from-there = from-node plan accepted k line read
 
   bounding-slower : (j : ℕ) → j < PORTS → is_bounding port j ≡ true → (is_end_system plan.nodes line.from ≡ false) × IsSlower plan line.from j line.byte_ns
   bounding-slower j lt h = go (is_end_system plan.nodes line.from) refl h
@@ -91,16 +97,16 @@ module _ (plan : Plan) (accepted : IsAccepted plan) (k : ℕ) (line : LinePlan) 
 
   module _ (choice : Choice) (high : Bool) where
     by-line : (j : ℕ) → j < PORTS → (b : Bool) → is_bounding port j ≡ b → 1 ≤ cond b (weight_by choice j (share_at port (gaps_in choice) j high)) 0
-        → IsByLine (setting_of plan) line.from (sizes_of plan) line.byte_ns SCALE (group_at port choice high j)
+        → IsByLine (setting_of plan) line.from size line.byte_ns SCALE (group_at port choice high j)
     by-line j lt false e some = absurd (omega (arith, some))
     by-line j lt true e some =
         let (no_end, slow) = bounding-slower j lt e in
-        elim (node-kind plan line.from from-node) [
+        elim (node-kind plan line.from from-there) [
           | inl node ↦ absurd (false≢true (sym no_end ∙ node.end))
           | inr node ↦ by-switch j e slow node
         ]
       where
-        by-switch : (j : ℕ) → is_bounding port j ≡ true → IsSlower plan line.from j line.byte_ns → IsSwitchAt plan line.from → IsByLine (setting_of plan) line.from (sizes_of plan) line.byte_ns SCALE (group_at port choice high j)
+        by-switch : (j : ℕ) → is_bounding port j ≡ true → IsSlower plan line.from j line.byte_ns → IsSwitchAt plan line.from → IsByLine (setting_of plan) line.from size line.byte_ns SCALE (group_at port choice high j)
         by-switch j e slow node =
             let way = line-way plan accepted (own-ports plan accepted) slow.k slow.leads.line slow.leads.read in
             let there : IsWay (setting_of plan) slow.leads.line.from slow.leads.line.from_port (line_process plan slow.k) line.from j way.outlet (line_opening plan slow.k (Some slow.leads.line)) =
@@ -119,22 +125,21 @@ module _ (plan : Plan) (accepted : IsAccepted plan) (k : ℕ) (line : LinePlan) 
               way = there;
               slower = (let le = slow.slower in let same = way.byte_ns in omega (arith, le, same));
               most = greatest_at port j high;
-              costs = costs-are plan accepted line.byte_ns line.from line.from_port (gaps_in choice) (comes (is_end_system plan.nodes line.from) j high) (is_end_system plan.nodes line.from) (passings plan line.from line.from_port) (λ x h. h) (greatest_at port j high) (omega arith);
+              costs = costs-are plan accepted known size line.from from-there all line.byte_ns line.from_port (gaps_in choice) (comes (is_end_system plan.nodes line.from) j high) (is_end_system plan.nodes line.from) (passings known plan line.from line.from_port) (λ x h. h) (greatest_at port j high) (omega arith);
               burst = rw e refl;
               rate = rw e refl;
             }
 
-    group-is : (j : ℕ) → j < PORTS → any_loose_at port j high ≡ false → IsGroup (setting_of plan) line.from (sizes_of plan) line.byte_ns SCALE WHOLE (group_at port choice high j)
-    group-is j lt tight = record {
+    group-is : (j : ℕ) → j < PORTS → IsGroup (setting_of plan) line.from size line.byte_ns SCALE WHOLE (group_at port choice high j)
+    group-is j lt = record {
       weight = weight-most choice j (share_at port (gaps_in choice) j high);
       by_line = λ some. by-line j lt (is_bounding port j) refl some;
-      flows = flows-are plan accepted line.from line.from_port line.byte_ns (gaps_in choice) (comes (is_end_system plan.nodes line.from) j high) from-node (passings plan line.from line.from_port) (λ x h. h) tight;
+      flows = flows-are plan accepted known size line.from from-there all line.from_port line.byte_ns (gaps_in choice) (comes (is_end_system plan.nodes line.from) j high) (passings known plan line.from line.from_port) (λ x h. h);
     }
 
-    groups-are : (n : ℕ) → n ≤ PORTS → any_loose_below port high n ≡ false → Every (IsGroup (setting_of plan) line.from (sizes_of plan) line.byte_ns SCALE WHOLE) (groups_below port choice high n)
-    groups-are zero le tight = tt
-    groups-are (suc j) le tight =
-        (group-is j (omega arith) (or-left _ _ tight), groups-are j (omega arith) (or-right (any_loose_at port j high) (any_loose_below port high j) tight))
+    groups-are : (n : ℕ) → n ≤ PORTS → Every (IsGroup (setting_of plan) line.from size line.byte_ns SCALE WHOLE) (groups_below port choice high n)
+    groups-are zero le = tt
+    groups-are (suc j) le = (group-is j (omega arith), groups-are j (omega arith))
 
     line-among : (input n : ℕ) → input < n → IsAmong input (group_lines (groups_below port choice high n))
     line-among input zero lt = absurd (omega (arith, lt))
@@ -150,22 +155,22 @@ module _ (plan : Plan) (accepted : IsAccepted plan) (k : ℕ) (line : LinePlan) 
     link-among v input h (suc j) = (here, link-among v input h j)
       where
         passing : Passing
-        passing = passed plan line.from h.vl
+        passing = passed known plan line.from h.vl
 
         here : input ≡ j → IsAmong v (links_of (flows_at port (gaps_in choice) j (is_high_put priority)))
         here same =
             let at : (input_of plan line.from h.vl.link.id.0 == j) ≡ true = eq-eqb _ _ (sym h.comes_in ∙ same) in
             let first : are_same (is_first (is_end_system plan.nodes line.from) h.vl.link) (is_high_put priority) ≡ true = ap (λ b. are_same b (is_high_put priority)) h.first ∙ same-is (is_high_put priority) in
             subst (λ n. IsAmong n (links_of (flows_at port (gaps_in choice) j (is_high_put priority)))) h.id
-            (flow-among plan accepted line.byte_ns (gaps_in choice) (comes (is_end_system plan.nodes line.from) j (is_high_put priority)) (is_end_system plan.nodes line.from) (passings plan line.from line.from_port) (passed plan line.from h.vl)
-            (leaves-passed plan accepted line.from line.from_port h.vl h.leaves) (rw at first))
+            (flow-among plan accepted line.byte_ns (gaps_in choice) (comes (is_end_system plan.nodes line.from) j (is_high_put priority)) (is_end_system plan.nodes line.from) (passings known plan line.from line.from_port) (passed known plan line.from h.vl)
+            (leaves-passed plan accepted known line.from line.from_port h.vl h.leaves) (rw at first))
 
-    pub are-groups : (outlet : Outlet) → outlet.ahead.byte_ns ≡ line.byte_ns → any_loose_below port (is_high_put priority) PORTS ≡ false
-        → AreGroups (setting_of plan) (sizes_of plan) line.from line.from_port outlet SCALE WHOLE priority (groups_below port choice (is_high_put priority) PORTS)
-    are-groups outlet byte tight = record {
-      each = subst (λ n. Every (IsGroup (setting_of plan) line.from (sizes_of plan) n SCALE WHOLE) (groups_below port choice (is_high_put priority) PORTS)) (sym byte) (groups-are choice (is_high_put priority) PORTS (omega arith) tight);
-      listed = λ v input through. (let h = counted plan accepted line.from line.from_port v input priority from-node through in record {
-        line_in = line-among choice (is_high_put priority) input PORTS (subst (λ n. n < PORTS) (sym h.comes_in) (input-below h.vl.link.id.0));
+    pub are-groups : (outlet : Outlet) → outlet.ahead.byte_ns ≡ line.byte_ns
+        → AreGroups (setting_of plan) size line.from line.from_port outlet SCALE WHOLE priority (groups_below port choice (is_high_put priority) PORTS)
+    are-groups outlet byte = record {
+      each = subst (λ n. Every (IsGroup (setting_of plan) line.from size n SCALE WHOLE) (groups_below port choice (is_high_put priority) PORTS)) (sym byte) (groups-are choice (is_high_put priority) PORTS (omega arith));
+      listed = λ v input through. (let h = counted plan accepted line.from line.from_port v input priority from-there through in record {
+        line_in = line-among choice (is_high_put priority) input PORTS (subst (λ n. n < PORTS) (sym h.comes_in) (input-below plan accepted k line read h.vl.link.id.0));
         link_in = link-among v input h PORTS;
       });
     }

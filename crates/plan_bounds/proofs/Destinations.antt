@@ -18,7 +18,8 @@ use Rattle.port_turns.specs.Arrivals.{IsWay}
 use Rattle.port_turns.specs.PortEvents.{outlet_in}
 use Rattle.seqsim.specs.Networks.{setting_of}
 use Rattle.plan_ports.specs.Links.{LeavesBy}
-use Rattle.plan_bounds.proofs.Sizes.{sizes_of}
+use Rattle.plan_bounds.proofs.Counted.{AreSized}
+use Rattle.frame_ages.specs.Sizes.{Sizes}
 use Rattle.plan_ports.specs.Outlets.{line_process}
 use Rattle.plan_ports.proofs.Linked.{has-passed, one-vl, own-all, own-way}
 use Rattle.plan_ports.proofs.OwnPorts.{own-ports}
@@ -26,8 +27,8 @@ use Rattle.plan_ports.proofs.Ways.{all-lead, line-way, within-two}
 use Rattle.network_bounds.specs.declared.delays.PortBound.{PortBound}
 use Rattle.network_bounds.specs.declared.reason.Reason.{Reason}
 use Rattle.network_bounds.specs.declared.reason.Reason.TheVariants as reason
-use Rattle.network_bounds.specs.Ages.{age_after, age_by, ends_by, network_ns_of}
-use Rattle.network_bounds.specs.Sizes.{sizes_in}
+use Rattle.network_bounds.specs.Ages.{age_after, age_by, age_to, ends_by}
+use Rattle.network_bounds.specs.declared.sizes.LinkSizes.{LinkSizes}
 use Rattle.network_bounds.specs.Delays.{AreBounds, after}
 use Rattle.network_bounds.specs.Mixing.{line_into}
 use Rattle.network_bounds.specs.Numbers.{within}
@@ -99,17 +100,18 @@ module _ (plan : Plan) (accepted : IsAccepted plan) (vl : VlPlan) (is_vl : Conta
 
   -- ---- at a destination
 
-  module _ (bounds : List PortBound) (are : AreBounds plan (lines_of plan) bounds) (source : ℕ) (from_source : begins_at vl ≡ Some source) where
-    comes-by : (n q : ℕ) → ends_by plan n vl.link.id.0 q ≡ true → (age : ℕ) → age < 2 ^ 128 - 1 → age_by plan bounds vl.link (sizes_in plan vl.link).least n q ≡ Ok age → (entry : IsOverIn plan vl n q) × IsComing plan vl source entry.leads.line age
+  module _ (known : ℕ → LinkSizes) (size : ℕ → Sizes) (all : (p q : ℕ) → LeavesBy plan p q vl → AreSized plan known size p) (least : ℕ) (least_is : (size vl.link.id.0).least ≡ least) (bounds : List PortBound) (are : AreBounds known plan (lines_of plan) bounds)
+      (source : ℕ) (from_source : begins_at vl ≡ Some source) where
+    comes-by : (n q : ℕ) → ends_by plan n vl.link.id.0 q ≡ true → (age : ℕ) → age < 2 ^ 128 - 1 → age_by plan bounds vl.link least n q ≡ Ok age → (entry : IsOverIn plan vl n q) × IsComing size plan vl source entry.leads.line age
     comes-by n q h age lt e =
         let entry = ends-over n q h in
         let into = line-into-there plan accepted n q entry.k entry.leads in
-        let here : option_map_or (age_after plan bounds vl.link (sizes_in plan vl.link).least (length (lines_of plan))) (line_into plan n q) (Err reason.Way) ≡ Ok age =
-        subst (λ b. cond b (option_map_or (age_after plan bounds vl.link (sizes_in plan vl.link).least (length (lines_of plan))) (line_into plan n q) (Err reason.Way)) (Ok 0) ≡ Ok age) h e in
-        let out : age_after plan bounds vl.link (sizes_in plan vl.link).least (length (lines_of plan)) entry.k ≡ Ok age = ap (λ o. option_map_or (age_after plan bounds vl.link (sizes_in plan vl.link).least (length (lines_of plan))) o (Err reason.Way)) (sym into) ∙ here in
-        (entry, coming plan accepted bounds are vl is_vl source from_source (length (lines_of plan)) entry.k entry.leads.line entry.leads.read entry.over age lt out)
+        let here : option_map_or (age_after plan bounds vl.link least (length (lines_of plan))) (line_into plan n q) (Err reason.Way) ≡ Ok age =
+        subst (λ b. cond b (option_map_or (age_after plan bounds vl.link least (length (lines_of plan))) (line_into plan n q) (Err reason.Way)) (Ok 0) ≡ Ok age) h e in
+        let out : age_after plan bounds vl.link least (length (lines_of plan)) entry.k ≡ Ok age = ap (λ o. option_map_or (age_after plan bounds vl.link least (length (lines_of plan))) o (Err reason.Way)) (sym into) ∙ here in
+        (entry, coming known size plan accepted bounds are vl is_vl source from_source all least least_is (length (lines_of plan)) entry.k entry.leads.line entry.leads.read entry.over age lt out)
 
-    as-way : (n q age : ℕ) (entry : IsOverIn plan vl n q) → IsComing plan vl source entry.leads.line age → ComesBy (setting_of plan) (sizes_of plan) vl.link.id.0 source n q age
+    as-way : (n q age : ℕ) (entry : IsOverIn plan vl n q) → IsComing size plan vl source entry.leads.line age → ComesBy (setting_of plan) size vl.link.id.0 source n q age
     as-way n q age entry c = record {
       hop = c.hop;
       earlier = c.earlier;
@@ -120,11 +122,11 @@ module _ (plan : Plan) (accepted : IsAccepted plan) (vl : VlPlan) (is_vl : Conta
       within = c.within;
     }
 
-    by-port : (n q age most : ℕ) → age < 2 ^ 128 - 1 → age ≤ most → age_by plan bounds vl.link (sizes_in plan vl.link).least n q ≡ Ok age → (outlet : Outlet) → outlet_in (opening plan n).equipment q ≡ Some outlet
-        → ((time : ℕ) × ComesBy (setting_of plan) (sizes_of plan) vl.link.id.0 source n q time × (time ≤ most)) ⊎ ComesNot (setting_of plan) vl.link.id.0 n q
+    by-port : (n q age most : ℕ) → age < 2 ^ 128 - 1 → age ≤ most → age_by plan bounds vl.link least n q ≡ Ok age → (outlet : Outlet) → outlet_in (opening plan n).equipment q ≡ Some outlet
+        → ((time : ℕ) × ComesBy (setting_of plan) size vl.link.id.0 source n q time × (time ≤ most)) ⊎ ComesNot (setting_of plan) vl.link.id.0 n q
     by-port n q age most lt le e outlet there = go (ends_by plan n vl.link.id.0 q) refl
       where
-        go : (b : Bool) → ends_by plan n vl.link.id.0 q ≡ b → ((time : ℕ) × ComesBy (setting_of plan) (sizes_of plan) vl.link.id.0 source n q time × (time ≤ most)) ⊎ ComesNot (setting_of plan) vl.link.id.0 n q
+        go : (b : Bool) → ends_by plan n vl.link.id.0 q ≡ b → ((time : ℕ) × ComesBy (setting_of plan) size vl.link.id.0 source n q time × (time ≤ most)) ⊎ ComesNot (setting_of plan) vl.link.id.0 n q
         go true h = let (entry, c) = comes-by n q h age lt e in inl (age, as-way n q age entry c, le)
         go false h = inr (comes-not n q outlet there h)
 
@@ -132,34 +134,34 @@ module _ (plan : Plan) (accepted : IsAccepted plan) (vl : VlPlan) (is_vl : Conta
     pub record IsArriving (n most : ℕ) : Type 0 where
       pub a : ℕ
       pub b : ℕ
-      pub a_is : age_by plan bounds vl.link (sizes_in plan vl.link).least n 0 ≡ Ok a
-      pub b_is : age_by plan bounds vl.link (sizes_in plan vl.link).least n 1 ≡ Ok b
+      pub a_is : age_by plan bounds vl.link least n 0 ≡ Ok a
+      pub b_is : age_by plan bounds vl.link least n 1 ≡ Ok b
       pub some : (ends_by plan n vl.link.id.0 0 || ends_by plan n vl.link.id.0 1) ≡ true
       pub held : max a b < 2 ^ 128 - 1
       pub is : most ≡ max a b
 
-    pub arriving : (n most : ℕ) → network_ns_of plan bounds vl.link n ≡ Ok most → IsArriving n most
+    pub arriving : (n most : ℕ) → age_to plan bounds vl.link least n ≡ Ok most → IsArriving n most
     arriving n most e = go (ends_by plan n vl.link.id.0 0 || ends_by plan n vl.link.id.0 1) refl e
       where
-        last : (some : (ends_by plan n vl.link.id.0 0 || ends_by plan n vl.link.id.0 1) ≡ true) (a b : ℕ) → age_by plan bounds vl.link (sizes_in plan vl.link).least n 0 ≡ Ok a → age_by plan bounds vl.link (sizes_in plan vl.link).least n 1 ≡ Ok b → (held : Bool) → nat_lt (max a b) (2 ^ 128 - 1) ≡ held
+        last : (some : (ends_by plan n vl.link.id.0 0 || ends_by plan n vl.link.id.0 1) ≡ true) (a b : ℕ) → age_by plan bounds vl.link least n 0 ≡ Ok a → age_by plan bounds vl.link least n 1 ≡ Ok b → (held : Bool) → nat_lt (max a b) (2 ^ 128 - 1) ≡ held
             → cond held (Ok (max a b)) (Err reason.Number) ≡ Ok most → IsArriving n most
         last some a b a_is b_is true h e = record { a = a; b = b; a_is = a_is; b_is = b_is; some = some; held = lt-true _ _ h; is = sym (same-ok (max a b) most e) }
         last some a b a_is b_is false h e = absurd (err-ok reason.Number most e)
 
-        by-b : (some : (ends_by plan n vl.link.id.0 0 || ends_by plan n vl.link.id.0 1) ≡ true) (a : ℕ) → age_by plan bounds vl.link (sizes_in plan vl.link).least n 0 ≡ Ok a → (o : Result ℕ Reason) → age_by plan bounds vl.link (sizes_in plan vl.link).least n 1 ≡ o → after o (λ b. within (max a b)) ≡ Ok most → IsArriving n most
+        by-b : (some : (ends_by plan n vl.link.id.0 0 || ends_by plan n vl.link.id.0 1) ≡ true) (a : ℕ) → age_by plan bounds vl.link least n 0 ≡ Ok a → (o : Result ℕ Reason) → age_by plan bounds vl.link least n 1 ≡ o → after o (λ b. within (max a b)) ≡ Ok most → IsArriving n most
         by-b some a a_is (Err why) b_is e = absurd (err-ok why most e)
         by-b some a a_is (Ok b) b_is e = last some a b a_is b_is (nat_lt (max a b) (2 ^ 128 - 1)) refl e
 
-        by-a : (some : (ends_by plan n vl.link.id.0 0 || ends_by plan n vl.link.id.0 1) ≡ true) (o : Result ℕ Reason) → age_by plan bounds vl.link (sizes_in plan vl.link).least n 0 ≡ o → after o (λ a. after (age_by plan bounds vl.link (sizes_in plan vl.link).least n 1) (λ b. within (max a b))) ≡ Ok most → IsArriving n most
+        by-a : (some : (ends_by plan n vl.link.id.0 0 || ends_by plan n vl.link.id.0 1) ≡ true) (o : Result ℕ Reason) → age_by plan bounds vl.link least n 0 ≡ o → after o (λ a. after (age_by plan bounds vl.link least n 1) (λ b. within (max a b))) ≡ Ok most → IsArriving n most
         by-a some (Err why) a_is e = absurd (err-ok why most e)
-        by-a some (Ok a) a_is e = by-b some a a_is (age_by plan bounds vl.link (sizes_in plan vl.link).least n 1) refl e
+        by-a some (Ok a) a_is e = by-b some a a_is (age_by plan bounds vl.link least n 1) refl e
 
         go : (some : Bool) → (ends_by plan n vl.link.id.0 0 || ends_by plan n vl.link.id.0 1) ≡ some
-            → cond some (after (age_by plan bounds vl.link (sizes_in plan vl.link).least n 0) (λ a. after (age_by plan bounds vl.link (sizes_in plan vl.link).least n 1) (λ b. within (max a b)))) (Err reason.Way) ≡ Ok most → IsArriving n most
+            → cond some (after (age_by plan bounds vl.link least n 0) (λ a. after (age_by plan bounds vl.link least n 1) (λ b. within (max a b)))) (Err reason.Way) ≡ Ok most → IsArriving n most
         go false some e = absurd (err-ok reason.Way most e)
-        go true some e = by-a some (age_by plan bounds vl.link (sizes_in plan vl.link).least n 0) refl e
+        go true some e = by-a some (age_by plan bounds vl.link least n 0) refl e
 
-    pub comes-within : (n most : ℕ) → is_end_system plan.nodes n ≡ true → IsArriving n most → ComesWithin (setting_of plan) (sizes_of plan) vl.link.id.0 source n most
+    pub comes-within : (n most : ℕ) → is_end_system plan.nodes n ≡ true → IsArriving n most → ComesWithin (setting_of plan) size vl.link.id.0 source n most
     comes-within n most end h port outlet there = at port outlet there (two port outlet there)
       where
         two : (q : ℕ) (outlet : Outlet) → outlet_in (opening plan n).equipment q ≡ Some outlet → q < 2
@@ -168,15 +170,15 @@ module _ (plan : Plan) (accepted : IsAccepted plan) (vl : VlPlan) (is_vl : Conta
             subst (λ j. j < 2) leads.from_port (within-two plan accepted (own-ports plan accepted) leads.k leads.line leads.read (subst (λ m. is_end_system plan.nodes m ≡ true) (sym leads.from) end))
 
         at : (q : ℕ) (outlet : Outlet) → outlet_in (opening plan n).equipment q ≡ Some outlet → q < 2
-            → ((time : ℕ) × ComesBy (setting_of plan) (sizes_of plan) vl.link.id.0 source n q time × (time ≤ most)) ⊎ ComesNot (setting_of plan) vl.link.id.0 n q
+            → ((time : ℕ) × ComesBy (setting_of plan) size vl.link.id.0 source n q time × (time ≤ most)) ⊎ ComesNot (setting_of plan) vl.link.id.0 n q
         at zero outlet there lt = by-port n 0 h.a most (let held = h.held in omega (arith, held)) (let is = h.is in omega (arith, is)) h.a_is outlet there
         at (suc zero) outlet there lt = by-port n 1 h.b most (let held = h.held in omega (arith, held)) (let is = h.is in omega (arith, is)) h.b_is outlet there
         at (suc (suc q)) outlet there lt = absurd (omega (arith, lt))
 
     -- one of them leaves the source
-    pub sent : (n most : ℕ) → IsArriving n most → (line : LinePlan) × (age : ℕ) × IsComing plan vl source line age
+    pub sent : (n most : ℕ) → IsArriving n most → (line : LinePlan) × (age : ℕ) × IsComing size plan vl source line age
     sent n most h = go (ends_by plan n vl.link.id.0 0) refl h.some
       where
-        go : (b : Bool) → ends_by plan n vl.link.id.0 0 ≡ b → (b || ends_by plan n vl.link.id.0 1) ≡ true → (line : LinePlan) × (age : ℕ) × IsComing plan vl source line age
+        go : (b : Bool) → ends_by plan n vl.link.id.0 0 ≡ b → (b || ends_by plan n vl.link.id.0 1) ≡ true → (line : LinePlan) × (age : ℕ) × IsComing size plan vl source line age
         go true e some = let (entry, c) = comes-by n 0 e h.a (let held = h.held in omega (arith, held)) h.a_is in (entry.leads.line, h.a, c)
         go false e some = let (entry, c) = comes-by n 1 some h.b (let held = h.held in omega (arith, held)) h.b_is in (entry.leads.line, h.b, c)

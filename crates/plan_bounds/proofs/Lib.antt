@@ -1,6 +1,7 @@
 pub mod Passed
 pub mod NodeKinds
 pub mod Sizes
+pub mod Counted
 pub mod Groups
 pub mod Lines
 pub mod Certified
@@ -12,4 +13,7 @@ pub mod Sources
 pub mod Routes
 pub mod Destinations
 pub mod Bounded
+pub mod Agreed
+pub mod Kept
 pub mod Shapes
+pub mod Contract

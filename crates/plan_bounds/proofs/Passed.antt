@@ -17,8 +17,8 @@ use Rattle.nodes.proofs.GroupLemmas.{AreOf}
 use Rattle.nodes.proofs.WayLemmas.{ways-own}
 use Rattle.plan_ports.specs.Links.{LeavesBy}
 use Rattle.network_bounds.specs.declared.passing.Passing.{Passing}
-use Rattle.network_bounds.specs.Passing.{first_port_of, input_of, passing_at, passing_by, passing_of, passings}
-use Rattle.network_bounds.specs.Sizes.{sizes_in}
+use Rattle.network_bounds.specs.declared.sizes.LinkSizes.{LinkSizes}
+use Rattle.network_bounds.specs.Passing.{first_port_of, input_of, passing_at, passing_by, passing_of, passings, sizes_at}
 
 -- ---- a virtual link is found by its number
 
@@ -36,7 +36,7 @@ below n (v ∷ vls) vl all (inl same) = let less : nat_cmp n v.link.id.0 ≡ Les
     let apart : (n == v.link.id.0) ≡ false = grind (arith, nat_tests) in subst (λ (w : VlPlan). (n == w.link.id.0) ≡ false) same apart
 below n (v ∷ vls) vl all (inr there) = below n vls vl all.1 there
 
-with-there : (vls : List VlPlan) (vl : VlPlan) → IsStrictlySortedBy nat_cmp (ids_of vls) → Has vls vl → vl_with vls vl.link.id.0 ≡ Some vl
+pub with-there : (vls : List VlPlan) (vl : VlPlan) → IsStrictlySortedBy nat_cmp (ids_of vls) → Has vls vl → vl_with vls vl.link.id.0 ≡ Some vl
 with-there [] vl rising there = absurd there
 with-there (first ∷ vls) vl rising (inl same) = with-cons first vls vl.link.id.0 ∙ rw (eq-eqb first.link.id.0 vl.link.id.0 (ap id_of same)) (ap Some same)
 with-there (first ∷ vls) vl rising (inr there) =
@@ -78,11 +78,11 @@ first-is by own (first ∷ vls) vl rising (inr there) =
     ∙ first-is by own vls vl (sorted_tail nat_cmp first.link.id.0 (ids_of vls) rising) there
 
 -- what is counted of a virtual link at node p
-abbrev pub passed : Plan → ℕ → VlPlan → Passing
-passed plan p vl = record { link = vl.link; sizes = sizes_in plan vl.link; input = input_of plan p vl.link.id.0 }
+abbrev pub passed : (ℕ → LinkSizes) → Plan → ℕ → VlPlan → Passing
+passed known plan p vl = record { link = vl.link; sizes = sizes_at (is_end_system plan.nodes p) (known vl.link.id.0); input = input_of plan p vl.link.id.0 }
 
 module _ (plan : Plan) (accepted : IsAccepted plan) where
-  rising : IsStrictlySortedBy nat_cmp (ids_of plan.vls)
+  pub rising : IsStrictlySortedBy nat_cmp (ids_of plan.vls)
   rising = sorted_from_strictly_increasing (ids_of plan.vls) (ids-rise plan accepted)
 
   -- the port by which it comes in at a switch
@@ -90,27 +90,27 @@ module _ (plan : Plan) (accepted : IsAccepted plan) where
   input-is p vl there switch = rw switch (first-is (ways_at plan p In) (ways-own plan p In) plan.vls vl rising there)
 
   -- it is counted where it leaves
-  pub leaves-passed : (p q : ℕ) (vl : VlPlan) → LeavesBy plan p q vl → Has (passings plan p q) (passed plan p vl)
-  leaves-passed p q vl l =
-      let passing = passed plan p vl in
+  pub leaves-passed : (known : ℕ → LinkSizes) (p q : ℕ) (vl : VlPlan) → LeavesBy plan p q vl → Has (passings known plan p q) (passed known plan p vl)
+  leaves-passed known p q vl l =
+      let passing = passed known plan p vl in
       let found = with-there plan.vls vl rising (has-from_contains plan.vls vl l.is_vl) in
       let way : Way = record { vl = vl.link.id; port = q } in
       let here : (way.port == q) ≡ true = eq-eqb q q refl in
-      let made : passing_at plan p q way ≡ passing_by plan p way vl = rw here (ap (λ o. option_map_or (passing_by plan p way) o []) found) in
-      has-flat_map (passing_at plan p q) (departures_of plan p) way passing (has-from_contains (departures_of plan p) way l.way) (subst (λ ps. Has ps passing) (sym made) (inl refl))
+      let made : passing_at known plan p q way ≡ passing_by known plan p way vl = rw here (ap (λ o. option_map_or (passing_by known plan p way) o []) found) in
+      has-flat_map (passing_at known plan p q) (departures_of plan p) way passing (has-from_contains (departures_of plan p) way l.way) (subst (λ ps. Has ps passing) (sym made) (inl refl))
 
   -- and what is counted leaves
-  pub record IsPassing (p q : ℕ) (passing : Passing) : Type 0 where
+  pub record IsPassing (known : ℕ → LinkSizes) (p q : ℕ) (passing : Passing) : Type 0 where
     pub vl : VlPlan
     pub leaves : LeavesBy plan p q vl
-    pub is : passing ≡ passed plan p vl
+    pub is : passing ≡ passed known plan p vl
 
-  pub passed-leaves : (p q : ℕ) (passing : Passing) → Has (passings plan p q) passing → IsPassing p q passing
-  passed-leaves p q passing there =
-      let (way, departs, made) = flat_map-has (passing_at plan p q) (departures_of plan p) passing there in
+  pub passed-leaves : (known : ℕ → LinkSizes) (p q : ℕ) (passing : Passing) → Has (passings known plan p q) passing → IsPassing known p q passing
+  passed-leaves known p q passing there =
+      let (way, departs, made) = flat_map-has (passing_at known plan p q) (departures_of plan p) passing there in
       at way departs (way.port == q) refl made
     where
-      go : (way : Way) → Has (departures_of plan p) way → way.port ≡ q → (o : Option VlPlan) → vl_with plan.vls way.vl.0 ≡ o → Has (option_map_or (passing_by plan p way) o []) passing → IsPassing p q passing
+      go : (way : Way) → Has (departures_of plan p) way → way.port ≡ q → (o : Option VlPlan) → vl_with plan.vls way.vl.0 ≡ o → Has (option_map_or (passing_by known plan p way) o []) passing → IsPassing known p q passing
       go way departs port None e made = absurd made
       go way departs port (Some vl) e (inr made) = absurd made
       go way departs port (Some vl) e (inl made) =
@@ -119,9 +119,9 @@ module _ (plan : Plan) (accepted : IsAccepted plan) where
           record {
             vl = vl;
             leaves = record { is_vl = contains-from_has plan.vls vl is_vl; way = contains-from_has (departures_of plan p) _ (subst (Has (departures_of plan p)) own departs) };
-            is = sym made ∙ ap (λ n. record { link = vl.link; sizes = sizes_in plan vl.link; input = input_of plan p n }) (sym id);
+            is = sym made ∙ ap (λ n. record { link = vl.link; sizes = sizes_at (is_end_system plan.nodes p) (known n); input = input_of plan p n }) (sym id);
           }
 
-      at : (way : Way) → Has (departures_of plan p) way → (b : Bool) → (way.port == q) ≡ b → Has (cond b (passing_of plan p way) []) passing → IsPassing p q passing
+      at : (way : Way) → Has (departures_of plan p) way → (b : Bool) → (way.port == q) ≡ b → Has (cond b (passing_of known plan p way) []) passing → IsPassing known p q passing
       at way departs false e made = absurd made
       at way departs true e made = go way departs (eqb-true way.port q e) (vl_with plan.vls way.vl.0) refl made

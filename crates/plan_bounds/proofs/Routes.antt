@@ -18,8 +18,9 @@ use Rattle.nodes.specs.rules.Opening.{line_opening, port_priority}
 use Rattle.port_turns.specs.SwitchPuts.{transit_of}
 use Rattle.seqsim.specs.Networks.{setting_of}
 use Rattle.plan_ports.specs.Links.{LeavesBy}
-use Rattle.plan_bounds.proofs.Sizes.{sizes_of}
-use Rattle.network_bounds.specs.Sizes.{sizes_in}
+use Rattle.plan_bounds.proofs.Counted.{AreSized}
+use Rattle.frame_ages.specs.Sizes.{Sizes}
+use Rattle.network_bounds.specs.declared.sizes.LinkSizes.{LinkSizes}
 use Rattle.plan_ports.specs.Outlets.{IsLineWay, line_process}
 use Rattle.plan_ports.proofs.Linked.{have-transits}
 use Rattle.plan_ports.proofs.OwnPorts.{own-ports}
@@ -44,12 +45,12 @@ use Rattle.plan_bounds.proofs.Passed.{input-is}
 use Rattle.plan_bounds.proofs.Sources.{leaves-source}
 
 -- a bound is that of its port
-pub bound-at : (plan : Plan) (lines : List LinePlan) (bounds : List PortBound) → AreBounds plan lines bounds → (k : ℕ) (line : LinePlan) (bound : PortBound) → slice_get lines k ≡ Some line → slice_get bounds k ≡ Some bound → IsBound (port_before plan line) bound
-bound-at plan [] bounds are k line bound at by = absurd (none-some line at)
-bound-at plan (first ∷ lines) [] are k line bound at by = absurd are
-bound-at plan (first ∷ lines) (one ∷ bounds) are zero line bound at by =
-    subst (λ (l : LinePlan). IsBound (port_before plan l) bound) (same_Some first line at) (subst (IsBound (port_before plan first)) (same_Some one bound by) are.0)
-bound-at plan (first ∷ lines) (one ∷ bounds) are (suc k) line bound at by = bound-at plan lines bounds are.1 k line bound at by
+pub bound-at : (known : ℕ → LinkSizes) (plan : Plan) (lines : List LinePlan) (bounds : List PortBound) → AreBounds known plan lines bounds → (k : ℕ) (line : LinePlan) (bound : PortBound) → slice_get lines k ≡ Some line → slice_get bounds k ≡ Some bound → IsBound (port_before known plan line) bound
+bound-at known plan [] bounds are k line bound at by = absurd (none-some line at)
+bound-at known plan (first ∷ lines) [] are k line bound at by = absurd are
+bound-at known plan (first ∷ lines) (one ∷ bounds) are zero line bound at by =
+    subst (λ (l : LinePlan). IsBound (port_before known plan l) bound) (same_Some first line at) (subst (IsBound (port_before known plan first)) (same_Some one bound by) are.0)
+bound-at known plan (first ∷ lines) (one ∷ bounds) are (suc k) line bound at by = bound-at known plan lines bounds are.1 k line bound at by
 
 -- ---- what an age is made of
 
@@ -84,10 +85,10 @@ same-put rows.High = refl
 same-put rows.Low = refl
 
 -- virtual link vl comes out of the line over a way that takes so long
-pub record IsComing (plan : Plan) (vl : VlPlan) (source : ℕ) (line : LinePlan) (age : ℕ) : Type 0 where
+pub record IsComing (size : ℕ → Sizes) (plan : Plan) (vl : VlPlan) (source : ℕ) (line : LinePlan) (age : ℕ) : Type 0 where
   pub hop : Hop
   pub earlier : List Hop
-  pub route : IsRoute (setting_of plan) (sizes_of plan) vl.link.id.0 (hop ∷ earlier)
+  pub route : IsRoute (setting_of plan) size vl.link.id.0 (hop ∷ earlier)
   pub from_source : source_of (hop ∷ earlier) ≡ source
   pub to_there : hop.to ≡ line.to
   pub to_port : hop.port ≡ line.to_port
@@ -96,19 +97,16 @@ pub record IsComing (plan : Plan) (vl : VlPlan) (source : ℕ) (line : LinePlan)
   pub leaves : LeavesBy plan source source_port vl
   pub end_system : IsEndAt plan source
 
-module _ (plan : Plan) (accepted : IsAccepted plan) (bounds : List PortBound) (are : AreBounds plan (lines_of plan) bounds) (vl : VlPlan) (is_vl : Contains plan.vls vl) (source : ℕ) (from_source : begins_at vl ≡ Some source) where
-  -- its least frame has so many bytes
-  abbrev least : ℕ
-  least = (sizes_in plan vl.link).least
-
-  in-time : (k : ℕ) (line : LinePlan) → slice_get (lines_of plan) k ≡ Some line → (bound : PortBound) → slice_get bounds k ≡ Some bound → (way : IsLineWay plan k line) → (delay : ℕ) → delay < 2 ^ 128 - 1
-      → (is_end : Bool) → delay_of is_end line.byte_ns bound vl.link least ≡ Ok delay → IsInTime (setting_of plan) (sizes_of plan) vl.link.id.0 line.from line.from_port way.outlet (put_with (is_first is_end vl.link)) delay
-  in-time k line read bound at way delay lt is_end e = let (w, is) = bound-at plan (lines_of plan) bounds are k line bound read at in go w is (is_first is_end vl.link) e
+module _ (known : ℕ → LinkSizes) (size : ℕ → Sizes) (plan : Plan) (accepted : IsAccepted plan) (bounds : List PortBound) (are : AreBounds known plan (lines_of plan) bounds) (vl : VlPlan) (is_vl : Contains plan.vls vl) (source : ℕ) (from_source : begins_at vl ≡ Some source)
+    (all : (p q : ℕ) → LeavesBy plan p q vl → AreSized plan known size p) (least : ℕ) (least_is : (size vl.link.id.0).least ≡ least) where
+  in-time : (k : ℕ) (line : LinePlan) → slice_get (lines_of plan) k ≡ Some line → (bound : PortBound) → slice_get bounds k ≡ Some bound → (way : IsLineWay plan k line) → AreSized plan known size line.from → (delay : ℕ) → delay < 2 ^ 128 - 1
+      → (is_end : Bool) → delay_of is_end line.byte_ns bound vl.link least ≡ Ok delay → IsInTime (setting_of plan) size vl.link.id.0 line.from line.from_port way.outlet (put_with (is_first is_end vl.link)) delay
+  in-time k line read bound at way here delay lt is_end e = let (w, is) = bound-at known plan (lines_of plan) bounds are k line bound read at in go w is (is_first is_end vl.link) e
     where
-      go : (w : Weights) → bound ≡ bound_by (port_before plan line) w → (first : Bool) → cond first bound.first (after bound.later (later_delay line.byte_ns least)) ≡ Ok delay
-          → IsInTime (setting_of plan) (sizes_of plan) vl.link.id.0 line.from line.from_port way.outlet (put_with first) delay
-      go w is true e = high-bound plan accepted k line read w vl.link.id.0 way.outlet way.byte_ns delay (ap (λ (b : PortBound). b.first) (sym is) ∙ e)
-      go w is false e = low-bound plan accepted k line read w vl is_vl way.outlet way.byte_ns delay lt (ap (λ (b : PortBound). after b.later (later_delay line.byte_ns least)) (sym is) ∙ e)
+      go : (w : Weights) → bound ≡ bound_by (port_before known plan line) w → (first : Bool) → cond first bound.first (after bound.later (later_delay line.byte_ns least)) ≡ Ok delay
+          → IsInTime (setting_of plan) size vl.link.id.0 line.from line.from_port way.outlet (put_with first) delay
+      go w is true e = high-bound known size plan accepted k line read here w vl.link.id.0 way.outlet way.byte_ns delay (ap (λ (b : PortBound). b.first) (sym is) ∙ e)
+      go w is false e = low-bound known size plan accepted k line read here w vl.link.id.0 least least_is way.outlet way.byte_ns delay lt (ap (λ (b : PortBound). after b.later (later_delay line.byte_ns least)) (sym is) ∙ e)
 
   hop-of : (k : ℕ) (line : LinePlan) → IsLineWay plan k line → ℕ → Bool → ℕ → Hop
   hop-of k line way before is_end delay = record {
@@ -125,14 +123,14 @@ module _ (plan : Plan) (accepted : IsAccepted plan) (bounds : List PortBound) (a
   }
 
   is-hop : (k : ℕ) (line : LinePlan) (way : IsLineWay plan k line) (before : ℕ) (is_end : Bool) (delay : ℕ)
-      → IsInTime (setting_of plan) (sizes_of plan) vl.link.id.0 line.from line.from_port way.outlet (put_with (is_first is_end vl.link)) delay
-      → IsHop (setting_of plan) (sizes_of plan) vl.link.id.0 (hop-of k line way before is_end delay)
+      → IsInTime (setting_of plan) size vl.link.id.0 line.from line.from_port way.outlet (put_with (is_first is_end vl.link)) delay
+      → IsHop (setting_of plan) size vl.link.id.0 (hop-of k line way before is_end delay)
   unfolding hop-of
   is-hop k line way before is_end delay timely = record { from_inside = way.from_below; by_inside = way.line_below; to_inside = way.to_below; way = way.way; in_time = timely }
 
   -- from the source
   from-end : (k : ℕ) (line : LinePlan) → slice_get (lines_of plan) k ≡ Some line → IsOver plan vl k → (bound : PortBound) → slice_get bounds k ≡ Some bound → (node : IsEndAt plan line.from) → (age : ℕ) → age < 2 ^ 128 - 1
-      → sent_over true line bound vl.link least (Ok 0) ≡ Ok age → IsComing plan vl source line age
+      → sent_over true line bound vl.link least (Ok 0) ≡ Ok age → IsComing size plan vl source line age
   unfolding hop-of
   from-end k line read over bound at node age lt e =
       let sent = sent-over true line bound vl.link least (Ok 0) age e in
@@ -145,7 +143,7 @@ module _ (plan : Plan) (accepted : IsAccepted plan) (bounds : List PortBound) (a
         hop = hop-of k line way 0 true sent.delay;
         earlier = [];
         route = (
-          is-hop k line way 0 true sent.delay (in-time k line read bound at way sent.delay sum.1 true sent.delay_is),
+          is-hop k line way 0 true sent.delay (in-time k line read bound at way (all line.from line.from_port leaves) sent.delay sum.1 true sent.delay_is),
           record { end_system = node.state; is = node.is; at_once = refl; low = refl },
         );
         from_source = same_Some line.from source (sym begins ∙ from_source);
@@ -160,7 +158,7 @@ module _ (plan : Plan) (accepted : IsAccepted plan) (bounds : List PortBound) (a
   -- through a switch
   through-switch : (k : ℕ) (line : LinePlan) → slice_get (lines_of plan) k ≡ Some line → IsOver plan vl k → (bound : PortBound) → slice_get bounds k ≡ Some bound → (node : IsSwitchAt plan line.from) → (age : ℕ) → age < 2 ^ 128 - 1
       → (entry : IsOverIn plan vl line.from (first_port (ways_at plan line.from In vl))) → (came : ℕ) → sent_over false line bound vl.link least (Ok (capped (came + latency_of plan line.from))) ≡ Ok age
-      → (came < 2 ^ 128 - 1 → IsComing plan vl source entry.leads.line came) → IsComing plan vl source line age
+      → (came < 2 ^ 128 - 1 → IsComing size plan vl source entry.leads.line came) → IsComing size plan vl source line age
   unfolding hop-of
   through-switch k line read over bound at node age lt entry came e coming =
       let sent = sent-over false line bound vl.link least (Ok (capped (came + latency_of plan line.from))) age e in
@@ -173,7 +171,7 @@ module _ (plan : Plan) (accepted : IsAccepted plan) (bounds : List PortBound) (a
         hop = hop-of k line way (latency_of plan line.from) false sent.delay;
         earlier = first.hop ∷ first.earlier;
         route = (
-          is-hop k line way (latency_of plan line.from) false sent.delay (in-time k line read bound at way sent.delay sum.1 false sent.delay_is),
+          is-hop k line way (latency_of plan line.from) false sent.delay (in-time k line read bound at way (all line.from line.from_port leaves) sent.delay sum.1 false sent.delay_is),
           record {
             switch = node.state;
             is = node.is;
@@ -199,7 +197,7 @@ module _ (plan : Plan) (accepted : IsAccepted plan) (bounds : List PortBound) (a
   abbrev came_by : ℕ → ℕ → ℕ → Result ℕ Reason
   came_by lines n j = option_map_or (λ k. plus (age_after plan bounds vl.link least lines k) (latency_of plan n)) (line_into plan n j) (Err reason.Way)
 
-  pub coming : (lines k : ℕ) (line : LinePlan) → slice_get (lines_of plan) k ≡ Some line → IsOver plan vl k → (age : ℕ) → age < 2 ^ 128 - 1 → age_after plan bounds vl.link least lines k ≡ Ok age → IsComing plan vl source line age
+  pub coming : (lines k : ℕ) (line : LinePlan) → slice_get (lines_of plan) k ≡ Some line → IsOver plan vl k → (age : ℕ) → age < 2 ^ 128 - 1 → age_after plan bounds vl.link least lines k ≡ Ok age → IsComing size plan vl source line age
   coming zero k line read over age lt e = absurd (err-ok reason.Way age e)
   coming (suc lines) k line read over age lt e =
       let here : option_map_or (age_over plan vl.link least (age_after plan bounds vl.link least lines) line) (slice_get bounds k) (Err reason.Way) ≡ Ok age =
@@ -208,13 +206,13 @@ module _ (plan : Plan) (accepted : IsAccepted plan) (bounds : List PortBound) (a
     where
       at-switch : (bound : PortBound) → slice_get bounds k ≡ Some bound → (node : IsSwitchAt plan line.from) → (entry : IsOverIn plan vl line.from (first_port (ways_at plan line.from In vl))) → (o : Result ℕ Reason) → age_after plan bounds vl.link least lines entry.k ≡ o
           → sent_over false line bound vl.link least (plus o (latency_of plan line.from)) ≡ Ok age
-          → ((k : ℕ) (line : LinePlan) → slice_get (lines_of plan) k ≡ Some line → IsOver plan vl k → (age : ℕ) → age < 2 ^ 128 - 1 → age_after plan bounds vl.link least lines k ≡ Ok age → IsComing plan vl source line age) → IsComing plan vl source line age
+          → ((k : ℕ) (line : LinePlan) → slice_get (lines_of plan) k ≡ Some line → IsOver plan vl k → (age : ℕ) → age < 2 ^ 128 - 1 → age_after plan bounds vl.link least lines k ≡ Ok age → IsComing size plan vl source line age) → IsComing size plan vl source line age
       at-switch bound at node entry (Err why) is e before = absurd (err-ok why age e)
       at-switch bound at node entry (Ok came) is e before =
           through-switch k line read over bound at node age lt entry came e (λ small. before entry.k entry.leads.line entry.leads.read entry.over came small is)
 
       go : (o : Option PortBound) → slice_get bounds k ≡ o → option_map_or (age_over plan vl.link least (age_after plan bounds vl.link least lines) line) o (Err reason.Way) ≡ Ok age
-          → ((k : ℕ) (line : LinePlan) → slice_get (lines_of plan) k ≡ Some line → IsOver plan vl k → (age : ℕ) → age < 2 ^ 128 - 1 → age_after plan bounds vl.link least lines k ≡ Ok age → IsComing plan vl source line age) → IsComing plan vl source line age
+          → ((k : ℕ) (line : LinePlan) → slice_get (lines_of plan) k ≡ Some line → IsOver plan vl k → (age : ℕ) → age < 2 ^ 128 - 1 → age_after plan bounds vl.link least lines k ≡ Ok age → IsComing size plan vl source line age) → IsComing size plan vl source line age
       go None at e before = absurd (err-ok reason.Way age e)
       go (Some bound) at e before = elim (node-kind plan line.from (line-read plan k line accepted read).0) [
         | inl node ↦ from-end k line read over bound at node age lt

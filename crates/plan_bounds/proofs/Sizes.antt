@@ -81,22 +81,37 @@ joined id found (first ∷ rows) row bytes (inl is) same h =
     (subst (λ (b : Bool). IsIn (cond b (with_sizes found (sizes_of_stream first.stream)) found) bytes) (sym (eq-eqb first.vl.0 id (ap (λ (r : VlStream). r.vl.0) is ∙ same)))
     (in-other found (sizes_of_stream first.stream) bytes (subst (λ (r : VlStream). IsIn (sizes_of_stream r.stream) bytes) (sym is) h)))
 
--- ---- none is greater than all frames may be
+-- ---- all are sizes of frames
 
-small-stream : (stream : Stream) → IsSmall stream → (sizes_of_stream stream).greatest ≤ 1518
-small-stream stream small = go (nat_le stream.frames 1)
+-- the least and the greatest are
+abbrev pub AreFrameSizes : FrameSizes → Type 0
+AreFrameSizes z = (64 ≤ z.least) × (z.greatest ≤ 1518)
+
+fit-stream : (stream : Stream) → IsSmall stream → AreFrameSizes (sizes_of_stream stream)
+fit-stream stream small = go (nat_le stream.frames 1)
   where
-    go : (one : Bool) → (cond one (one_size (last_of stream)) (with_sizes (one_size stream.size) (one_size (last_of stream)))).greatest ≤ 1518
+    go : (one : Bool) → AreFrameSizes (cond one (one_size (last_of stream)) (with_sizes (one_size stream.size) (one_size (last_of stream))))
     go true = small.1
-    go false = let size = small.0 in let last = small.1 in omega (arith, size, last)
+    go false =
+        let low = small.0.0 in
+        let high = small.0.1 in
+        let last_low = small.1.0 in
+        let last_high = small.1.1 in
+        (omega (arith, low, last_low), omega (arith, high, last_high))
 
-small-with : (id : ℕ) (found : FrameSizes) (rows : List VlStream) → found.greatest ≤ 1518 → ((row : VlStream) → Has rows row → row.vl.0 ≡ id → IsSmall row.stream) → (sizes_with id found rows).greatest ≤ 1518
-small-with id found [] small each = small
-small-with id found (row ∷ rows) small each = small-with id (with_row id found row) rows (go (row.vl.0 == id) refl) (λ r there same. each r (inr there) same)
+fit-with : (id : ℕ) (found : FrameSizes) (rows : List VlStream) → AreFrameSizes found → ((row : VlStream) → Has rows row → row.vl.0 ≡ id → IsSmall row.stream) → AreFrameSizes (sizes_with id found rows)
+fit-with id found [] fit each = fit
+fit-with id found (row ∷ rows) fit each = fit-with id (with_row id found row) rows (go (row.vl.0 == id) refl) (λ r there same. each r (inr there) same)
   where
-    go : (b : Bool) → (row.vl.0 == id) ≡ b → (cond b (with_sizes found (sizes_of_stream row.stream)) found).greatest ≤ 1518
-    go true e = let other = small-stream row.stream (each row (inl refl) (eqb-true row.vl.0 id e)) in omega (arith, small, other)
-    go false e = small
+    go : (b : Bool) → (row.vl.0 == id) ≡ b → AreFrameSizes (cond b (with_sizes found (sizes_of_stream row.stream)) found)
+    go true e =
+        let other = fit-stream row.stream (each row (inl refl) (eqb-true row.vl.0 id e)) in
+        let low = fit.0 in
+        let high = fit.1 in
+        let other_low = other.0 in
+        let other_high = other.1 in
+        (omega (arith, low, other_low), omega (arith, high, other_high))
+    go false e = fit
 
 -- ---- and the least is no greater than the greatest
 
@@ -135,11 +150,11 @@ module _ (plan : Plan) (accepted : IsAccepted plan) where
   pub sizes-are : (vl : VlPlan) → Contains plan.vls vl → sizes_of plan vl.link.id.0 ≡ as_sizes (sizes_in plan vl.link)
   sizes-are vl there = sizes-has vl (has-from_contains plan.vls vl there)
 
-  -- none of its frames is greater than 1518 bytes
-  pub small-sizes : (vl : VlPlan) → Contains plan.vls vl → (sizes_in plan vl.link).greatest ≤ 1518
-  small-sizes vl there =
-      small-with vl.link.id.0 (sizes_of_stream vl.link.own) plan.streams
-      (small-stream vl.link.own (is-small plan accepted (own_of vl.link has.node) (record { vl = vl; is_vl = has-from_contains plan.vls vl there; from = has.is; kind = inl refl })))
+  -- those of a virtual link are
+  pub fit-sizes : (vl : VlPlan) → Contains plan.vls vl → AreFrameSizes (sizes_in plan vl.link)
+  fit-sizes vl there =
+      fit-with vl.link.id.0 (sizes_of_stream vl.link.own) plan.streams
+      (fit-stream vl.link.own (is-small plan accepted (own_of vl.link has.node) (record { vl = vl; is_vl = has-from_contains plan.vls vl there; from = has.is; kind = inl refl })))
       (λ row is_row id. is-small plan accepted (stream_of FIRST_ROW vl.link row.stream has.node) (record {
         vl = vl;
         is_vl = has-from_contains plan.vls vl there;

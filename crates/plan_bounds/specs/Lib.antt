@@ -1,3 +1,4 @@
 pub mod Latencies
 pub mod Rooms
 pub mod Shapes
+pub mod Contract

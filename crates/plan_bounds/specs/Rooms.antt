@@ -10,7 +10,9 @@ use Rattle.network.specs.Words.{Plan, lines_of}
 use Rattle.nodes.specs.Words.{simulation_of}
 use Rattle.plan_ports.specs.Outlets.{port_bytes_at}
 use Rattle.network_bounds.specs.declared.delays.PortBound.{PortBound}
+use Rattle.network_bounds.specs.declared.sizes.Senders.{Senders}
 use Rattle.network_bounds.specs.Delays.{AreBounds}
+use Rattle.network_bounds.specs.Sizes.{known_sizes}
 
 -- the bound of the bytes that wait at the port before line k is no more than may wait there
 pub record Holds (plan : Plan) (bounds : List PortBound) (p k : ℕ) : Type 0 where
@@ -28,5 +30,5 @@ DropsNoneFull plan p =
 -- so it is at each node at whose every port the bound holds
 abbrev pub AreRoomsEnough : Plan → Type 0
 AreRoomsEnough plan =
-    (bounds : List PortBound) → AreBounds plan (lines_of plan) bounds → (p : ℕ) → p < length plan.nodes →
+    (senders : Senders) (bounds : List PortBound) → AreBounds (known_sizes senders plan) plan (lines_of plan) bounds → (p : ℕ) → p < length plan.nodes →
     ((k : ℕ) (line : LinePlan) → slice_get (lines_of plan) k ≡ Some line → line.from ≡ p → Holds plan bounds p k) → DropsNoneFull plan p

@@ -10,7 +10,8 @@ use Rattle.network_bounds.specs.declared.delays.PortBound.{PortBound}
 use Rattle.network_bounds.specs.Ages.{network_ns_of, wait_of}
 use Rattle.network_bounds.specs.Delays.{AreBounds}
 use Rattle.network_bounds.specs.declared.sizes.FrameSizes.{FrameSizes}
-use Rattle.network_bounds.specs.Sizes.{sizes_in}
+use Rattle.network_bounds.specs.declared.sizes.Senders.TheVariants.{AsStated}
+use Rattle.network_bounds.specs.Sizes.{known_sizes, sizes_in}
 use Rattle.plan_bounds.specs.Latencies.{IsLatencyBound}
 use Rattle.plan_bounds.specs.Rooms.{DropsNoneFull, Holds}
 
@@ -34,12 +35,12 @@ shape_of plan = record plan { until = 0; seed = 0; outages = []; vls = map (shap
 -- the other's regulator
 abbrev pub AreShapeBounds : Plan → Plan → Type 0
 AreShapeBounds shape plan =
-    shape_of plan ≡ shape_of shape → (bounds : List PortBound) → AreBounds shape (lines_of shape) bounds →
+    shape_of plan ≡ shape_of shape → (bounds : List PortBound) → AreBounds (known_sizes AsStated shape) shape (lines_of shape) bounds →
     (known : VlPlan) → Contains shape.vls known → (vl : VlPlan) → Contains plan.vls vl → vl.link.id ≡ known.link.id → (n : ℕ) → Contains (destinations_of vl) n →
     (network_ns : ℕ) → network_ns_of shape bounds known.link n ≡ Ok network_ns → IsLatencyBound plan vl n (network_ns + wait_of plan vl.link)
 
 -- and where the bounds hold at each port of a node, the other drops no frame there because a port is full
 abbrev pub AreShapeRooms : Plan → Plan → Type 0
 AreShapeRooms shape plan =
-    shape_of plan ≡ shape_of shape → (bounds : List PortBound) → AreBounds shape (lines_of shape) bounds → (p : ℕ) → p < length shape.nodes →
+    shape_of plan ≡ shape_of shape → (bounds : List PortBound) → AreBounds (known_sizes AsStated shape) shape (lines_of shape) bounds → (p : ℕ) → p < length shape.nodes →
     ((k : ℕ) (line : LinePlan) → slice_get (lines_of shape) k ≡ Some line → line.from ≡ p → Holds shape bounds p k) → DropsNoneFull plan p

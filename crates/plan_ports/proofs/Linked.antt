@@ -50,7 +50,7 @@ use Rattle.network.specs.declared.plan.VlStream.{VlStream}
 use Rattle.traffic.specs.declared.stream.OfferedStream.{OfferedStream}
 use Rattle.traffic.specs.Offers.{size_of as stream_size, sub_of}
 use Rattle.plan_ports.proofs.Offered.{IsStreamOf, all-offered}
-use Rattle.plan_ports.proofs.PlainLinks.{IsSmall, plain-own, plain-stream, small-size}
+use Rattle.plan_ports.proofs.PlainLinks.{IsFrameSize, IsSmall, plain-own, plain-stream, small-size}
 use Rattle.traffic.proofs.OwnLemmas.{plain-size}
 use Rattle.plan_ports.proofs.Entries.{all-entry, entry-made, entry_of, made-entry}
 
@@ -110,15 +110,15 @@ one-of P n (m ∷ ms) all any = go (m == n) refl any (one-of P n ms all.1)
     go false apart there later = later there
 
 abbrev HasGreatest : VlPlan → Type 0
-HasGreatest vl = (1 ≤ vl.link.smax) × IsSmall vl.link.own
+HasGreatest vl = IsFrameSize vl.link.smax × IsSmall vl.link.own
 
-small-last : (last : Option ℕ) (size : ℕ) → size ≤ 1518 → IfSome last (λ n. is_within 64 1518 n ≡ true) → unwrap_or last size ≤ 1518
+small-last : (last : Option ℕ) (size : ℕ) → IsFrameSize size → IfSome last (λ n. is_within 64 1518 n ≡ true) → IsFrameSize (unwrap_or last size)
 small-last None size le within = le
-small-last (Some n) size le within = (bounds 64 1518 n within).1
+small-last (Some n) size le within = bounds 64 1518 n within
 
 small-stream : (stream : Stream) → IsStreamWithin stream → IsSmall stream
 small-stream stream within =
-    let size = (bounds 64 1518 stream.size within.size).1 in
+    let size = bounds 64 1518 stream.size within.size in
     (size, small-last stream.last_size stream.size size within.last_size)
 
 all-small : (rows : List StreamRow) → AllByRecursion IsStreamRowWithin rows → AllByRecursion (λ s. IsSmall s.stream) (map stream_plan rows)
@@ -127,7 +127,7 @@ all-small (row ∷ rows) within = (small-stream row.stream within.0.stream, all-
 
 all-greatest : (names : List (List ℕ)) (rows : List VlRow) → AllByRecursion IsVlWithin rows → AllByRecursion HasGreatest (map (vl_plan names) rows)
 all-greatest names [] within = tt
-all-greatest names (row ∷ rows) within = (((let least = (bounds 64 1518 row.link.smax within.0.link.smax).0 in omega (arith, least)), small-stream row.link.own within.0.link.own), all-greatest names rows within.1)
+all-greatest names (row ∷ rows) within = ((bounds 64 1518 row.link.smax within.0.link.smax, small-stream row.link.own within.0.link.own), all-greatest names rows within.1)
 
 all-bags : (names : List (List ℕ)) (rows : List VlRow) → AllByRecursion IsVlWithin rows → AllByRecursion HasBags (map (vl_plan names) rows)
 all-bags names [] within = tt
@@ -275,7 +275,10 @@ module _ (plan : Plan) (accepted : IsAccepted plan) where
       All-contains HasGreatest plan.vls vl (All-permutation HasGreatest _ plan.vls accepted.stands.vls in_rows) there
 
   pub are-positive : AreGreatest plan
-  are-positive vl there = let great = all-great vl there in (great.0, great.1.0)
+  are-positive vl there = let great = all-great vl there in let smax = great.0.0 in (omega (arith, smax), great.1.0.1)
+
+  pub fit-smax : (vl : VlPlan) → Contains plan.vls vl → IsFrameSize vl.link.smax
+  fit-smax vl there = (all-great vl there).0
 
   -- ---- offers
 

@@ -59,13 +59,16 @@ plain-own plan s of plain = elim of.kind [
       (any-has (λ (r : VlStream). r.vl.0 == of.vl.link.id.0) plan.streams row.row row.is_row (eq-eqb row.row.vl.0 of.vl.link.id.0 row.id)))
 ]
 
--- no frame is greater than 1518 bytes
+-- frames have from 64 to 1518 bytes
+abbrev pub IsFrameSize : ℕ → Type 0
+IsFrameSize bytes = (64 ≤ bytes) × (bytes ≤ 1518)
+
 abbrev pub IsSmall : Stream → Type 0
-IsSmall stream = (stream.size ≤ 1518) × (unwrap_or stream.last_size stream.size ≤ 1518)
+IsSmall stream = IsFrameSize stream.size × IsFrameSize (unwrap_or stream.last_size stream.size)
 
 pub small-size : (stream : Stream) (i : ℕ) → IsSmall stream → size_of stream i ≤ 1518
 small-size stream i small = go (nat_lt (i + 1) stream.frames)
   where
     go : (b : Bool) → cond b stream.size (unwrap_or stream.last_size stream.size) ≤ 1518
-    go true = small.0
-    go false = small.1
+    go true = small.0.1
+    go false = small.1.1

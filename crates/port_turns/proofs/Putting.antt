@@ -1,5 +1,5 @@
 -- What a node sends as puts: what passed the account, later by the delay.
-use Rattle.std.proofs.Common.{◌≡◌, ℕ, ◌+◌, ◌≤◌, ◌==◌, Bool, true, false, cond, List, [], ◌∷◌, ◌++◌, filter, Some, refl, sym, ap, subst, arith}
+use Rattle.std.proofs.Common.{◌≡◌, ℕ, ◌+◌, ◌≤◌, ◌==◌, Bool, true, false, cond, List, [], ◌∷◌, ◌++◌, filter, map, Some, refl, sym, ap, subst, arith}
 use Rattle.std.proofs.lemmas.Bool.{false≢true}
 use Rattle.vlink.specs.declared.message.Message.{Message}
 use Rattle.policer.specs.declared.account.Arrival.{Arrival}
@@ -10,7 +10,7 @@ use Rattle.port_bounds.specs.Sublists.{Every, IsSublist}
 use Rattle.port_bounds.specs.Pacing.{AreBetween}
 use Rattle.port_bounds.proofs.PacingLemmas.{ends}
 use Rattle.port_bounds.proofs.SublistLemmas.{sub-trans}
-use Rattle.element_bounds.specs.Passages.{AreAtLeast, passages_of}
+use Rattle.element_bounds.specs.Passages.{AreAtLeast, passed_of}
 use Rattle.nodes.specs.declared.equipment.Equipment.{Equipment}
 use Rattle.nodes.specs.declared.equipment.Equipment.TheVariants.{Switch}
 use Rattle.nodes.specs.declared.transit.Transit.{Transit}
@@ -18,24 +18,29 @@ use Rattle.nodes.specs.rules.Node.{NodeState, handled, after}
 use Rattle.nodes.specs.laws.SwitchSending.{switch-cases}
 use Rattle.port_turns.specs.SwitchPuts.{is_put, transit_of}
 use Rattle.port_turns.specs.PortRuns.{BringsAtLeast}
-use Rattle.port_turns.proofs.Judging.{Judged, delay_of, node-judges, put_times}
+use Rattle.port_turns.proofs.Judging.{Judged, as_put, delay_of, node-judges, puts_in}
 use Rattle.port_turns.proofs.Judging.Judged.{Quiet, Judges}
 use Rattle.port_turns.proofs.Elsewhere.{all-elsewhere}
-use Rattle.port_turns.proofs.SentKinds.{AreFrom, from-sooner, from-sub, mine, mine-kind, moments-sub, moments_of, sub-filter, sub-map, times_of, wished}
-use Rattle.port_turns.proofs.Later.{later}
+use Rattle.port_turns.proofs.SentKinds.{AreFrom, from-sooner, from-sub, made-sub, mine, mine-kind, moments_of, sub-filter, sub-map, times_of, wished}
+use Rattle.port_turns.proofs.Later.{later_frames}
 
--- moments that are later by a delay; and those of frames that pass
-later-from : (delay t : ℕ) (ts : List ℕ) → AreFrom t ts → AreFrom (t + delay) (later delay ts)
-later-from delay t [] h = tt
-later-from delay t (x ∷ xs) h = (omega (arith, h.0), later-from delay x xs h.1)
-
-passages-from : (a : Policing) (arrivals : List Arrival) (t u : ℕ) → IsBetween t u arrivals → AreFrom t (passages_of a arrivals)
-passages-from a [] t u h = tt
-passages-from a (x ∷ xs) t u h = go (passes a x) (passages-from (account.after a x) xs x.at u h.2)
+-- the moments of frames that pass do not fall, also later by a delay
+passed-from : (delay : ℕ) (a : Policing) (arrivals : List Arrival) (t u : ℕ) → IsBetween t u arrivals → AreFrom (t + delay) (map (λ (x : Arrival). x.at) (later_frames delay (passed_of a arrivals)))
+passed-from delay a [] t u h = tt
+passed-from delay a (x ∷ xs) t u h = go (passes a x) (passed-from delay (account.after a x) xs x.at u h.2)
   where
-    go : (b : Bool) → AreFrom x.at (passages_of (account.after a x) xs) → AreFrom t (cond b (x.at ∷ passages_of (account.after a x) xs) (passages_of (account.after a x) xs))
-    go true rest = (h.0, rest)
-    go false rest = from-sooner t x.at (passages_of (account.after a x) xs) h.0 rest
+    from : t + delay ≤ x.at + delay
+    from = let f = h.0 in omega (arith, f)
+
+    go : (b : Bool) → AreFrom (x.at + delay) (map (λ (x : Arrival). x.at) (later_frames delay (passed_of (account.after a x) xs))) →
+        AreFrom (t + delay) (map (λ (x : Arrival). x.at) (later_frames delay (cond b (x ∷ passed_of (account.after a x) xs) (passed_of (account.after a x) xs))))
+    go true rest = (from, rest)
+    go false rest = from-sooner (t + delay) (x.at + delay) (map (λ (x : Arrival). x.at) (later_frames delay (passed_of (account.after a x) xs))) from rest
+
+-- the moments of puts are those of the wishes
+moments-put : (ws : List Wish) → map (λ (x : Arrival). x.at) (map as_put ws) ≡ moments_of ws
+moments-put [] = refl
+moments-put (w ∷ ws) = ap (λ z. w.time ∷ z) (moments-put ws)
 
 module _ (q v : ℕ) where
   -- another process puts none to this one
@@ -50,23 +55,23 @@ module _ (q v : ℕ) where
 
   module _ (p : ℕ) where
     -- what the process has put to the port, as its events wish for it
-    abbrev pub put_by : NodeState → List Message → List ℕ
-    put_by s ms = moments_of (wished (is_put q v) p s ms)
+    abbrev pub put_by : NodeState → List Message → List Arrival
+    put_by s ms = map as_put (wished (is_put q v) p s ms)
 
-    -- frames of at least so many bytes came to the account from t to u, and these are some of the moments at which they passed, later by the delay
-    pub record HavePassed (least t u delay : ℕ) (a : Policing) (times : List ℕ) : Type 0 where
+    -- frames of at least so many bytes came to the account from t to u, and these are some of those that passed, later by the delay
+    pub record HavePassed (least t u delay : ℕ) (a : Policing) (puts : List Arrival) : Type 0 where
       pub arrivals : List Arrival
       pub sizes : AreAtLeast least arrivals
       pub between : IsBetween t u arrivals
-      pub sub : IsSublist times (later delay (passages_of a arrivals))
+      pub sub : IsSublist puts (later_frames delay (passed_of a arrivals))
 
     between-sooner : (t from u : ℕ) (arrivals : List Arrival) → t ≤ from → IsBetween from u arrivals → IsBetween t u arrivals
     between-sooner t from u [] l h = tt
     between-sooner t from u (x ∷ xs) l h = (omega (arith, h.0), h.1, h.2)
 
     -- of the puts those to the process
-    for-process : (ws : List Wish) → IsSublist (moments_of (filter (mine (is_put q v) p) ws)) (put_times q v ws)
-    for-process ws = sub-map (λ (w : Wish). w.time) _ _
+    for-process : (ws : List Wish) → IsSublist (map as_put (filter (mine (is_put q v) p) ws)) (puts_in q v ws)
+    for-process ws = sub-map as_put _ _
         (subst (λ z. IsSublist z (filter (λ w. is_put q v w.body) ws)) (sym (mine-kind (is_put q v) p ws)) (sub-filter (λ (w : Wish). w.receiver == p) (filter (λ w. is_put q v w.body) ws)))
 
     pub puts-passed : (least : ℕ) (s : NodeState) (transit : Transit) (ms : List Message) (t u : ℕ) → Every (BringsAtLeast v least) ms → transit_of s.equipment v ≡ Some transit → AreBetween t u (times_of ms) →
@@ -75,15 +80,15 @@ module _ (q v : ℕ) where
     puts-passed least s transit (m ∷ ms) t u c h b =
         go (node-judges s.sender.number q v m s.equipment transit h) (λ now e. subst (λ d. HavePassed least m.time u d now.account (put_by (after s m) ms)) (delay-stays s.sender.number m s.equipment) (puts-passed least (after s m) now ms m.time u c.1 e b.1))
       where
-        joined : (first rest : List ℕ) → IsSublist (put_times q v (handled s.sender.number m s.equipment).reply.wishes) first → IsSublist (put_by (after s m) ms) rest → IsSublist (put_by s (m ∷ ms)) (first ++ rest)
-        joined first rest k l = moments-sub (is_put q v) p s m ms first rest (sub-trans _ _ _ (for-process (handled s.sender.number m s.equipment).reply.wishes) k) l
+        joined : (first rest : List Arrival) → IsSublist (puts_in q v (handled s.sender.number m s.equipment).reply.wishes) first → IsSublist (put_by (after s m) ms) rest → IsSublist (put_by s (m ∷ ms)) (first ++ rest)
+        joined first rest k l = made-sub (is_put q v) p as_put s m ms first rest (sub-trans _ _ _ (for-process (handled s.sender.number m s.equipment).reply.wishes) k) l
 
-        passing : (arrival : Arrival) (b : Bool) (ts : List ℕ) → arrival.at ≡ m.time →
-            cond b ((m.time + delay_of s.equipment) ∷ []) [] ++ later (delay_of s.equipment) ts ≡ later (delay_of s.equipment) (cond b (arrival.at ∷ ts) ts)
-        passing arrival true ts e = ap (λ z. (z + delay_of s.equipment) ∷ later (delay_of s.equipment) ts) (sym e)
-        passing arrival false ts e = refl
+        passing : (arrival : Arrival) (b : Bool) (xs : List Arrival) → arrival.at ≡ m.time →
+            cond b (record { at = m.time + delay_of s.equipment; size = arrival.size } ∷ []) [] ++ later_frames (delay_of s.equipment) xs ≡ later_frames (delay_of s.equipment) (cond b (arrival ∷ xs) xs)
+        passing arrival true xs e = ap (λ z. record { at = z + delay_of s.equipment; size = arrival.size } ∷ later_frames (delay_of s.equipment) xs) (sym e)
+        passing arrival false xs e = refl
 
-        go : Judged m.time (delay_of s.equipment) v m.body transit (transit_of (after s m).equipment v) (put_times q v (handled s.sender.number m s.equipment).reply.wishes) →
+        go : Judged m.time (delay_of s.equipment) v m.body transit (transit_of (after s m).equipment v) (puts_in q v (handled s.sender.number m s.equipment).reply.wishes) →
             ((now : Transit) → transit_of (after s m).equipment v ≡ Some now → HavePassed least m.time u (delay_of s.equipment) now.account (put_by (after s m) ms)) →
             HavePassed least t u (delay_of s.equipment) transit.account (put_by s (m ∷ ms))
         go (Quiet now none) more =
@@ -92,7 +97,7 @@ module _ (q v : ℕ) where
               arrivals = r.arrivals;
               sizes = r.sizes;
               between = between-sooner t m.time u r.arrivals b.0 r.between;
-              sub = joined [] (later (delay_of s.equipment) (passages_of transit.account r.arrivals)) (subst (λ z. IsSublist z []) (sym none) tt) r.sub;
+              sub = joined [] (later_frames (delay_of s.equipment) (passed_of transit.account r.arrivals)) (subst (λ z. IsSublist z []) (sym none) tt) r.sub;
             }
         go (Judges arrival at brought now some) more =
             let r = more (record transit { account = account.after transit.account arrival }) now in
@@ -101,16 +106,17 @@ module _ (q v : ℕ) where
               arrivals = arrival ∷ r.arrivals;
               sizes = (c.0 arrival.size brought, r.sizes);
               between = (omega (arith, b.0), omega arith, subst (λ z. IsBetween z u r.arrivals) (sym at) r.between);
-              sub = subst (IsSublist (put_by s (m ∷ ms))) (passing arrival (passes transit.account arrival) (passages_of (account.after transit.account arrival) r.arrivals) at)
-                  (joined (cond (passes transit.account arrival) ((m.time + delay_of s.equipment) ∷ []) []) (later (delay_of s.equipment) (passages_of (account.after transit.account arrival) r.arrivals)) some r.sub);
+              sub = subst (IsSublist (put_by s (m ∷ ms))) (passing arrival (passes transit.account arrival) (passed_of (account.after transit.account arrival) r.arrivals) at)
+                  (joined (cond (passes transit.account arrival) (record { at = m.time + delay_of s.equipment; size = arrival.size } ∷ []) []) (later_frames (delay_of s.equipment) (passed_of (account.after transit.account arrival) r.arrivals)) some r.sub);
             }
 
     -- so the moments of the puts do not fall
-    pub puts-from : (s : NodeState) (transit : Transit) (ms : List Message) (u : ℕ) → transit_of s.equipment v ≡ Some transit → AreBetween 0 u (times_of ms) → AreFrom (0 + delay_of s.equipment) (put_by s ms)
+    pub puts-from : (s : NodeState) (transit : Transit) (ms : List Message) (u : ℕ) → transit_of s.equipment v ≡ Some transit → AreBetween 0 u (times_of ms) → AreFrom (0 + delay_of s.equipment) (moments_of (wished (is_put q v) p s ms))
     puts-from s transit ms u h b =
         let r = puts-passed 0 s transit ms 0 u (each ms) h b in
-        from-sub _ (put_by s ms) (later (delay_of s.equipment) (passages_of transit.account r.arrivals)) r.sub
-        (later-from (delay_of s.equipment) 0 (passages_of transit.account r.arrivals) (passages-from transit.account r.arrivals 0 u r.between))
+        subst (AreFrom (0 + delay_of s.equipment)) (moments-put (wished (is_put q v) p s ms))
+        (from-sub _ (map (λ (x : Arrival). x.at) (put_by s ms)) (map (λ (x : Arrival). x.at) (later_frames (delay_of s.equipment) (passed_of transit.account r.arrivals))) (sub-map (λ (x : Arrival). x.at) _ _ r.sub)
+        (passed-from (delay_of s.equipment) transit.account r.arrivals 0 u r.between))
       where
         each : (ms : List Message) → Every (BringsAtLeast v 0) ms
         each [] = tt

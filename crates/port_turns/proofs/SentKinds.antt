@@ -174,13 +174,13 @@ module _ (kind : Body → Bool) (to : ℕ) where
           (map-append as_wish (filter is_to (sends s m)) (filter is_to (law.sent (rules_of node) (after s m) ms)) ∙
           ap (λ z. z ++ wished (after s m) ms) (sent-mine s.sender (handled s.sender.number m s.equipment).reply.wishes))
 
-  -- and so are its moments
-  pub moments-sub : (s : NodeState) (m : Message) (ms : List Message) (first rest : List ℕ) → IsSublist (moments_of (filter mine (handled s.sender.number m s.equipment).reply.wishes)) first →
-      IsSublist (moments_of (wished (after s m) ms)) rest → IsSublist (moments_of (wished s (m ∷ ms))) (first ++ rest)
-  moments-sub s m ms first rest h k =
-      sub-trans _ _ _ (subst (IsSublist (moments_of (wished s (m ∷ ms)))) (map-append (λ (w : Wish). w.time) (filter mine (handled s.sender.number m s.equipment).reply.wishes) (wished (after s m) ms))
-      (sub-map (λ (w : Wish). w.time) _ _ (wished-sub s m ms _ _ (sub-refl (filter mine (handled s.sender.number m s.equipment).reply.wishes)) (sub-refl (wished (after s m) ms)))))
-      (sub-both (moments_of (filter mine (handled s.sender.number m s.equipment).reply.wishes)) (moments_of (wished (after s m) ms)) first rest h k)
+  -- and so is what is made of each wish
+  pub made-sub : {X : Type 0} (made : Wish → X) (s : NodeState) (m : Message) (ms : List Message) (first rest : List X) → IsSublist (map made (filter mine (handled s.sender.number m s.equipment).reply.wishes)) first →
+      IsSublist (map made (wished (after s m) ms)) rest → IsSublist (map made (wished s (m ∷ ms))) (first ++ rest)
+  made-sub made s m ms first rest h k =
+      sub-trans _ _ _ (subst (IsSublist (map made (wished s (m ∷ ms)))) (map-append made (filter mine (handled s.sender.number m s.equipment).reply.wishes) (wished (after s m) ms))
+      (sub-map made _ _ (wished-sub s m ms _ _ (sub-refl (filter mine (handled s.sender.number m s.equipment).reply.wishes)) (sub-refl (wished (after s m) ms)))))
+      (sub-both (map made (filter mine (handled s.sender.number m s.equipment).reply.wishes)) (map made (wished (after s m) ms)) first rest h k)
 
   -- where the first messages are offers, none of them is of the kind
   pub offers-none : ((vl : VlId) (size sub : ℕ) → kind (body.Offer vl size sub) ≡ false) → (ms : List Message) → All (λ m. is_offer m.body ≡ true) ms → filter is_to ms ≡ []

@@ -79,7 +79,7 @@ module _ (v : ℕ) where
   put_of (Some Free) = false
   put_of (Some (Put frame r)) = frame.vl.0 == v
 
-  moments-are : (xs : List PutFrame) → map (λ x. x.at) (filter (is_of_link v) xs) ≡ moments_at (is_of_link v) xs
+  pub moments-are : (xs : List PutFrame) → map (λ x. x.at) (filter (is_of_link v) xs) ≡ moments_at (is_of_link v) xs
   moments-are [] = refl
   moments-are (x ∷ xs) = go (x.frame.vl.0 == v) (moments-are xs)
     where

@@ -1,5 +1,5 @@
 -- What happens at a port of a node in a run, and what it is for the port of which bounds are known.
-use Rattle.std.specs.Prelude.{◌≡◌, ℕ, ◌<◌, ◌≤◌, All, List, [], ◌∷◌, ◌++◌, Option, Some, None, ⊤}
+use Rattle.std.specs.Prelude.{◌≡◌, ℕ, ◌<◌, ◌≤◌, All, List, [], ◌∷◌, ◌++◌, Option, Some, None, filter, map, ⊤}
 use Rattle.std.specs.Option.{option_map_or}
 use Rattle.vlink.specs.declared.message.Message.{Message}
 use Rattle.vlink.specs.declared.message.Body.{Body}
@@ -17,7 +17,9 @@ use Rattle.port_bounds.specs.Pacing.{IsPaced}
 use Rattle.port_bounds.specs.Sublists.{Every}
 use Rattle.port_bounds.specs.Arrivals.{is_of_link, moments_at}
 use Rattle.port_bounds.specs.Port.{Event, IsServed, highs_of, idle, lows_of}
-use Rattle.element_bounds.specs.Passages.{IsCounting}
+use Rattle.policer.specs.declared.account.Arrival.{Arrival}
+use Rattle.policer.specs.declared.account.Measure.TheVariants.{Bytes}
+use Rattle.element_bounds.specs.Passages.{IsCounting, IsMetered}
 use Rattle.element_bounds.specs.PortTrace.{PortEventAt, IsSamePort, trace_of}
 use Rattle.nodes.specs.declared.equipment.Equipment.{Equipment}
 use Rattle.nodes.specs.declared.equipment.Equipment.TheVariants.{EndSystem, Switch}
@@ -73,6 +75,21 @@ AreTracesPaced =
     Every (BringsAtLeast v least) (events (simulation_of (rules_of node) x) n p) →
     IsPaced transit.account.bag transit.account.jitter
     (moments_at (is_of_link v) (puts_with priority (trace_of byte_ns port (port_events q (x.opening p) (events (simulation_of (rules_of node) x) n p)))))
+
+-- the frames of virtual link v among these
+abbrev pub arrival_of : PutFrame → Arrival
+arrival_of put = record { at = put.at; size = put.frame.size }
+
+abbrev pub arrivals_of : ℕ → List PutFrame → List Arrival
+arrivals_of v puts = map arrival_of (filter (is_of_link v) puts)
+
+-- and where the account counts bytes, they have no more bytes than it says, whatever sizes they have
+abbrev pub AreTracesMetered : Type 0
+AreTracesMetered =
+    (x : Setting NodeState) → Laws (simulation_of (rules_of node) x) → (p q v : ℕ) → p < x.processes → IsOfNodes x → (transit : Transit) → transit_of (x.opening p).equipment v ≡ Some transit →
+    transit.account.measure ≡ Bytes → (byte_ns : ℕ) (port : PortState) (priority : Priority) (n : ℕ) →
+    IsMetered transit.account.smax transit.account.bag transit.account.jitter
+    (arrivals_of v (puts_with priority (trace_of byte_ns port (port_events q (x.opening p) (events (simulation_of (rules_of node) x) n p)))))
 
 -- in its regulators each frame that waits is of its virtual link, as where none waits
 abbrev pub AreOwnFrames : Equipment → Type 0

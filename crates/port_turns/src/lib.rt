@@ -3,7 +3,7 @@
 
 ghost use Rattle.port_turns.specs.Arrivals.{AreArrivalsSerial, AreTracesSerial};
 ghost use Rattle.port_turns.specs.PortEvents.{ArePortsAsked};
-ghost use Rattle.port_turns.specs.PortRuns.{ArePortsServed, AreSourceTracesPaced, AreTracesPaced};
+ghost use Rattle.port_turns.specs.PortRuns.{ArePortsServed, AreSourceTracesPaced, AreTracesMetered, AreTracesPaced};
 ghost use Rattle.port_turns.specs.PortTimer.{ArePortsOnTime};
 
 /// What a message does at an output port of a node: it causes at most one event of the port, and the port handles just that.
@@ -19,12 +19,14 @@ pub fn port_timer_law()
 
 /// In the one-thread run the events of a port of a node, as the port of `port_bounds` sees them, come at moments that do not fall, and that
 /// port is freed at just the moment at which its frame has left. So the bounds of `port_bounds` hold for it. At a switch the frames of each
-/// virtual link among them are paced by its account, if that counts frames: n of them from t to u have n * BAG <= BAG + jitter + (u - t).
+/// virtual link among them are paced by its account, if that counts frames: n of them from t to u have n * BAG <= BAG + jitter + (u - t). If it
+/// counts bytes, b bytes of them from t to u have b * BAG <= Smax * (BAG + jitter + (u - t)).
 /// At its end system they are one BAG apart, from every state in which regulators hold frames of their own virtual links alone, and
 /// whatever messages come.
 pub fn port_runs_law()
     ensures served { ArePortsServed }
     ensures paced { AreTracesPaced }
+    ensures metered { AreTracesMetered }
     ensures source_paced { AreSourceTracesPaced }
 {}
 
