@@ -79,12 +79,12 @@ void _exit(int status) {
 
 TABLES = "table,vl,where,cause,count,least_ns,greatest_ns,sum_ns\nlatency,1,ES2,,1,27720,27720,27720\n"
 BOUNDS = """\
-kind,of,where,network_ns,wait_ns,bound_ns
-bound,1,ES2,27720,0,27720
-port,ES1>SW1,,84,yes,
-port,SW1>ES1,,0,yes,
-port,SW1>ES2,,84,yes,
-port,ES2>SW1,,0,yes,
+kind,of,where,network_ns,wait_ns,bound_ns,least_ns,jitter_ns,skew_ns,sure,sure_ns
+bound,1,ES2,27720,0,27720,27720,0,,,
+port,ES1>SW1,,84,yes,,,,,,
+port,SW1>ES1,,0,yes,,,,,,
+port,SW1>ES2,,84,yes,,,,,,
+port,ES2>SW1,,0,yes,,,,,,
 """
 TRACE = "time_ns,where,vl,what,value\n27720,ES2,1,delivered,27720\n"
 FINISHED = re.compile(r"replay: \d+ did, 0 not enabled, 0 refused, gvt 2000001, finished\n")

@@ -9,7 +9,7 @@ import tty
 import unittest
 from typing import NamedTuple
 
-from afdx.model import BOUNDS_HEAD, PROGRAM, TABLES_HEAD, TRACE_HEAD
+from afdx.model import PROGRAM, TABLES_HEAD, TRACE_HEAD
 from gate.refuse_memory import library_in
 from tests.places import PATIENCE, read_terminal
 from tests.row_files import blocks, changed, lines_of, network, repeated, rows
@@ -50,6 +50,9 @@ int clock_gettime(int clock, long time[2]) {
     return 0;
 }
 """
+
+
+BOUNDS_HEAD = "kind,of,where,network_ns,wait_ns,bound_ns,least_ns,jitter_ns,skew_ns,sure,sure_ns"
 
 
 class Ended(NamedTuple):

@@ -1,6 +1,7 @@
 //! `bounds NET [--contract]`: writes how long frames take at most, and how many bytes wait at most, in any run of a network.
 ghost use Rattle.std.specs.Prelude.{◌≡◌, ◌≢◌, ℕ, true, List, IfErr, OnOk};
 ghost use Rattle.network_bounds.specs.Text.{IsBoundsText};
+ghost use Rattle.plan_bounds.specs.Columns.{AreContractTextsTrue, AreTextsTrue};
 ghost use Rattle.plan_bounds.specs.Latencies.{AreLatencyBounds};
 ghost use Rattle.plan_bounds.specs.Rooms.{AreRoomsEnough};
 ghost use Rattle.commands.specs.declared.fault.Fault.TheVariants.{CannotWrite};
@@ -14,7 +15,7 @@ use crate::host::Host;
 use command_line::Bounds;
 use network::Network;
 use network_bounds::{Senders, write_bounds};
-use plan_bounds::bounds_law;
+use plan_bounds::{bounds_law, text_law};
 use std::alloc::Global;
 use trace_tables::{OutFault, Sink};
 
@@ -52,6 +53,10 @@ fn senders_of(order: &Bounds) -> Senders
 ///
 /// - `latencies`: in the one-thread run of the network no frame is delivered later after its offer than these bounds say.
 /// - `rooms`: a node drops no frame because a port is full, if these bounds fit the bytes of each of its ports.
+/// - `stated`: what each line of such a text says, column by column, holds in the one-thread run of every network of the shape: that differs in
+///   seed, end, outages and streams alone, if the least and the greatest frame of each virtual link are the same.
+/// - `by_contract`: what each line of such a text by contract says holds in that of every network that agrees in nodes, lines and virtual links, if
+///   the end system of its virtual link or port keeps its sizes.
 pub fn bounds<H: Host>(
     alloc: Global,
     network: &Network,
@@ -60,6 +65,8 @@ pub fn bounds<H: Host>(
 ) -> Result<(), Fault<'static>>
     ensures latencies { AreLatencyBounds network.now }
     ensures rooms { AreRoomsEnough network.now }
+    ensures stated { AreTextsTrue network.now }
+    ensures by_contract { AreContractTextsTrue network.now }
     ensures text { OnOk result (ShowsBounds H.outside host.old host.new (senders_of order.now) network.now) }
     ensures left { OnOk result (ShowsAlone H.outside host.old host.new) }
     ensures fault { IfErr result (LacksOutput H.outside true host.old host.new) }
@@ -67,5 +74,6 @@ pub fn bounds<H: Host>(
     ensures quiet { IsQuiet H.outside host.old host.new }
 {
     bounds_law(network);
+    text_law(network);
     show_bounds(alloc, network, senders_of(order), host.output())
 }

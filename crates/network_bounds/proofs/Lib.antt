@@ -4,3 +4,4 @@ pub mod PassingLemmas
 pub mod TextLemmas
 pub mod AgeLemmas
 pub mod SizeLemmas
+pub mod SaidLemmas

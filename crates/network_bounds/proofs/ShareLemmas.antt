@@ -1,5 +1,5 @@
 -- What comes to a port by a line, one virtual link after another.
-use Rattle.std.proofs.Common.{◌≡◌, ℕ, ◌+◌, Bool, true, false, if◌then◌else◌, max, List, [], ◌∷◌, refl, sym, ap, ◌∙◌, arith}
+use Rattle.std.proofs.Common.{◌≡◌, ℕ, ◌+◌, Bool, true, false, if◌then◌else◌, max, List, [], ◌∷◌, sym, ap, ◌∙◌, arith}
 use Rattle.port_bounds.specs.Mixtures.{flows_burst, flows_rate}
 use Rattle.network_bounds.specs.declared.passing.Passing.{Passing}
 use Rattle.network_bounds.specs.declared.share.Share.{Share}

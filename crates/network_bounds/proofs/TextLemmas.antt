@@ -11,9 +11,10 @@ use Rattle.std.specs.Option.{option_map_or}
 use Rattle.std.proofs.lemmas.Option.{slice_get_past}
 use Rattle.network.specs.declared.wiring.LinePlan.{LinePlan}
 use Rattle.network.specs.Words.{lines_of}
+use Rattle.network_bounds.specs.declared.ages.Span.{Span}
 use Rattle.network_bounds.specs.declared.reason.Reason.{Reason}
 use Rattle.network_bounds.specs.declared.sizes.LinkSizes.{LinkSizes}
-use Rattle.network_bounds.specs.Ages.{network_ns_of}
+use Rattle.network_bounds.specs.Least.{span_of}
 use Rattle.network_bounds.specs.Delays.{AreBounds, IsBound}
 use Rattle.network_bounds.specs.Mixing.{PortPlan, port_before}
 use Rattle.network_bounds.specs.Text.{destination_line, destination_text, destinations_text, link_text, port_bytes_of, port_line, port_text, ports_from}
@@ -121,8 +122,8 @@ all-put plan bounds old new k past put =
     (sym (append-nil put.0) ∙ ap (λ bs. put.0 ++ ports_from plan k bs) (sym (drop_all k bounds past)) ∙ put.2) put.1
 
 -- the line of a destination that there is
-pub said-at : (plan : Plan) (bounds : List PortBound) (link : VirtualLink) (n : ℕ) (found : Result ℕ Reason) → n < length plan.nodes → network_ns_of plan bounds link n ≡ found →
+pub said-at : (plan : Plan) (bounds : List PortBound) (link : VirtualLink) (n : ℕ) (found : Result Span Reason) → n < length plan.nodes → span_of plan bounds link n ≡ found →
     destination_line plan link n found ≡ destination_text plan bounds link n
 said-at plan bounds link n found below is =
     ap (λ r. destination_line plan link n r) (sym is)
-    ∙ ap (λ (b : Bool). cond b (destination_line plan link n (network_ns_of plan bounds link n)) []) (sym (lt-ltb n (length plan.nodes) below))
+    ∙ ap (λ (b : Bool). cond b (destination_line plan link n (span_of plan bounds link n)) []) (sym (lt-ltb n (length plan.nodes) below))

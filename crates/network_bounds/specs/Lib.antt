@@ -4,5 +4,7 @@ pub mod Passing
 pub mod Mixing
 pub mod Delays
 pub mod Ages
+pub mod Least
+pub mod Said
 pub mod Text
 pub mod Sizes

@@ -1,6 +1,6 @@
 -- All that comes to a port, line by line, as certificates of `port_bounds` have it: of each line a mixture of what it can send and what its
 -- virtual links can give.
-use Rattle.std.specs.Prelude.{ℕ, suc, zero, ◌+◌, ◌*◌, ◌==◌, ◌&&◌, ◌||◌, Bool, false, if◌then◌else◌, List, [], ◌∷◌, Option, None, Some, max, min, nat_le, nat_lt, slice_get, slice_index_or, length, map, option_map}
+use Rattle.std.specs.Prelude.{ℕ, suc, zero, ◌+◌, ◌*◌, ◌==◌, ◌&&◌, Bool, false, if◌then◌else◌, List, [], ◌∷◌, Option, None, Some, max, min, nat_le, nat_lt, slice_get, slice_index_or, length, map, option_map}
 use Rattle.std.specs.Option.{option_map_or}
 use Rattle.std.specs.List.{range_with_len}
 use Rattle.network.specs.declared.wiring.LinePlan.{LinePlan}

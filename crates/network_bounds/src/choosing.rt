@@ -1,7 +1,7 @@
 //! Chooses the mixtures of a port, such that its bounds are small.
 
 use crate::delays::Weights;
-use crate::filling::{Total, filled, lowered, shares_of, weigh};
+use crate::filling::{Total, filled, filled_both, lowered, shares_of, weigh};
 use crate::mixing::Parts;
 use crate::port::Port;
 use crate::share::Share;
@@ -49,7 +49,56 @@ impl Side {
     }
 }
 
-/// The mixtures of high and of low frames that gave the least number so far.
+/// Mixtures of high and of low frames, the sums of the high one, and those of both.
+#[derive(Clone, Copy)]
+struct Pair {
+    high: Parts,
+    low: Parts,
+    first: Total,
+    both: Total,
+}
+
+impl Pair {
+    /// Returns the pair of these mixtures.
+    fn of(high: (Parts, Total), low: (Parts, Total)) -> Self {
+        Pair {
+            high: high.0,
+            low: low.0,
+            first: high.1,
+            both: Total {
+                burst: high.1.burst.saturating_add(low.1.burst),
+                rate: high.1.rate.saturating_add(low.1.rate),
+            },
+        }
+    }
+
+    /// Returns the pair of the least burst of both that comes no faster than the line sends.
+    fn within(high: &Side, low: &Side) -> Self {
+        let (first, second) = filled_both(&high.shares, &low.shares, UNITS);
+        Pair::of(high.mixed(first), low.mixed(second))
+    }
+
+    /// Returns how long the greatest low frame waits, in ns, or the greatest number if there is no bound. `own` is its cost, in units.
+    fn later(&self, own: u128) -> u128 {
+        if UNITS < self.both.rate {
+            return u128::MAX;
+        }
+        let rest = self.both.burst.saturating_sub(own);
+        rest.checked_div(UNITS.saturating_sub(self.first.rate))
+            .unwrap_or(u128::MAX)
+    }
+}
+
+/// Returns how much waits, or the greatest number if there is no bound.
+fn waiting(both: &Total) -> u128 {
+    if UNITS < both.rate {
+        u128::MAX
+    } else {
+        both.burst
+    }
+}
+
+/// The pair that gave the least number so far.
 #[derive(Clone, Copy)]
 struct Best {
     least: u128,
@@ -71,13 +120,13 @@ impl Best {
         }
     }
 
-    /// Returns these mixtures if they give a lesser number, otherwise those before.
-    fn or(self, number: u128, high: Parts, low: Parts) -> Self {
+    /// Returns this pair if it gives a lesser number, otherwise the one before.
+    fn or(self, number: u128, pair: &Pair) -> Self {
         if number < self.least {
             Best {
                 least: number,
-                high,
-                low,
+                high: pair.high,
+                low: pair.low,
             }
         } else {
             self
@@ -85,56 +134,34 @@ impl Best {
     }
 }
 
-/// The mixtures for the delay of low frames, and those for how much waits.
+/// The pair for the delay of low frames, and that for how much waits.
 #[derive(Clone, Copy)]
 struct Pairs {
     later: Best,
     waiting: Best,
 }
 
-/// Returns how long the greatest low frame waits, in ns, or the greatest number if there is no bound.
-fn later(high: &Total, both: &Total, own: u128) -> u128 {
-    if UNITS < both.rate {
-        return u128::MAX;
-    }
-    let rest = both.burst.saturating_sub(own);
-    rest.checked_div(UNITS.saturating_sub(high.rate))
-        .unwrap_or(u128::MAX)
-}
-
-/// Returns how much waits, or the greatest number if there is no bound.
-fn waiting(both: &Total) -> u128 {
-    if UNITS < both.rate {
-        u128::MAX
-    } else {
-        both.burst
-    }
-}
-
 impl Pairs {
-    /// Returns the better of these pairs and those of high and low frames that count this way: for each number of lines that give way to
-    /// their high virtual links, with the low mixture that this leaves room for. `own` is the cost of the greatest low frame, in units.
+    /// Returns the better of these pairs and those of high and low frames that count this way. For how much waits that is the pair of the least burst of
+    /// both. For the delay of low frames it is that one too, or one in which a number of lines give way to their high virtual links, with the low mixture
+    /// that this leaves room for. `own` is the cost of the greatest low frame, in units.
     fn or_of(self, high: &Side, low: &Side, own: u128) -> Self {
-        let mut pairs = self;
+        let pair = Pair::within(high, low);
+        let mut later = self.later.or(pair.later(own), &pair);
         for count in 0..GREATEST_PORTS + 1 {
-            let (high_parts, first) = high.mixed(lowered(&high.shares, count));
-            let (low_parts, second) = low.within(UNITS.saturating_sub(first.rate));
-            let both = Total {
-                burst: first.burst.saturating_add(second.burst),
-                rate: first.rate.saturating_add(second.rate),
-            };
-            pairs = Pairs {
-                later: pairs
-                    .later
-                    .or(later(&first, &both, own), high_parts, low_parts),
-                waiting: pairs.waiting.or(waiting(&both), high_parts, low_parts),
-            };
+            let first = high.mixed(lowered(&high.shares, count));
+            let room = UNITS.saturating_sub(first.1.rate);
+            let pair = Pair::of(first, low.within(room));
+            later = later.or(pair.later(own), &pair);
         }
-        pairs
+        Pairs {
+            later,
+            waiting: self.waiting.or(waiting(&pair.both), &pair),
+        }
     }
 }
 
-/// Returns the mixture of high frames with the least burst of both.
+/// Returns the mixture of high frames with the least burst.
 fn first(by_bag: &Side, by_gap: &Side) -> Parts {
     let (bag_parts, bag) = by_bag.within(UNITS);
     let (gap_parts, gap) = by_gap.within(UNITS);

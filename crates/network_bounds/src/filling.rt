@@ -104,6 +104,15 @@ fn part_left(share: &Share, over: u128) -> u32 {
     WHOLE - parts.min(u128::from(WHOLE)) as u32
 }
 
+/// Lets a line give way, as far as its rate should fall by `over`.
+fn give_way(weights: &mut [u32; GREATEST_PORTS], found: Option<(usize, Share)>, over: u128) {
+    if let Some((input, share)) = found {
+        if let Some(weight) = weights.get_mut(input) {
+            *weight = part_left(&share, over);
+        }
+    }
+}
+
 /// Returns the weights of the least burst after as many lines as necessary give way to their virtual links, until the rate is at most
 /// `room`. The last one gives way in part. A mistake makes a bound greater, never wrong.
 pub fn filled(shares: &[Share; GREATEST_PORTS], room: u128) -> [u32; GREATEST_PORTS] {
@@ -113,11 +122,45 @@ pub fn filled(shares: &[Share; GREATEST_PORTS], room: u128) -> [u32; GREATEST_PO
         if over == 0 {
             return weights;
         }
-        if let Some((input, share)) = cheapest(shares, &weights) {
-            if let Some(weight) = weights.get_mut(input) {
-                *weight = part_left(&share, over);
-            }
-        }
+        let found = cheapest(shares, &weights);
+        give_way(&mut weights, found, over);
     }
     weights
+}
+
+/// Whether a line of high frames gives way before one of low frames.
+fn is_high_before(high: &Option<(usize, Share)>, low: &Option<(usize, Share)>) -> bool {
+    match (high, low) {
+        (Some((_, high)), Some((_, low))) => !is_cheaper(low, high),
+        (Some(_), None) => true,
+        (None, _) => false,
+    }
+}
+
+/// Returns the weights of high and of low frames, by the least burst of both after as many lines as necessary give way to their virtual links, until the
+/// rate of both is at most `room`. The last one gives way in part. A mistake makes a bound greater, never wrong.
+pub fn filled_both(
+    high: &[Share; GREATEST_PORTS],
+    low: &[Share; GREATEST_PORTS],
+    room: u128,
+) -> ([u32; GREATEST_PORTS], [u32; GREATEST_PORTS]) {
+    let mut first = of_least_burst(high);
+    let mut second = of_least_burst(low);
+    for _ in 0..2 * GREATEST_PORTS {
+        let rate = weigh(high, &first)
+            .rate
+            .saturating_add(weigh(low, &second).rate);
+        let over = rate.saturating_sub(room);
+        if over == 0 {
+            return (first, second);
+        }
+        let of_high = cheapest(high, &first);
+        let of_low = cheapest(low, &second);
+        if is_high_before(&of_high, &of_low) {
+            give_way(&mut first, of_high, over);
+        } else {
+            give_way(&mut second, of_low, over);
+        }
+    }
+    (first, second)
 }

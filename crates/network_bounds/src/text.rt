@@ -1,9 +1,11 @@
 //! Writes the lines of the bounds, cell by cell.
-ghost use Rattle.std.specs.Prelude.{◌≡◌, ◌<◌, codes, cond, length, OnOk, Ok, Err};
+ghost use Rattle.std.specs.Prelude.{◌≡◌, ◌<◌, codes, cond, length, [], OnOk, Ok, Err};
 ghost use Rattle.network.specs.Words.{IsLinkInLimits, lines_of};
-ghost use Rattle.network_bounds.specs.Text.{bounds_head, destination_line, no_room_line, port_line};
+ghost use Rattle.network_bounds.specs.Said.{line_named, none_line};
+ghost use Rattle.network_bounds.specs.Text.{bounds_head, destination_line, port_line};
 ghost use Rattle.trace_segments.specs.Words.{Adds};
 
+use crate::ages::Span;
 use crate::reason::{Reason, reason_name};
 use crate::waits::wait_ns;
 use csv::{Error, Writer};
@@ -25,37 +27,72 @@ pub fn push_head(out: &mut Writer<Vec<u8>>) -> Result<(), Error>
             "network_ns".as_bytes(),
             "wait_ns".as_bytes(),
             "bound_ns".as_bytes(),
+            "least_ns".as_bytes(),
+            "jitter_ns".as_bytes(),
+            "skew_ns".as_bytes(),
+            "sure".as_bytes(),
+            "sure_ns".as_bytes(),
         ],
     )
 }
 
-/// Appends the bound of a virtual link at a destination, `network_ns` from the release of a frame on.
+/// Appends the bound of a virtual link at a destination, from how long a frame takes from its release on.
 pub fn push_bound(
     out: &mut Writer<Vec<u8>>,
     network: &Network,
     link: &VirtualLink,
     node: usize,
-    network_ns: u128,
+    span: Span,
 ) -> Result<(), Error>
     requires { IsLinkInLimits link.now }
-    ensures { OnOk result (Adds out.old out.new (destination_line network.now link.now node (Ok network_ns))) }
+    ensures { OnOk result (Adds out.old out.new (destination_line network.now link.now node (Ok span))) }
 {
     let wait = wait_ns(network, link);
+    let bound = span.most.saturating_add(u128::from(wait));
+    let none = "".as_bytes();
     let mut number = Buffer::new();
     let mut own = Buffer::new();
     let mut held = Buffer::new();
     let mut whole = Buffer::new();
+    let mut least = Buffer::new();
+    let mut jitter = Buffer::new();
     push(
         out,
         &[
             "bound".as_bytes(),
             number.format(link.id.0).as_bytes(),
             place_name(network, node).as_bytes(),
-            own.format(network_ns).as_bytes(),
+            own.format(span.most).as_bytes(),
             held.format(wait).as_bytes(),
-            whole
-                .format(network_ns.saturating_add(u128::from(wait)))
-                .as_bytes(),
+            whole.format(bound).as_bytes(),
+            least.format(span.least).as_bytes(),
+            jitter.format(bound.saturating_sub(span.least)).as_bytes(),
+            none,
+            none,
+            none,
+        ],
+    )
+}
+
+/// Appends why there is no bound of what these two columns name.
+fn push_none(out: &mut Writer<Vec<u8>>, of: &str, place: &str, reason: Reason) -> Result<(), Error>
+    ensures { OnOk result (Adds out.old out.new (none_line of.now place.now reason)) }
+{
+    let none = "".as_bytes();
+    push(
+        out,
+        &[
+            "none".as_bytes(),
+            of.as_bytes(),
+            place.as_bytes(),
+            reason_name(reason).as_bytes(),
+            none,
+            none,
+            none,
+            none,
+            none,
+            none,
+            none,
         ],
     )
 }
@@ -71,16 +108,11 @@ pub fn push_no_bound(
     ensures { OnOk result (Adds out.old out.new (destination_line network.now link.now node (Err reason))) }
 {
     let mut number = Buffer::new();
-    push(
+    push_none(
         out,
-        &[
-            "none".as_bytes(),
-            number.format(link.id.0).as_bytes(),
-            place_name(network, node).as_bytes(),
-            reason_name(reason).as_bytes(),
-            "".as_bytes(),
-            "".as_bytes(),
-        ],
+        number.format(link.id.0),
+        place_name(network, node),
+        reason,
     )
 }
 
@@ -102,16 +134,22 @@ pub fn push_port(
     requires { line < length (lines_of network.now) }
     ensures { OnOk result (Adds out.old out.new (port_line network.now line bytes (Ok waiting))) }
 {
+    let none = "".as_bytes();
     let mut number = Buffer::new();
     push(
         out,
         &[
             "port".as_bytes(),
             network.line_name(line).as_bytes(),
-            "".as_bytes(),
+            none,
             number.format(waiting).as_bytes(),
             yes_or_no(waiting <= u128::from(bytes)).as_bytes(),
-            "".as_bytes(),
+            none,
+            none,
+            none,
+            none,
+            none,
+            none,
         ],
     )
 }
@@ -124,17 +162,7 @@ pub fn push_no_room(
     reason: Reason,
 ) -> Result<(), Error>
     requires { line < length (lines_of network.now) }
-    ensures { OnOk result (Adds out.old out.new (no_room_line network.now line reason)) }
+    ensures { OnOk result (Adds out.old out.new (none_line (line_named network.now line) [] reason)) }
 {
-    push(
-        out,
-        &[
-            "none".as_bytes(),
-            network.line_name(line).as_bytes(),
-            "".as_bytes(),
-            reason_name(reason).as_bytes(),
-            "".as_bytes(),
-            "".as_bytes(),
-        ],
-    )
+    push_none(out, network.line_name(line), "", reason)
 }

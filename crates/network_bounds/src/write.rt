@@ -1,18 +1,21 @@
 //! Writes the bounds of a network as a whole text into a sink.
-ghost use Rattle.std.specs.Prelude.{◌≡◌, ◌≢◌, ◌+◌, ℕ, List, OnOk, IfOk, IfErr};
+ghost use Rattle.std.specs.Prelude.{◌≡◌, ◌≢◌, ◌+◌, ◌<◌, ℕ, List, length, OnOk, IfOk, IfErr};
 ghost use Rattle.std.specs.Io.KnownBytes.{append_known};
 ghost use Rattle.trace_segments.specs.declared.fault.OutFault.TheVariants.{Device};
 ghost use Rattle.trace_segments.specs.Words.{Adds, IsBeginning};
 ghost use Rattle.network.specs.Words.{IsLinkInLimits, lines_of};
 ghost use Rattle.network_bounds.specs.Delays.{AreBounds};
+ghost use Rattle.network_bounds.specs.Least.{span_of};
 ghost use Rattle.network_bounds.specs.Sizes.{AreLeast, sizes_by, sizes_in};
 ghost use Rattle.network_bounds.specs.Text.{IsBoundsText, bounds_text, destination_text, destinations_text, links_text, port_text, ports_text};
 
-use crate::ages::network_ns;
+use crate::ages::{Span, ages_to};
 use crate::delays::PortBound;
 use crate::port::Port;
+use crate::reason::Reason;
 use crate::sizes::{LinkSizes, Senders, all_sizes, least_at};
 use crate::text;
+use crate::waits::wait_ns;
 use csv::{Error, Writer};
 use network::{Network, VirtualLink};
 use std::alloc::{AllocError, Global};
@@ -36,6 +39,32 @@ fn bounds_of(
     Ok(bounds)
 }
 
+/// Returns how long a frame takes from its release to a destination at most and at least, in ns, or why that has no bound: a switch passes no frame
+/// that is longer than Smax. 128 bits hold the sum with the wait in the regulator.
+fn span_of(
+    network: &Network,
+    bounds: &[PortBound],
+    link: &VirtualLink,
+    least: FrameSize,
+    node: usize,
+) -> Result<Span, Reason>
+    requires limits { IsLinkInLimits link.now }
+    requires node { node < length network.now.nodes }
+    requires size { least ≡ (sizes_in network.now link.now).least }
+    ensures { result ≡ span_of network.now bounds.now link.now node }
+{
+    if link.smax.bytes() < least.bytes() {
+        return Err(Reason::Size);
+    }
+    let span = ages_to(network, bounds, link, least, node)?;
+    let bound = span.most.saturating_add(u128::from(wait_ns(network, link)));
+    if bound < u128::MAX {
+        Ok(span)
+    } else {
+        Err(Reason::Number)
+    }
+}
+
 /// Appends the bound of a virtual link at a destination, or why it has none.
 fn push_destination(
     out: &mut Writer<Vec<u8>>,
@@ -52,8 +81,8 @@ fn push_destination(
     if node >= network.node_count() {
         return Ok(());
     }
-    match network_ns(network, bounds, link, least, node) {
-        Ok(ns) => text::push_bound(out, network, link, node, ns),
+    match span_of(network, bounds, link, least, node) {
+        Ok(span) => text::push_bound(out, network, link, node, span),
         Err(reason) => text::push_no_bound(out, network, link, node, reason),
     }
 }
@@ -171,10 +200,11 @@ fn text_in(alloc: Global, network: &Network, senders: Senders) -> Result<Vec<u8>
 /// Writes worst-case bounds of a network as comma-separated rows, each with a line feed at its end: with the frames that it states, or whatever
 /// other end systems send.
 ///
-/// The first line is `kind,of,where,network_ns,wait_ns,bound_ns`. Then each virtual link and each of its destinations, by number, gives
-/// `bound,VL,NAME,NETWORK_NS,WAIT_NS,BOUND_NS`: the greatest age of a frame from its release on, how long the regulator holds it at most,
-/// and the sum, in ns. Then each line gives `port,LINE,,BYTES,HOLDS,`: how many bytes wait at most at the port before it, and `yes` or
-/// `no`, whether the port has room for them. If there is no bound the line is `none,VL,NAME,WHY,,` or `none,LINE,,WHY,,`.
+/// The first line is `kind,of,where,network_ns,wait_ns,bound_ns,least_ns,jitter_ns,skew_ns,sure,sure_ns`. Then each virtual link and each of its
+/// destinations, by number, gives `bound,VL,NAME,NETWORK_NS,WAIT_NS,BOUND_NS,LEAST_NS,JITTER_NS,,,`: the greatest age of a frame from its release on,
+/// how long the regulator holds it at most, the sum, the least age of a frame, and how far latencies are apart at most, in ns. Then each line gives
+/// `port,LINE,,BYTES,HOLDS,,,,,,`: how many bytes wait at most at the port before it, and `yes` or `no`, whether the port has room for them. If there
+/// is no bound the line is `none,VL,NAME,WHY,,,,,,,` or `none,LINE,,WHY,,,,,,,`.
 ///
 /// The text is made whole before its first byte is written. `Device` comes only if the sink failed; what was written is a beginning of the
 /// text. `OutOfMemory` comes only if memory was refused, and `Layout` only if the library that lays out rows failed otherwise; then nothing

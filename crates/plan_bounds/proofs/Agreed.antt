@@ -1,5 +1,5 @@
 -- The bounds of a network are those of what is agreed in it, where the sizes of frames count the same.
-use Rattle.std.proofs.Common.{◌<◌, ◌≤◌, ◌≡◌, ℕ, zero, suc, ◌*◌, ◌==◌, ◌&&◌, ◌||◌, Bool, true, false, cond, max, min, List, [], ◌∷◌, ◌++◌, map, flat_map, length, Option, Some, None, Ok, Err, inl, inr, refl, ap, sym, ◌∙◌, subst, arith, slice_get, option_map}
+use Rattle.std.proofs.Common.{◌≡◌, ℕ, zero, suc, ◌^◌, ◌-◌, ◌+◌, ◌*◌, ◌==◌, ◌&&◌, ◌||◌, Bool, true, false, cond, max, min, List, [], ◌∷◌, ◌++◌, map, flat_map, length, Option, Some, None, Ok, Err, refl, ap, sym, ◌∙◌, slice_get, option_map}
 use Rattle.std.specs.Option.{option_map_or}
 use Rattle.std.proofs.lemmas.List.{map-append}
 use Rattle.network.specs.declared.wiring.Way.{Way}
@@ -20,6 +20,7 @@ use Rattle.network_bounds.specs.declared.reason.Reason.TheVariants as reason
 use Rattle.row_types.specs.declared.rows.VirtualLink.{VirtualLink}
 use Rattle.network.specs.declared.wiring.LinePlan.{LinePlan}
 use Rattle.network_bounds.specs.Ages.{age_after, age_by, age_to, ends_by, latency_of, plus, sent_over}
+use Rattle.network_bounds.specs.Least.{least_after, least_by, least_to, sent_at_once}
 use Rattle.network_bounds.specs.Delays.{AreBounds, after, bound_by, first_of, fits_both, fits_first, fits_later, later_of, waiting_of}
 use Rattle.plan_bounds.specs.Contract.{agreed_of, agreed_of_link, agreed_of_vl}
 use Rattle.network_bounds.specs.declared.sizes.LinkSizes.{LinkSizes}
@@ -177,3 +178,15 @@ module _ (known : ℕ → LinkSizes) (plan : Plan) where
 
     pub to-same : (n : ℕ) → age_to (agreed_of plan) bounds (agreed_of_link link) least n ≡ age_to plan bounds link least n
     to-same n = λ i. cond (ends-same n 0 i || ends-same n 1 i) (after (age-by-same n 0 i) (λ a. after (age-by-same n 1 i) (λ b. within (max a b)))) (Err reason.Way)
+
+    -- and so is the least
+    soonest-same : (lines k : ℕ) → least_after (agreed_of plan) (agreed_of_link link) least lines k ≡ least_after plan link least lines k
+    soonest-same zero k = refl
+    soonest-same (suc lines) k = λ i. option_map_or (λ line. sent_at_once line least (cond (is_end_system plan.nodes line.from) 0
+        (option_map_or (λ j. capped (soonest-same lines j i + latency_of plan line.from)) (line_into plan line.from (input-same known plan line.from link.id.0 i)) 0))) (slice_get (lines_of plan) k) 0
+
+    soonest-by-same : (n q : ℕ) → least_by (agreed_of plan) (agreed_of_link link) least n q ≡ least_by plan link least n q
+    soonest-by-same n q = λ i. cond (ends-same n q i) (option_map_or (λ k. soonest-same (length (lines_of plan)) k i) (line_into plan n q) 0) (2 ^ 128 - 1)
+
+    pub soonest-to-same : (n : ℕ) → least_to (agreed_of plan) (agreed_of_link link) least n ≡ least_to plan link least n
+    soonest-to-same n = λ i. min (soonest-by-same n 0 i) (soonest-by-same n 1 i)

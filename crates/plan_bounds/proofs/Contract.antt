@@ -11,7 +11,7 @@ use Rattle.seqsim.specs.Networks.{setting_of}
 use Rattle.plan_ports.specs.Links.{LeavesBy}
 use Rattle.plan_ports.specs.Outlets.{port_bytes_at}
 use Rattle.plan_waits.specs.Held.{AreListsHeld, ArePeriodsHeld}
-use Rattle.frame_ages.specs.Latencies.{AreLatenciesBounded}
+use Rattle.least_ages.specs.Deliveries.{AreDeliveriesTimely}
 use Rattle.frame_ages.specs.Rooms.{AreFramesKept}
 use Rattle.network_bounds.specs.declared.delays.PortBound.{PortBound}
 use Rattle.network_bounds.specs.declared.sizes.FrameSizes.{FrameSizes}
@@ -39,14 +39,14 @@ module _ (shape plan : Plan) (known_accepted : IsAccepted shape) (accepted : IsA
       let h = each k line (sym (ap (λ (s : Plan). slice_get (lines_of s) k) same) ∙ read) from in
       record { bound = h.bound; read = h.read; bytes = h.bytes; waiting = h.waiting; room = subst (λ (s : Plan). h.bytes ≤ port_bytes_at s p) (sym same) h.room }
 
-  module _ (laws : Laws (simulation_of (rules_of node) (setting_of plan))) (latencies : AreLatenciesBounded) (lists : AreListsHeld plan) (periods : ArePeriodsHeld plan) where
+  module _ (laws : Laws (simulation_of (rules_of node) (setting_of plan))) (deliveries : AreDeliveriesTimely) (lists : AreListsHeld plan) (periods : ArePeriodsHeld plan) where
     -- by these sizes, where they are those of frames
     by-sizes : (senders : Senders) (bounds : List PortBound) → AreBounds (known_sizes senders shape) shape (lines_of shape) bounds → (known : VlPlan) → Contains shape.vls known → (vl : VlPlan) → Contains plan.vls vl → vl.link.id ≡ known.link.id →
         ((p q : ℕ) → LeavesBy plan p q vl → AreSized plan (known_sizes senders shape) (counted plan accepted (known_sizes senders shape)) p) → (sizes_in shape known.link).least ≤ (sizes_in plan vl.link).least →
         (n : ℕ) → Contains (destinations_of vl) n → (network_ns : ℕ) → network_ns_of shape bounds known.link n ≡ Ok network_ns → IsLatencyBound plan vl n (network_ns + wait_of plan vl.link)
     by-sizes senders bounds are known is_known vl is_vl id all shorter n there network_ns e =
         let least = least-of shape plan known_accepted accepted same senders known vl is_known id in
-        bounded plan accepted laws latencies lists periods (known_sizes senders shape) bounds (theirs shape plan known_accepted accepted same (known_sizes senders shape) bounds are) vl is_vl all
+        bounded plan accepted laws deliveries lists periods (known_sizes senders shape) bounds (theirs shape plan known_accepted accepted same (known_sizes senders shape) bounds are) vl is_vl all
         (subst (λ k. k ≤ (sizes_in plan vl.link).least) (sym least) shorter) n there network_ns
         (ap (λ k. age_to plan bounds vl.link k n) least ∙ same-age shape plan known_accepted accepted same known vl is_known is_vl id senders bounds (sizes_in shape known.link).least n ∙ e)
 
@@ -62,7 +62,7 @@ module _ (shape plan : Plan) (known_accepted : IsAccepted shape) (accepted : IsA
     contract-bounds bounds are known is_known vl is_vl id source from keeps shorter n there network_ns e =
         by-sizes ByContract bounds are known is_known vl is_vl id
         (λ p q leaves. kept shape plan known_accepted accepted same p (leaves-there shape plan known_accepted accepted same p q vl leaves)
-            (λ end. subst (KeepsItsSizes shape plan) (same_Some source p (sym from ∙ leaves-source plan accepted vl is_vl p q leaves end)) keeps)) shorter n there network_ns e
+        (λ end. subst (KeepsItsSizes shape plan) (same_Some source p (sym from ∙ leaves-source plan accepted vl is_vl p q leaves end)) keeps)) shorter n there network_ns e
 
   module _ (laws : Laws (simulation_of (rules_of node) (setting_of plan))) (frames : AreFramesKept) where
     pub stated-rooms : SameSizes → (bounds : List PortBound) → AreBounds (known_sizes AsStated shape) shape (lines_of shape) bounds → (p : ℕ) → p < length shape.nodes →

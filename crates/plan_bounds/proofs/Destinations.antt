@@ -32,9 +32,10 @@ use Rattle.network_bounds.specs.declared.sizes.LinkSizes.{LinkSizes}
 use Rattle.network_bounds.specs.Delays.{AreBounds, after}
 use Rattle.network_bounds.specs.Mixing.{line_into}
 use Rattle.network_bounds.specs.Numbers.{within}
-use Rattle.frame_ages.specs.Latencies.{ComesWithin}
 use Rattle.frame_ages.specs.Ports.{IsThrough}
-use Rattle.frame_ages.specs.Ways.{ComesBy, ComesNot}
+use Rattle.frame_ages.specs.Ways.{ComesNot}
+use Rattle.least_ages.specs.Deliveries.{ComesBetween, ComesInTime}
+use Rattle.network_bounds.specs.Least.{least_after, least_by, least_to}
 use Rattle.plan_bounds.proofs.Groups.{counted}
 use Rattle.plan_bounds.proofs.InTime.{err-ok, lt-true, same-ok}
 use Rattle.plan_bounds.proofs.Lines.{HasLine, line-back, line-into-there}
@@ -102,32 +103,41 @@ module _ (plan : Plan) (accepted : IsAccepted plan) (vl : VlPlan) (is_vl : Conta
 
   module _ (known : ℕ → LinkSizes) (size : ℕ → Sizes) (all : (p q : ℕ) → LeavesBy plan p q vl → AreSized plan known size p) (least : ℕ) (least_is : (size vl.link.id.0).least ≡ least) (bounds : List PortBound) (are : AreBounds known plan (lines_of plan) bounds)
       (source : ℕ) (from_source : begins_at vl ≡ Some source) where
-    comes-by : (n q : ℕ) → ends_by plan n vl.link.id.0 q ≡ true → (age : ℕ) → age < 2 ^ 128 - 1 → age_by plan bounds vl.link least n q ≡ Ok age → (entry : IsOverIn plan vl n q) × IsComing size plan vl source entry.leads.line age
+    comes-by : (n q : ℕ) → ends_by plan n vl.link.id.0 q ≡ true → (age : ℕ) → age < 2 ^ 128 - 1 → age_by plan bounds vl.link least n q ≡ Ok age
+        → (entry : IsOverIn plan vl n q) × IsComing size plan vl source entry.leads.line age (least_by plan vl.link least n q)
     comes-by n q h age lt e =
         let entry = ends-over n q h in
         let into = line-into-there plan accepted n q entry.k entry.leads in
         let here : option_map_or (age_after plan bounds vl.link least (length (lines_of plan))) (line_into plan n q) (Err reason.Way) ≡ Ok age =
         subst (λ b. cond b (option_map_or (age_after plan bounds vl.link least (length (lines_of plan))) (line_into plan n q) (Err reason.Way)) (Ok 0) ≡ Ok age) h e in
         let out : age_after plan bounds vl.link least (length (lines_of plan)) entry.k ≡ Ok age = ap (λ o. option_map_or (age_after plan bounds vl.link least (length (lines_of plan))) o (Err reason.Way)) (sym into) ∙ here in
-        (entry, coming known size plan accepted bounds are vl is_vl source from_source all least least_is (length (lines_of plan)) entry.k entry.leads.line entry.leads.read entry.over age lt out)
+        let soonest : least_by plan vl.link least n q ≡ least_after plan vl.link least (length (lines_of plan)) entry.k =
+        ap (λ b. cond b (option_map_or (least_after plan vl.link least (length (lines_of plan))) (line_into plan n q) 0) (2 ^ 128 - 1)) h ∙ ap (λ o. option_map_or (least_after plan vl.link least (length (lines_of plan))) o 0) into in (
+          entry,
+          subst (IsComing size plan vl source entry.leads.line age) (sym soonest)
+              (coming known size plan accepted bounds are vl is_vl source from_source all least least_is (length (lines_of plan)) entry.k entry.leads.line entry.leads.read entry.over age lt out),
+        )
 
-    as-way : (n q age : ℕ) (entry : IsOverIn plan vl n q) → IsComing size plan vl source entry.leads.line age → ComesBy (setting_of plan) size vl.link.id.0 source n q age
-    as-way n q age entry c = record {
+    -- over a way that is no longer than this, and no shorter
+    as-way : (n q age most soonest : ℕ) (entry : IsOverIn plan vl n q) → IsComing size plan vl source entry.leads.line age soonest → age ≤ most → least_to plan vl.link least n ≤ soonest
+        → ComesBetween (setting_of plan) size vl.link.id.0 source n q most (least_to plan vl.link least n)
+    as-way n q age most soonest entry c le ge = record {
       hop = c.hop;
       earlier = c.earlier;
       route = c.route;
       from_source = c.from_source;
       to_there = c.to_there ∙ entry.leads.to;
       to_port = c.to_port ∙ entry.leads.to_port;
-      within = c.within;
+      no_later = (let time = c.within in omega (arith, time, le));
+      no_sooner = (let soon = c.no_sooner in omega (arith, soon, ge));
     }
 
-    by-port : (n q age most : ℕ) → age < 2 ^ 128 - 1 → age ≤ most → age_by plan bounds vl.link least n q ≡ Ok age → (outlet : Outlet) → outlet_in (opening plan n).equipment q ≡ Some outlet
-        → ((time : ℕ) × ComesBy (setting_of plan) size vl.link.id.0 source n q time × (time ≤ most)) ⊎ ComesNot (setting_of plan) vl.link.id.0 n q
-    by-port n q age most lt le e outlet there = go (ends_by plan n vl.link.id.0 q) refl
+    by-port : (n q age most : ℕ) → age < 2 ^ 128 - 1 → age ≤ most → least_to plan vl.link least n ≤ least_by plan vl.link least n q → age_by plan bounds vl.link least n q ≡ Ok age
+        → (outlet : Outlet) → outlet_in (opening plan n).equipment q ≡ Some outlet → ComesBetween (setting_of plan) size vl.link.id.0 source n q most (least_to plan vl.link least n) ⊎ ComesNot (setting_of plan) vl.link.id.0 n q
+    by-port n q age most lt le ge e outlet there = go (ends_by plan n vl.link.id.0 q) refl
       where
-        go : (b : Bool) → ends_by plan n vl.link.id.0 q ≡ b → ((time : ℕ) × ComesBy (setting_of plan) size vl.link.id.0 source n q time × (time ≤ most)) ⊎ ComesNot (setting_of plan) vl.link.id.0 n q
-        go true h = let (entry, c) = comes-by n q h age lt e in inl (age, as-way n q age entry c, le)
+        go : (b : Bool) → ends_by plan n vl.link.id.0 q ≡ b → ComesBetween (setting_of plan) size vl.link.id.0 source n q most (least_to plan vl.link least n) ⊎ ComesNot (setting_of plan) vl.link.id.0 n q
+        go true h = let (entry, c) = comes-by n q h age lt e in inl (as-way n q age most (least_by plan vl.link least n q) entry c le ge)
         go false h = inr (comes-not n q outlet there h)
 
     -- the ages by both ports
@@ -161,8 +171,8 @@ module _ (plan : Plan) (accepted : IsAccepted plan) (vl : VlPlan) (is_vl : Conta
         go false some e = absurd (err-ok reason.Way most e)
         go true some e = by-a some (age_by plan bounds vl.link least n 0) refl e
 
-    pub comes-within : (n most : ℕ) → is_end_system plan.nodes n ≡ true → IsArriving n most → ComesWithin (setting_of plan) size vl.link.id.0 source n most
-    comes-within n most end h port outlet there = at port outlet there (two port outlet there)
+    pub comes-in-time : (n most : ℕ) → is_end_system plan.nodes n ≡ true → IsArriving n most → ComesInTime (setting_of plan) size vl.link.id.0 source n most (least_to plan vl.link least n)
+    comes-in-time n most end h port outlet there = at port outlet there (two port outlet there)
       where
         two : (q : ℕ) (outlet : Outlet) → outlet_in (opening plan n).equipment q ≡ Some outlet → q < 2
         two q outlet there =
@@ -170,15 +180,15 @@ module _ (plan : Plan) (accepted : IsAccepted plan) (vl : VlPlan) (is_vl : Conta
             subst (λ j. j < 2) leads.from_port (within-two plan accepted (own-ports plan accepted) leads.k leads.line leads.read (subst (λ m. is_end_system plan.nodes m ≡ true) (sym leads.from) end))
 
         at : (q : ℕ) (outlet : Outlet) → outlet_in (opening plan n).equipment q ≡ Some outlet → q < 2
-            → ((time : ℕ) × ComesBy (setting_of plan) size vl.link.id.0 source n q time × (time ≤ most)) ⊎ ComesNot (setting_of plan) vl.link.id.0 n q
-        at zero outlet there lt = by-port n 0 h.a most (let held = h.held in omega (arith, held)) (let is = h.is in omega (arith, is)) h.a_is outlet there
-        at (suc zero) outlet there lt = by-port n 1 h.b most (let held = h.held in omega (arith, held)) (let is = h.is in omega (arith, is)) h.b_is outlet there
+            → ComesBetween (setting_of plan) size vl.link.id.0 source n q most (least_to plan vl.link least n) ⊎ ComesNot (setting_of plan) vl.link.id.0 n q
+        at zero outlet there lt = by-port n 0 h.a most (let held = h.held in omega (arith, held)) (let is = h.is in omega (arith, is)) (omega arith) h.a_is outlet there
+        at (suc zero) outlet there lt = by-port n 1 h.b most (let held = h.held in omega (arith, held)) (let is = h.is in omega (arith, is)) (omega arith) h.b_is outlet there
         at (suc (suc q)) outlet there lt = absurd (omega (arith, lt))
 
     -- one of them leaves the source
-    pub sent : (n most : ℕ) → IsArriving n most → (line : LinePlan) × (age : ℕ) × IsComing size plan vl source line age
+    pub sent : (n most : ℕ) → IsArriving n most → (line : LinePlan) × (age : ℕ) × (soonest : ℕ) × IsComing size plan vl source line age soonest
     sent n most h = go (ends_by plan n vl.link.id.0 0) refl h.some
       where
-        go : (b : Bool) → ends_by plan n vl.link.id.0 0 ≡ b → (b || ends_by plan n vl.link.id.0 1) ≡ true → (line : LinePlan) × (age : ℕ) × IsComing size plan vl source line age
-        go true e some = let (entry, c) = comes-by n 0 e h.a (let held = h.held in omega (arith, held)) h.a_is in (entry.leads.line, h.a, c)
-        go false e some = let (entry, c) = comes-by n 1 some h.b (let held = h.held in omega (arith, held)) h.b_is in (entry.leads.line, h.b, c)
+        go : (b : Bool) → ends_by plan n vl.link.id.0 0 ≡ b → (b || ends_by plan n vl.link.id.0 1) ≡ true → (line : LinePlan) × (age : ℕ) × (soonest : ℕ) × IsComing size plan vl source line age soonest
+        go true e some = let (entry, c) = comes-by n 0 e h.a (let held = h.held in omega (arith, held)) h.a_is in (entry.leads.line, h.a, least_by plan vl.link least n 0, c)
+        go false e some = let (entry, c) = comes-by n 1 some h.b (let held = h.held in omega (arith, held)) h.b_is in (entry.leads.line, h.b, least_by plan vl.link least n 1, c)

@@ -1,8 +1,8 @@
 -- The sizes that bounds count by contract are those of frames, whatever other end systems send; and those that a network states are those of its own frames.
-use Rattle.std.proofs.Common.{◌≡◌, ℕ, ◌+◌, ◌≤◌, ◌<◌, length, option_map, Bool, true, false, cond, max, min, List, [], ◌∷◌, map, Contains, Option, Some, None, inl, inr, refl, ap, sym, ◌∙◌, subst, arith, slice_get, option_and_then}
+use Rattle.std.proofs.Common.{◌≡◌, ℕ, ◌<◌, length, option_map, Bool, true, false, List, [], ◌∷◌, map, Contains, Option, Some, None, inl, inr, refl, ap, sym, ◌∙◌, subst, arith, slice_get, option_and_then}
 use Rattle.std.specs.Prelude.{slice_index_or}
 use Rattle.std.specs.Option.{option_map_or}
-use Rattle.std.proofs.lemmas.Option.{get_or_from_slice_get, none-some, same_Some}
+use Rattle.std.proofs.lemmas.Option.{get_or_from_slice_get, none-some}
 use Rattle.vlink.specs.declared.frame.VlId.{VlId}
 use Rattle.std.proofs.lemmas.Bool.{false≢true}
 use Rattle.network.specs.Words.{IsAccepted, Plan, VlPlan, is_end_system, lines_of, place_of_vl}
@@ -20,9 +20,10 @@ use Rattle.network_bounds.specs.Sizes.{LEAST, all_sizes, known_sizes, link_sizes
 use Rattle.network_bounds.proofs.SizeLemmas.{at-map, least-sent, sizes_of_vl}
 use Rattle.network_bounds.specs.declared.delays.PortBound.{PortBound}
 use Rattle.network_bounds.specs.Ages.{age_to}
+use Rattle.network_bounds.specs.Least.{least_to}
 use Rattle.network_bounds.specs.Delays.{AreBounds}
 use Rattle.plan_bounds.specs.Contract.{KeepsItsSizes, agreed_of, agreed_of_link, agreed_of_vl}
-use Rattle.plan_bounds.proofs.Agreed.{from-agreed, to-agreed, to-same}
+use Rattle.plan_bounds.proofs.Agreed.{from-agreed, soonest-to-same, to-agreed, to-same}
 use Rattle.plan_bounds.proofs.Bounded.{counted}
 use Rattle.plan_bounds.proofs.Counted.{AreSized, IsSized}
 use Rattle.plan_bounds.proofs.NodeKinds.{node-kind}
@@ -90,17 +91,17 @@ module _ (shape plan : Plan) (known_accepted : IsAccepted shape) (accepted : IsA
     kept keeps q vl leaves =
         subst (λ z. IsSized plan size p vl (sizes_at (is_end_system plan.nodes p) z)) (sym k.sizes) (elim (node-kind plan p lt) [
           | inl node ↦ subst (λ b. IsSized plan size p vl (sizes_at b (link_sizes ByContract shape k.known.link))) (sym node.end) (record {
-              most = inl (let own = keeps node.end k.known k.is_known vl leaves.is_vl k.id (leaves-source plan accepted vl leaves.is_vl p q leaves node.end) in let is = greatest in omega (arith, own, is));
-              small = (let smax = fit-smax shape known_accepted k.known k.is_known in let most = smax.1 in let sent = known_fit.1 in omega (arith, most, sent));
-              some = (let low = known_fit.0 in omega (arith, low));
-              shorter = λ e. absurd (false≢true (sym e ∙ node.end));
-            })
+            most = inl (let own = keeps node.end k.known k.is_known vl leaves.is_vl k.id (leaves-source plan accepted vl leaves.is_vl p q leaves node.end) in let is = greatest in omega (arith, own, is));
+            small = (let smax = fit-smax shape known_accepted k.known k.is_known in let most = smax.1 in let sent = known_fit.1 in omega (arith, most, sent));
+            some = (let low = known_fit.0 in omega (arith, low));
+            shorter = λ e. absurd (false≢true (sym e ∙ node.end));
+          })
           | inr node ↦ subst (λ b. IsSized plan size p vl (sizes_at b (link_sizes ByContract shape k.known.link))) (sym node.no_end) (record {
-              most = inr (opened.transit_of plan p vl, have-transits plan accepted p q vl leaves node.state node.is, (let is = k.smax in omega (arith, is)));
-              small = (fit-smax shape known_accepted k.known k.is_known).1;
-              some = omega arith;
-              shorter = λ e. (let low = known_fit.0 in let own = own_fit.0 in let first = least-known ByContract vl k in let second = least in omega (arith, low, own, first, second));
-            })
+            most = inr (opened.transit_of plan p vl, have-transits plan accepted p q vl leaves node.state node.is, (let is = k.smax in omega (arith, is)));
+            small = (fit-smax shape known_accepted k.known k.is_known).1;
+            some = omega arith;
+            shorter = λ e. (let low = known_fit.0 in let own = own_fit.0 in let first = least-known ByContract vl k in let second = least in omega (arith, low, own, first, second));
+          })
         ])
       where
         size : ℕ → Sizes
@@ -180,3 +181,11 @@ module _ (shape plan : Plan) (known_accepted : IsAccepted shape) (accepted : IsA
   pub least-of : (senders : Senders) (known vl : VlPlan) → Contains shape.vls known → vl.link.id ≡ known.link.id → (known_sizes senders shape vl.link.id.0).sent.least ≡ (sizes_in shape known.link).least
   least-of senders known vl is_known id =
       ap (λ (z : LinkSizes). z.sent.least) (ap (λ (i : VlId). known_sizes senders shape i.0) id ∙ known-there senders shape known_accepted known (has-from_contains shape.vls known is_known)) ∙ least-sent senders shape known.link
+
+  -- and so is the least time of a virtual link
+  pub same-soonest : (known vl : VlPlan) → Contains shape.vls known → Contains plan.vls vl → vl.link.id ≡ known.link.id → (senders : Senders) (bounds : List PortBound) (least n : ℕ) → least_to plan vl.link least n ≡ least_to shape known.link least n
+  same-soonest known vl is_known is_vl id senders bounds least n =
+      sym (soonest-to-same (known_sizes senders shape) plan bounds vl.link least n)
+      ∙ ap (λ (v : VlPlan). least_to (agreed_of plan) v.link least n) (one-agreed known vl is_known is_vl id)
+      ∙ ap (λ (s : Plan). least_to s (agreed_of_link known.link) least n) same
+      ∙ soonest-to-same (known_sizes senders shape) shape bounds known.link least n

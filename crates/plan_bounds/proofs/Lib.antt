@@ -17,3 +17,4 @@ pub mod Agreed
 pub mod Kept
 pub mod Shapes
 pub mod Contract
+pub mod Texts

@@ -1,5 +1,5 @@
 -- The age that the bounds of a network give a frame behind a line is the time of its way there.
-use Rattle.std.proofs.Common.{◌≡◌, ℕ, zero, suc, ◌+◌, ◌-◌, ◌^◌, ◌<◌, Bool, true, false, cond, List, [], ◌∷◌, Option, Some, None, inl, inr, Result, Ok, Err, refl, ap, sym, ◌∙◌, subst, arith, slice_get, Contains}
+use Rattle.std.proofs.Common.{◌≡◌, ℕ, zero, suc, ◌+◌, ◌-◌, ◌^◌, ◌<◌, ◌≤◌, Bool, true, false, cond, List, [], ◌∷◌, Option, Some, None, inl, inr, Result, Ok, Err, refl, ap, sym, ◌∙◌, subst, arith, slice_get, Contains}
 use Rattle.std.specs.Option.{option_map_or}
 use Rattle.std.proofs.lemmas.Option.{none-some, same_Some}
 use Rattle.row_types.specs.declared.rows.Priority as row
@@ -8,7 +8,7 @@ use Rattle.row_types.specs.declared.rows.VirtualLink.{VirtualLink}
 use Rattle.output_port.specs.declared.event.Priority.{Priority}
 use Rattle.output_port.specs.declared.event.Priority.TheVariants.{High, Low}
 use Rattle.network.specs.declared.wiring.LinePlan.{LinePlan}
-use Rattle.network.specs.Words.{IsAccepted, Plan, VlPlan, lines_of, source_of as begins_at}
+use Rattle.network.specs.Words.{IsAccepted, Plan, VlPlan, is_end_system, lines_of, source_of as begins_at}
 use Rattle.network.proofs.BuildLemmas.{line-read}
 use Rattle.network_faults.proofs.MemberLemmas.{has-from_contains}
 use Rattle.nodes.specs.declared.opening.meeting.Side.TheVariants.{In}
@@ -31,6 +31,9 @@ use Rattle.network_bounds.specs.declared.reason.Reason.{Reason}
 use Rattle.network_bounds.specs.declared.reason.Reason.TheVariants as reason
 use Rattle.network_bounds.specs.Ages.{age_after, age_over, latency_of, plus, sent_over}
 use Rattle.network_bounds.specs.Curves.{is_first, is_high}
+use Rattle.network_bounds.specs.Least.{least_after, least_at, sent_at_once}
+use Rattle.least_ages.specs.Ages.{way_least}
+use Rattle.vlink.specs.Wire.{last_bit_after}
 use Rattle.network_bounds.specs.Delays.{AreBounds, IsBound, after, bound_by, delay_of, later_delay}
 use Rattle.network_bounds.specs.Mixing.{line_into, port_before}
 use Rattle.network_bounds.specs.Numbers.{capped}
@@ -84,8 +87,8 @@ same-put : (priority : row.Priority) → put_with (is_high priority) ≡ port_pr
 same-put rows.High = refl
 same-put rows.Low = refl
 
--- virtual link vl comes out of the line over a way that takes so long
-pub record IsComing (size : ℕ → Sizes) (plan : Plan) (vl : VlPlan) (source : ℕ) (line : LinePlan) (age : ℕ) : Type 0 where
+-- virtual link vl comes out of the line over a way that takes so long at most, and so long at least
+pub record IsComing (size : ℕ → Sizes) (plan : Plan) (vl : VlPlan) (source : ℕ) (line : LinePlan) (age soonest : ℕ) : Type 0 where
   pub hop : Hop
   pub earlier : List Hop
   pub route : IsRoute (setting_of plan) size vl.link.id.0 (hop ∷ earlier)
@@ -93,6 +96,7 @@ pub record IsComing (size : ℕ → Sizes) (plan : Plan) (vl : VlPlan) (source :
   pub to_there : hop.to ≡ line.to
   pub to_port : hop.port ≡ line.to_port
   pub within : way_time (hop ∷ earlier) ≡ age
+  pub no_sooner : soonest ≤ way_least (size vl.link.id.0).least (hop ∷ earlier)
   pub source_port : ℕ
   pub leaves : LeavesBy plan source source_port vl
   pub end_system : IsEndAt plan source
@@ -128,9 +132,13 @@ module _ (known : ℕ → LinkSizes) (size : ℕ → Sizes) (plan : Plan) (accep
   unfolding hop-of
   is-hop k line way before is_end delay timely = record { from_inside = way.from_below; by_inside = way.line_below; to_inside = way.to_below; way = way.way; in_time = timely }
 
+  -- the least frame takes as long on the line as the tables say
+  bits-at : (k : ℕ) (line : LinePlan) (way : IsLineWay plan k line) → last_bit_after (size vl.link.id.0).least way.outlet.ahead.byte_ns ≡ last_bit_after least line.byte_ns
+  bits-at k line way = λ i. last_bit_after (least_is i) (way.byte_ns i)
+
   -- from the source
   from-end : (k : ℕ) (line : LinePlan) → slice_get (lines_of plan) k ≡ Some line → IsOver plan vl k → (bound : PortBound) → slice_get bounds k ≡ Some bound → (node : IsEndAt plan line.from) → (age : ℕ) → age < 2 ^ 128 - 1
-      → sent_over true line bound vl.link least (Ok 0) ≡ Ok age → IsComing size plan vl source line age
+      → sent_over true line bound vl.link least (Ok 0) ≡ Ok age → IsComing size plan vl source line age (sent_at_once line least 0)
   unfolding hop-of
   from-end k line read over bound at node age lt e =
       let sent = sent-over true line bound vl.link least (Ok 0) age e in
@@ -150,6 +158,7 @@ module _ (known : ℕ → LinkSizes) (size : ℕ → Sizes) (plan : Plan) (accep
         to_there = refl;
         to_port = refl;
         within = (let total = sum.0 in omega (arith, total, none));
+        no_sooner = (let bits = bits-at k line way in omega arith);
         source_port = line.from_port;
         leaves = subst (λ n. LeavesBy plan n line.from_port vl) (same_Some line.from source (sym begins ∙ from_source)) leaves;
         end_system = subst (IsEndAt plan) (same_Some line.from source (sym begins ∙ from_source)) node;
@@ -157,10 +166,10 @@ module _ (known : ℕ → LinkSizes) (size : ℕ → Sizes) (plan : Plan) (accep
 
   -- through a switch
   through-switch : (k : ℕ) (line : LinePlan) → slice_get (lines_of plan) k ≡ Some line → IsOver plan vl k → (bound : PortBound) → slice_get bounds k ≡ Some bound → (node : IsSwitchAt plan line.from) → (age : ℕ) → age < 2 ^ 128 - 1
-      → (entry : IsOverIn plan vl line.from (first_port (ways_at plan line.from In vl))) → (came : ℕ) → sent_over false line bound vl.link least (Ok (capped (came + latency_of plan line.from))) ≡ Ok age
-      → (came < 2 ^ 128 - 1 → IsComing size plan vl source entry.leads.line came) → IsComing size plan vl source line age
+      → (entry : IsOverIn plan vl line.from (first_port (ways_at plan line.from In vl))) → (came soonest : ℕ) → sent_over false line bound vl.link least (Ok (capped (came + latency_of plan line.from))) ≡ Ok age
+      → (came < 2 ^ 128 - 1 → IsComing size plan vl source entry.leads.line came soonest) → IsComing size plan vl source line age (sent_at_once line least (capped (soonest + latency_of plan line.from)))
   unfolding hop-of
-  through-switch k line read over bound at node age lt entry came e coming =
+  through-switch k line read over bound at node age lt entry came soonest e coming =
       let sent = sent-over false line bound vl.link least (Ok (capped (came + latency_of plan line.from))) age e in
       let sum = sum-is age sent.came sent.delay line.propagation_ns sent.is lt in
       let added = plus-is sent.came came (latency_of plan line.from) (sym (same-ok (capped (came + latency_of plan line.from)) sent.came sent.came_is)) sum.2 in
@@ -188,6 +197,7 @@ module _ (known : ℕ → LinkSizes) (size : ℕ → Sizes) (plan : Plan) (accep
         to_there = refl;
         to_port = refl;
         within = (let total = sum.0 in let more = added.0 in let before = first.within in omega (arith, total, more, before));
+        no_sooner = (let bits = bits-at k line way in let before = first.no_sooner in omega (arith, before));
         source_port = first.source_port;
         leaves = first.leaves;
         end_system = first.end_system;
@@ -197,32 +207,49 @@ module _ (known : ℕ → LinkSizes) (size : ℕ → Sizes) (plan : Plan) (accep
   abbrev came_by : ℕ → ℕ → ℕ → Result ℕ Reason
   came_by lines n j = option_map_or (λ k. plus (age_after plan bounds vl.link least lines k) (latency_of plan n)) (line_into plan n j) (Err reason.Way)
 
-  pub coming : (lines k : ℕ) (line : LinePlan) → slice_get (lines_of plan) k ≡ Some line → IsOver plan vl k → (age : ℕ) → age < 2 ^ 128 - 1 → age_after plan bounds vl.link least lines k ≡ Ok age → IsComing size plan vl source line age
+  -- the same of the least
+  abbrev soonest_by : ℕ → ℕ → ℕ → ℕ
+  soonest_by lines n j = option_map_or (λ k. capped (least_after plan vl.link least lines k + latency_of plan n)) (line_into plan n j) 0
+
+  -- it comes over so many lines at most
+  abbrev ComesOver : ℕ → Type 0
+  ComesOver lines = (k : ℕ) (line : LinePlan) → slice_get (lines_of plan) k ≡ Some line → IsOver plan vl k → (age : ℕ) → age < 2 ^ 128 - 1 → age_after plan bounds vl.link least lines k ≡ Ok age
+      → IsComing size plan vl source line age (least_after plan vl.link least lines k)
+
+  pub coming : (lines : ℕ) → ComesOver lines
   coming zero k line read over age lt e = absurd (err-ok reason.Way age e)
   coming (suc lines) k line read over age lt e =
       let here : option_map_or (age_over plan vl.link least (age_after plan bounds vl.link least lines) line) (slice_get bounds k) (Err reason.Way) ≡ Ok age =
       ap (λ o. option_map_or (λ line. option_map_or (age_over plan vl.link least (age_after plan bounds vl.link least lines) line) (slice_get bounds k) (Err reason.Way)) o (Err reason.Way)) (sym read) ∙ e in
-      go (slice_get bounds k) refl here (λ k line read over age lt e. coming lines k line read over age lt e)
+      subst (IsComing size plan vl source line age) (sym (ap (λ o. option_map_or (λ line. sent_at_once line least (least_at plan vl.link line.from (least_after plan vl.link least lines))) o 0) read))
+      (go (slice_get bounds k) refl here (λ k line read over age lt e. coming lines k line read over age lt e))
     where
       at-switch : (bound : PortBound) → slice_get bounds k ≡ Some bound → (node : IsSwitchAt plan line.from) → (entry : IsOverIn plan vl line.from (first_port (ways_at plan line.from In vl))) → (o : Result ℕ Reason) → age_after plan bounds vl.link least lines entry.k ≡ o
           → sent_over false line bound vl.link least (plus o (latency_of plan line.from)) ≡ Ok age
-          → ((k : ℕ) (line : LinePlan) → slice_get (lines_of plan) k ≡ Some line → IsOver plan vl k → (age : ℕ) → age < 2 ^ 128 - 1 → age_after plan bounds vl.link least lines k ≡ Ok age → IsComing size plan vl source line age) → IsComing size plan vl source line age
+          → ComesOver lines → IsComing size plan vl source line age (sent_at_once line least (capped (least_after plan vl.link least lines entry.k + latency_of plan line.from)))
       at-switch bound at node entry (Err why) is e before = absurd (err-ok why age e)
       at-switch bound at node entry (Ok came) is e before =
-          through-switch k line read over bound at node age lt entry came e (λ small. before entry.k entry.leads.line entry.leads.read entry.over came small is)
+          through-switch k line read over bound at node age lt entry came (least_after plan vl.link least lines entry.k) e (λ small. before entry.k entry.leads.line entry.leads.read entry.over came small is)
 
       go : (o : Option PortBound) → slice_get bounds k ≡ o → option_map_or (age_over plan vl.link least (age_after plan bounds vl.link least lines) line) o (Err reason.Way) ≡ Ok age
-          → ((k : ℕ) (line : LinePlan) → slice_get (lines_of plan) k ≡ Some line → IsOver plan vl k → (age : ℕ) → age < 2 ^ 128 - 1 → age_after plan bounds vl.link least lines k ≡ Ok age → IsComing size plan vl source line age) → IsComing size plan vl source line age
+          → ComesOver lines → IsComing size plan vl source line age (sent_at_once line least (least_at plan vl.link line.from (least_after plan vl.link least lines)))
       go None at e before = absurd (err-ok reason.Way age e)
       go (Some bound) at e before = elim (node-kind plan line.from (line-read plan k line accepted read).0) [
-        | inl node ↦ from-end k line read over bound at node age lt
-            (subst (λ b. sent_over b line bound vl.link least (cond b (Ok 0) (came_by lines line.from (input_of plan line.from vl.link.id.0))) ≡ Ok age) node.end e)
+        | inl node ↦
+            (let soon : cond (is_end_system plan.nodes line.from) 0 (soonest_by lines line.from (input_of plan line.from vl.link.id.0)) ≡ 0 = ap (λ b. cond b 0 (soonest_by lines line.from (input_of plan line.from vl.link.id.0))) node.end in
+            subst (λ z. IsComing size plan vl source line age (sent_at_once line least z)) (sym soon)
+            (from-end k line read over bound at node age lt
+            (subst (λ b. sent_over b line bound vl.link least (cond b (Ok 0) (came_by lines line.from (input_of plan line.from vl.link.id.0))) ≡ Ok age) node.end e)))
         | inr node ↦
             (let entry = comes-over plan accepted line.from line.from_port vl (over-leaves plan vl (has-from_contains plan.vls vl is_vl) k line read over) node.no_end in
             let input = input-is plan accepted line.from vl (has-from_contains plan.vls vl is_vl) node.no_end in
             let into = line-into-there plan accepted line.from (first_port (ways_at plan line.from In vl)) entry.k entry.leads in
             let is : came_by lines line.from (input_of plan line.from vl.link.id.0) ≡ plus (age_after plan bounds vl.link least lines entry.k) (latency_of plan line.from) =
             ap (came_by lines line.from) input ∙ ap (λ o. option_map_or (λ k. plus (age_after plan bounds vl.link least lines k) (latency_of plan line.from)) o (Err reason.Way)) into in
-            at-switch bound at node entry (age_after plan bounds vl.link least lines entry.k) refl
-            (ap (sent_over false line bound vl.link least) (sym is) ∙ subst (λ b. sent_over b line bound vl.link least (cond b (Ok 0) (came_by lines line.from (input_of plan line.from vl.link.id.0))) ≡ Ok age) node.no_end e) before)
+            let soon : cond (is_end_system plan.nodes line.from) 0 (soonest_by lines line.from (input_of plan line.from vl.link.id.0)) ≡ capped (least_after plan vl.link least lines entry.k + latency_of plan line.from) =
+            ap (λ b. cond b 0 (soonest_by lines line.from (input_of plan line.from vl.link.id.0))) node.no_end
+            ∙ ap (soonest_by lines line.from) input ∙ ap (λ o. option_map_or (λ k. capped (least_after plan vl.link least lines k + latency_of plan line.from)) o 0) into in
+            subst (λ z. IsComing size plan vl source line age (sent_at_once line least z)) (sym soon)
+            (at-switch bound at node entry (age_after plan bounds vl.link least lines entry.k) refl
+            (ap (sent_over false line bound vl.link least) (sym is) ∙ subst (λ b. sent_over b line bound vl.link least (cond b (Ok 0) (came_by lines line.from (input_of plan line.from vl.link.id.0))) ≡ Ok age) node.no_end e) before))
       ]

@@ -1,7 +1,7 @@
 -- Networks of one shape agree, and offer frames of the same least and greatest sizes.
-use Rattle.std.proofs.Common.{◌≤◌, ◌≡◌, ℕ, max, List, [], ◌∷◌, map, Contains, Ok, Some, unwrap_or, refl, ap, sym, ◌∙◌, subst, arith}
+use Rattle.std.proofs.Common.{◌≡◌, ℕ, List, [], ◌∷◌, map, Contains, unwrap_or, refl, ap, sym, ◌∙◌, subst, arith}
 use Rattle.vlink.specs.declared.frame.VlId.{VlId}
-use Rattle.network.specs.Words.{IsAccepted, Plan, VlPlan, source_of}
+use Rattle.network.specs.Words.{IsAccepted, Plan, VlPlan}
 use Rattle.network_faults.proofs.MemberLemmas.{Has, has-from_contains}
 use Rattle.plan_ports.proofs.Linked.{one-vl}
 use Rattle.network_bounds.specs.declared.sizes.FrameSizes.{FrameSizes}

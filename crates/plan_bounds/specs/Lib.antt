@@ -2,3 +2,4 @@ pub mod Latencies
 pub mod Rooms
 pub mod Shapes
 pub mod Contract
+pub mod Columns

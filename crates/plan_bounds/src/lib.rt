@@ -1,12 +1,14 @@
 //! The bounds of a network hold in its one-thread run, and in those of the networks that agree with it. No product code.
 #![tactic(auto)]
 
+ghost use Rattle.plan_bounds.specs.Columns.{AreContractTextsTrue, AreTextsTrue};
 ghost use Rattle.plan_bounds.specs.Contract.{AreContractBounds, AreContractRooms};
 ghost use Rattle.plan_bounds.specs.Latencies.{AreLatencyBounds};
 ghost use Rattle.plan_bounds.specs.Rooms.{AreRoomsEnough};
 ghost use Rattle.plan_bounds.specs.Shapes.{AreShapeBounds, AreShapeRooms};
 
-use frame_ages::{latencies_law, rooms_law};
+use frame_ages::rooms_law;
+use least_ages::{ages_law, ports_law};
 use network::Network;
 use plan_waits::waits_law;
 use seqsim::network_law;
@@ -21,7 +23,7 @@ pub fn bounds_law(network: &Network)
 {
     network.accepted_law();
     network_law(network);
-    latencies_law();
+    ages_law();
     rooms_law();
     waits_law(network);
 }
@@ -36,7 +38,7 @@ pub fn shapes_law(shape: &Network, network: &Network)
     shape.accepted_law();
     network.accepted_law();
     network_law(network);
-    latencies_law();
+    ages_law();
     rooms_law();
     waits_law(network);
 }
@@ -53,7 +55,19 @@ pub fn contract_law(shape: &Network, network: &Network)
     shape.accepted_law();
     network.accepted_law();
     network_law(network);
-    latencies_law();
+    ages_law();
     rooms_law();
     waits_law(network);
+}
+
+/// What each line of a text of bounds says, column by column, holds in the one-thread run of each network of the shape (`stated`). What each line of a
+/// text of bounds by contract says holds in the one-thread run of each network that agrees in nodes, lines and virtual links, of virtual links and
+/// ports whose end systems keep their sizes; at switches it holds whatever is offered (`contract`).
+pub fn text_law(shape: &Network)
+    ensures stated { AreTextsTrue shape.now }
+    ensures contract { AreContractTextsTrue shape.now }
+{
+    shape.accepted_law();
+    ages_law();
+    ports_law();
 }

@@ -9,6 +9,6 @@ returns c =
     let accepted = c.accepted_law-2.ensures in
     record {
       latencies = λ same bounds are vl is_known other is_vl id source from keeps shorter n there network_ns e.
-          contract-bounds shape plan known accepted same c.network_law.ensures c.latencies_law.ensures.bounded c.waits_law.ensures.lists c.waits_law.ensures.periods bounds are vl is_known other is_vl id source from keeps shorter n there network_ns e;
+          contract-bounds shape plan known accepted same c.network_law.ensures c.ages_law.ensures.deliveries c.waits_law.ensures.lists c.waits_law.ensures.periods bounds are vl is_known other is_vl id source from keeps shorter n there network_ns e;
       rooms = λ same bounds are p lt keeps each. contract-rooms shape plan known accepted same c.network_law.ensures c.rooms_law.ensures.kept bounds are p lt keeps each;
     }

@@ -1,18 +1,12 @@
-use Rattle.std.proofs.Common.{◌≡◌, ℕ, slice_get, sym, List, [], ◌∷◌, ◌∙◌, subst, OnOk, codes}
-use Rattle.trace_segments.specs.Words.{line, Adds}
+use Rattle.std.proofs.Common.{◌≡◌, ℕ, slice_get, sym, List, [], subst, OnOk}
+use Rattle.trace_segments.specs.Words.{Adds}
 use Rattle.network.specs.Words.{line_name, lines_of}
-use Rattle.network_bounds.specs.Text.{line_named, reason_name}
+use Rattle.network_bounds.specs.Said.{line_named, none_line}
 use Rattle.network_bounds.proofs.TextLemmas.{read-or}
 use Rattle.network_bounds.proofs.text.push_no_room.Goals as goal
 
 pub returns : goal.returns
 returns c =
     let plan = c.args.network.now in
-    let h1 = c.as_bytes.ensures.value in
-    let h2 : c.as_bytes-2.result.now ≡ line_named plan c.args.line = c.as_bytes-2.ensures.value ∙ sym (read-or (line_name plan.nodes) (slice_get (lines_of plan) c.args.line) c.line_name.result.now [] c.line_name.ensures) in
-    let h3 = c.as_bytes-3.ensures.value in
-    let h4 : c.as_bytes-4.result.now ≡ reason_name c.args.reason = c.as_bytes-4.ensures.value ∙ c.reason_name.ensures in
-    let h5 = c.as_bytes-5.ensures.value in let h6 = c.as_bytes-6.ensures.value in
-    let e : c.as_bytes.result.now ∷ c.as_bytes-2.result.now ∷ c.as_bytes-3.result.now ∷ c.as_bytes-4.result.now ∷ c.as_bytes-5.result.now ∷ c.as_bytes-6.result.now ∷ []
-    ≡ codes "none" ∷ line_named plan c.args.line ∷ [] ∷ reason_name c.args.reason ∷ [] ∷ [] ∷ [] = cc in
-    subst (λ (fields : List (List ℕ)). OnOk c.push.result (Adds c.args.out.now c.push.new.out (line fields))) e c.push.ensures
+    let named : c.line_name.result.now ≡ line_named plan c.args.line = sym (read-or (line_name plan.nodes) (slice_get (lines_of plan) c.args.line) c.line_name.result.now [] c.line_name.ensures) in
+    subst (λ (of : List ℕ). OnOk c.push_none.result (Adds c.args.out.now c.push_none.new.out (none_line of [] c.args.reason))) named c.push_none.ensures
