@@ -113,9 +113,11 @@ module _ (x : Setting NodeState) (L : Laws (simulation_of (rules_of node) x)) (N
       (frame : Frame) (found : Found Transit) (q : ℕ) → transit_at s frame.vl ≡ Some found → IsSizedFrame size frame → frame.size ≤ found.entry.smax → IsAmong q (outputs_of found.entry) →
       IsFitWish (record { time = t; receiver = n; body = Enqueue q frame })
   puts-fit p n t s w e is same frame found q here f small i =
-      let was = same frame.vl found here in
-      (f, subst (λ z. GoesOut (x.opening z).equipment q frame) (sym e) (subst (λ z. GoesOut z q frame) (sym is)
-      (was.0, was.1, subst (IsAmong q) (ap outputs_of was.2) i, subst (λ k. frame.size ≤ k) (ap (λ (z : Transit). z.smax) was.2) small)))
+      let was = same frame.vl found here in (
+        f,
+        subst (λ z. GoesOut (x.opening z).equipment q frame) (sym e) (subst (λ z. GoesOut z q frame) (sym is)
+            (was.0, was.1, subst (IsAmong q) (ap outputs_of was.2) i, subst (λ k. frame.size ≤ k) (ap (λ (z : Transit). z.smax) was.2) small)),
+      )
 
   handled-sends : (p n : ℕ) (m : Message) (e : Equipment) → n ≡ p → State p e → IsFit m → All IsFitWish (handled n m e).reply.wishes
   handled-sends p n m (EndSystem s) k h q = end-sends size IsFitWish by-port (λ t r vl. (tt, tt)) n m.time m.body s q.0 h

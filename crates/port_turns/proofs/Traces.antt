@@ -100,7 +100,7 @@ module _ (byte_ns q v : ℕ) where
               let own = k refl in
               let mine : is_to (is_put q v) p m ≡ true = ap (λ c. cond c (is_put q v m.body) false) (eq-eqb m.receiver p to.0) ∙ own.0 in
               subst (λ c. IsSublist (arrival_of (put_at byte_ns m.time (input_of m.body s.equipment) frame) ∷ arrivals_of v (asked_puts byte_ns (port_events q (after s m) ms)))
-                  (map as_put (map as_wish (cond c (m ∷ filter (is_to (is_put q v) p) ms) (filter (is_to (is_put q v) p) ms))))) (sym mine)
+              (map as_put (map as_wish (cond c (m ∷ filter (is_to (is_put q v) p) ms) (filter (is_to (is_put q v) p) ms))))) (sym mine)
               (inl (ap (λ n. record { at = m.time; size = n }) own.1, rest))
 
   trace-frames : (x : Setting NodeState) → (p : ℕ) → (transit : Transit) → transit_of (x.opening p).equipment v ≡ Some transit → (state : PortState) (k : Priority) (n : ℕ) →
