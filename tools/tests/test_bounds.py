@@ -542,12 +542,12 @@ class OfProgram(unittest.TestCase):
         self.assertLessEqual(shares[-1], 1.05)
 
     def test_no_drawn_run_is_above_them(self):
-        for words, digits in ([], 4), (["--streams"], 3):
+        for words in [], ["--streams"]:
             said = io.StringIO()
             with contextlib.redirect_stdout(said):
                 status = bounded_runs.main(["--networks", "30", "--runs", "8", "--program", model.PROGRAM, *words])
             self.assertEqual(status, 0, said.getvalue())
-            self.assertRegex(said.getvalue(), rf"bounds by the program: \d{{{digits}}} latencies and \d{{4}} ports, 0 above; ")
+            self.assertRegex(said.getvalue(), r"bounds by the program: \d{3,} latencies and \d{4} ports, 0 above; ")
 
 
 class Proved(unittest.TestCase):
