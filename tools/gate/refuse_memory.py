@@ -158,7 +158,7 @@ COMMANDS = (
     Command("seq streams.toml", TABLES_OF_STREAMS, "", {}, (NO_MEMORY,)),
     Command("run streams.toml --workers 2", TABLES_OF_STREAMS, "", {}, (NO_MEMORY, NO_WORKER)),
     # Two streams: a whole list waits, 16 frames for a BAG of 1 ms each.
-    Command("bounds streams.toml", BOUNDS.replace(",27720,0,27720", ",27720,16000000,16027720"), "", {}, (NO_MEMORY,)),
+    Command("bounds streams.toml", BOUNDS.replace(",27720,0,27720,27720,0,", ",27720,16000000,16027720,27720,16000000,"), "", {}, (NO_MEMORY,)),
     Command("check no_vl.toml", "", "afdxsim: description: 5 UnknownName at stream 1 vl\n", {}, (NO_MEMORY,), 3),
 )
 

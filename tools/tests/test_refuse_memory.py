@@ -10,7 +10,7 @@ import unittest
 from gate import refuse_memory
 from gate.refuse_memory import COMMANDS, Ended, TABLES, TESTS, TRACE
 
-CHECK, SEQ, TRACED, REPLAY, _, RUN, _, RUN_FILES, _, SYNTAX, *_ = COMMANDS
+CHECK, SEQ, TRACED, REPLAY, _, _, RUN, _, RUN_FILES, _, SYNTAX, *_ = COMMANDS
 MEMORY, WORKER = "afdxsim: out of memory\n", "afdxsim: cannot start a worker\n"
 
 
